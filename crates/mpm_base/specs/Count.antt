@@ -1,0 +1,28 @@
+-- Counts that an object of the outside keeps. None falls, and each stays at the greatest number of 64 bits.
+use Rattle.std.specs.Prelude.{◌≡◌, ℕ, ◌+◌, ◌<◌, ◌≤◌, Bool, true, false, min}
+
+-- the greatest number of 64 bits, 2 ^ 64 - 1, at which a count stays
+abbrev pub greatest_count : ℕ
+greatest_count = 18446744073709551615
+
+-- one more, as far as a count goes
+abbrev pub next_count : ℕ → ℕ
+next_count n = min (n + 1) greatest_count
+
+-- the count did not fall
+abbrev pub NeverFalls : ℕ → ℕ → Type 0
+NeverFalls old new = old ≤ new
+
+-- the count rose; of one that stood at its greatest number nothing is said
+abbrev pub Rises : ℕ → ℕ → Type 0
+Rises old new = (old ≤ new) × (old < greatest_count → old < new)
+
+-- the count rose where the test holds, and else stayed
+abbrev pub RisesExactlyWhere : Bool → ℕ → ℕ → Type 0
+RisesExactlyWhere true old new = Rises old new
+RisesExactlyWhere false old new = new ≡ old
+
+-- the count rose where the test holds, and in no case fell
+abbrev pub RisesWhere : Bool → ℕ → ℕ → Type 0
+RisesWhere true old new = Rises old new
+RisesWhere false old new = NeverFalls old new

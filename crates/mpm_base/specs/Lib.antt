@@ -1,0 +1,4 @@
+pub mod Count
+pub mod Link
+pub mod Sink
+pub mod Store

@@ -1,0 +1,84 @@
+//! How a connection is named, why it waits, and why it ends.
+
+/// A moment: milliseconds since 1970-01-01 00:00:00 UTC. The greatest is 253,402,300,799,999, the last of
+/// the year 9999.
+pub type Moment = u64;
+
+/// The name of a connection: its slot in the table, and how often that slot was used before.
+#[derive(Clone, Copy, Debug, PartialEq, Eq)]
+pub struct ConnName {
+    /// The slot, from 0.
+    pub slot: u32,
+    /// The use number of the slot, from 0. It rises each time that a connection leaves the slot.
+    pub life: u32,
+}
+
+/// What a parked connection waits for. Each kind has its own timeout.
+#[derive(Clone, Copy, Debug, PartialEq, Eq)]
+pub enum Kind {
+    /// The rest of a request, for Timeout.
+    Reading,
+    /// A further request, for KeepAliveTimeout.
+    KeepAlive,
+    /// Room to write, for Timeout.
+    Writing,
+    /// The client's close after the last response, for 30 seconds.
+    Linger,
+    /// The same after a refused request, for 2 seconds.
+    ShortLinger,
+}
+
+/// Why the service of a connection ended.
+#[derive(Clone, Copy, Debug, PartialEq, Eq)]
+pub enum Cause {
+    /// The client closed its side and owed nothing.
+    ClientDone,
+    /// The last response was sent whole.
+    LastSent,
+    /// No further request came within KeepAliveTimeout.
+    KeepAliveLate,
+    /// The rest of a request did not come within Timeout.
+    ReadLate,
+    /// There was no room to write for Timeout.
+    WriteLate,
+    /// Its generation was replaced while it waited for a further request.
+    Retiring,
+    /// A call of the link failed.
+    LinkFailed,
+    /// The server stopped.
+    Stopped,
+    /// Memory was wanted and not found.
+    NoMemory,
+}
+
+/// How the link of an ended connection was left.
+#[derive(Clone, Copy, Debug, PartialEq, Eq)]
+pub enum Tail {
+    /// Closed at once, without a linger.
+    Direct,
+    /// The client closed its side while the link lingered.
+    Drained,
+    /// The greatest number of bytes to drop was dropped.
+    Sated,
+    /// The linger's time was over.
+    Late,
+    /// A call of the lingering link failed.
+    Failed,
+    /// The server stopped while the link lingered.
+    Halted,
+    /// Memory was wanted and not found.
+    NoMemory,
+}
+
+/// What a whole request, or a refused one, asks of the table: what its note will say.
+#[derive(Clone, Copy, Debug, PartialEq, Eq)]
+pub struct Ask {
+    /// The request asks to close the connection after its response (RFC 9112, section 9.6).
+    pub asked_close: bool,
+    /// The head or the body was refused.
+    pub refused: bool,
+    /// The status code of the response (RFC 9110, section 15).
+    pub code: u16,
+    /// The response is the status page.
+    pub page: bool,
+}

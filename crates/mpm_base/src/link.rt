@@ -1,0 +1,56 @@
+//! A connection's way to its client.
+ghost use Rattle.std.specs.Prelude.{Option, ◌≡◌};
+
+/// What a read of a link answers.
+#[derive(Clone, Copy, Debug, PartialEq, Eq)]
+pub enum Got {
+    /// So many bytes stand at the front of the buffer: at least one where the buffer is not empty.
+    Got(u64),
+    /// The client sends no more.
+    End,
+    /// There is nothing to take at this moment.
+    NotReady,
+    /// The call failed.
+    Failed,
+}
+
+/// What a write to a link answers.
+#[derive(Clone, Copy, Debug, PartialEq, Eq)]
+pub enum Sent {
+    /// So many bytes of the piece were taken: at least one where the piece is not empty.
+    Put(u64),
+    /// There is no room at this moment.
+    NotReady,
+    /// The call failed.
+    Failed,
+}
+
+/// One connection's way to its client. No call waits.
+///
+/// What a link tells of itself (`told`) is there only where the object tells it: the links of a script do,
+/// a real socket does not. Its counts are there for every link.
+pub trait Link: Drop {
+    ghost use Rattle.mpm_base.specs.Link.{LinkTold, LinkCounts, Reads, Writes, Shuts, Closes};
+
+    /// What was received and sent, and whether the link was half-closed or closed.
+    ghost told: { Self → Option LinkTold };
+
+    /// How often calls failed, were not ready, and found the end.
+    ghost counts: { Self → LinkCounts };
+
+    /// Reads into the front of the buffer.
+    fn read(&mut self, buffer: &mut [u8]) -> Got
+        ensures { Reads (told self.old) (told self.new) (counts self.old) (counts self.new) result buffer.new };
+
+    /// Writes from the front of the piece.
+    fn write(&mut self, bytes: &[u8]) -> Sent
+        ensures { Writes (told self.old) (told self.new) (counts self.old) (counts self.new) result bytes.now };
+
+    /// Half-closes the link: the client is told that no more comes. False where the call failed.
+    fn shut(&mut self) -> bool
+        ensures { Shuts (told self.old) (told self.new) (counts self.old) (counts self.new) result };
+
+    /// Closes the link.
+    fn close(&mut self)
+        ensures { Closes (told self.old) (told self.new) (counts self.old) (counts self.new) };
+}

@@ -1,0 +1,108 @@
+//! What the table notes of a response when it is decided, and what a status page shows.
+ghost use Rattle.std.specs.Prelude.{◌≡◌, ◌==◌, [], ◌∷◌, ◌++◌, ◌-◌, length, OnOk, OnErr, slice_get, option_map};
+
+use crate::memory::NoMemory;
+use crate::octets::Octets;
+use std::alloc::Global;
+use std::marker::Model;
+
+/// The numbers and letters of a status page.
+#[derive(Debug, Drop)]
+pub struct Snapshot {
+    /// The newest generation.
+    pub generation: u32,
+    /// Workers that serve a connection.
+    pub busy: u32,
+    /// Workers that serve none and may be given one.
+    pub idle: u32,
+    /// Live connections.
+    pub total: u32,
+    /// Connections that wait for room to write.
+    pub writing: u32,
+    /// Connections that wait for a further request.
+    pub keep_alive: u32,
+    /// Connections in closing.
+    pub closing: u32,
+    /// One letter for each worker.
+    pub letters: Octets,
+}
+
+/// What was decided about one response.
+#[derive(Debug, Drop)]
+pub struct Note {
+    /// The second of its Date field, since 1970-01-01 00:00:00 UTC.
+    pub date: u64,
+    /// The request asked to close, or was refused.
+    pub asked_close: bool,
+    /// It is the last response of its connection.
+    pub last: bool,
+    /// Its status code (RFC 9110, section 15).
+    pub code: u16,
+    /// What the status page shows, where the response is one.
+    pub page: Option<Snapshot>,
+}
+
+/// A list of notes, as contracts see it, in the order of the responses.
+#[derive(Debug, Drop)]
+pub struct Notes {
+    items: Vec<Note>,
+}
+
+impl Model for Notes {
+    ghost use Rattle.std.specs.Prelude.{List};
+    ghost use Rattle.mpm_base.specs.declared.note.Note.{Note};
+
+    ghost Value = { List Note };
+
+    ghost view = { λ n. n.items.items };
+}
+
+impl Notes {
+    /// The empty list, which takes no memory.
+    pub fn make(alloc: Global) -> Notes
+        ensures { result ≡ [] }
+    {
+        Notes {
+            items: Vec::new(alloc),
+        }
+    }
+
+    /// Puts a note at the end. Where memory lacks nothing changes, and the note is dropped.
+    pub fn add(&mut self, note: Note) -> Result<(), NoMemory>
+        ensures ok { OnOk result (self.new ≡ self.old ++ note ∷ []) }
+        ensures err { OnErr result (self.new ≡ self.old) }
+    {
+        match self.items.push(note) {
+            Ok(()) => Ok(()),
+            Err(_) => Err(NoMemory),
+        }
+    }
+
+    /// Drops all notes, and keeps their room.
+    pub fn clear(&mut self)
+        ensures { self.new ≡ [] }
+    {
+        self.items.clear();
+    }
+
+    /// How many notes there are.
+    pub fn len(&self) -> usize
+        ensures { result ≡ length self.now }
+    {
+        self.items.len()
+    }
+
+    /// Whether there is no note.
+    pub fn is_empty(&self) -> bool
+        ensures { result ≡ (length self.now == 0) }
+    {
+        self.items.is_empty()
+    }
+
+    /// The notes, in order.
+    pub fn as_slice(&self) -> &[Note]
+        ensures { result.now ≡ self.now }
+    {
+        self.items.as_slice()
+    }
+}
