@@ -1,0 +1,69 @@
+-- The children, and the numbers of a generation.
+use Rattle.std.specs.Prelude.{ℕ, zero, suc, Bool, true, false, ◌&&◌, List, [], ◌∷◌, map, count_by, nat_le, if◌then◌else◌, slice_index_or}
+use Rattle.mpm_base.specs.declared.shape.Shape.{Shape}
+use Rattle.conn_machine.specs.declared.child.ChildPhase.{ChildPhase}
+use Rattle.conn_machine.specs.declared.child.ChildPhase.TheVariants.{Empty, Running, Stopping}
+use Rattle.conn_machine.specs.declared.child.Child.{Child}
+
+abbrev pub is_empty : ChildPhase → Bool
+is_empty Empty = true
+is_empty Running = false
+is_empty Stopping = false
+
+abbrev pub is_running : ChildPhase → Bool
+is_running Empty = false
+is_running Running = true
+is_running Stopping = false
+
+abbrev pub is_stopping : ChildPhase → Bool
+is_stopping Empty = false
+is_stopping Running = false
+is_stopping Stopping = true
+
+-- the numbers of no generation
+abbrev pub no_shape : Shape
+no_shape = record { threads = 0; factor = 0; read_ms = 0; keep_ms = 0; keep = false; most = 0; target = 0; children = 0 }
+
+-- a child that was never started
+abbrev pub no_child : Child
+no_child = record { phase = Empty; generation = 0; shape = no_shape }
+
+-- the child of that number
+abbrev pub child_at : List Child → ℕ → Child
+child_at children k = slice_index_or children k no_child
+
+-- the children with the one of that number changed
+abbrev pub update_child : List Child → ℕ → (Child → Child) → List Child
+update_child [] k change = []
+update_child (c ∷ children) zero change = change c ∷ children
+update_child (c ∷ children) (suc k) change = c ∷ update_child children k change
+
+-- a running child stops to take connections
+abbrev pub stopped : Child → Child
+stopped c = if is_running c.phase then record c { phase = Stopping } else c
+
+-- no child takes connections any more
+abbrev pub all_stopped : List Child → List Child
+all_stopped children = map stopped children
+
+-- how many children run
+abbrev pub running_count : List Child → ℕ
+running_count children = count_by (λ c. is_running c.phase) children
+
+-- the child begins to take connections
+abbrev pub started : ℕ → Shape → Child → Child
+started generation shape c = record { phase = Running; generation = generation; shape = shape }
+
+-- the child is gone
+abbrev pub retired : Child → Child
+retired c = record c { phase = Empty; shape = record c.shape { threads = 0 } }
+
+-- the number lies between the two
+abbrev pub within : ℕ → ℕ → ℕ → Bool
+within low high n = nat_le low n && nat_le n high
+
+-- a configuration may give these numbers
+abbrev pub is_in_bounds : Shape → Bool
+is_in_bounds s =
+    within 1 64 s.threads && within 1 10000 s.factor && within 1000 65535000 s.read_ms && within 1 65535000 s.keep_ms
+    && within 1 65535 s.most && within 1 32 s.children && within 1 s.children s.target

@@ -1,0 +1,160 @@
+-- Histories of the machine: runs of the event table, the order of each pass's entries, and what a pass may add.
+use Rattle.std.specs.Prelude.{◌≡◌, ◌==◌, ℕ, zero, suc, ◌+◌, ◌*◌, Bool, true, false, ◌&&◌, List, [], ◌∷◌, ◌++◌, length, map, filter, fold, count_by, nat_le, Option, None, Some, is_none}
+use Rattle.std.specs.Option.{option_map_or}
+use Rattle.mpm_base.specs.declared.conn.ConnName.{ConnName}
+use Rattle.conn_machine.specs.declared.event.Why.TheVariants as why
+use Rattle.conn_machine.specs.declared.event.Commanded.{Commanded}
+use Rattle.conn_machine.specs.declared.event.Commanded.TheVariants.{Graceful, Refused, GracefulStop, Stop}
+use Rattle.conn_machine.specs.declared.event.Event.{Event}
+use Rattle.conn_machine.specs.declared.event.Event.TheVariants as event
+use Rattle.conn_machine.specs.declared.event.Reply.{Reply}
+use Rattle.conn_machine.specs.declared.event.Reply.TheVariants.{Done, Took, Cell, Noted}
+use Rattle.conn_machine.specs.declared.event.Entry.{Entry}
+use Rattle.conn_machine.specs.declared.state.State.{State}
+use Rattle.conn_machine.specs.Table.{allowed, next, reply}
+
+-- ## Runs
+
+-- the state after the entries
+abbrev pub after : State → List Entry → State
+after s [] = s
+after s (e ∷ entries) = after (next s e.event) entries
+
+-- from the state on, each entry's event is allowed where it stands, and has its reply
+abbrev pub Run : State → List Entry → Type 0
+Run s [] = Unit {0}
+Run s (e ∷ entries) = (allowed s e.event ≡ true) × (e.reply ≡ reply s e.event) × Run (next s e.event) entries
+
+-- ## The order of a pass
+
+abbrev pub is_of_pass : ℕ → Entry → Bool
+is_of_pass p e = e.pass == p
+
+-- the entries that the pass made
+abbrev pub entries_of : ℕ → List Entry → List Entry
+entries_of p history = filter (is_of_pass p) history
+
+-- the numbers below this one, in order
+abbrev pub first_numbers : ℕ → List ℕ
+first_numbers zero = []
+first_numbers (suc n) = first_numbers n ++ n ∷ []
+
+-- the entries of the pass are numbered 0, 1, 2 and so on, in the order of the history
+abbrev pub IsNumbered : ℕ → List Entry → Type 0
+IsNumbered p history =
+    map (λ e. e.ordinal) (entries_of p history) ≡ first_numbers (length (entries_of p history))
+
+-- so are the entries of each pass
+abbrev pub IsInPassOrder : List Entry → Type 0
+IsInPassOrder history = (p : ℕ) → IsNumbered p history
+
+-- a history of the machine, from the state on
+pub record IsHistory (base : State) (history : List Entry) : Type 0 where
+  pub run : Run base history
+  pub order : IsInPassOrder history
+
+-- ## The load
+
+abbrev pub asks_page : Event → Bool
+asks_page (event.Accept slot) = false
+asks_page (event.Park name kind) = false
+asks_page (event.Hold name) = false
+asks_page (event.Queue name) = false
+asks_page (event.Start name) = false
+asks_page (event.Answer name ask) = ask.page
+asks_page (event.Linger name cause) = false
+asks_page (event.Close name cause tail) = false
+asks_page (event.Ready slot) = false
+asks_page (event.Tick m) = false
+asks_page (event.StartChild k) = false
+asks_page (event.Command c) = false
+asks_page (event.Retire k) = false
+
+-- what the history weighs: an entry is 1, and a kept snapshot 64 more
+abbrev pub load : List Entry → ℕ
+load history = length history + 64 * count_by (λ e. asks_page e.event) history
+
+-- at this load the history takes no more
+abbrev pub full_load : ℕ
+full_load = 4063232
+
+-- ## What a pass may add
+
+-- the name of the connection that was taken
+abbrev pub taken_name : Reply → Option ConnName
+taken_name Done = None
+taken_name (Took name child generation) = Some name
+taken_name (Cell cell) = None
+taken_name (Noted last) = None
+
+-- the connection that the pass has after an entry of its own, where it had this one before
+abbrev pub has_after : Option ConnName → Event → Reply → Option ConnName
+has_after had (event.Accept slot) reply = taken_name reply
+has_after had (event.Park name kind) reply = None
+has_after had (event.Hold name) reply = Some name
+has_after had (event.Queue name) reply = Some name
+has_after had (event.Start name) reply = had
+has_after had (event.Answer name ask) reply = had
+has_after had (event.Linger name cause) reply = None
+has_after had (event.Close name cause tail) reply = None
+has_after had (event.Ready slot) reply = had
+has_after had (event.Tick m) reply = had
+has_after had (event.StartChild k) reply = had
+has_after had (event.Command c) reply = had
+has_after had (event.Retire k) reply = had
+
+-- the connection that the pass has in the end
+abbrev pub row_of : ℕ → List Entry → Option ConnName
+row_of p history = fold (λ had e. has_after had e.event e.reply) None (entries_of p history)
+
+abbrev pub is_name : ConnName → ConnName → Bool
+is_name a b = a.slot == b.slot && a.life == b.life
+
+-- the pass has the connection of that name
+abbrev pub has_row : Option ConnName → ConnName → Bool
+has_row had name = option_map_or (is_name name) had false
+
+-- a stop because the history is full needs that it is; the listener makes every other command
+abbrev pub may_order : ℕ → ℕ → Commanded → Bool
+may_order p weight (Graceful shape) = p == 0
+may_order p weight (Refused reason) = p == 0
+may_order p weight (GracefulStop until) = p == 0
+may_order p weight (Stop why.Asked) = p == 0
+may_order p weight (Stop why.Overdue) = p == 0
+may_order p weight (Stop why.FrontEnded) = p == 0
+may_order p weight (Stop why.FrontFailed) = p == 0
+may_order p weight (Stop why.Full) = nat_le full_load weight
+may_order p weight (Stop why.NoMemory) = p == 0
+
+-- a pass that has this connection, where the history weighs so much, may make the event: pass 0 is the listener
+abbrev pub may_make : ℕ → Option ConnName → ℕ → Event → Bool
+may_make p had weight (event.Accept slot) = p == 0 && is_none had
+may_make p had weight (event.Park name kind) = has_row had name
+may_make p had weight (event.Hold name) = p == 0 && is_none had
+may_make p had weight (event.Queue name) = is_none had
+may_make p had weight (event.Start name) = has_row had name
+may_make p had weight (event.Answer name ask) = has_row had name
+may_make p had weight (event.Linger name cause) = has_row had name
+may_make p had weight (event.Close name cause tail) = has_row had name
+may_make p had weight (event.Ready slot) = p == 0
+may_make p had weight (event.Tick m) = p == 0
+may_make p had weight (event.StartChild k) = p == 0
+may_make p had weight (event.Command c) = may_order p weight c
+may_make p had weight (event.Retire k) = p == 0
+
+-- after the history, the pass may make the entry
+pub record IsNextOf (p : ℕ) (base : State) (history : List Entry) (e : Entry) : Type 0 where
+  pub pass : e.pass ≡ p
+  pub ordinal : e.ordinal ≡ length (entries_of p history)
+  pub is_allowed : allowed (after base history) e.event ≡ true
+  pub replied : e.reply ≡ reply (after base history) e.event
+  pub role : may_make p (row_of p history) (load history) e.event ≡ true
+
+-- after the history, the pass may make these entries, one after the other
+abbrev pub AreEntriesOf : ℕ → State → List Entry → List Entry → Type 0
+AreEntriesOf p base history [] = Unit {0}
+AreEntriesOf p base history (e ∷ added) = IsNextOf p base history e × AreEntriesOf p base (history ++ e ∷ []) added
+
+-- the history went on by entries of the pass
+abbrev pub Adds : ℕ → State → List Entry → List Entry → Type 0
+Adds p base old new = (added : List Entry) × (new ≡ old ++ added) × AreEntriesOf p base old added

@@ -1,0 +1,459 @@
+-- The event table: which events a state allows, and what each does and replies. Where nothing else is said, all else
+-- stays and the reply is Done. An event that names a connection needs its row live with that life.
+use Rattle.std.specs.Prelude.{◌==◌, ℕ, ◌+◌, ◌/◌, Bool, true, false, not, ◌&&◌, ◌||◌, List, [], ◌∷◌, ◌++◌, length, nat_lt, nat_le, if◌then◌else◌, Option, None, Some, is_some, is_none, slice_get, slice_set}
+use Rattle.std.specs.Option.{option_map_or, unwrap_or}
+use Rattle.std.specs.List.{list_any}
+use Rattle.mpm_base.specs.Count.{next_count}
+use Rattle.mpm_base.specs.declared.conn.ConnName.{ConnName}
+use Rattle.mpm_base.specs.declared.conn.Kind.{Kind}
+use Rattle.mpm_base.specs.declared.conn.Kind.TheVariants.{Reading, KeepAlive, Writing, Linger, ShortLinger}
+use Rattle.mpm_base.specs.declared.conn.Cause.{Cause}
+use Rattle.mpm_base.specs.declared.conn.Cause.TheVariants as cause
+use Rattle.mpm_base.specs.declared.conn.Tail.{Tail}
+use Rattle.mpm_base.specs.declared.conn.Tail.TheVariants as tail
+use Rattle.mpm_base.specs.declared.conn.Ask.{Ask}
+use Rattle.mpm_base.specs.declared.note.Note.{Note}
+use Rattle.conn_machine.specs.declared.row.Phase.{Phase}
+use Rattle.conn_machine.specs.declared.row.Phase.TheVariants as phase
+use Rattle.conn_machine.specs.declared.row.Place.TheVariants.{Vacant, Spent, Held, Parked, Queued, Working}
+use Rattle.conn_machine.specs.declared.row.Row.{Row}
+use Rattle.conn_machine.specs.declared.child.Child.{Child}
+use Rattle.conn_machine.specs.declared.event.Why.{Why}
+use Rattle.conn_machine.specs.declared.event.Why.TheVariants as why
+use Rattle.conn_machine.specs.declared.event.Commanded.{Commanded}
+use Rattle.conn_machine.specs.declared.event.Commanded.TheVariants.{Graceful, Refused, GracefulStop, Stop}
+use Rattle.conn_machine.specs.declared.event.Event.{Event}
+use Rattle.conn_machine.specs.declared.event.Event.TheVariants as event
+use Rattle.conn_machine.specs.declared.event.Reply.{Reply}
+use Rattle.conn_machine.specs.declared.event.Reply.TheVariants.{Done, Took, Cell, Noted}
+use Rattle.conn_machine.specs.declared.state.Going.TheVariants.{Ending, Halted}
+use Rattle.conn_machine.specs.declared.state.State.{State}
+use Rattle.conn_machine.specs.Rows.{is_vacant, is_held, is_parked, is_queued, is_working, in_phase, is_from, is_live, is_lingering, is_live_in, has_note, row_passes, lives_and, update, carried, free_cell_from}
+use Rattle.conn_machine.specs.Children.{is_empty, is_running, is_stopping, child_at, update_child, all_stopped, running_count, started, retired, is_in_bounds}
+use Rattle.conn_machine.specs.States.{greatest_moment, later, is_serving, is_halted, is_over, is_signalled, child_of, pick_child, is_overdue}
+
+-- ## Accept: a connection is taken into a vacant slot, for the child that the rule of admission names
+
+abbrev pub may_accept : State → ℕ → Bool
+may_accept s slot = is_serving s.going && row_passes (λ r. is_vacant r.place) s.rows slot && is_some (pick_child s)
+
+-- the child that the next connection is for; one that takes none where there is none
+abbrev pub picked : State → ℕ
+picked s = unwrap_or (pick_child s) 0
+
+abbrev pub taken : State → Row → Row
+taken s r =
+    record {
+      life = r.life;
+      arrival = s.accepted;
+      child = picked s;
+      generation = (child_at s.children (picked s)).generation;
+      place = Held;
+      from = None;
+      deadline = r.deadline;
+      mid = false;
+      last = false;
+      short = false;
+      cause = None;
+      notes = [];
+    }
+
+abbrev pub after_accept : State → ℕ → State
+after_accept s slot =
+    record s {
+      rows = update s.rows slot (taken s);
+      signals = slice_set s.signals slot false;
+      accepted = next_count s.accepted;
+    }
+
+-- the life of the row of the slot
+abbrev pub life_at : List Row → ℕ → ℕ
+life_at rows slot = option_map_or (λ r. r.life) (slice_get rows slot) 0
+
+abbrev pub took : State → ℕ → Reply
+took s slot =
+    Took (record { slot = slot; life = life_at s.rows slot }) (picked s) (child_at s.children (picked s)).generation
+
+-- ## Park: a connection waits
+
+-- the row may wait for this
+abbrev pub may_wait : ℕ → Kind → Row → Bool
+may_wait moment Reading r = (is_held r.place && is_none r.from) || (is_working r.place && not r.last)
+may_wait moment KeepAlive r = is_working r.place && not r.last && has_note r
+may_wait moment Writing r = is_working r.place
+may_wait moment Linger r = is_held r.place && is_lingering r && is_from Linger r && nat_lt moment r.deadline
+may_wait moment ShortLinger r = is_held r.place && is_lingering r && is_from ShortLinger r && nat_lt moment r.deadline
+
+abbrev pub may_park : State → ConnName → Kind → Bool
+may_park s name kind = not (is_halted s.going) && lives_and (may_wait s.moment kind) s.rows name
+
+-- when the wait is over
+abbrev pub wait_until : State → Kind → Row → ℕ
+wait_until s Reading r = later s.moment (child_of s r).shape.read_ms
+wait_until s KeepAlive r = later s.moment (child_of s r).shape.keep_ms
+wait_until s Writing r = later s.moment (child_of s r).shape.read_ms
+wait_until s Linger r = r.deadline
+wait_until s ShortLinger r = r.deadline
+
+-- whether a response stays begun: one that waits for room does
+abbrev pub mid_after : Kind → Row → Bool
+mid_after Reading r = false
+mid_after KeepAlive r = false
+mid_after Writing r = r.mid
+mid_after Linger r = r.mid
+mid_after ShortLinger r = r.mid
+
+abbrev pub parked : State → Kind → Row → Row
+parked s kind r =
+    record r { place = Parked kind; from = Some kind; deadline = wait_until s kind r; mid = mid_after kind r }
+
+abbrev pub after_park : State → ConnName → Kind → State
+after_park s name kind = record s { rows = update s.rows name.slot (parked s kind) }
+
+-- ## Hold: the listener takes a connection that it has to close
+
+-- the row waits, and its time is over; or its generation was replaced and nothing came; or something came while it
+-- lingers; or the server stopped
+abbrev pub must_be_held : State → Bool → Row → Bool
+must_be_held s signalled r =
+    is_parked r.place
+    && (nat_le r.deadline s.moment
+    || (is_from KeepAlive r && is_stopping (child_of s r).phase && not signalled)
+    || (is_lingering r && signalled)
+    || is_halted s.going)
+
+abbrev pub may_hold : State → ConnName → Bool
+may_hold s name = lives_and (must_be_held s (is_signalled s name.slot)) s.rows name
+
+abbrev pub held : Row → Row
+held r = record r { place = Held }
+
+-- the signal of a lingering row goes
+abbrev pub signal_after_hold : State → ℕ → Bool
+signal_after_hold s slot = is_signalled s slot && not (row_passes is_lingering s.rows slot)
+
+abbrev pub after_hold : State → ConnName → State
+after_hold s name =
+    record s {
+      rows = update s.rows name.slot held;
+      signals = slice_set s.signals name.slot (signal_after_hold s name.slot);
+    }
+
+-- ## Queue: a connection is handed to the workers of its child
+
+abbrev pub may_be_queued : State → Row → Bool
+may_be_queued s r =
+    is_parked r.place && not (is_lingering r) && nat_lt (carried s.rows r.child) (child_of s r).shape.threads
+
+abbrev pub may_queue : State → ConnName → Bool
+may_queue s name =
+    not (is_halted s.going) && is_signalled s name.slot && lives_and (may_be_queued s) s.rows name
+
+abbrev pub queued : Row → Row
+queued r = record r { place = Queued }
+
+abbrev pub after_queue : State → ConnName → State
+after_queue s name =
+    record s { rows = update s.rows name.slot queued; signals = slice_set s.signals name.slot false }
+
+-- ## Start: a worker begins to serve
+
+abbrev pub may_start : State → ConnName → Bool
+may_start s name = lives_and (λ r. is_queued r.place) s.rows name
+
+-- the lowest free cell of the row's child
+abbrev pub cell_for : State → Row → ℕ
+cell_for s r = free_cell_from s.rows r.child 0 (child_of s r).shape.threads
+
+-- a worker goes on to send where a response was begun, and else reads
+abbrev pub phase_at_start : Row → Phase
+phase_at_start r =
+    if is_from Writing r && r.mid then (if r.last then phase.Close else phase.Write) else phase.Read
+
+abbrev pub served : State → Row → Row
+served s r = record r { place = Working (cell_for s r) (phase_at_start r) }
+
+abbrev pub after_start : State → ConnName → State
+after_start s name = record s { rows = update s.rows name.slot (served s) }
+
+abbrev pub cell_at : State → ℕ → ℕ
+cell_at s slot = option_map_or (cell_for s) (slice_get s.rows slot) 0
+
+-- ## Answer: a response is decided
+
+abbrev pub may_answer : State → ConnName → Bool
+may_answer s name =
+    not (is_halted s.going) && lives_and (λ r. is_working r.place && not r.last) s.rows name
+
+-- the response is the last of its connection
+abbrev pub is_last_for : State → Ask → Row → Bool
+is_last_for s ask r =
+    ask.asked_close || ask.refused || length r.notes + 1 == (child_of s r).shape.most
+    || not (child_of s r).shape.keep || not (is_running (child_of s r).phase)
+
+abbrev pub note_for : State → Ask → Row → Note
+note_for s ask r =
+    record {
+      date = s.moment / 1000;
+      asked_close = ask.asked_close || ask.refused;
+      last = is_last_for s ask r;
+      code = ask.code;
+      page = None;
+    }
+
+abbrev pub answered : State → Ask → Row → Row
+answered s ask r =
+    record r {
+      place = in_phase (if is_last_for s ask r then phase.Close else phase.Write) r.place;
+      mid = true;
+      last = is_last_for s ask r;
+      short = ask.refused;
+      notes = r.notes ++ note_for s ask r ∷ [];
+    }
+
+abbrev pub after_answer : State → ConnName → Ask → State
+after_answer s name ask = record s { rows = update s.rows name.slot (answered s ask) }
+
+abbrev pub noted_at : State → ℕ → Ask → Bool
+noted_at s slot ask = option_map_or (is_last_for s ask) (slice_get s.rows slot) false
+
+-- ## Linger: the service of a connection ended
+
+-- the listener holds the row, which waited for this until now
+abbrev pub is_late_as : State → Kind → Row → Bool
+is_late_as s kind r = is_held r.place && is_from kind r && nat_le r.deadline s.moment
+
+-- the cause is one for which a connection lingers, and it is so
+abbrev pub linger_cause_fits : State → Cause → Bool → Row → Bool
+linger_cause_fits s cause.ClientDone signalled r = false
+linger_cause_fits s cause.LastSent signalled r = is_working r.place && r.last
+linger_cause_fits s cause.KeepAliveLate signalled r = is_late_as s KeepAlive r
+linger_cause_fits s cause.ReadLate signalled r = is_late_as s Reading r
+linger_cause_fits s cause.WriteLate signalled r = is_late_as s Writing r
+linger_cause_fits s cause.Retiring signalled r =
+    is_held r.place && is_from KeepAlive r && is_stopping (child_of s r).phase && not signalled
+linger_cause_fits s cause.LinkFailed signalled r = false
+linger_cause_fits s cause.Stopped signalled r = false
+linger_cause_fits s cause.NoMemory signalled r = false
+
+abbrev pub may_linger : State → ConnName → Cause → Bool
+may_linger s name why =
+    lives_and (λ r. not (is_lingering r) && linger_cause_fits s why (is_signalled s name.slot) r) s.rows name
+
+-- 2 seconds after a refused request, else 30
+abbrev pub linger_ms : Row → ℕ
+linger_ms r = if r.short then 2000 else 30000
+
+abbrev pub linger_kind : Row → Kind
+linger_kind r = if r.short then ShortLinger else Linger
+
+abbrev pub lingering : State → Cause → Row → Row
+lingering s why r =
+    record r {
+      place = Parked (linger_kind r);
+      from = Some (linger_kind r);
+      deadline = later s.moment (linger_ms r);
+      mid = false;
+      cause = Some why;
+    }
+
+-- its signal is set, so that it is drained at least once
+abbrev pub after_linger : State → ConnName → Cause → State
+after_linger s name why =
+    record s {
+      rows = update s.rows name.slot (lingering s why);
+      signals = slice_set s.signals name.slot true;
+    }
+
+-- ## Close
+
+abbrev pub cause_number : Cause → ℕ
+cause_number cause.ClientDone = 0
+cause_number cause.LastSent = 1
+cause_number cause.KeepAliveLate = 2
+cause_number cause.ReadLate = 3
+cause_number cause.WriteLate = 4
+cause_number cause.Retiring = 5
+cause_number cause.LinkFailed = 6
+cause_number cause.Stopped = 7
+cause_number cause.NoMemory = 8
+
+-- how a lingering link may be left
+abbrev pub linger_tail_fits : State → Tail → Row → Bool
+linger_tail_fits s tail.Direct r = false
+linger_tail_fits s tail.Drained r = true
+linger_tail_fits s tail.Sated r = true
+linger_tail_fits s tail.Late r = nat_le r.deadline s.moment
+linger_tail_fits s tail.Failed r = true
+linger_tail_fits s tail.Halted r = is_halted s.going
+linger_tail_fits s tail.NoMemory r = true
+
+abbrev pub is_direct : Tail → Bool
+is_direct tail.Direct = true
+is_direct tail.Drained = false
+is_direct tail.Sated = false
+is_direct tail.Late = false
+is_direct tail.Failed = false
+is_direct tail.Halted = false
+is_direct tail.NoMemory = false
+
+-- why a link may be closed without a linger
+abbrev pub direct_cause_fits : State → Cause → Row → Bool
+direct_cause_fits s cause.ClientDone r = is_working r.place && not r.last
+direct_cause_fits s cause.LastSent r = false
+direct_cause_fits s cause.KeepAliveLate r = false
+direct_cause_fits s cause.ReadLate r = false
+direct_cause_fits s cause.WriteLate r = false
+direct_cause_fits s cause.Retiring r = false
+direct_cause_fits s cause.LinkFailed r = true
+direct_cause_fits s cause.Stopped r = is_halted s.going
+direct_cause_fits s cause.NoMemory r = true
+
+-- a lingering row is closed for its own cause, another one directly
+abbrev pub end_fits : State → Cause → Tail → Row → Bool
+end_fits s why how r =
+    if is_lingering r
+    then option_map_or (λ c. cause_number c == cause_number why) r.cause false && linger_tail_fits s how r
+    else is_direct how && direct_cause_fits s why r
+
+abbrev pub may_close : State → ConnName → Cause → Tail → Bool
+may_close s name why how =
+    lives_and (λ r. (is_held r.place || is_working r.place) && end_fits s why how r) s.rows name
+
+-- the greatest use number of a slot
+abbrev pub greatest_life : ℕ
+greatest_life = 4294967295
+
+abbrev pub closed : Row → Row
+closed r =
+    if r.life == greatest_life
+    then record r { place = Spent; notes = [] }
+    else record r { life = r.life + 1; place = Vacant; notes = [] }
+
+abbrev pub after_close : State → ConnName → State
+after_close s name =
+    record s { rows = update s.rows name.slot closed; signals = slice_set s.signals name.slot false }
+
+-- ## Ready: something may have come for a slot
+
+abbrev pub may_ready : State → ℕ → Bool
+may_ready s slot = not (is_halted s.going) && nat_lt slot (length s.rows)
+
+abbrev pub after_ready : State → ℕ → State
+after_ready s slot = record s { signals = slice_set s.signals slot true }
+
+-- ## Tick: time passes, where no waiting row is late
+
+abbrev pub may_tick : State → ℕ → Bool
+may_tick s m =
+    not (is_halted s.going) && nat_lt s.moment m && nat_le m greatest_moment
+    && not (list_any (is_overdue s.moment) s.rows)
+
+abbrev pub after_tick : State → ℕ → State
+after_tick s m = record s { moment = m }
+
+-- ## StartChild and Retire
+
+abbrev pub child_passes : (Child → Bool) → State → ℕ → Bool
+child_passes test s k = option_map_or test (slice_get s.children k) false
+
+abbrev pub may_start_child : State → ℕ → Bool
+may_start_child s k =
+    is_serving s.going && child_passes (λ c. is_empty c.phase) s k
+    && nat_lt (running_count s.children) s.shape.children
+
+abbrev pub after_start_child : State → ℕ → State
+after_start_child s k = record s { children = update_child s.children k (started s.newest s.shape) }
+
+abbrev pub may_retire : State → ℕ → Bool
+may_retire s k = child_passes (λ c. is_stopping c.phase) s k && not (list_any (is_live_in k) s.rows)
+
+abbrev pub after_retire : State → ℕ → State
+after_retire s k = record s { children = update_child s.children k retired }
+
+-- ## Command
+
+-- the greatest generation
+abbrev pub greatest_generation : ℕ
+greatest_generation = 4294967295
+
+-- the moment, where there is one, isn't before the present one
+abbrev pub is_not_past : ℕ → Option ℕ → Bool
+is_not_past moment None = true
+is_not_past moment (Some until) = nat_le moment until
+
+-- what a stop for this reason needs
+abbrev pub stop_fits : State → Why → Bool
+stop_fits s why.Asked = true
+stop_fits s why.Overdue = is_over s.moment s.going
+stop_fits s why.FrontEnded = not (list_any is_live s.rows)
+stop_fits s why.FrontFailed = true
+stop_fits s why.Full = true
+stop_fits s why.NoMemory = true
+
+abbrev pub command_fits : State → Commanded → Bool
+command_fits s (Graceful shape) =
+    is_serving s.going && nat_lt s.newest greatest_generation && is_in_bounds shape
+command_fits s (Refused reason) = true
+command_fits s (GracefulStop until) = is_serving s.going && is_not_past s.moment until
+command_fits s (Stop reason) = stop_fits s reason
+
+abbrev pub may_command : State → Commanded → Bool
+may_command s c = not (is_halted s.going) && command_fits s c
+
+abbrev pub after_command : State → Commanded → State
+after_command s (Graceful shape) =
+    record s { newest = s.newest + 1; shape = shape; children = all_stopped s.children }
+after_command s (Refused reason) = s
+after_command s (GracefulStop until) = record s { going = Ending until; children = all_stopped s.children }
+after_command s (Stop reason) = record s { going = Halted reason; children = all_stopped s.children }
+
+-- ## The table
+
+-- the state allows the event
+abbrev pub allowed : State → Event → Bool
+allowed s (event.Accept slot) = may_accept s slot
+allowed s (event.Park name kind) = may_park s name kind
+allowed s (event.Hold name) = may_hold s name
+allowed s (event.Queue name) = may_queue s name
+allowed s (event.Start name) = may_start s name
+allowed s (event.Answer name ask) = may_answer s name
+allowed s (event.Linger name why) = may_linger s name why
+allowed s (event.Close name why how) = may_close s name why how
+allowed s (event.Ready slot) = may_ready s slot
+allowed s (event.Tick m) = may_tick s m
+allowed s (event.StartChild k) = may_start_child s k
+allowed s (event.Command c) = may_command s c
+allowed s (event.Retire k) = may_retire s k
+
+-- the state after the event
+abbrev pub next : State → Event → State
+next s (event.Accept slot) = after_accept s slot
+next s (event.Park name kind) = after_park s name kind
+next s (event.Hold name) = after_hold s name
+next s (event.Queue name) = after_queue s name
+next s (event.Start name) = after_start s name
+next s (event.Answer name ask) = after_answer s name ask
+next s (event.Linger name why) = after_linger s name why
+next s (event.Close name why how) = after_close s name
+next s (event.Ready slot) = after_ready s slot
+next s (event.Tick m) = after_tick s m
+next s (event.StartChild k) = after_start_child s k
+next s (event.Command c) = after_command s c
+next s (event.Retire k) = after_retire s k
+
+-- the reply to the event
+abbrev pub reply : State → Event → Reply
+reply s (event.Accept slot) = took s slot
+reply s (event.Park name kind) = Done
+reply s (event.Hold name) = Done
+reply s (event.Queue name) = Done
+reply s (event.Start name) = Cell (cell_at s name.slot)
+reply s (event.Answer name ask) = Noted (noted_at s name.slot ask)
+reply s (event.Linger name why) = Done
+reply s (event.Close name why how) = Done
+reply s (event.Ready slot) = Done
+reply s (event.Tick m) = Done
+reply s (event.StartChild k) = Done
+reply s (event.Command c) = Done
+reply s (event.Retire k) = Done
