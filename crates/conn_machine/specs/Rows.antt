@@ -1,5 +1,5 @@
 -- The rows of the table: what is said of one, how many of a child's are so and so, and a change of one.
-use Rattle.std.specs.Prelude.{◌==◌, ℕ, zero, suc, Bool, true, false, not, ◌&&◌, ◌||◌, List, [], ◌∷◌, count_by, length, if◌then◌else◌, is_some, slice_get}
+use Rattle.std.specs.Prelude.{◌==◌, ℕ, zero, suc, Bool, true, false, not, ◌&&◌, ◌||◌, List, [], ◌∷◌, count_by, length, if◌then◌else◌, is_some, slice_get, Option, None, Some}
 use Rattle.std.specs.Option.{option_map_or}
 use Rattle.std.specs.List.{list_any}
 use Rattle.mpm_base.specs.declared.conn.ConnName.{ConnName}
@@ -118,9 +118,22 @@ has_note r = not (length r.notes == 0)
 abbrev pub row_passes : (Row → Bool) → List Row → ℕ → Bool
 row_passes test rows slot = option_map_or test (slice_get rows slot) false
 
+-- the row is live, with the life of that name
+abbrev pub is_named : ConnName → Row → Bool
+is_named name r = is_live r && r.life == name.life
+
+-- the row, where it passes the test
+abbrev pub row_where : (Row → Bool) → Option Row → Option Row
+row_where test None = None
+row_where test (Some r) = if test r then Some r else None
+
+-- the row of the connection of that name, where it lives
+abbrev pub live_row : List Row → ConnName → Option Row
+live_row rows name = row_where (is_named name) (slice_get rows name.slot)
+
 -- the connection of that name lives, and its row passes the test
 abbrev pub lives_and : (Row → Bool) → List Row → ConnName → Bool
-lives_and test rows name = row_passes (λ r. is_live r && r.life == name.life && test r) rows name.slot
+lives_and test rows name = option_map_or test (live_row rows name) false
 
 -- the rows with the row of the slot changed
 abbrev pub update : List Row → ℕ → (Row → Row) → List Row

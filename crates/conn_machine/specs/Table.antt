@@ -201,15 +201,19 @@ note_for s ask r =
       page = None;
     }
 
-abbrev pub answered : State → Ask → Row → Row
-answered s ask r =
+-- the row with a response noted: its worker goes on to send it
+abbrev pub with_note : Note → Bool → Row → Row
+with_note note short r =
     record r {
-      place = in_phase (if is_last_for s ask r then phase.Close else phase.Write) r.place;
+      place = in_phase (if note.last then phase.Close else phase.Write) r.place;
       mid = true;
-      last = is_last_for s ask r;
-      short = ask.refused;
-      notes = r.notes ++ note_for s ask r ∷ [];
+      last = note.last;
+      short = short;
+      notes = r.notes ++ note ∷ [];
     }
+
+abbrev pub answered : State → Ask → Row → Row
+answered s ask r = with_note (note_for s ask r) ask.refused r
 
 abbrev pub after_answer : State → ConnName → Ask → State
 after_answer s name ask = record s { rows = update s.rows name.slot (answered s ask) }

@@ -6,14 +6,17 @@
 //! `specs/Runs.antt`. `may` and `step` are the same table as a plain program.
 #![tactic(auto)]
 
+mod changes;
 mod child;
 mod event;
 mod kept;
 mod row;
+mod rows;
 mod state;
 
 pub use child::{Child, ChildPhase, Children};
 pub use event::{Commanded, Entry, Event, Refusal, Reply, Why};
 pub use kept::Kept;
-pub use row::{Phase, Place, Row, Rows};
+pub use row::{Phase, Place, Row};
+pub use rows::Rows;
 pub use state::{Going, Signals, State};

@@ -1,7 +1,10 @@
 //! One row of the table: a connection, or a slot without one.
+ghost use Rattle.std.specs.Prelude.{◌≡◌};
+ghost use Rattle.conn_machine.specs.Rows as rows;
+ghost use Rattle.conn_machine.specs.States.{unused_row};
+
 use mpm_base::{Cause, Kind, Moment, Notes};
 use std::alloc::Global;
-use std::marker::Model;
 
 /// What a worker does with the connection that it serves.
 #[derive(Clone, Copy, Debug, PartialEq, Eq)]
@@ -29,6 +32,70 @@ pub enum Place {
     Queued,
     /// The worker of this cell of its child serves it.
     Working(u32, Phase),
+}
+
+impl Place {
+    /// Whether the slot is free for a connection.
+    pub fn is_vacant(self) -> bool
+        ensures { result ≡ rows.is_vacant self }
+    {
+        matches!(self, Place::Vacant)
+    }
+
+    /// Whether no connection is there.
+    pub fn is_unused(self) -> bool
+        ensures { result ≡ rows.is_unused self }
+    {
+        matches!(self, Place::Vacant | Place::Spent)
+    }
+
+    /// Whether the listener holds it.
+    pub fn is_held(self) -> bool
+        ensures { result ≡ rows.is_held self }
+    {
+        matches!(self, Place::Held)
+    }
+
+    /// Whether it waits in a queue of the listener.
+    pub fn is_parked(self) -> bool
+        ensures { result ≡ rows.is_parked self }
+    {
+        matches!(self, Place::Parked(_))
+    }
+
+    /// Whether it waits for a worker.
+    pub fn is_queued(self) -> bool
+        ensures { result ≡ rows.is_queued self }
+    {
+        matches!(self, Place::Queued)
+    }
+
+    /// Whether a worker serves it.
+    pub fn is_working(self) -> bool
+        ensures { result ≡ rows.is_working self }
+    {
+        matches!(self, Place::Working(_, _))
+    }
+
+    /// Whether the worker of that cell serves it.
+    pub fn is_in_cell(self, number: u32) -> bool
+        ensures { result ≡ rows.is_in_cell number self }
+    {
+        match self {
+            Place::Working(cell, _) => cell == number,
+            _ => false,
+        }
+    }
+
+    /// The place once the worker went on to the phase.
+    pub fn in_phase(self, next: Phase) -> Place
+        ensures { result ≡ rows.in_phase next self }
+    {
+        match self {
+            Place::Working(cell, _) => Place::Working(cell, next),
+            place => place,
+        }
+    }
 }
 
 /// A row of the table. It is live where its place is neither Vacant nor Spent, and lingering where `cause` is there.
@@ -60,17 +127,96 @@ pub struct Row {
     pub notes: Notes,
 }
 
-/// A list of rows, as contracts see it: the row of each slot.
-#[derive(Debug, Drop)]
-pub struct Rows {
-    items: Vec<Row>,
+/// A number for each kind, to tell two apart by.
+fn kind_number(kind: Kind) -> u8
+    ensures { result ≡ rows.kind_number kind }
+{
+    match kind {
+        Kind::Reading => 0,
+        Kind::KeepAlive => 1,
+        Kind::Writing => 2,
+        Kind::Linger => 3,
+        Kind::ShortLinger => 4,
+    }
 }
 
-impl Model for Rows {
-    ghost use Rattle.std.specs.Prelude.{List};
-    ghost use Rattle.conn_machine.specs.declared.row.Row.{Row};
+impl Row {
+    /// A slot that was never used.
+    pub fn unused(alloc: Global) -> Row
+        ensures { result ≡ unused_row }
+    {
+        Row {
+            life: 0,
+            arrival: 0,
+            child: 0,
+            generation: 0,
+            place: Place::Vacant,
+            from: None,
+            deadline: 0,
+            mid: false,
+            last: false,
+            short: false,
+            cause: None,
+            notes: Notes::make(alloc),
+        }
+    }
 
-    ghost Value = { List Row };
+    /// Whether a connection is there.
+    pub fn is_live(&self) -> bool
+        ensures { result ≡ rows.is_live self.now }
+    {
+        !self.place.is_unused()
+    }
 
-    ghost view = { λ r. r.items.items };
+    /// Whether its service ended, and it is being closed.
+    pub fn is_lingering(&self) -> bool
+        ensures { result ≡ rows.is_lingering self.now }
+    {
+        self.cause.is_some()
+    }
+
+    /// Whether this is what it waited for last.
+    pub fn is_from(&self, kind: Kind) -> bool
+        ensures { result ≡ rows.is_from kind self.now }
+    {
+        match self.from {
+            Some(last) => kind_number(last) == kind_number(kind),
+            None => false,
+        }
+    }
+
+    /// Whether a worker of the child has it, or will.
+    pub fn is_carried_by(&self, child: u32) -> bool
+        ensures { result ≡ rows.is_carried_by child self.now }
+    {
+        self.child == child && (self.place.is_queued() || self.place.is_working())
+    }
+
+    /// Whether it is an open connection of the child.
+    pub fn is_open_in(&self, child: u32) -> bool
+        ensures { result ≡ rows.is_open_in child self.now }
+    {
+        self.child == child && self.is_live() && !self.is_lingering()
+    }
+
+    /// Whether it is a connection of the child.
+    pub fn is_live_in(&self, child: u32) -> bool
+        ensures { result ≡ rows.is_live_in child self.now }
+    {
+        self.child == child && self.is_live()
+    }
+
+    /// Whether the worker of that cell of the child serves it.
+    pub fn is_served_in(&self, child: u32, cell: u32) -> bool
+        ensures { result ≡ rows.is_served_in child cell self.now }
+    {
+        self.child == child && self.place.is_in_cell(cell)
+    }
+
+    /// Whether there is a response.
+    pub fn has_note(&self) -> bool
+        ensures { result ≡ rows.has_note self.now }
+    {
+        !self.notes.is_empty()
+    }
 }

@@ -1,7 +1,7 @@
 //! The state of the machine: the table as it stands between two events.
 use crate::child::Children;
 use crate::event::Why;
-use crate::row::Rows;
+use crate::rows::Rows;
 use mpm_base::{Moment, Shape};
 use std::marker::Model;
 
