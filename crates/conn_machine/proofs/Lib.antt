@@ -1,2 +1,3 @@
-pub mod CellLemmas
-pub mod RowLemmas
+pub mod ChildLemmas
+pub mod ListLemmas
+pub mod RunLemmas

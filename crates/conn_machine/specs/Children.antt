@@ -1,5 +1,5 @@
 -- The children, and the numbers of a generation.
-use Rattle.std.specs.Prelude.{ℕ, zero, suc, Bool, true, false, ◌&&◌, List, [], ◌∷◌, map, count_by, nat_le, if◌then◌else◌, slice_index_or}
+use Rattle.std.specs.Prelude.{ℕ, Bool, true, false, ◌&&◌, List, map, count_by, nat_le, if◌then◌else◌, slice_index_or}
 use Rattle.mpm_base.specs.declared.shape.Shape.{Shape}
 use Rattle.conn_machine.specs.declared.child.ChildPhase.{ChildPhase}
 use Rattle.conn_machine.specs.declared.child.ChildPhase.TheVariants.{Empty, Running, Stopping}
@@ -32,31 +32,25 @@ no_child = record { phase = Empty; generation = 0; shape = no_shape }
 abbrev pub child_at : List Child → ℕ → Child
 child_at children k = slice_index_or children k no_child
 
--- the children with the one of that number changed
-abbrev pub update_child : List Child → ℕ → (Child → Child) → List Child
-update_child [] k change = []
-update_child (c ∷ children) zero change = change c ∷ children
-update_child (c ∷ children) (suc k) change = c ∷ update_child children k change
-
--- a running child stops to take connections
-abbrev pub stopped : Child → Child
-stopped c = if is_running c.phase then record c { phase = Stopping } else c
+-- a child that ran takes no more connections
+abbrev pub stopped_child : Child → Child
+stopped_child c = if is_running c.phase then record c { phase = Stopping } else c
 
 -- no child takes connections any more
 abbrev pub all_stopped : List Child → List Child
-all_stopped children = map stopped children
+all_stopped children = map stopped_child children
 
 -- how many children run
 abbrev pub running_count : List Child → ℕ
 running_count children = count_by (λ c. is_running c.phase) children
 
 -- the child begins to take connections
-abbrev pub started : ℕ → Shape → Child → Child
-started generation shape c = record { phase = Running; generation = generation; shape = shape }
+abbrev pub started_child : ℕ → Shape → Child → Child
+started_child generation shape c = record { phase = Running; generation = generation; shape = shape }
 
 -- the child is gone
-abbrev pub retired : Child → Child
-retired c = record c { phase = Empty; shape = record c.shape { threads = 0 } }
+abbrev pub retired_child : Child → Child
+retired_child c = record c { phase = Empty; shape = record c.shape { threads = 0 } }
 
 -- the number lies between the two
 abbrev pub within : ℕ → ℕ → ℕ → Bool

@@ -1,4 +1,5 @@
 pub mod Children
+pub mod Lists
 pub mod Rows
 pub mod Runs
 pub mod States

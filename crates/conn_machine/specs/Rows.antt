@@ -1,7 +1,7 @@
 -- The rows of the table: what is said of one, how many of a child's are so and so, and a change of one.
-use Rattle.std.specs.Prelude.{◌==◌, ℕ, zero, suc, Bool, true, false, not, ◌&&◌, ◌||◌, List, [], ◌∷◌, count_by, length, if◌then◌else◌, is_some, slice_get, Option, None, Some}
+use Rattle.std.specs.Prelude.{◌==◌, ℕ, Bool, true, false, not, ◌&&◌, ◌||◌, List, count_by, length, if◌then◌else◌, is_some, slice_get, Option, None, Some, unwrap_or, find}
 use Rattle.std.specs.Option.{option_map_or}
-use Rattle.std.specs.List.{list_any}
+use Rattle.std.specs.List.{list_any, range_with_len}
 use Rattle.mpm_base.specs.declared.conn.ConnName.{ConnName}
 use Rattle.mpm_base.specs.declared.conn.Kind.{Kind}
 use Rattle.mpm_base.specs.declared.conn.Kind.TheVariants.{Reading, KeepAlive, Writing, Linger, ShortLinger}
@@ -135,12 +135,6 @@ live_row rows name = row_where (is_named name) (slice_get rows name.slot)
 abbrev pub lives_and : (Row → Bool) → List Row → ConnName → Bool
 lives_and test rows name = option_map_or test (live_row rows name) false
 
--- the rows with the row of the slot changed
-abbrev pub update : List Row → ℕ → (Row → Row) → List Row
-update [] slot change = []
-update (r ∷ rows) zero change = change r ∷ rows
-update (r ∷ rows) (suc slot) change = r ∷ update rows slot change
-
 -- ## Counts
 
 -- a worker of the child has the row, or will
@@ -171,7 +165,6 @@ is_served_in k c r = r.child == k && is_in_cell c r.place
 abbrev pub is_free_cell : List Row → ℕ → ℕ → Bool
 is_free_cell rows k c = not (list_any (is_served_in k c) rows)
 
--- the lowest free cell of the child from c on, among the next so many; the one behind them where none is free
-abbrev pub free_cell_from : List Row → ℕ → ℕ → ℕ → ℕ
-free_cell_from rows k c zero = c
-free_cell_from rows k c (suc many) = if is_free_cell rows k c then c else free_cell_from rows k (suc c) many
+-- the lowest free cell of the child below the number, or that number where none is free
+abbrev pub lowest_free_cell : List Row → ℕ → ℕ → ℕ
+lowest_free_cell rows k threads = unwrap_or (find (is_free_cell rows k) (range_with_len 0 threads)) threads

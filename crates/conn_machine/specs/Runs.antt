@@ -1,5 +1,6 @@
 -- Histories of the machine: runs of the event table, the order of each pass's entries, and what a pass may add.
-use Rattle.std.specs.Prelude.{◌≡◌, ◌==◌, ℕ, zero, suc, ◌+◌, ◌*◌, Bool, true, false, ◌&&◌, List, [], ◌∷◌, ◌++◌, length, map, filter, fold, count_by, nat_le, Option, None, Some, is_none}
+use Rattle.std.specs.Prelude.{◌≡◌, ◌==◌, ℕ, ◌+◌, ◌*◌, Bool, true, false, ◌&&◌, List, [], ◌∷◌, ◌++◌, length, map, filter, fold, count_by, nat_le, Option, None, Some, is_none, ⊤}
+use Rattle.std.specs.List.{range_with_len}
 use Rattle.std.specs.Option.{option_map_or}
 use Rattle.mpm_base.specs.declared.conn.ConnName.{ConnName}
 use Rattle.conn_machine.specs.declared.event.Why.TheVariants as why
@@ -22,7 +23,7 @@ after s (e ∷ entries) = after (next s e.event) entries
 
 -- from the state on, each entry's event is allowed where it stands, and has its reply
 abbrev pub Run : State → List Entry → Type 0
-Run s [] = Unit {0}
+Run s [] = ⊤
 Run s (e ∷ entries) = (allowed s e.event ≡ true) × (e.reply ≡ reply s e.event) × Run (next s e.event) entries
 
 -- ## The order of a pass
@@ -34,15 +35,10 @@ is_of_pass p e = e.pass == p
 abbrev pub entries_of : ℕ → List Entry → List Entry
 entries_of p history = filter (is_of_pass p) history
 
--- the numbers below this one, in order
-abbrev pub first_numbers : ℕ → List ℕ
-first_numbers zero = []
-first_numbers (suc n) = first_numbers n ++ n ∷ []
-
 -- the entries of the pass are numbered 0, 1, 2 and so on, in the order of the history
 abbrev pub IsNumbered : ℕ → List Entry → Type 0
 IsNumbered p history =
-    map (λ e. e.ordinal) (entries_of p history) ≡ first_numbers (length (entries_of p history))
+    map (λ e. e.ordinal) (entries_of p history) ≡ range_with_len 0 (length (entries_of p history))
 
 -- so are the entries of each pass
 abbrev pub IsInPassOrder : List Entry → Type 0
@@ -89,19 +85,19 @@ taken_name (Noted last) = None
 
 -- the connection that the pass has after an entry of its own, where it had this one before
 abbrev pub has_after : Option ConnName → Event → Reply → Option ConnName
-has_after had (event.Accept slot) reply = taken_name reply
-has_after had (event.Park name kind) reply = None
-has_after had (event.Hold name) reply = Some name
-has_after had (event.Queue name) reply = Some name
-has_after had (event.Start name) reply = had
-has_after had (event.Answer name ask) reply = had
-has_after had (event.Linger name cause) reply = None
-has_after had (event.Close name cause tail) reply = None
-has_after had (event.Ready slot) reply = had
-has_after had (event.Tick m) reply = had
-has_after had (event.StartChild k) reply = had
-has_after had (event.Command c) reply = had
-has_after had (event.Retire k) reply = had
+has_after had (event.Accept slot) answer = taken_name answer
+has_after had (event.Park name kind) answer = None
+has_after had (event.Hold name) answer = Some name
+has_after had (event.Queue name) answer = Some name
+has_after had (event.Start name) answer = had
+has_after had (event.Answer name ask) answer = had
+has_after had (event.Linger name cause) answer = None
+has_after had (event.Close name cause tail) answer = None
+has_after had (event.Ready slot) answer = had
+has_after had (event.Tick m) answer = had
+has_after had (event.StartChild k) answer = had
+has_after had (event.Command c) answer = had
+has_after had (event.Retire k) answer = had
 
 -- the connection that the pass has in the end
 abbrev pub row_of : ℕ → List Entry → Option ConnName
@@ -152,7 +148,7 @@ pub record IsNextOf (p : ℕ) (base : State) (history : List Entry) (e : Entry) 
 
 -- after the history, the pass may make these entries, one after the other
 abbrev pub AreEntriesOf : ℕ → State → List Entry → List Entry → Type 0
-AreEntriesOf p base history [] = Unit {0}
+AreEntriesOf p base history [] = ⊤
 AreEntriesOf p base history (e ∷ added) = IsNextOf p base history e × AreEntriesOf p base (history ++ e ∷ []) added
 
 -- the history went on by entries of the pass

@@ -46,9 +46,9 @@ is_signalled s slot = slice_index_or s.signals slot false
 abbrev pub child_of : State → Row → Child
 child_of s r = child_at s.children r.child
 
--- the workers of the child of that number that carry nothing
-abbrev pub idle_count : State → ℕ → ℕ
-idle_count s k = (child_at s.children k).shape.threads - carried s.rows k
+-- the workers of the child that carry nothing
+abbrev pub idle_count : State → ℕ × Child → ℕ
+idle_count s p = p.1.shape.threads - carried s.rows p.0
 
 -- what the choice of a child looks at: it must run and be of the newest generation
 abbrev pub child_count : State → ℕ × Child → ChildCount
@@ -58,7 +58,7 @@ child_count s p =
       running = is_running p.1.phase && p.1.generation == s.newest;
       t = p.1.shape.threads;
       factor = p.1.shape.factor;
-      idle = p.1.shape.threads - carried s.rows p.0;
+      idle = idle_count s p;
       count = open_count s.rows p.0;
     }
 

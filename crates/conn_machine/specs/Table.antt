@@ -28,26 +28,31 @@ use Rattle.conn_machine.specs.declared.event.Reply.{Reply}
 use Rattle.conn_machine.specs.declared.event.Reply.TheVariants.{Done, Took, Cell, Noted}
 use Rattle.conn_machine.specs.declared.state.Going.TheVariants.{Ending, Halted}
 use Rattle.conn_machine.specs.declared.state.State.{State}
-use Rattle.conn_machine.specs.Rows.{is_vacant, is_held, is_parked, is_queued, is_working, in_phase, is_from, is_live, is_lingering, is_live_in, has_note, row_passes, lives_and, update, carried, free_cell_from}
-use Rattle.conn_machine.specs.Children.{is_empty, is_running, is_stopping, child_at, update_child, all_stopped, running_count, started, retired, is_in_bounds}
+use Rattle.conn_machine.specs.Lists.{update}
+use Rattle.conn_machine.specs.Rows.{is_vacant, is_held, is_parked, is_queued, is_working, in_phase, is_from, is_live, is_lingering, is_live_in, has_note, row_passes, lives_and, carried, lowest_free_cell}
+use Rattle.conn_machine.specs.Children.{is_empty, is_running, is_stopping, child_at, all_stopped, running_count, started_child, retired_child, is_in_bounds}
 use Rattle.conn_machine.specs.States.{greatest_moment, later, is_serving, is_halted, is_over, is_signalled, child_of, pick_child, is_overdue}
 
 -- ## Accept: a connection is taken into a vacant slot, for the child that the rule of admission names
 
+-- the slot exists and is vacant
+abbrev pub is_vacant_at : State → ℕ → Bool
+is_vacant_at s slot = row_passes (λ r. is_vacant r.place) s.rows slot
+
 abbrev pub may_accept : State → ℕ → Bool
-may_accept s slot = is_serving s.going && row_passes (λ r. is_vacant r.place) s.rows slot && is_some (pick_child s)
+may_accept s slot = is_serving s.going && is_vacant_at s slot && is_some (pick_child s)
 
 -- the child that the next connection is for; one that takes none where there is none
-abbrev pub picked : State → ℕ
-picked s = unwrap_or (pick_child s) 0
+abbrev pub picked_child : State → ℕ
+picked_child s = unwrap_or (pick_child s) 0
 
-abbrev pub taken : State → Row → Row
-taken s r =
+abbrev pub taken_row : State → Row → Row
+taken_row s r =
     record {
       life = r.life;
       arrival = s.accepted;
-      child = picked s;
-      generation = (child_at s.children (picked s)).generation;
+      child = picked_child s;
+      generation = (child_at s.children (picked_child s)).generation;
       place = Held;
       from = None;
       deadline = r.deadline;
@@ -61,7 +66,7 @@ taken s r =
 abbrev pub after_accept : State → ℕ → State
 after_accept s slot =
     record s {
-      rows = update s.rows slot (taken s);
+      rows = update s.rows slot (taken_row s);
       signals = slice_set s.signals slot false;
       accepted = next_count s.accepted;
     }
@@ -70,9 +75,9 @@ after_accept s slot =
 abbrev pub life_at : List Row → ℕ → ℕ
 life_at rows slot = option_map_or (λ r. r.life) (slice_get rows slot) 0
 
-abbrev pub took : State → ℕ → Reply
-took s slot =
-    Took (record { slot = slot; life = life_at s.rows slot }) (picked s) (child_at s.children (picked s)).generation
+abbrev pub taken_reply : State → ℕ → Reply
+taken_reply s slot =
+    Took (record { slot = slot; life = life_at s.rows slot }) (picked_child s) (child_at s.children (picked_child s)).generation
 
 -- ## Park: a connection waits
 
@@ -103,19 +108,19 @@ mid_after Writing r = r.mid
 mid_after Linger r = r.mid
 mid_after ShortLinger r = r.mid
 
-abbrev pub parked : State → Kind → Row → Row
-parked s kind r =
+abbrev pub parked_row : State → Kind → Row → Row
+parked_row s kind r =
     record r { place = Parked kind; from = Some kind; deadline = wait_until s kind r; mid = mid_after kind r }
 
 abbrev pub after_park : State → ConnName → Kind → State
-after_park s name kind = record s { rows = update s.rows name.slot (parked s kind) }
+after_park s name kind = record s { rows = update s.rows name.slot (parked_row s kind) }
 
--- ## Hold: the listener takes a connection that it has to close
+-- ## Hold: the listener takes a connection, to close it or to drain it
 
--- the row waits, and its time is over; or its generation was replaced and nothing came; or something came while it
--- lingers; or the server stopped
-abbrev pub must_be_held : State → Bool → Row → Bool
-must_be_held s signalled r =
+-- the row waits, and its time is over; or its child stops and nothing came; or something came while it lingers; or the
+-- server stopped
+abbrev pub may_be_held : State → Bool → Row → Bool
+may_be_held s signalled r =
     is_parked r.place
     && (nat_le r.deadline s.moment
     || (is_from KeepAlive r && is_stopping (child_of s r).phase && not signalled)
@@ -123,10 +128,10 @@ must_be_held s signalled r =
     || is_halted s.going)
 
 abbrev pub may_hold : State → ConnName → Bool
-may_hold s name = lives_and (must_be_held s (is_signalled s name.slot)) s.rows name
+may_hold s name = lives_and (may_be_held s (is_signalled s name.slot)) s.rows name
 
-abbrev pub held : Row → Row
-held r = record r { place = Held }
+abbrev pub held_row : Row → Row
+held_row r = record r { place = Held }
 
 -- the signal of a lingering row goes
 abbrev pub signal_after_hold : State → ℕ → Bool
@@ -135,7 +140,7 @@ signal_after_hold s slot = is_signalled s slot && not (row_passes is_lingering s
 abbrev pub after_hold : State → ConnName → State
 after_hold s name =
     record s {
-      rows = update s.rows name.slot held;
+      rows = update s.rows name.slot held_row;
       signals = slice_set s.signals name.slot (signal_after_hold s name.slot);
     }
 
@@ -149,12 +154,12 @@ abbrev pub may_queue : State → ConnName → Bool
 may_queue s name =
     not (is_halted s.going) && is_signalled s name.slot && lives_and (may_be_queued s) s.rows name
 
-abbrev pub queued : Row → Row
-queued r = record r { place = Queued }
+abbrev pub queued_row : Row → Row
+queued_row r = record r { place = Queued }
 
 abbrev pub after_queue : State → ConnName → State
 after_queue s name =
-    record s { rows = update s.rows name.slot queued; signals = slice_set s.signals name.slot false }
+    record s { rows = update s.rows name.slot queued_row; signals = slice_set s.signals name.slot false }
 
 -- ## Start: a worker begins to serve
 
@@ -163,18 +168,18 @@ may_start s name = lives_and (λ r. is_queued r.place) s.rows name
 
 -- the lowest free cell of the row's child
 abbrev pub cell_for : State → Row → ℕ
-cell_for s r = free_cell_from s.rows r.child 0 (child_of s r).shape.threads
+cell_for s r = lowest_free_cell s.rows r.child (child_of s r).shape.threads
 
 -- a worker goes on to send where a response was begun, and else reads
 abbrev pub phase_at_start : Row → Phase
 phase_at_start r =
     if is_from Writing r && r.mid then (if r.last then phase.Close else phase.Write) else phase.Read
 
-abbrev pub served : State → Row → Row
-served s r = record r { place = Working (cell_for s r) (phase_at_start r) }
+abbrev pub served_row : State → Row → Row
+served_row s r = record r { place = Working (cell_for s r) (phase_at_start r) }
 
 abbrev pub after_start : State → ConnName → State
-after_start s name = record s { rows = update s.rows name.slot (served s) }
+after_start s name = record s { rows = update s.rows name.slot (served_row s) }
 
 abbrev pub cell_at : State → ℕ → ℕ
 cell_at s slot = option_map_or (cell_for s) (slice_get s.rows slot) 0
@@ -191,6 +196,7 @@ is_last_for s ask r =
     ask.asked_close || ask.refused || length r.notes + 1 == (child_of s r).shape.most
     || not (child_of s r).shape.keep || not (is_running (child_of s r).phase)
 
+-- no response is the status page yet
 abbrev pub note_for : State → Ask → Row → Note
 note_for s ask r =
     record {
@@ -212,11 +218,11 @@ with_note note short r =
       notes = r.notes ++ note ∷ [];
     }
 
-abbrev pub answered : State → Ask → Row → Row
-answered s ask r = with_note (note_for s ask r) ask.refused r
+abbrev pub answered_row : State → Ask → Row → Row
+answered_row s ask r = with_note (note_for s ask r) ask.refused r
 
 abbrev pub after_answer : State → ConnName → Ask → State
-after_answer s name ask = record s { rows = update s.rows name.slot (answered s ask) }
+after_answer s name ask = record s { rows = update s.rows name.slot (answered_row s ask) }
 
 abbrev pub noted_at : State → ℕ → Ask → Bool
 noted_at s slot ask = option_map_or (is_last_for s ask) (slice_get s.rows slot) false
@@ -251,8 +257,8 @@ linger_ms r = if r.short then 2000 else 30000
 abbrev pub linger_kind : Row → Kind
 linger_kind r = if r.short then ShortLinger else Linger
 
-abbrev pub lingering : State → Cause → Row → Row
-lingering s why r =
+abbrev pub lingering_row : State → Cause → Row → Row
+lingering_row s why r =
     record r {
       place = Parked (linger_kind r);
       from = Some (linger_kind r);
@@ -265,7 +271,7 @@ lingering s why r =
 abbrev pub after_linger : State → ConnName → Cause → State
 after_linger s name why =
     record s {
-      rows = update s.rows name.slot (lingering s why);
+      rows = update s.rows name.slot (lingering_row s why);
       signals = slice_set s.signals name.slot true;
     }
 
@@ -328,15 +334,15 @@ may_close s name why how =
 abbrev pub greatest_life : ℕ
 greatest_life = 4294967295
 
-abbrev pub closed : Row → Row
-closed r =
+abbrev pub closed_row : Row → Row
+closed_row r =
     if r.life == greatest_life
     then record r { place = Spent; notes = [] }
     else record r { life = r.life + 1; place = Vacant; notes = [] }
 
 abbrev pub after_close : State → ConnName → State
 after_close s name =
-    record s { rows = update s.rows name.slot closed; signals = slice_set s.signals name.slot false }
+    record s { rows = update s.rows name.slot closed_row; signals = slice_set s.signals name.slot false }
 
 -- ## Ready: something may have come for a slot
 
@@ -367,13 +373,13 @@ may_start_child s k =
     && nat_lt (running_count s.children) s.shape.children
 
 abbrev pub after_start_child : State → ℕ → State
-after_start_child s k = record s { children = update_child s.children k (started s.newest s.shape) }
+after_start_child s k = record s { children = update s.children k (started_child s.newest s.shape) }
 
 abbrev pub may_retire : State → ℕ → Bool
 may_retire s k = child_passes (λ c. is_stopping c.phase) s k && not (list_any (is_live_in k) s.rows)
 
 abbrev pub after_retire : State → ℕ → State
-after_retire s k = record s { children = update_child s.children k retired }
+after_retire s k = record s { children = update s.children k retired_child }
 
 -- ## Command
 
@@ -448,7 +454,7 @@ next s (event.Retire k) = after_retire s k
 
 -- the reply to the event
 abbrev pub reply : State → Event → Reply
-reply s (event.Accept slot) = took s slot
+reply s (event.Accept slot) = taken_reply s slot
 reply s (event.Park name kind) = Done
 reply s (event.Hold name) = Done
 reply s (event.Queue name) = Done
@@ -461,3 +467,19 @@ reply s (event.Tick m) = Done
 reply s (event.StartChild k) = Done
 reply s (event.Command c) = Done
 reply s (event.Retire k) = Done
+
+-- doing the event takes memory: a response is noted
+abbrev pub takes_memory : Event → Bool
+takes_memory (event.Accept slot) = false
+takes_memory (event.Park name kind) = false
+takes_memory (event.Hold name) = false
+takes_memory (event.Queue name) = false
+takes_memory (event.Start name) = false
+takes_memory (event.Answer name ask) = true
+takes_memory (event.Linger name why) = false
+takes_memory (event.Close name why how) = false
+takes_memory (event.Ready slot) = false
+takes_memory (event.Tick m) = false
+takes_memory (event.StartChild k) = false
+takes_memory (event.Command c) = false
+takes_memory (event.Retire k) = false

@@ -1,5 +1,6 @@
 //! The events of the machine, their replies, and the entries of a history.
 use mpm_base::{Ask, Cause, ConnName, Kind, Moment, Shape, Tail};
+use std::mem::size_of;
 
 /// Why the server stopped.
 #[derive(Clone, Copy, Debug, PartialEq, Eq)]
@@ -102,3 +103,6 @@ pub struct Entry {
     pub event: Event,
     pub reply: Reply,
 }
+
+// A history of four million entries is kept in memory.
+const _: () = prove!(size_of::<Entry>() <= 96);

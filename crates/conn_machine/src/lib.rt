@@ -1,4 +1,4 @@
-//! The connection machine: what one thread does to the table of connections, event by event.
+//! The connection machine: what is done to the table of connections, event by event, as one thread would do it.
 //!
 //! A `State` is the table; the event table says which event is allowed in it, and what it does and replies.
 //! It is one definition, `allowed`, `next` and `reply` in `specs/Table.antt`, on one list of rows whose counts
@@ -8,15 +8,19 @@
 
 mod changes;
 mod child;
+mod conditions;
 mod event;
 mod kept;
 mod row;
 mod rows;
 mod state;
+mod stepping;
 
 pub use child::{Child, ChildPhase, Children};
+pub use conditions::{is_in_bounds, may};
 pub use event::{Commanded, Entry, Event, Refusal, Reply, Why};
 pub use kept::Kept;
 pub use row::{Phase, Place, Row};
 pub use rows::Rows;
 pub use state::{Going, Signals, State};
+pub use stepping::step;

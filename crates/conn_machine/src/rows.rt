@@ -1,10 +1,9 @@
 //! The list of rows, its counts, and a change of one row.
-ghost use Rattle.std.specs.Prelude.{◌≡◌, ◌==◌, ◌≤◌, ◌<◌, Some, length, replicate, IfOk, IfSome, OnSome, slice_get};
-ghost use Rattle.std.specs.List.{list_any};
+ghost use Rattle.std.specs.Prelude.{◌≡◌, ◌==◌, ◌≤◌, ◌<◌, Some, length, replicate, IfOk, IfSome, OnSome, find, slice_get};
+ghost use Rattle.std.specs.List.{list_any, range_with_len};
 ghost use Rattle.std.specs.Option.{option_copied};
 ghost use Rattle.conn_machine.specs.Rows as spec;
 ghost use Rattle.conn_machine.specs.States.{unused_row};
-
 
 use crate::row::Row;
 use mpm_base::{ConnName, NoMemory};
@@ -109,15 +108,17 @@ impl Rows {
         self.items.iter().any(|row| row.is_served_in(child, cell))
     }
 
-    /// The lowest free cell of the child among the first so many, or that many where none is free.
-    pub fn free_cell(&self, child: u32, threads: u32) -> u32
-        ensures { result ≡ spec.free_cell_from self.now child 0 threads }
+    /// The lowest free cell of the child below the number, where there is one.
+    fn free_cell(&self, child: u32, threads: u32) -> Option<u32>
+        ensures { result ≡ find (spec.is_free_cell self.now child) (range_with_len 0 threads) }
     {
-        for cell in 0..threads {
-            if !self.is_served(child, cell) {
-                return cell;
-            }
-        }
-        threads
+        (0..threads).find(|cell| !self.is_served(child, *cell))
+    }
+
+    /// The lowest free cell of the child below the number, or that number where none is free.
+    pub fn lowest_free_cell(&self, child: u32, threads: u32) -> u32
+        ensures { result ≡ spec.lowest_free_cell self.now child threads }
+    {
+        self.free_cell(child, threads).unwrap_or(threads)
     }
 }

@@ -1,5 +1,5 @@
 -- A sink takes the bytes of an output.
-use Rattle.std.specs.Prelude.{◌≡◌, ℕ, ◌<◌, ◌≤◌, Bool, true, false, List, ◌++◌, take, length, Option, option_map, ⊤}
+use Rattle.std.specs.Prelude.{◌≡◌, ℕ, ◌<◌, ◌≤◌, Bool, true, false, List, [], ◌++◌, take, length, Option, option_map, ⊤}
 use Rattle.mpm_base.specs.Count.{RisesWhere}
 use Rattle.mpm_base.specs.declared.sink.Put.{Put}
 use Rattle.mpm_base.specs.declared.sink.Put.TheVariants as put
@@ -7,7 +7,7 @@ use Rattle.mpm_base.specs.declared.sink.Put.TheVariants as put
 -- the bytes of the piece that the write took
 abbrev pub put_bytes : Put → List ℕ → List ℕ
 put_bytes (put.Put n) bytes = take n bytes
-put_bytes put.Failed bytes = take 0 bytes
+put_bytes put.Failed bytes = []
 
 -- at least one byte of a piece that isn't empty was taken, and never more than it has
 abbrev pub FitsOutput : Put → ℕ → Type 0

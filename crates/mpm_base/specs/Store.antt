@@ -1,4 +1,4 @@
--- A store is a folder of files by name, which may change at a call of `renew`.
+-- A store is a folder of files by name. Where it tells them, they change at a call of `renew` alone.
 use Rattle.std.specs.Prelude.{◌≡◌, ℕ, ◌<◌, ◌≤◌, Bool, true, false, List, [], ◌∷◌, ◌++◌, map, filter, length, All, IsUtf8, nat_eq, if◌then◌else◌, IfSome, Option, None, Some, option_map, Result, Ok, Err, ⊤}
 use Rattle.std.specs.List.{starts_with}
 use Rattle.std.specs.Str.{bytes_eq}

@@ -9,20 +9,20 @@ pub type Moment = u64;
 pub struct ConnName {
     /// The slot, from 0.
     pub slot: u32,
-    /// The use number of the slot, from 0. It rises each time that a connection leaves the slot.
+    /// The use number of the slot, from 0: how many connections had the slot before.
     pub life: u32,
 }
 
 /// What a parked connection waits for. Each kind has its own timeout.
 #[derive(Clone, Copy, Debug, PartialEq, Eq)]
 pub enum Kind {
-    /// The rest of a request, for Timeout.
+    /// A request, or the rest of one, for Timeout.
     Reading,
     /// A further request, for KeepAliveTimeout.
     KeepAlive,
     /// Room to write, for Timeout.
     Writing,
-    /// The client's close after the last response, for 30 seconds.
+    /// The client's close after its service ended, for 30 seconds.
     Linger,
     /// The same after a refused request, for 2 seconds.
     ShortLinger,
@@ -31,17 +31,17 @@ pub enum Kind {
 /// Why the service of a connection ended.
 #[derive(Clone, Copy, Debug, PartialEq, Eq)]
 pub enum Cause {
-    /// The client closed its side and owed nothing.
+    /// The client sends no more, and each whole request was answered.
     ClientDone,
     /// The last response was sent whole.
     LastSent,
     /// No further request came within KeepAliveTimeout.
     KeepAliveLate,
-    /// The rest of a request did not come within Timeout.
+    /// A request, or the rest of one, did not come within Timeout.
     ReadLate,
     /// There was no room to write for Timeout.
     WriteLate,
-    /// Its generation was replaced while it waited for a further request.
+    /// Its child stopped to take connections while it waited for a further request.
     Retiring,
     /// A call of the link failed.
     LinkFailed,

@@ -1,5 +1,4 @@
-//! What every other crate of the server speaks of: the names and notes of connections, the outside, and
-//! the outside's stand-ins for tests and scripts.
+//! What the crates of the server speak of: the names and notes of connections, and the outside.
 //!
 //! The traits `Store`, `Sink` and `Link` say what the machine may rely on of a folder of files, of an
 //! output and of a connection's socket: what was read and written, where the object tells it, and when a

@@ -1,5 +1,5 @@
 //! A connection's way to its client.
-ghost use Rattle.std.specs.Prelude.{Option, ◌≡◌};
+ghost use Rattle.std.specs.Prelude.{Option};
 
 /// What a read of a link answers.
 #[derive(Clone, Copy, Debug, PartialEq, Eq)]
@@ -35,7 +35,7 @@ pub trait Link: Drop {
     /// What was received and sent, and whether the link was half-closed or closed.
     ghost told: { Self → Option LinkTold };
 
-    /// How often calls failed, were not ready, and found the end.
+    /// Counts of faults, of calls that were not ready, and of reads that found the end. None ever falls.
     ghost counts: { Self → LinkCounts };
 
     /// Reads into the front of the buffer.

@@ -1,5 +1,5 @@
 //! What the table notes of a response when it is decided, and what a status page shows.
-ghost use Rattle.std.specs.Prelude.{◌≡◌, ◌==◌, [], ◌∷◌, ◌++◌, ◌-◌, length, OnOk, OnErr, slice_get, option_map};
+ghost use Rattle.std.specs.Prelude.{◌≡◌, ◌==◌, [], ◌∷◌, ◌++◌, ◌<◌, ◌^◌, length, OnOk, OnErr, slice_get, option_map};
 
 use crate::memory::NoMemory;
 use crate::octets::Octets;
@@ -23,7 +23,7 @@ pub struct Snapshot {
     pub keep_alive: u32,
     /// Connections in closing.
     pub closing: u32,
-    /// One letter for each worker.
+    /// One letter for each worker that a child has or may have.
     pub letters: Octets,
 }
 
@@ -38,7 +38,7 @@ pub struct Note {
     pub last: bool,
     /// Its status code (RFC 9110, section 15).
     pub code: u16,
-    /// What the status page shows, where the response is one.
+    /// What the status page shows, where the response is one. There is no such response yet.
     pub page: Option<Snapshot>,
 }
 
@@ -87,7 +87,8 @@ impl Notes {
 
     /// How many notes there are.
     pub fn len(&self) -> usize
-        ensures { result ≡ length self.now }
+        ensures is { result ≡ length self.now }
+        ensures small { result < 2 ^ 63 }
     {
         self.items.len()
     }

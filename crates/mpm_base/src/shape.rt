@@ -1,6 +1,4 @@
 //! The numbers of a generation that the table works by.
-use crate::conn::Moment;
-
 /// What the table knows of a generation's configuration.
 #[derive(Clone, Copy, Debug, PartialEq, Eq)]
 pub struct Shape {
@@ -9,9 +7,9 @@ pub struct Shape {
     /// AsyncRequestWorkerFactor in hundredths, 1 to 10,000.
     pub factor: u32,
     /// Timeout in milliseconds, 1,000 to 65,535,000: for the rest of a request, and for room to write.
-    pub read_ms: Moment,
+    pub read_ms: u64,
     /// KeepAliveTimeout in milliseconds, 1 to 65,535,000.
-    pub keep_ms: Moment,
+    pub keep_ms: u64,
     /// KeepAlive: whether a connection may have more than one response.
     pub keep: bool,
     /// MaxKeepAliveRequests: responses of one connection, 1 to 65,535.

@@ -17,7 +17,7 @@ pub trait Sink {
     /// The bytes written, where the object tells them.
     ghost told: { Self → Option (List ℕ) };
 
-    /// How many calls failed. It never falls, and stays at its greatest number.
+    /// A count of faults, which rises where a call fails and never falls.
     ghost faults: { Self → ℕ };
 
     /// Writes from the front of the piece.

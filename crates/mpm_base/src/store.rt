@@ -91,14 +91,14 @@ pub enum StoreFault {
     NoMemory,
 }
 
-/// A folder of files by name. Its files change at a call of `renew` alone.
+/// A folder of files by name. Where it tells its files, they change at a call of `renew` alone.
 pub trait Store {
     ghost use Rattle.mpm_base.specs.Store.{StoreTold, StoreCounts, Renews, ListsNames, ReadsFile};
 
     /// The files, where the object tells them.
     ghost told: { Self → Option StoreTold };
 
-    /// How often calls failed, and were refused for what the files are.
+    /// Counts of faults, and of refusals for what the files are. None ever falls.
     ghost counts: { Self → StoreCounts };
 
     /// Goes to the next edition of the files, or keeps the last one.

@@ -1,0 +1,84 @@
+-- A history that goes on by one entry.
+use Rattle.std.proofs.Common.{◌≡◌, ℕ, zero, suc, ◌+◌, Bool, true, false, List, [], ◌∷◌, ◌++◌, length, filter, refl, sym, ap, subst, ◌∙◌, add-zero, length-append, append-nil, arith}
+use Rattle.std.proofs.lemmas.List.{map-append}
+use Rattle.std.proofs.lemmas.List.Elements.{filter-append}
+use Rattle.std.proofs.lemmas.Bool.{eqb-true}
+use Rattle.std.specs.List.{range_with_len}
+use Rattle.conn_machine.specs.declared.event.Entry.{Entry}
+use Rattle.conn_machine.specs.declared.state.State.{State}
+use Rattle.conn_machine.specs.Table.{allowed, next, reply}
+use Rattle.conn_machine.specs.Runs.{after, Run, is_of_pass, entries_of, IsNumbered, IsInPassOrder, IsHistory}
+
+pub after-snoc : (s : State) (history : List Entry) (e : Entry) → after s (history ++ e ∷ []) ≡ next (after s history) e.event
+after-snoc s [] e = refl
+after-snoc s (x ∷ history) e = after-snoc (next s x.event) history e
+
+pub run_snoc : (s : State) (history : List Entry) (e : Entry) → Run s history
+    → allowed (after s history) e.event ≡ true → e.reply ≡ reply (after s history) e.event → Run s (history ++ e ∷ [])
+run_snoc s [] e run is_allowed replied = (is_allowed, replied, tt)
+run_snoc s (x ∷ history) e run is_allowed replied = (run.0, run.1, run_snoc (next s x.event) history e run.2 is_allowed replied)
+
+-- an entry of the pass is its last
+pub entries_of-own : (p : ℕ) (history : List Entry) (e : Entry) → is_of_pass p e ≡ true
+    → entries_of p (history ++ e ∷ []) ≡ entries_of p history ++ e ∷ []
+entries_of-own p history e own =
+    let last : filter (is_of_pass p) (e ∷ []) ≡ e ∷ [] = rw own refl in
+    filter-append (is_of_pass p) history (e ∷ []) ∙ ap (λ xs. entries_of p history ++ xs) last
+
+-- an entry of another pass changes nothing for the pass
+pub entries_of-other : (p : ℕ) (history : List Entry) (e : Entry) → is_of_pass p e ≡ false
+    → entries_of p (history ++ e ∷ []) ≡ entries_of p history
+entries_of-other p history e other =
+    let last : filter (is_of_pass p) (e ∷ []) ≡ [] = rw other refl in
+    filter-append (is_of_pass p) history (e ∷ []) ∙ ap (λ xs. entries_of p history ++ xs) last ∙ append-nil (entries_of p history)
+
+-- the numbers of a list that is one longer
+range_with_len-snoc : (a n : ℕ) → range_with_len a (n + 1) ≡ range_with_len a n ++ (a + n) ∷ []
+range_with_len-snoc a zero = rw add-zero refl
+range_with_len-snoc a (suc n) =
+    let e : a + 1 + n ≡ a + suc n = omega arith in
+    let s : suc n + 1 ≡ suc (n + 1) = omega arith in
+    let step : range_with_len (a + 1) (n + 1) ≡ range_with_len (a + 1) n ++ (a + 1 + n) ∷ [] = range_with_len-snoc (a + 1) n in
+    let step' = subst (λ (m : ℕ). range_with_len (a + 1) (n + 1) ≡ range_with_len (a + 1) n ++ m ∷ []) e step in
+    rw s (ap (λ (xs : List ℕ). a ∷ xs) step')
+
+-- the entries of a pass stay numbered, where the new one has the next number
+numbered-own : (p : ℕ) (history : List Entry) (e : Entry) → IsNumbered p history → is_of_pass p e ≡ true
+    → e.ordinal ≡ length (entries_of p history) → IsNumbered p (history ++ e ∷ [])
+numbered-own p history e before own ordinal =
+    let mine = entries_of p history in
+    let len : length (mine ++ e ∷ []) ≡ length mine + 1 = length-append mine (e ∷ []) in
+    let numbers : range_with_len 0 (length (mine ++ e ∷ [])) ≡ range_with_len 0 (length mine) ++ (0 + length mine) ∷ [] =
+    ap (range_with_len 0) len ∙ range_with_len-snoc 0 (length mine) in
+    let zero_add : 0 + length mine ≡ length mine = omega arith in
+    rw (entries_of-own p history e own)
+    (map-append (λ (x : Entry). x.ordinal) mine (e ∷ [])
+    ∙ ap (λ (xs : List ℕ). xs ++ e.ordinal ∷ []) before
+    ∙ ap (λ (n : ℕ). range_with_len 0 (length mine) ++ n ∷ []) (ordinal ∙ sym zero_add)
+    ∙ sym numbers)
+
+numbered-other : (p : ℕ) (history : List Entry) (e : Entry) → IsNumbered p history → is_of_pass p e ≡ false
+    → IsNumbered p (history ++ e ∷ [])
+numbered-other p history e before other = rw (entries_of-other p history e other) before
+
+numbered_by : (p : ℕ) (history : List Entry) (e : Entry) (own : Bool) → is_of_pass p e ≡ own → IsNumbered p history
+    → e.ordinal ≡ length (entries_of e.pass history) → IsNumbered p (history ++ e ∷ [])
+numbered_by p history e true own before ordinal =
+    let same : e.pass ≡ p = eqb-true e.pass p own in
+    numbered-own p history e before own (ordinal ∙ ap (λ (q : ℕ). length (entries_of q history)) same)
+numbered_by p history e false other before ordinal = numbered-other p history e before other
+
+-- the history stays in the order of its passes, where the entry has the next number of its pass
+pub order-snoc : (history : List Entry) (e : Entry) → IsInPassOrder history → e.ordinal ≡ length (entries_of e.pass history)
+    → IsInPassOrder (history ++ e ∷ [])
+order-snoc history e order ordinal p =
+    numbered_by p history e (is_of_pass p e) refl (order p) ordinal
+
+-- a history that goes on by an entry which the state allows
+pub history-snoc : (base : State) (history : List Entry) (e : Entry) → IsHistory base history
+    → allowed (after base history) e.event ≡ true → e.reply ≡ reply (after base history) e.event
+    → e.ordinal ≡ length (entries_of e.pass history) → IsHistory base (history ++ e ∷ [])
+history-snoc base history e before is_allowed replied ordinal = record {
+  run = run_snoc base history e before.run is_allowed replied;
+  order = order-snoc history e before.order ordinal;
+}
