@@ -1,3 +1,4 @@
 pub mod ChildLemmas
 pub mod ListLemmas
 pub mod RunLemmas
+pub mod SizeLemmas

@@ -1,2 +1,4 @@
 //! The run of the server.
 #![tactic(auto)]
+
+mod book;

@@ -1,0 +1,81 @@
+-- No event changes how many rows, signals and children there are.
+use Rattle.std.proofs.Common.{◌≡◌, ℕ, zero, suc, List, [], ◌∷◌, length, map, refl, ap}
+use Rattle.std.proofs.Math.ListN.{length-set}
+use Rattle.std.proofs.lemmas.List.{length-map}
+use Rattle.conn_machine.specs.declared.event.Event.{Event}
+use Rattle.conn_machine.specs.declared.event.Event.TheVariants as event
+use Rattle.conn_machine.specs.declared.event.Commanded.{Commanded}
+use Rattle.conn_machine.specs.declared.event.Commanded.TheVariants.{Graceful, Refused, GracefulStop, Stop}
+use Rattle.conn_machine.specs.declared.state.State.{State}
+use Rattle.conn_machine.specs.Lists.{update}
+use Rattle.conn_machine.specs.Children.{all_stopped, stopped_child}
+use Rattle.conn_machine.specs.Table.{next, after_command}
+
+pub length-update : {X : Type 0} (xs : List X) (i : ℕ) (change : X → X) → length (update xs i change) ≡ length xs
+length-update [] i change = refl
+length-update (x ∷ xs) zero change = refl
+length-update (x ∷ xs) (suc i) change = ap suc (length-update xs i change)
+
+rows_of-command : (s : State) (c : Commanded) → length (after_command s c).rows ≡ length s.rows
+rows_of-command s (Graceful shape) = refl
+rows_of-command s (Refused reason) = refl
+rows_of-command s (GracefulStop until) = refl
+rows_of-command s (Stop why) = refl
+
+pub length-rows : (s : State) (e : Event) → length (next s e).rows ≡ length s.rows
+length-rows s (event.Accept slot) = length-update s.rows slot _
+length-rows s (event.Park name kind) = length-update s.rows name.slot _
+length-rows s (event.Hold name) = length-update s.rows name.slot _
+length-rows s (event.Queue name) = length-update s.rows name.slot _
+length-rows s (event.Start name) = length-update s.rows name.slot _
+length-rows s (event.Answer name ask) = length-update s.rows name.slot _
+length-rows s (event.Linger name why) = length-update s.rows name.slot _
+length-rows s (event.Close name why how) = length-update s.rows name.slot _
+length-rows s (event.Ready slot) = refl
+length-rows s (event.Tick m) = refl
+length-rows s (event.StartChild k) = refl
+length-rows s (event.Command c) = rows_of-command s c
+length-rows s (event.Retire k) = refl
+
+signals_of-command : (s : State) (c : Commanded) → length (after_command s c).signals ≡ length s.signals
+signals_of-command s (Graceful shape) = refl
+signals_of-command s (Refused reason) = refl
+signals_of-command s (GracefulStop until) = refl
+signals_of-command s (Stop why) = refl
+
+pub length-signals : (s : State) (e : Event) → length (next s e).signals ≡ length s.signals
+length-signals s (event.Accept slot) = length-set s.signals slot _
+length-signals s (event.Park name kind) = refl
+length-signals s (event.Hold name) = length-set s.signals name.slot _
+length-signals s (event.Queue name) = length-set s.signals name.slot _
+length-signals s (event.Start name) = refl
+length-signals s (event.Answer name ask) = refl
+length-signals s (event.Linger name why) = length-set s.signals name.slot _
+length-signals s (event.Close name why how) = length-set s.signals name.slot _
+length-signals s (event.Ready slot) = length-set s.signals slot _
+length-signals s (event.Tick m) = refl
+length-signals s (event.StartChild k) = refl
+length-signals s (event.Command c) = signals_of-command s c
+length-signals s (event.Retire k) = refl
+
+children_of-command : (s : State) (c : Commanded) → length (after_command s c).children ≡ length s.children
+children_of-command s (Graceful shape) = length-map s.children stopped_child
+children_of-command s (Refused reason) = refl
+children_of-command s (GracefulStop until) = length-map s.children stopped_child
+children_of-command s (Stop why) = length-map s.children stopped_child
+
+pub length-children : (s : State) (e : Event) → length (next s e).children ≡ length s.children
+length-children s (event.Accept slot) = refl
+length-children s (event.Park name kind) = refl
+length-children s (event.Hold name) = refl
+length-children s (event.Queue name) = refl
+length-children s (event.Start name) = refl
+length-children s (event.Answer name ask) = refl
+length-children s (event.Linger name why) = refl
+length-children s (event.Close name why how) = refl
+length-children s (event.Ready slot) = refl
+length-children s (event.Tick m) = refl
+length-children s (event.StartChild k) = length-update s.children k _
+length-children s (event.Command c) = children_of-command s c
+length-children s (event.Retire k) = length-update s.children k _
+
