@@ -1,4 +1,5 @@
 pub mod Count
 pub mod Link
+pub mod RootRequest
 pub mod Sink
 pub mod Store
