@@ -1,3 +1,5 @@
 pub mod FileLemmas
 pub mod LookupLemmas
 pub mod NamesLemmas
+pub mod ListLemmas
+pub mod RootRequestLemmas

@@ -6,6 +6,7 @@ pub mod MemSink
 pub mod MemStore
 pub mod PlainLink
 pub mod PlainStore
+pub mod RootRequest
 pub mod ScriptLink
 pub mod Sink
 pub mod Store

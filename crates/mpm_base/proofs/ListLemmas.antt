@@ -1,0 +1,71 @@
+-- Lists that are joined in two ways, and the longest front whose elements pass a test.
+use Rattle.std.proofs.Common.{◌≡◌, ℕ, ◌+◌, ◌<◌, ◌≤◌, ◌⊎◌, inl, inr, Bool, true, List, [], ◌∷◌, ◌++◌, length, take, drop, refl, sym, ap, subst, arith}
+use Rattle.std.specs.List.{AllPass, prefix_len}
+use Rattle.std.proofs.lemmas.List.{drop_more, drop_all, get_or-take, length-take, length-append, get_or_append_left, get_or-append-add, length-drop}
+use Rattle.std.specs.List.{starts_with}
+use Rattle.std.proofs.Common.{eqb, Decides}
+use Rattle.std.proofs.lemmas.Bool.Decides.{Decides-eqb}
+use Rattle.std.proofs.lemmas.Slice.Eq.{starts_is}
+use Rattle.std.proofs.lemmas.List.Sums.{prefix_len_passes, prefix_len_stops, prefix_len-le-length}
+use Rattle.mpm_base.specs.RootRequest.{Stops, IsProperFront}
+use Rattle.std.proofs.lemmas.Bool.{cases_lt}
+
+-- two cuts of one list: the first is within the second front, or past it
+pub two_cuts : {A : Type 0} (a b c d : List A) → a ++ b ≡ c ++ d
+    → ((m : List A) × (c ≡ a ++ m) × (b ≡ m ++ d)) ⊎ ((m : List A) × (a ≡ c ++ m) × (d ≡ m ++ b))
+two_cuts [] b c d e = inl (c, refl, e)
+two_cuts (x ∷ a) b [] d e = inr (x ∷ a, refl, sym e)
+two_cuts (x ∷ a) b (y ∷ c) d e =
+    let same : a ++ b ≡ c ++ d = cc in
+    let head : x ≡ y = cc in
+    elim (two_cuts a b c d same) [
+      | inl w ↦ inl (w.0, cc, w.2)
+      | inr w ↦ inr (w.0, cc, w.2)
+    ]
+
+-- the longest front that passes does, and what follows it begins with no byte that does
+pub run_passes : (test : ℕ → Bool) (xs : List ℕ) → AllPass test (take (prefix_len test xs) xs)
+run_passes test xs k d l =
+    let below : k < prefix_len test xs = omega (arith, length-take (prefix_len test xs) xs) in
+    rw (get_or-take) (prefix_len_passes test xs k d below)
+
+pub run_stops : (test : ℕ → Bool) (xs : List ℕ) → Stops test (drop (prefix_len test xs) xs)
+run_stops test xs =
+    elim (cases_lt (prefix_len test xs) (length xs)) [
+      | inl l ↦ subst (Stops test) (sym (drop_more xs (prefix_len test xs) 0 l)) (prefix_len_stops test xs 0 l)
+      | inr g ↦ subst (Stops test) (sym (drop_all (prefix_len test xs) xs g)) tt
+    ]
+
+pub run_fits : (test : ℕ → Bool) (xs : List ℕ) → prefix_len test xs ≤ length xs
+run_fits test xs = prefix_len-le-length test xs
+
+-- the parts of a list whose elements pass
+pub front_passes : (test : ℕ → Bool) (m n : List ℕ) → AllPass test (m ++ n) → AllPass test m
+front_passes test m n pass k d l =
+    let within : k < length (m ++ n) = omega (arith, length-append m n) in
+    subst (λ x. test x ≡ true) (get_or_append_left m n d k l) (pass k d within)
+
+pub back_passes : (test : ℕ → Bool) (m n : List ℕ) → AllPass test (m ++ n) → AllPass test n
+back_passes test m n pass k d l =
+    let within : length m + k < length (m ++ n) = omega (arith, length-append m n) in
+    subst (λ x. test x ≡ true) (get_or-append-add m n k d) (pass (length m + k) d within)
+
+pub same_passes : (test : ℕ → Bool) (xs ys : List ℕ) → xs ≡ ys → AllPass test xs → AllPass test ys
+same_passes test xs ys e pass = subst (AllPass test) e pass
+
+-- what `starts_with` answers of a list that is longer
+pub proper_front : (whole front : List ℕ) (r : Bool) → r ≡ starts_with eqb whole front → length front < length whole
+    → Decides r (IsProperFront whole front)
+proper_front whole front r e short =
+    let tells = starts_is Decides-eqb whole front r e in (
+      λ yes. record {
+        more = drop (length front) whole;
+        some = omega (arith, length-drop (length front) whole);
+        whole = sym (tells.0 yes);
+      },
+      λ h. tells.1 h.more (sym h.whole),
+    )
+
+-- a proper front is shorter
+pub front_is_short : (whole front : List ℕ) → IsProperFront whole front → length front < length whole
+front_is_short whole front h = omega (arith, ap length h.whole, length-append front h.more, h.some)
