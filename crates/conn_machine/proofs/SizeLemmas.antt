@@ -1,5 +1,5 @@
--- No event changes how many rows, signals and children there are.
-use Rattle.std.proofs.Common.{◌≡◌, ℕ, zero, suc, List, [], ◌∷◌, length, map, refl, ap}
+-- No event changes how many rows, signals and children there are, nor leads the moment out of its range.
+use Rattle.std.proofs.Common.{◌≡◌, ◌≤◌, ℕ, zero, suc, Bool, true, false, not, ◌&&◌, nat_lt, nat_le, List, [], ◌∷◌, length, refl, ap}
 use Rattle.std.proofs.Math.ListN.{length-set}
 use Rattle.std.proofs.lemmas.List.{length-map}
 use Rattle.conn_machine.specs.declared.event.Event.{Event}
@@ -9,7 +9,10 @@ use Rattle.conn_machine.specs.declared.event.Commanded.TheVariants.{Graceful, Re
 use Rattle.conn_machine.specs.declared.state.State.{State}
 use Rattle.conn_machine.specs.Lists.{update}
 use Rattle.conn_machine.specs.Children.{all_stopped, stopped_child}
-use Rattle.conn_machine.specs.Table.{next, after_command}
+use Rattle.std.proofs.lemmas.Bool.{leb-true}
+use Rattle.std.specs.List.{list_any}
+use Rattle.conn_machine.specs.States.{greatest_moment, is_halted, is_overdue}
+use Rattle.conn_machine.specs.Table.{allowed, next, after_command}
 
 pub length-update : {X : Type 0} (xs : List X) (i : ℕ) (change : X → X) → length (update xs i change) ≡ length xs
 length-update [] i change = refl
@@ -79,3 +82,33 @@ length-children s (event.StartChild k) = length-update s.children k _
 length-children s (event.Command c) = children_of-command s c
 length-children s (event.Retire k) = length-update s.children k _
 
+
+-- moments stay within their range
+moment_of-command : (s : State) (c : Commanded) → (after_command s c).moment ≡ s.moment
+moment_of-command s (Graceful shape) = refl
+moment_of-command s (Refused reason) = refl
+moment_of-command s (GracefulStop until) = refl
+moment_of-command s (Stop why) = refl
+
+within_tick : (a b c d : Bool) → (a && b && c && d) ≡ true → c ≡ true
+within_tick true true true d all = refl
+within_tick true true false d all = absurd (cc)
+within_tick true false c d all = absurd (cc)
+within_tick false b c d all = absurd (cc)
+
+pub moment-within : (s : State) (e : Event) → allowed s e ≡ true → s.moment ≤ greatest_moment → (next s e).moment ≤ greatest_moment
+moment-within s (event.Accept slot) may before = before
+moment-within s (event.Park name kind) may before = before
+moment-within s (event.Hold name) may before = before
+moment-within s (event.Queue name) may before = before
+moment-within s (event.Start name) may before = before
+moment-within s (event.Answer name ask) may before = before
+moment-within s (event.Linger name why) may before = before
+moment-within s (event.Close name why how) may before = before
+moment-within s (event.Ready slot) may before = before
+moment-within s (event.Tick m) may before =
+    leb-true m greatest_moment
+        (within_tick (not (is_halted s.going)) (nat_lt s.moment m) (nat_le m greatest_moment) (not (list_any (is_overdue s.moment) s.rows)) may)
+moment-within s (event.StartChild k) may before = before
+moment-within s (event.Command c) may before = rw (moment_of-command s c) before
+moment-within s (event.Retire k) may before = before

@@ -8,7 +8,7 @@ use Rattle.conn_machine.specs.declared.state.State.{State}
 use Rattle.conn_machine.specs.Table.{allowed, next, reply}
 use Rattle.conn_machine.specs.Runs.{after, entries_of, is_of_pass, IsHistory}
 use Rattle.conn_machine.proofs.RunLemmas.{after-snoc, history-snoc, entries_of-own, entries_of-other}
-use Rattle.conn_machine.proofs.SizeLemmas.{length-rows, length-children, length-signals}
+use Rattle.conn_machine.proofs.SizeLemmas.{length-rows, length-children, length-signals, moment-within}
 use Rattle.mpm_run.specs.Book.{AreNext, IsSized, IsKept, SeenBook, numbered, recorded}
 use Rattle.conn_machine.specs.declared.event.Reply.{Reply}
 use Rattle.mpm_run.specs.Room.{owed, is_sure}
@@ -37,11 +37,12 @@ next_more ordinals history e before within p below =
         (omega (arith, length-set ordinals e.pass (length (entries_of e.pass history) + 1)))
 
 -- the state has the size that it had
-sized_more : (s : State) (e : Event) → IsSized s → IsSized (next s e)
-sized_more s e before = record {
+sized_more : (s : State) (e : Event) → allowed s e ≡ true → IsSized s → IsSized (next s e)
+sized_more s e may before = record {
   rows = omega (arith, before.rows, length-rows s e);
   children = omega (arith, before.children, length-children s e);
   signals = length-signals s e ∙ before.signals ∙ sym (length-rows s e);
+  moment = moment-within s e may before.moment;
 }
 
 -- the history is kept, where the room suffices
@@ -54,7 +55,7 @@ kept_more base history s ordinals ordinals' room room' e before is_allowed repli
   is_history = history-snoc base history e before.is_history (rw before.state_is is_allowed) (rw before.state_is replied) ordinal;
   state_is = after-snoc base history e ∙ ap (λ (t : State). next t e.event) before.state_is;
   numbers = numbers;
-  sized = sized_more s e.event before.sized;
+  sized = sized_more s e.event is_allowed before.sized;
   has_room = has_room;
 }
 

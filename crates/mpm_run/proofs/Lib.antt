@@ -1,2 +1,4 @@
 pub mod BookLemmas
 pub mod RoomLemmas
+pub mod BoardLemmas
+pub mod EventLemmas

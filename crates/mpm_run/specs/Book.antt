@@ -5,6 +5,7 @@ use Rattle.conn_machine.specs.declared.event.Event.{Event}
 use Rattle.conn_machine.specs.declared.event.Reply.{Reply}
 use Rattle.conn_machine.specs.declared.event.Entry.{Entry}
 use Rattle.conn_machine.specs.declared.state.State.{State}
+use Rattle.conn_machine.specs.States.{greatest_moment}
 use Rattle.conn_machine.specs.Table.{next, reply}
 use Rattle.conn_machine.specs.Runs.{after, entries_of, IsHistory}
 use Rattle.mpm_run.specs.Room.{owed}
@@ -33,11 +34,12 @@ recorded who event b = record b { history = b.history ++ entry_of who event b �
 abbrev pub AreNext : List ℕ → List Entry → Type 0
 AreNext ordinals history = (p : ℕ) → p < length ordinals → slice_index ordinals p ≡ length (entries_of p history)
 
--- the state has a size that the machine takes
+-- the state has a size that the machine takes, and its moment is in range
 pub record IsSized (s : State) : Type 0 where
   pub rows : length s.rows ≤ 8192
   pub children : length s.children ≤ 32
   pub signals : length s.signals ≡ length s.rows
+  pub moment : s.moment ≤ greatest_moment
 
 -- the history is one of the machine, from its base to its state; each pass's next number is known; and there is room for
 -- what must follow

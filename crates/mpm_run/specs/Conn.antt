@@ -1,5 +1,5 @@
 -- What is seen of a connection and of an ended one, and how it fits its row.
-use Rattle.std.specs.Prelude.{◌≡◌, ℕ, Bool, true, false, List, Option, None, Some, slice_get}
+use Rattle.std.specs.Prelude.{◌≡◌, ℕ, List, [], ◌∷◌, ◌++◌, Option}
 use Rattle.mpm_base.specs.Link.{LinkTold, LinkCounts}
 use Rattle.mpm_base.specs.declared.conn.ConnName.{ConnName}
 use Rattle.mpm_base.specs.declared.conn.Cause.{Cause}
@@ -35,3 +35,34 @@ pub record Fits (c : SeenConn) (r : Row) : Type 0 where
   pub child : c.child ≡ r.child
   pub generation : c.generation ≡ r.generation
   pub notes : c.notes ≡ r.notes
+
+-- a connection over a link, of which nothing was read
+abbrev pub new_conn : Option LinkTold → LinkCounts → ConnName → ℕ → ℕ → SeenConn
+new_conn told counts name child generation =
+    record {
+      told = told; counts = counts; name = name; child = child; generation = generation;
+      notes = []; pending = []; rest = [];
+    }
+
+-- the connection is still the one that it was, and has the same responses
+pub record IsSame (old new : SeenConn) : Type 0 where
+  pub name : new.name ≡ old.name
+  pub child : new.child ≡ old.child
+  pub generation : new.generation ≡ old.generation
+  pub notes : new.notes ≡ old.notes
+
+-- the connection has one more response
+pub record HasNoted (note : Note) (old new : SeenConn) : Type 0 where
+  pub name : new.name ≡ old.name
+  pub child : new.child ≡ old.child
+  pub generation : new.generation ≡ old.generation
+  pub notes : new.notes ≡ old.notes ++ note ∷ []
+
+-- the connection ended so, with all its responses
+pub record EndsAs (c : SeenConn) (why : Cause) (how : Tail) (e : SeenEnded) : Type 0 where
+  pub name : e.name ≡ c.name
+  pub child : e.child ≡ c.child
+  pub generation : e.generation ≡ c.generation
+  pub notes : e.notes ≡ c.notes
+  pub cause : e.cause ≡ why
+  pub tail : e.tail ≡ how

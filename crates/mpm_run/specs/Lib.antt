@@ -1,2 +1,4 @@
-pub mod Room
+pub mod Board
 pub mod Book
+pub mod Conn
+pub mod Room

@@ -1,4 +1,7 @@
 //! The run of the server.
 #![tactic(auto)]
 
+mod board;
 mod book;
+mod conn;
+mod response;

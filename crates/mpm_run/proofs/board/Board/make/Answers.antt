@@ -1,0 +1,16 @@
+use Rattle.std.proofs.Common.{◌≡◌, ◌+◌, ◌≤◌, ◌<◌, ◌++◌, [], ◌∷◌, true, false, Some, None, length, vec_capacity, vec_len, subst, sym, refl, ap, ◌∙◌, rules, arith}
+use Rattle.conn_machine.specs.Table.{allowed, next}
+use Rattle.conn_machine.specs.declared.event.Event.TheVariants as event
+use Rattle.mpm_run.specs.Book.{SeenBook, recorded}
+use Rattle.mpm_run.specs.Conn.{SeenConn}
+use Rattle.mpm_run.specs.Board.{SeenBoard, Agrees, conn_at}
+use Rattle.std.proofs.Common.{replicate, ℕ}
+use Rattle.mpm_run.proofs.EventLemmas.{opening-agrees}
+use Rattle.mpm_run.proofs.board.Board.make.Goals as goal
+
+pub invariant_of-result : goal.invariant_of-result
+invariant_of-result g c =
+    let n : c.loop.counter ≡ c.args.slots = omega arith in
+    let conns : c.loop.conns.items ≡ replicate c.args.slots None = c.loop.invariant ∙ ap (λ (k : ℕ). replicate k None) n in
+    let ended : length c.new.result.items ≡ 0 = search rules in
+    rw (c.in_ok-book.ensures.state, conns, ended) (opening-agrees c.args.slots (vec_capacity c.new.result))
