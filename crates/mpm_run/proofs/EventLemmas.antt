@@ -71,7 +71,7 @@ in_hand-away (Parked kind) at = absurd (cc)
 in_hand-away Queued at = absurd (cc)
 in_hand-away (Working cell phase) at = refl
 
-in_phase-home : (next : Phase) (p : Place) → is_home (in_phase next p) ≡ is_home p
+pub in_phase-home : (next : Phase) (p : Place) → is_home (in_phase next p) ≡ is_home p
 in_phase-home next Vacant = refl
 in_phase-home next Spent = refl
 in_phase-home next Held = refl
@@ -79,7 +79,7 @@ in_phase-home next (Parked kind) = refl
 in_phase-home next Queued = refl
 in_phase-home next (Working cell phase) = refl
 
-in_phase-unused : (next : Phase) (p : Place) → is_unused (in_phase next p) ≡ is_unused p
+pub in_phase-unused : (next : Phase) (p : Place) → is_unused (in_phase next p) ≡ is_unused p
 in_phase-unused next Vacant = refl
 in_phase-unused next Spent = refl
 in_phase-unused next Held = refl
@@ -215,7 +215,7 @@ queue-agrees s name conns ended room may agrees =
             (omega (arith, count, agrees.has_room)))
 
 -- the phase of the worker that sends the response
-abbrev answer_phase : State → Ask → Row → Phase
+abbrev pub answer_phase : State → Ask → Row → Phase
 answer_phase s ask r = if is_last_for s ask r then phase.Close else phase.Write
 
 pub answer-agrees : (s : State) (name : ConnName) (ask : Ask) (conns : List (Option SeenConn)) (ended room : ℕ)

@@ -2,3 +2,4 @@ pub mod BookLemmas
 pub mod RoomLemmas
 pub mod BoardLemmas
 pub mod EventLemmas
+pub mod ServeLemmas

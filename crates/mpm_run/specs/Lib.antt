@@ -2,3 +2,4 @@ pub mod Board
 pub mod Book
 pub mod Conn
 pub mod Room
+pub mod Serve

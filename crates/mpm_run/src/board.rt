@@ -120,6 +120,16 @@ impl<L: Link> Board<L> {
         self.book.show();
     }
 
+    /// Whether the last response of the live connection was decided.
+    pub fn is_last(&self, name: ConnName) -> bool
+        ensures { result ≡ lives_and (λ r. r.last) self.now.book.state.rows name }
+    {
+        match self.book.state().rows.live(name) {
+            Some(row) => row.last,
+            None => false,
+        }
+    }
+
     /// Takes a connection for the child that the rule of admission names, into the vacant slot.
     pub fn accept(&mut self, who: u32, slot: u32) -> Result<Taken, NoMemory>
         requires who { who < self.old.book.passes }
@@ -213,8 +223,10 @@ impl<L: Link> Board<L> {
         requires allowed { allowed self.old.book.state (event.Answer name ask) ≡ true }
         ensures ok { OnOk result (self.new.book ≡ recorded who (event.Answer name ask) self.old.book) }
         ensures note { IfOk result (λ note. IsNoteOf self.old.book.state name ask note) }
+        ensures date { IfOk result (λ note. note.date < 253402300800) }
         ensures err { OnErr result (self.new ≡ self.old) }
     {
+        self.book.show();
         let Reply::Noted(last) = self.book.record(who, Event::Answer(name, ask))? else {
             unreachable!()
         };

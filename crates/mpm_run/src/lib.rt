@@ -5,3 +5,4 @@ mod board;
 mod book;
 mod conn;
 mod response;
+mod serve;
