@@ -7,11 +7,13 @@
 #![tactic(auto)]
 
 mod conn;
+mod escapes;
 mod link;
 mod memory;
 mod note;
 mod octets;
 mod root_request;
+mod script;
 mod shape;
 mod sink;
 mod store;
@@ -23,6 +25,7 @@ pub use memory::NoMemory;
 pub use note::{Note, Notes, Snapshot};
 pub use octets::Octets;
 pub use root_request::{host_of, is_started, one_request};
+pub use script::{Script, ScriptFault, read_script};
 pub use shape::Shape;
 pub use sink::{Put, Sink};
 pub use store::{File, Names, Store, StoreFault};
