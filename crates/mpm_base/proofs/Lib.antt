@@ -1,5 +1,9 @@
+pub mod DecideLemmas
+pub mod EscapeLemmas
 pub mod FileLemmas
+pub mod ListLemmas
 pub mod LookupLemmas
 pub mod NamesLemmas
-pub mod ListLemmas
+pub mod OptionLemmas
 pub mod RootRequestLemmas
+pub mod ScriptLemmas

@@ -1,14 +1,13 @@
 -- Lists that are joined in two ways, and the longest front whose elements pass a test.
-use Rattle.std.proofs.Common.{◌≡◌, ℕ, ◌+◌, ◌<◌, ◌≤◌, ◌⊎◌, inl, inr, Bool, true, List, [], ◌∷◌, ◌++◌, length, take, drop, refl, sym, ap, subst, arith}
-use Rattle.std.specs.List.{AllPass, prefix_len}
-use Rattle.std.proofs.lemmas.List.{drop_more, drop_all, get_or-take, length-take, length-append, get_or_append_left, get_or-append-add, length-drop}
-use Rattle.std.specs.List.{starts_with}
-use Rattle.std.proofs.Common.{eqb, Decides}
+use Rattle.std.proofs.Common.{◌≡◌, ℕ, ◌+◌, ◌<◌, ◌≤◌, ◌⊎◌, inl, inr, Bool, true, false, List, [], ◌∷◌, ◌++◌, length, take, drop, refl, sym, ap, subst, ◌∙◌, arith, eqb, Decides}
+use Rattle.std.specs.List.{AllPass, prefix_len, starts_with}
+use Rattle.std.proofs.lemmas.Bool.{cases_lt, false≢true}
 use Rattle.std.proofs.lemmas.Bool.Decides.{Decides-eqb}
+use Rattle.std.proofs.lemmas.List.{drop_more, drop_all, get_or-take, length-take, length-append, get_or-append-add, length-drop}
+use Rattle.std.proofs.lemmas.List.Elements.{All-head, All-tail}
+use Rattle.std.proofs.lemmas.List.Sums.{prefix_len_passes, prefix_len_stops}
 use Rattle.std.proofs.lemmas.Slice.Eq.{starts_is}
-use Rattle.std.proofs.lemmas.List.Sums.{prefix_len_passes, prefix_len_stops, prefix_len-le-length}
 use Rattle.mpm_base.specs.RootRequest.{Stops, IsProperFront}
-use Rattle.std.proofs.lemmas.Bool.{cases_lt}
 
 -- two cuts of one list: the first is within the second front, or past it
 pub two_cuts : {A : Type 0} (a b c d : List A) → a ++ b ≡ c ++ d
@@ -36,15 +35,7 @@ run_stops test xs =
       | inr g ↦ subst (Stops test) (sym (drop_all (prefix_len test xs) xs g)) tt
     ]
 
-pub run_fits : (test : ℕ → Bool) (xs : List ℕ) → prefix_len test xs ≤ length xs
-run_fits test xs = prefix_len-le-length test xs
-
--- the parts of a list whose elements pass
-pub front_passes : (test : ℕ → Bool) (m n : List ℕ) → AllPass test (m ++ n) → AllPass test m
-front_passes test m n pass k d l =
-    let within : k < length (m ++ n) = omega (arith, length-append m n) in
-    subst (λ x. test x ≡ true) (get_or_append_left m n d k l) (pass k d within)
-
+-- the back of a list whose elements pass
 pub back_passes : (test : ℕ → Bool) (m n : List ℕ) → AllPass test (m ++ n) → AllPass test n
 back_passes test m n pass k d l =
     let within : length m + k < length (m ++ n) = omega (arith, length-append m n) in
@@ -66,6 +57,19 @@ proper_front whole front r e short =
       λ h. tells.1 h.more (sym h.whole),
     )
 
--- a proper front is shorter
-pub front_is_short : (whole front : List ℕ) → IsProperFront whole front → length front < length whole
-front_is_short whole front h = omega (arith, ap length h.whole, length-append front h.more, h.some)
+-- a run of elements that pass ends at the first that doesn't
+pub one_run : (test : ℕ → Bool) (stop : ℕ) → test stop ≡ false → (a b x y : List ℕ) → AllPass test a → AllPass test b
+    → a ++ stop ∷ x ≡ b ++ stop ∷ y → (a ≡ b) × (x ≡ y)
+one_run test stop fails [] [] x y p q e = (refl, cc)
+one_run test stop fails [] (b ∷ bs) x y p q e =
+    let first : stop ≡ b = cc in
+    absurd (false≢true (sym fails ∙ ap test first ∙ All-head (λ c. test c ≡ true) b bs q))
+one_run test stop fails (a ∷ front) [] x y p q e =
+    let first : stop ≡ a = cc in
+    absurd (false≢true (sym fails ∙ ap test first ∙ All-head (λ c. test c ≡ true) a front p))
+one_run test stop fails (a ∷ front) (b ∷ bs) x y p q e =
+    let first : a ≡ b = cc in
+    let others : front ++ stop ∷ x ≡ bs ++ stop ∷ y = cc in
+    let same = one_run test stop fails front bs x y (All-tail (λ c. test c ≡ true) a front p) (All-tail (λ c. test c ≡ true) b bs q) others in
+    let tails : front ≡ bs = same.0 in
+    (cc, same.1)

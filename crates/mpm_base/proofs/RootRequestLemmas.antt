@@ -2,10 +2,10 @@
 use Rattle.std.proofs.Common.{◌≡◌, ◌≢◌, ℕ, ◌<◌, ◌≤◌, ◌⊎◌, inl, inr, true, List, [], ◌∷◌, ◌++◌, length, refl, sym, ap, ◌∙◌, arith, length-append, append_assoc}
 use Rattle.std.specs.List.{AllPass}
 use Rattle.std.proofs.lemmas.List.{append-nil, append_cancel_left}
-use Rattle.std.proofs.lemmas.List.Elements.{All-head, All-tail, All-cons, All-nil}
+use Rattle.std.proofs.lemmas.List.Elements.{All-head, All-cons, All-nil}
 use Rattle.mpm_base.specs.RootRequest.{is_host_byte, IsHost, BeginsRequest, before_host, after_host, request_of, IsProperFront, IsHostStarted, IsStarted, Stops}
 use Rattle.std.proofs.lemmas.Bool.{false≢true}
-use Rattle.mpm_base.proofs.ListLemmas.{two_cuts, back_passes, same_passes}
+use Rattle.mpm_base.proofs.ListLemmas.{two_cuts, one_run, back_passes, same_passes}
 
 abbrev IsPassing : List ℕ → Type 0
 IsPassing bytes = AllPass is_host_byte bytes
@@ -143,19 +143,10 @@ before_started bytes none h =
 -- what stands behind a host shows where it ends
 same_host : (host other rest behind : List ℕ) → IsPassing host → IsPassing other
     → host ++ (after_host ++ rest) ≡ other ++ (after_host ++ behind) → (host ≡ other) × (rest ≡ behind)
-same_host [] [] rest behind p q e = (refl, cc)
-same_host [] (b ∷ other) rest behind p q e =
-    let first : 13 ≡ b = cc in
-    absurd (false≢true (ap is_host_byte first ∙ passing_head b other q))
-same_host (a ∷ host) [] rest behind p q e =
-    let first : 13 ≡ a = cc in
-    absurd (false≢true (ap is_host_byte first ∙ passing_head a host p))
-same_host (a ∷ host) (b ∷ other) rest behind p q e =
-    let first : a ≡ b = cc in
-    let others : host ++ (after_host ++ rest) ≡ other ++ (after_host ++ behind) = cc in
-    let same = same_host host other rest behind (All-tail (λ c. is_host_byte c ≡ true) a host p) (All-tail (λ c. is_host_byte c ≡ true) b other q) others in
-    let tails : host ≡ other = same.0 in
-    (cc, same.1)
+same_host host other rest behind p q e =
+    let same = one_run is_host_byte 13 refl host other (10 ∷ 13 ∷ 10 ∷ rest) (10 ∷ 13 ∷ 10 ∷ behind) p q e in
+    let rests : 10 ∷ 13 ∷ 10 ∷ rest ≡ 10 ∷ 13 ∷ 10 ∷ behind = same.1 in
+    (same.0, cc)
 
 request-append : (host rest : List ℕ) → request_of host ++ rest ≡ before_host ++ (host ++ (after_host ++ rest))
 request-append host rest = append_assoc before_host (host ++ after_host) rest ∙ ap (λ xs. before_host ++ xs) (append_assoc host after_host rest)

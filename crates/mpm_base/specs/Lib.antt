@@ -1,5 +1,6 @@
 pub mod Calls
 pub mod Count
+pub mod Escapes
 pub mod Files
 pub mod Link
 pub mod MemSink
@@ -7,6 +8,7 @@ pub mod MemStore
 pub mod PlainLink
 pub mod PlainStore
 pub mod RootRequest
+pub mod Script
 pub mod ScriptLink
 pub mod Sink
 pub mod Store
