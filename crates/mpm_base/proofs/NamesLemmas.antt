@@ -1,5 +1,5 @@
 -- The names below a folder.
-use Rattle.std.proofs.Common.{◌≡◌, ℕ, Bool, ◌&&◌, List, [], ◌∷◌, ◌++◌, length, drop, map, IsUtf8, nat_eq, refl, ◌∙◌, arith}
+use Rattle.std.proofs.Common.{◌≡◌, ℕ, ◌&&◌, List, [], ◌∷◌, ◌++◌, length, drop, map, IsUtf8, nat_eq, refl, ◌∙◌, arith}
 use Rattle.std.specs.List.{All, count_by, fold, starts_with}
 use Rattle.std.proofs.lemmas.List.Sums.{length-filter}
 use Rattle.std.proofs.lemmas.List.Elements.{All-filter, All-map}

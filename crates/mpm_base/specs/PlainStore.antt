@@ -1,5 +1,5 @@
 -- A store in memory: what contracts see of it, what its calls answer, and what they leave of it.
-use Rattle.std.specs.Prelude.{◌≡◌, ℕ, Bool, true, false, nat_lt, List, [], ◌∷◌, ◌++◌, length, Option, None, Some, Result, Ok, Err, IsOk, if◌then◌else◌}
+use Rattle.std.specs.Prelude.{◌≡◌, ℕ, nat_lt, List, [], ◌∷◌, ◌++◌, length, Option, None, Some, Result, Ok, Err, IsOk, if◌then◌else◌}
 use Rattle.mpm_base.specs.Count.{next_count}
 use Rattle.mpm_base.specs.Store.{StoreTold, StoreCounts, is_refusal, is_failure, answers_with}
 use Rattle.mpm_base.specs.declared.store.File.{File}

@@ -1,4 +1,4 @@
-use Rattle.std.proofs.Common.{◌≡◌, ◌∷◌, []}
+use Rattle.std.proofs.Common.{◌∷◌, []}
 use Rattle.std.proofs.lemmas.List.{take_rest}
 use Rattle.mpm_base.proofs.NamesLemmas.{starts_with-append}
 use Rattle.mpm_base.proofs.plain_store.is_under.Goals as goal

@@ -1,6 +1,3 @@
-use Rattle.std.proofs.Common.{IsUtf8}
-use Rattle.std.specs.List.{All}
-use Rattle.mpm_base.specs.declared.store.File.{File}
 use Rattle.mpm_base.proofs.files.Files.as_slice.Goals as goal
 
 pub returns-clause-utf8 : goal.returns-clause-utf8
