@@ -3,3 +3,4 @@ pub mod RoomLemmas
 pub mod BoardLemmas
 pub mod EventLemmas
 pub mod ServeLemmas
+pub mod ListenLemmas

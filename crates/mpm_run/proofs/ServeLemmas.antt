@@ -30,7 +30,7 @@ use Rattle.mpm_run.proofs.BoardLemmas.{LivesAs, lives_as, get-update_same}
 use Rattle.mpm_run.proofs.EventLemmas.{live_row-update, in_phase-unused, answer_phase}
 
 -- a test of a row that is known
-test-at : (rows : List Row) (name : ConnName) (row : Row) (test : Row → Bool) → live_row rows name ≡ Some row
+pub test-at : (rows : List Row) (name : ConnName) (row : Row) (test : Row → Bool) → live_row rows name ≡ Some row
     → lives_and test rows name ≡ test row
 test-at rows name row test found = ap (λ (o : Option Row). option_map_or test o false) found
 

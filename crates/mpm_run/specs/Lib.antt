@@ -1,5 +1,6 @@
 pub mod Board
 pub mod Book
 pub mod Conn
+pub mod Listen
 pub mod Room
 pub mod Serve

@@ -1,7 +1,7 @@
 //! The board: the table of connections, with one call for each event.
 ghost use Rattle.std.specs.Prelude.{◌≡◌, ◌+◌, ◌<◌, ◌≤◌, ◌^◌, true, false, [], ◌∷◌, ◌++◌, length, replicate, IsSome, IfSome, IfOk, IfErr, OnOk, OnErr};
 ghost use Rattle.std.specs.Option.{option_map_or};
-ghost use Rattle.conn_machine.specs.Rows.{live_row, lives_and};
+ghost use Rattle.conn_machine.specs.Rows.{is_lingering, is_parked, live_row, lives_and, row_passes};
 ghost use Rattle.conn_machine.specs.States.{opening};
 ghost use Rattle.conn_machine.specs.Table.{allowed, cell_at, next, note_for, taken_reply};
 ghost use Rattle.conn_machine.specs.Runs.{IsHistory, after};
@@ -13,7 +13,7 @@ ghost use Rattle.mpm_run.specs.Board.{IsNoteOf, IsOf, noted};
 
 use crate::book::Book;
 use crate::conn::{Conn, Ended};
-use conn_machine::{Commanded, Entry, Event, Kept, Reply, State, Why};
+use conn_machine::{Commanded, Entry, Event, Kept, Reply, State, Why, may};
 use mpm_base::{Ask, ConnName, Kind, Link, NoMemory, Note, Shape};
 use std::alloc::Global;
 use std::marker::Model;
@@ -120,12 +120,70 @@ impl<L: Link> Board<L> {
         self.book.show();
     }
 
+    /// How many slots there are.
+    pub fn slots(&self) -> u32
+        ensures { result ≡ length self.now.book.state.rows }
+    {
+        self.book.show();
+        self.book.state().rows.len() as u32
+    }
+
+    /// How many child numbers there are.
+    pub fn children(&self) -> u32
+        ensures { result ≡ length self.now.book.state.children }
+    {
+        self.book.show();
+        self.book.state().children.len() as u32
+    }
+
+    /// A vacant slot, where a child takes the next connection.
+    pub fn free_slot(&self) -> Option<u32>
+        ensures { IfSome result (λ slot. allowed self.now.book.state (event.Accept slot) ≡ true) }
+    {
+        self.book.show();
+        let state = self.book.state();
+        (0..state.rows.len() as u32).find(|slot| may(state, &Event::Accept(*slot)))
+    }
+
+    /// Whether the connection of the slot waits.
+    pub fn is_parked(&self, slot: u32) -> bool
+        ensures { result ≡ row_passes (λ r. is_parked r.place) self.now.book.state.rows slot }
+    {
+        match self.book.state().rows.get(slot) {
+            Some(row) => row.place.is_parked(),
+            None => false,
+        }
+    }
+
+    /// The name that a connection of the slot has.
+    pub fn name(&self, slot: u32) -> Option<ConnName>
+        ensures { IfSome result (λ name. name.slot ≡ slot) }
+    {
+        match self.book.state().rows.get(slot) {
+            Some(row) => Some(ConnName {
+                slot,
+                life: row.life,
+            }),
+            None => None,
+        }
+    }
+
     /// Whether the last response of the live connection was decided.
     pub fn is_last(&self, name: ConnName) -> bool
         ensures { result ≡ lives_and (λ r. r.last) self.now.book.state.rows name }
     {
         match self.book.state().rows.live(name) {
             Some(row) => row.last,
+            None => false,
+        }
+    }
+
+    /// Whether the service of the live connection ended, and it is being closed.
+    pub fn is_lingering(&self, name: ConnName) -> bool
+        ensures { result ≡ lives_and is_lingering self.now.book.state.rows name }
+    {
+        match self.book.state().rows.live(name) {
+            Some(row) => row.is_lingering(),
             None => false,
         }
     }

@@ -4,5 +4,6 @@
 mod board;
 mod book;
 mod conn;
+mod listen;
 mod response;
 mod serve;
