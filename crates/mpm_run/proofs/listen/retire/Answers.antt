@@ -16,13 +16,13 @@ returns-then-not-may-clause-empty g c =
 pub returns-clause-running : goal.returns-clause-running
 returns-clause-running g c =
     retire-runs c.args.board.now.book.state c.retire.new.self.book.state c.args.child
-        (ap (λ (b : SeenBook). b.state) c.retire.ensures) c.requires.running
+        (ap (λ (b : SeenBook). b.state) c.retire.ensures.is) c.requires.running
 
 pub returns-clause-count : goal.returns-clause-count
 returns-clause-count g c =
-    ap (λ (b : SeenBook). length b.state.children) c.retire.ensures
+    ap (λ (b : SeenBook). length b.state.children) c.retire.ensures.is
     ∙ length-children c.args.board.now.book.state (event.Retire c.args.child)
 
 pub returns-clause-empty : goal.returns-clause-empty
 returns-clause-empty g c =
-    retire-below c.args.board.now.book.state c.retire.new.self.book.state c.args.child (ap (λ (b : SeenBook). b.state) c.retire.ensures)
+    retire-below c.args.board.now.book.state c.retire.new.self.book.state c.args.child (ap (λ (b : SeenBook). b.state) c.retire.ensures.is)
