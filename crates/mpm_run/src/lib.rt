@@ -4,5 +4,8 @@
 mod board;
 mod book;
 mod conn;
+mod counting;
+mod report;
 mod response;
 mod serve;
+mod texts;
