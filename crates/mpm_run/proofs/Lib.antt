@@ -2,4 +2,5 @@ pub mod BookLemmas
 pub mod RoomLemmas
 pub mod BoardLemmas
 pub mod EventLemmas
+pub mod ReportLemmas
 pub mod ServeLemmas

@@ -1,5 +1,9 @@
 //! The report of a run: its numbers, and a line for each of the first connections that ended.
-ghost use Rattle.std.specs.Prelude.{◌≡◌};
+ghost use Rattle.std.specs.Prelude.{◌≡◌, ◌<◌, ◌++◌, take, codes, IfOk, OnOk};
+ghost use Rattle.std.specs.Fmt.{decimal};
+ghost use Rattle.std.specs.List.{flat_map};
+ghost use Rattle.conn_machine.specs.Table.{cause_number};
+ghost use Rattle.mpm_run.specs.Report as spec;
 
 use crate::conn::Ended;
 use mpm_base::{Cause, Link, NoMemory, Note, Octets, Tail};
@@ -9,7 +13,7 @@ use std::alloc::Global;
 const MOST_LINES: usize = 64;
 
 /// The causes, in order.
-pub const CAUSES: [Cause; 9] = [
+const CAUSES: [Cause; 9] = [
     Cause::ClientDone,
     Cause::LastSent,
     Cause::KeepAliveLate,
@@ -41,7 +45,9 @@ pub struct Tally {
 }
 
 /// The text of a report.
-pub fn report_text(alloc: Global, view: &Tally) -> Result<Octets, NoMemory> {
+pub fn report_text(alloc: Global, view: &Tally) -> Result<Octets, NoMemory>
+    ensures { IfOk result (λ text. text ≡ spec.text_of view.now) }
+{
     let mut text = Octets::make(alloc);
     add_count(alloc, &mut text, b"Generation", view.generation as u64)?;
     add_count(alloc, &mut text, b"Accepted", view.accepted)?;
@@ -53,8 +59,28 @@ pub fn report_text(alloc: Global, view: &Tally) -> Result<Octets, NoMemory> {
     Ok(text)
 }
 
+/// The place of a cause, from 0, in the order of `Cause`.
+pub fn place_of(cause: Cause) -> usize
+    ensures is { result ≡ cause_number cause }
+    ensures small { result < 9 }
+{
+    match cause {
+        Cause::ClientDone => 0,
+        Cause::LastSent => 1,
+        Cause::KeepAliveLate => 2,
+        Cause::ReadLate => 3,
+        Cause::WriteLate => 4,
+        Cause::Retiring => 5,
+        Cause::LinkFailed => 6,
+        Cause::Stopped => 7,
+        Cause::NoMemory => 8,
+    }
+}
+
 /// The name of a cause.
-fn cause_word(cause: Cause) -> &'static [u8] {
+fn cause_word(cause: Cause) -> &'static [u8]
+    ensures { result.now ≡ spec.cause_word cause }
+{
     match cause {
         Cause::ClientDone => b"ClientDone",
         Cause::LastSent => b"LastSent",
@@ -69,7 +95,9 @@ fn cause_word(cause: Cause) -> &'static [u8] {
 }
 
 /// The name of a tail.
-fn tail_word(tail: Tail) -> &'static [u8] {
+fn tail_word(tail: Tail) -> &'static [u8]
+    ensures { result.now ≡ spec.tail_word tail }
+{
     match tail {
         Tail::Direct => b"Direct",
         Tail::Drained => b"Drained",
@@ -82,7 +110,9 @@ fn tail_word(tail: Tail) -> &'static [u8] {
 }
 
 /// A line for each of the first connections that ended.
-pub fn ended_lines<L: Link>(alloc: Global, ended: &[Ended<L>]) -> Result<Octets, NoMemory> {
+pub fn ended_lines<L: Link>(alloc: Global, ended: &[Ended<L>]) -> Result<Octets, NoMemory>
+    ensures { IfOk result (λ text. text ≡ flat_map spec.line_of (take 64 ended.now)) }
+{
     let mut text = Octets::make(alloc);
     for i in 0..ended.len().min(MOST_LINES) {
         let end = &ended[i];
@@ -92,7 +122,9 @@ pub fn ended_lines<L: Link>(alloc: Global, ended: &[Ended<L>]) -> Result<Octets,
 }
 
 /// Adds the line of a connection that ended.
-fn add_line<L: Link>(alloc: Global, text: &mut Octets, ended: &Ended<L>) -> Result<(), NoMemory> {
+fn add_line<L: Link>(alloc: Global, text: &mut Octets, ended: &Ended<L>) -> Result<(), NoMemory>
+    ensures { OnOk result (text.new ≡ text.old ++ spec.line_of ended.now) }
+{
     add_number(alloc, text, ended.generation as u64)?;
     text.add(b" ")?;
     text.add(cause_word(ended.cause))?;
@@ -104,28 +136,41 @@ fn add_line<L: Link>(alloc: Global, text: &mut Octets, ended: &Ended<L>) -> Resu
 }
 
 /// Adds the codes of the responses, with commas between them.
-fn add_codes(alloc: Global, text: &mut Octets, notes: &[Note]) -> Result<(), NoMemory> {
+fn add_codes(alloc: Global, text: &mut Octets, notes: &[Note]) -> Result<(), NoMemory>
+    ensures { OnOk result (text.new ≡ text.old ++ spec.codes_of notes.now) }
+{
     let Some((first, rest)) = notes.split_first() else {
         return text.add(b"-");
     };
     add_number(alloc, text, first.code as u64)?;
     for note in rest {
-        text.add(b",")?;
-        add_number(alloc, text, note.code as u64)?;
+        add_code(alloc, text, note)?;
     }
     Ok(())
 }
 
+/// Adds a comma and the code of the response.
+fn add_code(alloc: Global, text: &mut Octets, note: &Note) -> Result<(), NoMemory>
+    ensures { OnOk result (text.new ≡ text.old ++ spec.further_code note.now) }
+{
+    text.add(b",")?;
+    add_number(alloc, text, note.code as u64)
+}
+
 /// Adds the lines of the causes.
-fn add_causes(alloc: Global, text: &mut Octets, counts: &[u64; 9]) -> Result<(), NoMemory> {
-    for (place, cause) in CAUSES.iter().enumerate() {
-        add_count(alloc, text, cause_word(*cause), counts[place])?;
+fn add_causes(alloc: Global, text: &mut Octets, counts: &[u64; 9]) -> Result<(), NoMemory>
+    ensures { OnOk result (text.new ≡ text.old ++ flat_map (spec.cause_line counts.now) spec.causes) }
+{
+    for cause in &CAUSES {
+        add_count(alloc, text, cause_word(*cause), counts[place_of(*cause)])?;
     }
     Ok(())
 }
 
 /// Adds a line with a number.
-fn add_count(alloc: Global, text: &mut Octets, name: &[u8], count: u64) -> Result<(), NoMemory> {
+fn add_count(alloc: Global, text: &mut Octets, name: &[u8], count: u64) -> Result<(), NoMemory>
+    ensures { OnOk result (text.new ≡ text.old ++ spec.count_line name.now count) }
+{
     text.add(name)?;
     text.add(b": ")?;
     add_number(alloc, text, count)?;
@@ -133,7 +178,9 @@ fn add_count(alloc: Global, text: &mut Octets, name: &[u8], count: u64) -> Resul
 }
 
 /// Adds the digits of the number.
-pub fn add_number(alloc: Global, text: &mut Octets, number: u64) -> Result<(), NoMemory> {
+pub fn add_number(alloc: Global, text: &mut Octets, number: u64) -> Result<(), NoMemory>
+    ensures { OnOk result (text.new ≡ text.old ++ decimal number) }
+{
     let digits = number.to_string(alloc)?;
     text.add(digits.as_bytes())
 }
