@@ -2,5 +2,6 @@ pub mod BookLemmas
 pub mod RoomLemmas
 pub mod BoardLemmas
 pub mod EventLemmas
+pub mod ReportLemmas
 pub mod ServeLemmas
 pub mod ListenLemmas

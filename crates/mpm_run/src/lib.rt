@@ -5,5 +5,8 @@ mod board;
 mod book;
 mod conn;
 mod listen;
+mod counting;
+mod report;
 mod response;
 mod serve;
+mod texts;

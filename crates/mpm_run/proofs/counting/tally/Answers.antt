@@ -1,0 +1,16 @@
+use Rattle.std.proofs.Common.{refl}
+use Rattle.mpm_run.proofs.counting.tally.Goals as goal
+
+pub returns : goal.returns
+returns g c =
+    rw (
+      c.state.ensures.is,
+      c.count_accepts.ensures,
+      c.count_closes.ensures,
+      c.count_answers.ensures,
+      c.count_causes.ensures,
+      c.count_starts.ensures,
+      c.in_ok-ended_lines.ensures,
+      c.ended.ensures,
+      c.history-history.ensures,
+    ) refl

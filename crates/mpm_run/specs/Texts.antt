@@ -1,0 +1,21 @@
+-- The texts of runs that were refused.
+use Rattle.std.specs.Prelude.{ℕ, List, ◌++◌, codes}
+use Rattle.std.specs.Fmt.{decimal}
+use Rattle.mpm_run.specs.declared.texts.ScriptRefusal.{ScriptRefusal}
+use Rattle.mpm_run.specs.declared.texts.ScriptRefusal.TheVariants.{NotYet, BadLine}
+
+-- how the program is called
+abbrev pub usage : List ℕ
+usage = codes "usage: event_server --script FILE | --load N | -f FILE | -t -f FILE | -k WORD -f FILE\n"
+
+-- the file of that name could not be read
+abbrev pub store_fault : List ℕ → List ℕ
+store_fault name = codes "store fault: " ++ name ++ codes "\n"
+
+abbrev pub refusal_word : ScriptRefusal → List ℕ
+refusal_word NotYet = codes "NotYet"
+refusal_word BadLine = codes "BadLine"
+
+-- the script is refused at the line
+abbrev pub script_refused : ℕ → ScriptRefusal → List ℕ
+script_refused line why = codes "script refused at " ++ decimal line ++ codes ": " ++ refusal_word why ++ codes "\n"
