@@ -1,4 +1,7 @@
+pub mod Calls
 pub mod Count
 pub mod Link
+pub mod PlainLink
+pub mod ScriptLink
 pub mod Sink
 pub mod Store

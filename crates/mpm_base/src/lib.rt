@@ -6,21 +6,27 @@
 //! call may fail. Their definitions stand in `specs/`, one file for each trait.
 #![tactic(auto)]
 
+mod calls;
 mod conn;
 mod link;
 mod memory;
 mod note;
 mod octets;
+mod plain_link;
+mod script_link;
 mod shape;
 mod sink;
 mod store;
 mod words;
 
+pub use calls::Calls;
 pub use conn::{Ask, Cause, ConnName, Kind, Moment, Tail};
 pub use link::{Got, Link, Sent};
 pub use memory::NoMemory;
 pub use note::{Note, Notes, Snapshot};
 pub use octets::Octets;
+pub use plain_link::PlainLink;
+pub use script_link::ScriptLink;
 pub use shape::Shape;
 pub use sink::{Put, Sink};
 pub use store::{File, Names, Store, StoreFault};
