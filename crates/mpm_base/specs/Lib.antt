@@ -1,6 +1,7 @@
 pub mod Calls
 pub mod Count
 pub mod Link
+pub mod MemSink
 pub mod PlainLink
 pub mod ScriptLink
 pub mod Sink

@@ -9,6 +9,7 @@
 mod calls;
 mod conn;
 mod link;
+mod mem_sink;
 mod memory;
 mod note;
 mod octets;
@@ -22,6 +23,7 @@ mod words;
 pub use calls::Calls;
 pub use conn::{Ask, Cause, ConnName, Kind, Moment, Tail};
 pub use link::{Got, Link, Sent};
+pub use mem_sink::{MemSink, PlainSink};
 pub use memory::NoMemory;
 pub use note::{Note, Notes, Snapshot};
 pub use octets::Octets;
