@@ -1,8 +1,11 @@
 pub mod Calls
 pub mod Count
+pub mod Files
 pub mod Link
 pub mod MemSink
+pub mod MemStore
 pub mod PlainLink
+pub mod PlainStore
 pub mod ScriptLink
 pub mod Sink
 pub mod Store

@@ -8,12 +8,15 @@
 
 mod calls;
 mod conn;
+mod files;
 mod link;
 mod mem_sink;
+mod mem_store;
 mod memory;
 mod note;
 mod octets;
 mod plain_link;
+mod plain_store;
 mod script_link;
 mod shape;
 mod sink;
@@ -22,12 +25,15 @@ mod words;
 
 pub use calls::Calls;
 pub use conn::{Ask, Cause, ConnName, Kind, Moment, Tail};
+pub use files::Files;
 pub use link::{Got, Link, Sent};
 pub use mem_sink::{MemSink, PlainSink};
+pub use mem_store::MemStore;
 pub use memory::NoMemory;
 pub use note::{Note, Notes, Snapshot};
 pub use octets::Octets;
 pub use plain_link::PlainLink;
+pub use plain_store::PlainStore;
 pub use script_link::ScriptLink;
 pub use shape::Shape;
 pub use sink::{Put, Sink};
