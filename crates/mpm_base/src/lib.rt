@@ -21,6 +21,8 @@ mod script_link;
 mod shape;
 mod sink;
 mod store;
+#[cfg(test)]
+mod tests;
 mod words;
 
 pub use calls::Calls;
