@@ -2,6 +2,13 @@
 use Rattle.std.specs.Prelude.{ℕ, Bool, not, List, [], ◌∷◌, filter, bytes_eq, if◌then◌else◌}
 use Rattle.mpm_base.specs.declared.store.File.{File}
 
+use Rattle.std.specs.Prelude.{ℕ, Bool, not, List, [], ◌∷◌, filter, All, IsUtf8, bytes_eq, if◌then◌else◌}
+use Rattle.mpm_base.specs.declared.store.File.{File}
+
+-- each name is UTF-8
+abbrev pub AllNamesUtf8 : List File → Type 0
+AllNamesUtf8 files = All (λ (file : File). IsUtf8 file.name) files
+
 -- the file is of that name
 abbrev pub is_named : List ℕ → File → Bool
 is_named name file = bytes_eq file.name name

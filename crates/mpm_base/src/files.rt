@@ -2,6 +2,9 @@
 ghost use Rattle.std.specs.Prelude.{◌≡◌, ◌≢◌, ℕ, Some, None, List, [], find, position, All, IsUtf8, OnOk, OnErr, option_map};
 ghost use Rattle.mpm_base.specs.Store.{bytes_of};
 ghost use Rattle.mpm_base.specs.Files.{is_named, with_file, without_file};
+ghost use Rattle.std.specs.Prelude.{◌≡◌, ◌≢◌, ℕ, Some, None, List, [], find, position, OnOk, OnErr, option_map};
+ghost use Rattle.mpm_base.specs.Store.{bytes_of};
+ghost use Rattle.mpm_base.specs.Files.{AllNamesUtf8, is_named, with_file, without_file};
 
 use crate::memory::NoMemory;
 use crate::octets::Octets;
@@ -18,6 +21,8 @@ pub struct Files {
 
 impl Model for Files {
     ghost use Rattle.std.specs.Prelude.{List, All, IsUtf8};
+    ghost use Rattle.std.specs.Prelude.{List};
+    ghost use Rattle.mpm_base.specs.Files.{AllNamesUtf8};
     ghost use Rattle.mpm_base.specs.declared.store.File.{File};
 
     ghost Value = { List File };
@@ -25,6 +30,7 @@ impl Model for Files {
     ghost view = { λ f. f.items.items };
 
     ghost invariant = { λ f. All (λ (file : File). IsUtf8 file.name) f.items.items };
+    ghost invariant = { λ f. AllNamesUtf8 f.items.items };
 }
 
 impl Files {
@@ -86,6 +92,7 @@ impl Files {
     pub fn as_slice(&self) -> &[File]
         ensures files { result.now ≡ self.now }
         ensures utf8 { All (λ file. IsUtf8 file.name) self.now }
+        ensures utf8 { AllNamesUtf8 self.now }
     {
         self.items.as_slice()
     }

@@ -13,6 +13,7 @@ use std::marker::Model;
 #[derive(Debug, Drop)]
 pub struct PlainLink {
     coming: Octets,
+    // How many bytes of `coming` reads gave, and how many of them before the first half-close.
     given: usize,
     given_before_shut: usize,
     ended: bool,
