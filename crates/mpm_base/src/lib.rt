@@ -3,6 +3,9 @@
 //! The traits `Store`, `Sink` and `Link` say what the machine may rely on of a folder of files, of an
 //! output and of a connection's socket: what was read and written, where the object tells it, and when a
 //! call may fail. Their definitions stand in `specs/`, one file for each trait.
+//!
+//! `read_script` reads the scripts that play a client's connection, and `host_of` and `is_started` tell the one
+//! form of request that is read so far (`specs/Script.antt`, `specs/RootRequest.antt`).
 #![tactic(auto)]
 
 mod calls;

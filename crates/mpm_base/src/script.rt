@@ -45,7 +45,7 @@ impl From<NoMemory> for ScriptFault {
 }
 
 /// Reads a script of one connection. Each line ends with LF, the last one too, and words have one space
-/// between them.
+/// between them. TEXT has the escapes `\r \n \t \\ \xHH`, and spells one request of the known form.
 pub fn read_script(alloc: Global, bytes: &[u8]) -> Result<Script, ScriptFault>
     ensures answer { ScriptIs bytes.now result }
 
