@@ -1,18 +1,10 @@
 -- What setting a file leaves, by the place of the file of that name.
 use Rattle.std.proofs.Common.{◌≡◌, ℕ, ◌<◌, ◌≤◌, List, [], ◌∷◌, ◌++◌, Some, None, length, get_or, set, IsUtf8, refl, arith, subst, sym}
-use Rattle.std.specs.List.{All, position, position_or_len}
 use Rattle.std.specs.List.{position, position_or_len}
 use Rattle.std.proofs.lemmas.Bool.Decides.{nat_tests}
 use Rattle.std.proofs.lemmas.Grind.{common_steps}
 use Rattle.std.proofs.lemmas.List.Elements.{All-get_or, All-set}
 use Rattle.mpm_base.specs.declared.store.File.{File}
-use Rattle.mpm_base.specs.Files.{is_named, with_file}
-
-with_file_at : (name bytes : List ℕ) (files : List File) (d : File) → position_or_len (is_named name) files < length files → with_file name bytes files ≡ set files (position_or_len (is_named name) files) (record (get_or files (position_or_len (is_named name) files) d) { bytes = bytes })
-with_file_at name bytes [] d h = absurd (omega arith)
-with_file_at name bytes (file ∷ files) d h = grind (arith, common_steps, with_file_at name bytes files d)
-
-with_file_past : (name bytes : List ℕ) (files : List File) → length files ≤ position_or_len (is_named name) files → with_file name bytes files ≡ files ++ record { name = name; bytes = bytes } ∷ []
 use Rattle.mpm_base.specs.Files.{AllNamesUtf8, is_named, with_file}
 
 -- where the first file of that name stands, or the length where there is none
@@ -32,19 +24,6 @@ with_file_past name bytes [] h = refl
 with_file_past name bytes (file ∷ files) h = grind (arith, common_steps, with_file_past name bytes files)
 
 -- the file at that place is the first of that name, and gets the bytes
-pub with_file-there : (name bytes : List ℕ) (files : List File) (place : ℕ) (file : File) → Some place ≡ position (is_named name) files → file ≡ get_or files place file → with_file name bytes files ≡ set files place (record file { bytes = bytes })
-with_file-there name bytes files place file at is = grind (arith, nat_tests, with_file_at name bytes files file)
-
--- there is none of that name, and it stands at the end
-pub with_file-missing : (name bytes : List ℕ) (files : List File) → None ≡ position (is_named name) files → with_file name bytes files ≡ files ++ record { name = name; bytes = bytes } ∷ []
-with_file-missing name bytes files at = grind (arith, nat_tests, with_file_past name bytes files)
-
--- the names stay UTF-8 where the bytes of one file change
-pub utf8-set : (name bytes : List ℕ) (files : List File) (place : ℕ) (file : File) → Some place ≡ position (is_named name) files → file ≡ get_or files place file → All (λ (f : File). IsUtf8 f.name) files → All (λ (f : File). IsUtf8 f.name) (set files place (record file { bytes = bytes }))
-utf8-set name bytes files place file at is all =
-    let P : File → Type 0 = λ f. IsUtf8 f.name in
-    let within : place < length files = grind (arith, nat_tests) in
-    All-set P files place (record file { bytes = bytes }) (subst P (sym is) (All-get_or P files place file within all)) all
 pub with_file-there : (name bytes : List ℕ) (files : List File) (i : ℕ) (file : File)
     → Some i ≡ position (is_named name) files → file ≡ get_or files i file
     → with_file name bytes files ≡ set files i (record file { bytes = bytes })

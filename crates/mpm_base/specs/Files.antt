@@ -1,7 +1,4 @@
 -- A list of files by name: what setting and removing one leaves of it.
-use Rattle.std.specs.Prelude.{ℕ, Bool, not, List, [], ◌∷◌, filter, bytes_eq, if◌then◌else◌}
-use Rattle.mpm_base.specs.declared.store.File.{File}
-
 use Rattle.std.specs.Prelude.{ℕ, Bool, not, List, [], ◌∷◌, filter, All, IsUtf8, bytes_eq, if◌then◌else◌}
 use Rattle.mpm_base.specs.declared.store.File.{File}
 

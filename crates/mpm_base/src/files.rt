@@ -1,7 +1,4 @@
 //! A list of files by name.
-ghost use Rattle.std.specs.Prelude.{◌≡◌, ◌≢◌, ℕ, Some, None, List, [], find, position, All, IsUtf8, OnOk, OnErr, option_map};
-ghost use Rattle.mpm_base.specs.Store.{bytes_of};
-ghost use Rattle.mpm_base.specs.Files.{is_named, with_file, without_file};
 ghost use Rattle.std.specs.Prelude.{◌≡◌, ◌≢◌, ℕ, Some, None, List, [], find, position, OnOk, OnErr, option_map};
 ghost use Rattle.mpm_base.specs.Store.{bytes_of};
 ghost use Rattle.mpm_base.specs.Files.{AllNamesUtf8, is_named, with_file, without_file};
@@ -20,7 +17,6 @@ pub struct Files {
 }
 
 impl Model for Files {
-    ghost use Rattle.std.specs.Prelude.{List, All, IsUtf8};
     ghost use Rattle.std.specs.Prelude.{List};
     ghost use Rattle.mpm_base.specs.Files.{AllNamesUtf8};
     ghost use Rattle.mpm_base.specs.declared.store.File.{File};
@@ -29,7 +25,6 @@ impl Model for Files {
 
     ghost view = { λ f. f.items.items };
 
-    ghost invariant = { λ f. All (λ (file : File). IsUtf8 file.name) f.items.items };
     ghost invariant = { λ f. AllNamesUtf8 f.items.items };
 }
 
@@ -91,7 +86,6 @@ impl Files {
     /// The files, in order.
     pub fn as_slice(&self) -> &[File]
         ensures files { result.now ≡ self.now }
-        ensures utf8 { All (λ file. IsUtf8 file.name) self.now }
         ensures utf8 { AllNamesUtf8 self.now }
     {
         self.items.as_slice()

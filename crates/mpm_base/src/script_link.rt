@@ -28,7 +28,6 @@ impl Model for ScriptLink {
 
     ghost Value = { SeenScriptLink };
 
-    // A write that wants memory fails, so none of this link is ever not ready.
     // A write that wants memory fails, so no write of this link is ever not ready.
     ghost view = { λ l. record {
       told = l.inner.told;
