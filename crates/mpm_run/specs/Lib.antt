@@ -1,6 +1,7 @@
 pub mod Board
 pub mod Book
 pub mod Conn
+pub mod FirstShape
 pub mod Listen
 pub mod Report
 pub mod Room

@@ -1,0 +1,221 @@
+//! The top call: from the words of the command line to the report.
+ghost use Rattle.std.specs.Prelude.{◌≡◌, ◌<◌, ◌≤◌, Some, None, IfSome, IsSomeAnd, IsNone, is_some};
+ghost use Rattle.mpm_run.specs.Listen.{IsRunFrom, IsWholeRun};
+ghost use Rattle.mpm_run.specs.FirstShape as spec;
+
+use crate::board::Board;
+use crate::listen::{PASSES, listen};
+use crate::counting::tally;
+use crate::report::report_text;
+use crate::texts::{ScriptRefusal, script_refused_text, store_fault_text, usage_text};
+use mpm_base::{
+    Calls, Link, NoMemory, Octets, Put, Script, ScriptFault, ScriptLink, Shape, Sink, Store, StoreFault, Words, read_script,
+};
+use std::alloc::Global;
+use std::sync::Wait;
+use std::thread::Threads;
+
+/// The most bytes that a script may have.
+const MOST_SCRIPT: u64 = 67_108_864;
+
+/// How many slots the table has.
+const SLOTS: u32 = 64;
+
+/// How many child numbers there are.
+const CHILDREN: u32 = 1;
+
+/// The numbers that a run works by: those of an empty configuration, but for one child.
+fn first_shape() -> Shape
+    ensures { result ≡ spec.first_shape }
+{
+    Shape {
+        threads: 25,
+        factor: 200,
+        read_ms: 60_000,
+        keep_ms: 5_000,
+        keep: true,
+        most: 100,
+        target: 1,
+        children: 1,
+    }
+}
+
+/// What is left of a run over a script.
+#[derive(Drop)]
+pub struct Scripted {
+    /// The table of connections, as the run left it.
+    pub board: Board<ScriptLink>,
+}
+
+/// How a run ended.
+#[derive(Drop)]
+pub struct Outcome {
+    /// The status that the process ends with: 0 for a run that came to its end, 2 for words that are no command, 3 for
+    /// a script that can't be read, 5 for an output that failed, 6 for want of memory, 8 for a script that is refused.
+    pub status: u8,
+    /// The line at which the script is refused, from 1, or 0 for its size; 0 where it is missing.
+    pub shown: Option<u64>,
+    /// What is left of the run, where one opened.
+    pub scripted: Option<Scripted>,
+}
+
+/// Runs the command that the words give, over the store and the output. The one command is `--script FILE`.
+///
+/// All texts go to `out`: the report of a run, or why there is none.
+pub fn run<R: Threads + Wait + Sync, D: Store, K: Sink>(
+    rt: &R,
+    alloc: Global,
+    words: &Words,
+    store: &mut D,
+    out: &mut K,
+) -> Outcome
+    // A run that ended is a whole run of the machine from its opening state.
+    ensures served { result.status ≡ 0 → IsSomeAnd result.scripted (λ s. IsWholeRun 64 1 spec.first_shape s.board.book) }
+
+    // Whatever the status, what is left of a run has a history of the machine.
+    ensures kept { IfSome result.scripted (λ s. IsRunFrom 64 1 spec.first_shape s.board.book) }
+{
+    let Some(name) = script_name(words) else {
+        return refuse(out, 2, None, usage_text(alloc));
+    };
+    let bytes = match store.read(alloc, name, MOST_SCRIPT) {
+        Ok(bytes) => bytes,
+        Err(fault) => return refuse_file(alloc, out, name, fault),
+    };
+    match read_script(alloc, bytes.as_slice()) {
+        Ok(script) => play(rt, alloc, script, out),
+        Err(ScriptFault::NotYet(line)) => {
+            let text = script_refused_text(alloc, line, ScriptRefusal::NotYet);
+            refuse(out, 8, Some(line), text)
+        }
+        Err(ScriptFault::NoMemory) => no_memory(),
+    }
+}
+
+/// The name of the script, where the words are `--script` and one more.
+fn script_name(words: &Words) -> Option<&str> {
+    if words.len() != 2 {
+        return None;
+    }
+    match words.get(0) {
+        Some("--script") => words.get(1),
+        _ => None,
+    }
+}
+
+/// The end of a run that found no memory to open.
+fn no_memory() -> Outcome
+    ensures status { result.status ≡ 6 }
+    ensures scripted { IsNone result.scripted }
+{
+    Outcome {
+        status: 6,
+        shown: None,
+        scripted: None,
+    }
+}
+
+/// The end of a run whose script can't be read.
+fn refuse_file<K: Sink>(alloc: Global, out: &mut K, name: &str, fault: StoreFault) -> Outcome
+    ensures status { result.status ≡ 0 → ⊥ }
+    ensures scripted { IsNone result.scripted }
+{
+    match fault {
+        StoreFault::Missing => refuse(out, 3, Some(0), store_fault_text(alloc, name.as_bytes())),
+        StoreFault::Large(_) => {
+            let text = script_refused_text(alloc, 0, ScriptRefusal::BadLine);
+            refuse(out, 8, Some(0), text)
+        }
+        StoreFault::Many | StoreFault::Failed => {
+            refuse(out, 3, None, store_fault_text(alloc, name.as_bytes()))
+        }
+        StoreFault::NoMemory => no_memory(),
+    }
+}
+
+/// The end of a run that is refused: its text is written, as far as the output takes it.
+fn refuse<K: Sink>(
+    out: &mut K,
+    status: u8,
+    shown: Option<u64>,
+    text: Result<Octets, NoMemory>,
+) -> Outcome
+    requires { status ≡ 0 → ⊥ }
+    ensures status { result.status ≡ 0 → ⊥ }
+    ensures scripted { IsNone result.scripted }
+{
+    match text {
+        Ok(text) => {
+            let _ = write_all(out, text.as_slice());
+            Outcome {
+                status,
+                shown,
+                scripted: None,
+            }
+        }
+        Err(_) => no_memory(),
+    }
+}
+
+/// Plays the script, and writes the report.
+fn play<R: Wait, K: Sink>(rt: &R, alloc: Global, script: Script, out: &mut K) -> Outcome
+    ensures served { result.status ≡ 0 → IsSomeAnd result.scripted (λ s. IsWholeRun 64 1 spec.first_shape s.board.book) }
+    ensures kept { IfSome result.scripted (λ s. IsRunFrom 64 1 spec.first_shape s.board.book) }
+{
+    let Ok(mut board) = Board::make(alloc, SLOTS, CHILDREN, PASSES, first_shape()) else {
+        return no_memory();
+    };
+    let calls = Calls::make(alloc);
+    let link = ScriptLink::make(alloc, 0, script.sent, true, calls, Calls::make(alloc));
+    match listen(rt, alloc, &mut board, link) {
+        Ok(()) => {
+            board.show();
+            finish(alloc, board, out, 0)
+        }
+        Err(_) => {
+            board.show();
+            finish(alloc, board, out, 6)
+        }
+    }
+}
+
+/// The end of a run that opened: its report is written.
+fn finish<K: Sink>(alloc: Global, board: Board<ScriptLink>, out: &mut K, status: u8) -> Outcome
+    ensures status { result.status ≡ 0 → status ≡ 0 }
+    ensures scripted { IsSomeAnd result.scripted (λ s. s.board ≡ board) }
+{
+    let status = report(alloc, &board, out, status);
+    Outcome {
+        status,
+        shown: None,
+        scripted: Some(Scripted { board }),
+    }
+}
+
+/// Writes the report of the run. A failed write changes status 0 alone.
+fn report<L: Link, K: Sink>(alloc: Global, board: &Board<L>, out: &mut K, status: u8) -> u8
+    ensures { result ≡ 0 → status ≡ 0 }
+{
+    let text = match tally(alloc, board) {
+        Ok(tally) => report_text(alloc, &tally),
+        Err(refused) => Err(refused),
+    };
+    match text {
+        Ok(text) if write_all(out, text.as_slice()) => status,
+        Ok(_) if status == 0 => 5,
+        Ok(_) => status,
+        Err(_) => 6,
+    }
+}
+
+/// Writes all the bytes. False where a write failed.
+fn write_all<K: Sink>(out: &mut K, bytes: &[u8]) -> bool {
+    let mut from = 0;
+    while from < bytes.len() {
+        match out.write(&bytes[from..]) {
+            Put::Put(count) => from += count as usize,
+            Put::Failed => return false,
+        }
+    }
+    true
+}
