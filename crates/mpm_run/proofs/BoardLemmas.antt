@@ -1,13 +1,12 @@
 -- How the connections of a board agree with its rows, while one row changes.
-use Rattle.std.proofs.Common.{◌≡◌, ◌==◌, ℕ, zero, suc, ◌+◌, ◌<◌, ◌≤◌, Bool, true, false, ◌&&◌, cond, List, [], ◌∷◌, length, Option, None, Some, slice_get, get_or, count_by, sum_by, refl, sym, ap, subst, ◌∙◌, get_or-set_same, get_or-set_other, eqb-true, eq-eqb, arith}
+use Rattle.std.proofs.Common.{◌≡◌, ◌==◌, ℕ, zero, suc, ◌+◌, ◌<◌, ◌≤◌, Bool, true, false, cond, List, [], ◌∷◌, length, Option, None, Some, slice_get, count_by, sum_by, refl, sym, ap, subst, ◌∙◌, get_or-set_same, get_or-set_other, eqb-true, eq-eqb, arith}
 use Rattle.std.proofs.Math.ListN.{set, length-set}
-use Rattle.std.proofs.lemmas.List.Sums.{count_by-le-length, sum_by-cons}
+use Rattle.std.proofs.lemmas.List.Sums.{sum_by-cons}
 use Rattle.std.proofs.lemmas.Bool.{and_parts}
-use Rattle.std.specs.Option.{option_map_or}
 use Rattle.mpm_base.specs.declared.conn.ConnName.{ConnName}
 use Rattle.conn_machine.specs.declared.row.Row.{Row}
 use Rattle.conn_machine.specs.Lists.{update}
-use Rattle.conn_machine.specs.Rows.{is_live, is_named, row_where, live_row, lives_and}
+use Rattle.conn_machine.specs.Rows.{is_live, is_named, live_row, lives_and}
 use Rattle.conn_machine.proofs.SizeLemmas.{length-update}
 use Rattle.mpm_run.specs.Conn.{SeenConn}
 use Rattle.mpm_run.specs.Board.{IsHome, conn_at, Agrees}
@@ -93,11 +92,11 @@ homes_by rows conns slot r change c ended room agrees at home j r' true is_same 
     let e : j ≡ slot = eqb-true j slot is_same in
     let here : slice_get (update rows slot change) slot ≡ Some (change r) = get-update_same rows slot r change at in
     let there : slice_get (update rows slot change) slot ≡ Some r' =
-          subst (λ (k : ℕ). slice_get (update rows slot change) k ≡ Some r') e at' in
+    subst (λ (k : ℕ). slice_get (update rows slot change) k ≡ Some r') e at' in
     let row_is : change r ≡ r' = cc in
     let below : slot < length conns = omega (arith, get-below rows slot r at, agrees.slots) in
     subst (λ (k : ℕ). IsHome k r' (conn_at (set conns slot c) k)) (sym e)
-        (rw (get_or-set_same conns slot c None below) (subst (λ (x : Row). IsHome slot x c) row_is home))
+    (rw (get_or-set_same conns slot c None below) (subst (λ (x : Row). IsHome slot x c) row_is home))
 homes_by rows conns slot r change c ended room agrees at home j r' false other at' =
     let differs : (j ≡ slot → ⊥) = (λ (e : j ≡ slot). let eq : (j == slot) ≡ true = eq-eqb j slot e in cc) in
     let before : slice_get rows j ≡ Some r' = sym (get-update_other rows slot j change differs) ∙ at' in

@@ -6,7 +6,7 @@ use Rattle.conn_machine.specs.declared.event.Event.{Event}
 use Rattle.conn_machine.specs.declared.event.Entry.{Entry}
 use Rattle.conn_machine.specs.declared.state.State.{State}
 use Rattle.conn_machine.specs.Table.{allowed, next, reply}
-use Rattle.conn_machine.specs.Runs.{after, entries_of, is_of_pass, IsHistory}
+use Rattle.conn_machine.specs.Runs.{entries_of}
 use Rattle.conn_machine.proofs.RunLemmas.{after-snoc, history-snoc, entries_of-own, entries_of-other}
 use Rattle.conn_machine.proofs.SizeLemmas.{length-rows, length-children, length-signals, moment-within}
 use Rattle.mpm_run.specs.Book.{AreNext, IsSized, IsKept, SeenBook, numbered, recorded}
@@ -23,8 +23,8 @@ next_by ordinals history e p true own before within below =
     let len : length (entries_of p history ++ e ∷ []) ≡ length (entries_of p history) + 1 = length-append (entries_of p history) (e ∷ []) in
     rw (entries_of-own p history e own)
     (subst (λ (q : ℕ). get_or (set ordinals q (length (entries_of q history) + 1)) p 0 ≡ length (entries_of p history) + 1)
-        (sym same) (get_or-set_same ordinals p (length (entries_of p history) + 1) 0 below)
-        ∙ sym len)
+    (sym same) (get_or-set_same ordinals p (length (entries_of p history) + 1) 0 below)
+    ∙ sym len)
 next_by ordinals history e p false other before within below =
     let differs : (p ≡ e.pass → ⊥) = (λ (q : p ≡ e.pass). let eq : (e.pass == p) ≡ true = eq-eqb e.pass p (sym q) in cc) in
     rw (entries_of-other p history e other)
@@ -34,7 +34,7 @@ pub next_more : (ordinals : List ℕ) (history : List Entry) (e : Entry) → Are
     → AreNext (set ordinals e.pass (length (entries_of e.pass history) + 1)) (history ++ e ∷ [])
 next_more ordinals history e before within p below =
     next_by ordinals history e p (e.pass == p) refl before within
-        (omega (arith, length-set ordinals e.pass (length (entries_of e.pass history) + 1)))
+    (omega (arith, length-set ordinals e.pass (length (entries_of e.pass history) + 1)))
 
 -- the state has the size that it had
 sized_more : (s : State) (e : Event) → allowed s e ≡ true → IsSized s → IsSized (next s e)
@@ -73,7 +73,7 @@ kept_with_room base history history' s s' ordinals ordinals' room room' e before
     let children = length-children s e.event in
     rw (history_is, state_is)
     (kept_more base history s ordinals ordinals' room room' e before is_allowed replied ordinal (rw history_is at numbers)
-        (omega (arith, len, owes, rows, children, space)))
+    (omega (arith, len, owes, rows, children, space)))
 
 -- the same, where the room was taken before
 pub kept_sure : (base : State) (history history' : List Entry) (s s' : State) (ordinals ordinals' : List ℕ) (room room' : ℕ) (e : Entry)
@@ -86,7 +86,7 @@ kept_sure base history history' s s' ordinals ordinals' room room' e before is_a
     let owes = owed-sure s e.event is_allowed sure in
     rw (history_is, state_is)
     (kept_more base history s ordinals ordinals' room room' e before is_allowed replied ordinal (rw history_is at numbers)
-        (omega (arith, len, owes, before.has_room, space)))
+    (omega (arith, len, owes, before.has_room, space)))
 
 -- what a book shows once the entry was put at its end
 pub recorded_is : (b : SeenBook) (base : State) (history history' : List Entry) (s s' : State) (n n' who : ℕ) (event : Event) (answer : Reply)
@@ -95,4 +95,4 @@ pub recorded_is : (b : SeenBook) (base : State) (history history' : List Entry) 
     → (let seen : SeenBook = record { base = base; history = history'; state = s'; passes = n' } in seen ≡ recorded who event b)
 recorded_is b base history history' s s' n n' who event answer seen history_is state_is replied passes =
     subst (λ (v : SeenBook). (let shown : SeenBook = record { base = base; history = history'; state = s'; passes = n' } in shown ≡ recorded who event v))
-        seen (rw (history_is, state_is, replied, passes) refl)
+    seen (rw (history_is, state_is, replied, passes) refl)

@@ -1,5 +1,5 @@
 -- What each event does to the agreement of connections and rows.
-use Rattle.std.proofs.Common.{◌≡◌, ◌==◌, ℕ, ◌+◌, ◌<◌, ◌≤◌, Bool, true, false, not, ◌&&◌, ◌||◌, cond, if◌then◌else◌, nat_lt, nat_le, is_some, List, [], ◌∷◌, length, Option, None, Some, slice_get, get_or, count_by, replicate, zero, suc, eq-eqb, refl, sym, ap, subst, ◌∙◌, arith}
+use Rattle.std.proofs.Common.{◌≡◌, ◌==◌, ℕ, ◌+◌, ◌<◌, ◌≤◌, Bool, true, false, not, ◌&&◌, ◌||◌, cond, if◌then◌else◌, nat_lt, nat_le, is_some, List, length, Option, None, Some, slice_get, get_or, count_by, replicate, zero, suc, eq-eqb, refl, sym, ap, subst, ◌∙◌, arith}
 use Rattle.std.proofs.Math.ListN.{set}
 use Rattle.std.proofs.lemmas.Bool.{and_parts}
 use Rattle.std.proofs.lemmas.List.{length-replicate}
@@ -23,7 +23,7 @@ use Rattle.conn_machine.specs.Rows.{is_vacant, is_unused, is_held, is_parked, is
 use Rattle.mpm_base.specs.declared.conn.Kind.TheVariants.{KeepAlive}
 use Rattle.conn_machine.specs.Children.{is_stopping}
 use Rattle.conn_machine.specs.States.{is_signalled, is_halted, is_serving, pick_child, child_of, unused_row}
-use Rattle.conn_machine.specs.Table.{allowed, next, is_vacant_at, may_accept, may_wait, may_be_held, may_be_queued, may_hold, may_start, may_close, taken_row, parked_row, held_row, queued_row, served_row, answered_row, closed_row, greatest_life, end_fits, is_last_for, noted_at}
+use Rattle.conn_machine.specs.Table.{allowed, next, is_vacant_at, may_wait, may_be_held, may_be_queued, taken_row, parked_row, held_row, queued_row, served_row, answered_row, closed_row, greatest_life, end_fits, is_last_for, noted_at}
 use Rattle.conn_machine.proofs.SizeLemmas.{length-update}
 use Rattle.mpm_run.specs.Conn.{SeenConn, Fits}
 use Rattle.mpm_run.specs.Board.{is_home, IsAtHome, IsHome, conn_at, Agrees, IsNoteOf, noted}
@@ -116,7 +116,7 @@ agrees_away rows conns slot r change ended room ended' room' agrees at away away
     let none : conn_at conns slot ≡ None = homeless slot r (conn_at conns slot) (agrees.homes slot r at) away in
     let same : set conns slot None ≡ conns = ap (λ (c : Option SeenConn). set conns slot c) (sym none) ∙ set-get_or conns slot None in
     subst (λ (cs : List (Option SeenConn)). Agrees (update rows slot change) cs ended' room') same
-        (agrees_set rows conns slot r change None ended room ended' room' agrees at away' space)
+    (agrees_set rows conns slot r change None ended room ended' room' agrees at away' space)
 
 -- what a row counts for
 abbrev weight : Bool → ℕ
@@ -160,9 +160,9 @@ accept-agrees s slot conns ended room room' may agrees space =
     let vacant : is_vacant_at s slot ≡ true = (and_parts (is_serving s.going) (is_vacant_at s slot) both.0).1 in
     let found = slot_row (λ (r : Row). is_vacant r.place) (slice_get s.rows slot) vacant in
     let few : count_by is_live (update s.rows slot (taken_row s)) ≤ length s.rows =
-          omega (arith, count_by-le-length is_live (update s.rows slot (taken_row s)), length-update s.rows slot (taken_row s)) in
+    omega (arith, count_by-le-length is_live (update s.rows slot (taken_row s)), length-update s.rows slot (taken_row s)) in
     agrees_away s.rows conns slot found.0 (taken_row s) ended room ended room' agrees found.1 (vacant-away found.0.place found.2) refl
-        (omega (arith, few, space))
+    (omega (arith, few, space))
 
 pub park-agrees : (s : State) (name : ConnName) (kind : Kind) (conns : List (Option SeenConn)) (c : SeenConn) (r : Row) (ended room : ℕ)
     → allowed s (event.Park name kind) ≡ true → Agrees s.rows conns ended room → live_row s.rows name ≡ Some r → c.name ≡ name → Fits c r
@@ -174,8 +174,8 @@ park-agrees s name kind conns c r ended room may agrees found name_is fits =
     let fits' : Fits c lives.row = subst (λ (x : Row). Fits c x) (sym same) fits in
     let named : c.name ≡ record { slot = name.slot; life = lives.row.life } = name_is ∙ ap (λ (n : ℕ). record { slot = name.slot; life = n }) (sym lives.life) in
     agrees_set s.rows conns name.slot lives.row (parked_row s kind) (Some c) ended room ended room agrees lives.at
-        (record { home = refl; name = named; fits = record { child = fits'.child; generation = fits'.generation; notes = fits'.notes } })
-        (omega (arith, count, agrees.has_room))
+    (record { home = refl; name = named; fits = record { child = fits'.child; generation = fits'.generation; notes = fits'.notes } })
+    (omega (arith, count, agrees.has_room))
 
 pub hold-agrees : (s : State) (name : ConnName) (conns : List (Option SeenConn)) (ended room : ℕ)
     → allowed s (event.Hold name) ≡ true → Agrees s.rows conns ended room
@@ -184,7 +184,7 @@ hold-agrees s name conns ended room may agrees =
     let lives = lives_as s.rows name (may_be_held s (is_signalled s name.slot)) may in
     let count = live-same s.rows name.slot lives.row held_row lives.at lives.live refl in
     agrees_set s.rows conns name.slot lives.row held_row None ended room ended room agrees lives.at refl
-        (omega (arith, count, agrees.has_room))
+    (omega (arith, count, agrees.has_room))
 
 pub start-agrees : (s : State) (name : ConnName) (conns : List (Option SeenConn)) (ended room : ℕ)
     → allowed s (event.Start name) ≡ true → Agrees s.rows conns ended room
@@ -193,7 +193,7 @@ start-agrees s name conns ended room may agrees =
     let lives = lives_as s.rows name (λ (r : Row). is_queued r.place) may in
     let count = live-same s.rows name.slot lives.row (served_row s) lives.at lives.live refl in
     agrees_set s.rows conns name.slot lives.row (served_row s) None ended room ended room agrees lives.at refl
-        (omega (arith, count, agrees.has_room))
+    (omega (arith, count, agrees.has_room))
 
 -- a row that waits is handed on, and its connection stays
 pub queue-agrees : (s : State) (name : ConnName) (conns : List (Option SeenConn)) (ended room : ℕ)
@@ -201,18 +201,18 @@ pub queue-agrees : (s : State) (name : ConnName) (conns : List (Option SeenConn)
     → Agrees (next s (event.Queue name)).rows conns ended room
 queue-agrees s name conns ended room may agrees =
     let lives = lives_as s.rows name (may_be_queued s)
-          (and_parts (not (is_halted s.going) && is_signalled s name.slot) (lives_and (may_be_queued s) s.rows name) may).1 in
+    (and_parts (not (is_halted s.going) && is_signalled s name.slot) (lives_and (may_be_queued s) s.rows name) may).1 in
     let parked : is_parked lives.row.place ≡ true = (and_parts (is_parked lives.row.place) (not (is_lingering lives.row))
-          (and_parts (is_parked lives.row.place && not (is_lingering lives.row))
-              (nat_lt (carried s.rows lives.row.child) (child_of s lives.row).shape.threads) lives.passes).0).0 in
+    (and_parts (is_parked lives.row.place && not (is_lingering lives.row))
+    (nat_lt (carried s.rows lives.row.child) (child_of s lives.row).shape.threads) lives.passes).0).0 in
     let count = live-same s.rows name.slot lives.row queued_row lives.at lives.live refl in
     let here = at_home name.slot lives.row (conn_at conns name.slot) (agrees.homes name.slot lives.row lives.at) (parked-home lives.row.place parked) in
     let same : set conns name.slot (Some here.0) ≡ conns =
-          ap (λ (c : Option SeenConn). set conns name.slot c) (sym here.1) ∙ set-get_or conns name.slot None in
+    ap (λ (c : Option SeenConn). set conns name.slot c) (sym here.1) ∙ set-get_or conns name.slot None in
     subst (λ (cs : List (Option SeenConn)). Agrees (update s.rows name.slot queued_row) cs ended room) same
-        (agrees_set s.rows conns name.slot lives.row queued_row (Some here.0) ended room ended room agrees lives.at
-            (record { home = refl; name = here.2.name; fits = record { child = here.2.fits.child; generation = here.2.fits.generation; notes = here.2.fits.notes } })
-            (omega (arith, count, agrees.has_room)))
+    (agrees_set s.rows conns name.slot lives.row queued_row (Some here.0) ended room ended room agrees lives.at
+    (record { home = refl; name = here.2.name; fits = record { child = here.2.fits.child; generation = here.2.fits.generation; notes = here.2.fits.notes } })
+    (omega (arith, count, agrees.has_room)))
 
 -- the phase of the worker that sends the response
 abbrev pub answer_phase : State → Ask → Row → Phase
@@ -223,12 +223,12 @@ pub answer-agrees : (s : State) (name : ConnName) (ask : Ask) (conns : List (Opt
     → Agrees (next s (event.Answer name ask)).rows conns ended room
 answer-agrees s name ask conns ended room may agrees =
     let lives = lives_as s.rows name (λ (r : Row). is_working r.place && not r.last)
-          (and_parts (not (is_halted s.going)) (lives_and (λ (r : Row). is_working r.place && not r.last) s.rows name) may).1 in
+    (and_parts (not (is_halted s.going)) (lives_and (λ (r : Row). is_working r.place && not r.last) s.rows name) may).1 in
     let working : is_working lives.row.place ≡ true = (and_parts (is_working lives.row.place) (not lives.row.last) lives.passes).0 in
     let away = working-away lives.row.place working in
     let count = live-same s.rows name.slot lives.row (answered_row s ask) lives.at lives.live (ap not (in_phase-unused (answer_phase s ask lives.row) lives.row.place) ∙ lives.live) in
     agrees_away s.rows conns name.slot lives.row (answered_row s ask) ended room ended room agrees lives.at away
-        (in_phase-home (answer_phase s ask lives.row) lives.row.place ∙ away) (omega (arith, count, agrees.has_room))
+    (in_phase-home (answer_phase s ask lives.row) lives.row.place ∙ away) (omega (arith, count, agrees.has_room))
 
 pub close-agrees : (s : State) (name : ConnName) (why : Cause) (how : Tail) (conns : List (Option SeenConn)) (ended room room' : ℕ)
     → allowed s (event.Close name why how) ≡ true → Agrees s.rows conns ended room → room ≤ room'
@@ -236,11 +236,11 @@ pub close-agrees : (s : State) (name : ConnName) (why : Cause) (how : Tail) (con
 close-agrees s name why how conns ended room room' may agrees more =
     let lives = lives_as s.rows name (λ (r : Row). (is_held r.place || is_working r.place) && end_fits s why how r) may in
     let in_hand : (is_held lives.row.place || is_working lives.row.place) ≡ true =
-          (and_parts (is_held lives.row.place || is_working lives.row.place) (end_fits s why how lives.row) lives.passes).0 in
+    (and_parts (is_held lives.row.place || is_working lives.row.place) (end_fits s why how lives.row) lives.passes).0 in
     let dead = closed-away lives.row in
     let count = live-less s.rows name.slot lives.row closed_row lives.at lives.live dead.1 in
     agrees_away s.rows conns name.slot lives.row closed_row ended room (ended + 1) room' agrees lives.at (in_hand-away lives.row.place in_hand)
-        dead.0 (omega (arith, count, agrees.has_room, more))
+    dead.0 (omega (arith, count, agrees.has_room, more))
 
 -- before a close there is room for the one that ends
 pub close-room : (s : State) (name : ConnName) (why : Cause) (how : Tail) (conns : List (Option SeenConn)) (ended room : ℕ)
@@ -284,8 +284,8 @@ handed_out rows conns name r change x ended room agrees at home life has live li
       name_is = name_is;
       row = change r;
       found =
-        subst (λ (n : ConnName). live_row (update rows name.slot change) n ≡ Some (change r)) (sym name_is)
-            (live_row-update rows name r change at live (life' ∙ life));
+          subst (λ (n : ConnName). live_row (update rows name.slot change) n ≡ Some (change r)) (sym name_is)
+          (live_row-update rows name r change at live (life' ∙ life));
       fits = fits;
     }
 
@@ -300,11 +300,13 @@ home-fits rows conns slot r x ended room agrees at home has =
 pub hold-parked : (s : State) (name : ConnName) → allowed s (event.Hold name) ≡ true
     → (lives : LivesAs s.rows name (may_be_held s (is_signalled s name.slot))) × (is_home lives.row.place ≡ true)
 hold-parked s name may =
-    let lives = lives_as s.rows name (may_be_held s (is_signalled s name.slot)) may in
-    (lives, parked-home lives.row.place (and_parts (is_parked lives.row.place) (nat_le lives.row.deadline s.moment
-        || (is_from KeepAlive lives.row && is_stopping (child_of s lives.row).phase && not (is_signalled s name.slot))
-        || (is_lingering lives.row && is_signalled s name.slot)
-        || is_halted s.going) lives.passes).0)
+    let lives = lives_as s.rows name (may_be_held s (is_signalled s name.slot)) may in (
+      lives,
+      parked-home lives.row.place (and_parts (is_parked lives.row.place) (nat_le lives.row.deadline s.moment
+          || (is_from KeepAlive lives.row && is_stopping (child_of s lives.row).phase && not (is_signalled s name.slot))
+          || (is_lingering lives.row && is_signalled s name.slot)
+          || is_halted s.going) lives.passes).0,
+    )
 
 pub hold-hands : (s : State) (name : ConnName) (conns : List (Option SeenConn)) (x : SeenConn) (ended room : ℕ)
     → allowed s (event.Hold name) ≡ true → Agrees s.rows conns ended room → conn_at conns name.slot ≡ Some x
@@ -314,7 +316,7 @@ hold-hands s name conns x ended room may agrees has =
     let lives = found.0 in
     let fits = home-fits s.rows conns name.slot lives.row x ended room agrees lives.at found.1 has in
     handed_out s.rows conns name lives.row held_row x ended room agrees lives.at found.1 lives.life has refl refl
-        (record { child = fits.child; generation = fits.generation; notes = fits.notes })
+    (record { child = fits.child; generation = fits.generation; notes = fits.notes })
 
 pub start-hands : (s : State) (name : ConnName) (conns : List (Option SeenConn)) (x : SeenConn) (ended room : ℕ)
     → allowed s (event.Start name) ≡ true → Agrees s.rows conns ended room → conn_at conns name.slot ≡ Some x
@@ -324,7 +326,7 @@ start-hands s name conns x ended room may agrees has =
     let home = queued-home lives.row.place lives.passes in
     let fits = home-fits s.rows conns name.slot lives.row x ended room agrees lives.at home has in
     handed_out s.rows conns name lives.row (served_row s) x ended room agrees lives.at home lives.life has refl refl
-        (record { child = fits.child; generation = fits.generation; notes = fits.notes })
+    (record { child = fits.child; generation = fits.generation; notes = fits.notes })
 
 -- a connection that is to be handed out is there
 pub hold-there : (s : State) (name : ConnName) (conns : List (Option SeenConn)) (ended room : ℕ)
@@ -381,9 +383,9 @@ pub answer-note : (s : State) (name : ConnName) (ask : Ask) (last : Bool) (momen
     → last ≡ noted_at s name.slot ask → moment ≡ s.moment → IsNoteOf s name ask (noted moment ask last)
 answer-note s name ask last moment may last_is moment_is =
     let lives = lives_as s.rows name (λ (r : Row). is_working r.place && not r.last)
-          (and_parts (not (is_halted s.going)) (lives_and (λ (r : Row). is_working r.place && not r.last) s.rows name) may).1 in
+    (and_parts (not (is_halted s.going)) (lives_and (λ (r : Row). is_working r.place && not r.last) s.rows name) may).1 in
     let same : noted_at s name.slot ask ≡ is_last_for s ask lives.row =
-          ap (λ (o : Option Row). option_map_or (is_last_for s ask) o false) lives.at in
+    ap (λ (o : Option Row). option_map_or (is_last_for s ask) o false) lives.at in
     record {
       row = lives.row;
       found = lives.found;

@@ -1,9 +1,8 @@
 -- What the listener may do, and how a run ends.
-use Rattle.std.proofs.Common.{◌≡◌, ◌==◌, ℕ, zero, suc, ◌+◌, ◌<◌, ◌≤◌, Bool, true, false, not, ◌&&◌, ◌||◌, cond, if◌then◌else◌, List, [], ◌∷◌, length, map, Option, Some, None, is_some, slice_get, get_or, replicate, nat_lt, refl, sym, ap, subst, ◌∙◌, eqb-true, eq-eqb, arith}
+use Rattle.std.proofs.Common.{◌≡◌, ◌==◌, ℕ, zero, suc, ◌+◌, ◌<◌, ◌≤◌, Bool, true, false, not, ◌&&◌, ◌||◌, List, [], ◌∷◌, length, Option, Some, None, is_some, slice_get, get_or, nat_lt, refl, sym, ap, subst, ◌∙◌, eqb-true, eq-eqb, arith}
 use Rattle.std.proofs.lemmas.Bool.{and_parts, ltb-true, ltb-false}
 use Rattle.std.specs.Option.{option_map_or}
 use Rattle.std.specs.List.{list_any}
-use Rattle.mpm_base.specs.Count.{next_count}
 use Rattle.mpm_base.specs.Link.{LinkTold, LinkCounts}
 use Rattle.mpm_base.specs.declared.conn.ConnName.{ConnName}
 use Rattle.mpm_base.specs.declared.conn.Kind.TheVariants.{Reading}
@@ -21,13 +20,12 @@ use Rattle.conn_machine.specs.declared.state.Going.{Going}
 use Rattle.conn_machine.specs.declared.state.Going.TheVariants.{Serving, Ending, Halted}
 use Rattle.conn_machine.specs.declared.state.State.{State}
 use Rattle.conn_machine.specs.Lists.{update}
-use Rattle.conn_machine.specs.Rows.{is_vacant, is_held, is_working, is_live, is_live_in, is_lingering, live_row, lives_and, row_passes}
+use Rattle.conn_machine.specs.Rows.{is_vacant, is_held, is_working, is_live, is_live_in, is_lingering, live_row, lives_and}
 use Rattle.conn_machine.specs.Children.{no_child, child_at, is_empty, is_running, is_stopping, stopped_child, all_stopped, retired_child}
-use Rattle.conn_machine.specs.States.{is_serving, is_halted, is_signalled, pick_child}
-use Rattle.conn_machine.specs.Table.{allowed, next, is_vacant_at, may_wait, may_be_held, held_row, taken_row, picked_child, taken_reply, life_at, end_fits, child_passes}
-use Rattle.mpm_run.specs.Conn.{SeenConn, Fits, new_conn}
+use Rattle.conn_machine.specs.States.{is_serving, is_halted, pick_child}
+use Rattle.conn_machine.specs.Table.{allowed, next, is_vacant_at, may_wait, held_row, taken_row, picked_child, taken_reply, life_at, end_fits, child_passes}
+use Rattle.mpm_run.specs.Conn.{Fits, new_conn}
 use Rattle.mpm_run.specs.Listen.{HasNoLive, HasNoRunning, AllEmpty, EmptyBelow}
-use Rattle.mpm_run.proofs.BoardLemmas.{LivesAs, lives_as, get-below}
 use Rattle.mpm_run.proofs.EventLemmas.{live_row-update, hold-parked}
 use Rattle.mpm_run.proofs.ServeLemmas.{test-at}
 
@@ -65,7 +63,7 @@ taken_of s slot name child generation r at serving reply_is =
     let life_is : name.life ≡ r.life = ap (λ (n : ConnName). n.life) named ∙ life in
     let at' : slice_get s.rows name.slot ≡ Some r = ap (slice_get s.rows) slot_is ∙ at in
     let found : live_row (update s.rows name.slot (taken_row s)) name ≡ Some (taken_row s r) =
-          live_row-update s.rows name r (taken_row s) at' refl (sym life_is) in
+    live_row-update s.rows name r (taken_row s) at' refl (sym life_is) in
     record {
       row = taken_row s r;
       found = subst (λ (n : ℕ). live_row (update s.rows n (taken_row s)) name ≡ Some (taken_row s r)) slot_is found;
@@ -118,7 +116,7 @@ held-stops s name may halted serves =
     let serving : is_lingering lives.row ≡ false = sym (test-at s.rows name lives.row is_lingering lives.found) ∙ serves in
     let found = live_row-update s.rows name lives.row held_row lives.at refl lives.life in
     test-at (next s (event.Hold name)).rows name (held_row lives.row)
-        (λ (r : Row). (is_held r.place || is_working r.place) && end_fits (next s (event.Hold name)) cause.Stopped tail.Direct r) found
+    (λ (r : Row). (is_held r.place || is_working r.place) && end_fits (next s (event.Hold name)) cause.Stopped tail.Direct r) found
     ∙ rw (serving, halted) refl
 
 -- ## The end
@@ -136,7 +134,7 @@ stopped-phase c false at = rw at at
 pub stop-runs : (s s' : State) (why : Why) → s' ≡ next s (event.Command (Stop why)) → HasNoRunning s'
 stop-runs s s' why is k =
     let at : child_at s'.children k ≡ stopped_child (child_at s.children k) =
-          ap (λ (t : State). child_at t.children k) is ∙ get-stopped s.children k in
+    ap (λ (t : State). child_at t.children k) is ∙ get-stopped s.children k in
     ap (λ (c : Child). is_running c.phase) at ∙ stopped-phase (child_at s.children k) (is_running (child_at s.children k).phase) refl
 
 or-parts : (a b : Bool) → (a || b) ≡ false → (a ≡ false) × (b ≡ false)
@@ -187,7 +185,7 @@ pub empty-where : (s : State) (k : ℕ) → HasNoLive s → HasNoRunning s → a
 empty-where s k live running refused =
     let none : not (list_any (is_live_in k) s.rows) ≡ true = ap not (none-live-in s.rows k live) in
     let stopping : child_passes (λ (c : Child). is_stopping c.phase) s k ≡ false =
-          and-right (child_passes (λ (c : Child). is_stopping c.phase) s k) (not (list_any (is_live_in k) s.rows)) refused none in
+    and-right (child_passes (λ (c : Child). is_stopping c.phase) s k) (not (list_any (is_live_in k) s.rows)) refused none in
     empty-phase (child_at s.children k).phase (running k) (stopping-at s k (slice_get s.children k) refl stopping)
 
 -- the child of a number, once another or this one was retired
@@ -223,7 +221,7 @@ running-by : (s : State) (k j : ℕ) (same : Bool) → (j == k) ≡ same → Has
 running-by s k j true at running =
     let e : j ≡ k = eqb-true j k at in
     running-retired (child_at (update s.children k retired_child) j).phase
-        (subst (λ (i : ℕ). is_empty (child_at (update s.children k retired_child) i).phase ≡ true) (sym e) (retired-at s.children k))
+    (subst (λ (i : ℕ). is_empty (child_at (update s.children k retired_child) i).phase ≡ true) (sym e) (retired-at s.children k))
 running-by s k j false at running =
     let differs : (j ≡ k → ⊥) = (λ (e : j ≡ k). let eq : (j == k) ≡ true = eq-eqb j k e in cc) in
     ap (λ (c : Child). is_running c.phase) (get-or-update s.children k j retired_child differs) ∙ running j

@@ -1,8 +1,7 @@
 -- What a worker may do with the connection that it serves.
-use Rattle.std.proofs.Common.{◌≡◌, ◌==◌, ℕ, ◌/◌, Bool, true, false, not, ◌&&◌, ◌||◌, List, [], ◌∷◌, ◌++◌, length, nat_lt, Option, Some, None, slice_get, refl, sym, ap, subst, ◌∙◌, inl, inr}
+use Rattle.std.proofs.Common.{◌≡◌, ◌==◌, Bool, true, false, not, ◌&&◌, ◌||◌, List, [], ◌∷◌, ◌++◌, length, nat_lt, Option, Some, slice_get, refl, sym, ap, subst, ◌∙◌, inl, inr}
 use Rattle.std.proofs.lemmas.Bool.{and_parts}
 use Rattle.std.specs.Option.{option_map_or}
-use Rattle.std.specs.Prelude.{◌⊎◌}
 use Rattle.mpm_base.specs.declared.conn.ConnName.{ConnName}
 use Rattle.mpm_base.specs.declared.conn.Ask.{Ask}
 use Rattle.mpm_base.specs.declared.note.Note.{Note}
@@ -17,8 +16,7 @@ use Rattle.conn_machine.specs.declared.row.Phase.{Phase}
 use Rattle.conn_machine.specs.declared.row.Row.{Row}
 use Rattle.conn_machine.specs.declared.event.Event.TheVariants as event
 use Rattle.conn_machine.specs.declared.state.State.{State}
-use Rattle.conn_machine.specs.Lists.{update}
-use Rattle.conn_machine.specs.Rows.{is_held, is_queued, is_working, in_phase, is_lingering, is_parked, is_live, is_unused, has_note, carried, live_row, lives_and}
+use Rattle.conn_machine.specs.Rows.{is_held, is_queued, is_working, in_phase, is_lingering, is_parked, is_live, has_note, carried, live_row, lives_and}
 use Rattle.conn_machine.specs.States.{is_halted, is_signalled, child_of}
 use Rattle.conn_machine.specs.Table.{allowed, next, may_wait, may_be_queued, answered_row, queued_row, served_row, note_for, end_fits}
 use Rattle.mpm_run.specs.Conn.{SeenConn, Fits, IsSame, HasNoted}
@@ -26,7 +24,7 @@ use Rattle.mpm_run.specs.Board.{IsNoteOf}
 use Rattle.mpm_run.specs.Serve.{IsServed, IsOpen, MayGiveUp, MayLeave, IsLastExit}
 use Rattle.mpm_run.specs.declared.serve.Exit.{Exit}
 use Rattle.mpm_run.specs.declared.serve.Exit.TheVariants as exit
-use Rattle.mpm_run.proofs.BoardLemmas.{LivesAs, lives_as, get-update_same}
+use Rattle.mpm_run.proofs.BoardLemmas.{lives_as, get-update_same}
 use Rattle.mpm_run.proofs.EventLemmas.{live_row-update, in_phase-unused, answer_phase}
 
 -- a test of a row that is known
@@ -103,7 +101,7 @@ pub may-keep : (s : State) (c : SeenConn) → IsServed s c → IsOpen s c.name �
 may-keep s c served undecided noted =
     let has : has_note served.row ≡ true = ap (λ (ns : List Note). not (length ns == 0)) (sym served.fits.notes) ∙ noted in
     let keeps : (is_working served.row.place && not served.row.last && has_note served.row) ≡ true =
-          rw (served.working, row-open s c served undecided, has) refl in
+    rw (served.working, row-open s c served undecided, has) refl in
     let waits = test-at s.rows c.name served.row (may_wait s.moment KeepAlive) served.found ∙ keeps in
     rw (served.going, waits) refl
 
@@ -127,7 +125,7 @@ pub served-answered : (s : State) (c : SeenConn) (ask : Ask) (note : Note) → (
     → IsServed (next s (event.Answer c.name ask)) (record c { notes = c.notes ++ note ∷ [] })
 served-answered s c ask note served is_note =
     let lives = lives_as s.rows c.name (λ (r : Row). is_working r.place)
-          (test-at s.rows c.name served.row (λ (r : Row). is_working r.place) served.found ∙ served.working) in
+    (test-at s.rows c.name served.row (λ (r : Row). is_working r.place) served.found ∙ served.working) in
     let same : lives.row ≡ served.row = cc (lives.found, served.found) in
     let noted : is_note.row ≡ served.row = cc (is_note.found, served.found) in
     let at : slice_get s.rows c.name.slot ≡ Some served.row = lives.at ∙ ap Some same in
@@ -137,8 +135,8 @@ served-answered s c ask note served is_note =
     record {
       row = answered_row s ask served.row;
       found =
-        live_row-update s.rows c.name served.row (answered_row s ask) at
-            (ap not (in_phase-unused (answer_phase s ask served.row) served.row.place) ∙ live) life;
+          live_row-update s.rows c.name served.row (answered_row s ask) at
+          (ap not (in_phase-unused (answer_phase s ask served.row) served.row.place) ∙ live) life;
       working = in_phase-working (answer_phase s ask served.row) served.row.place ∙ served.working;
       serves = served.serves;
       fits = record {
@@ -154,7 +152,7 @@ pub served-noted : (s : State) (c c' : SeenConn) (ask : Ask) (note : Note) → I
     → IsServed (next s (event.Answer c.name ask)) c'
 served-noted s c c' ask note served is_note noted =
     served-same (next s (event.Answer c.name ask)) (record c { notes = c.notes ++ note ∷ [] }) c' (served-answered s c ask note served is_note)
-        (record { name = noted.name; child = noted.child; generation = noted.generation; notes = noted.notes })
+    (record { name = noted.name; child = noted.child; generation = noted.generation; notes = noted.notes })
 
 not-true : (b : Bool) → not b ≡ true → b ≡ false
 not-true true at = absurd (cc)
@@ -169,16 +167,16 @@ served-started s s1 c name row may queued_is name_is found fits =
     let lives = lives_as s.rows name (may_be_queued s) parts.1 in
     let going : is_halted s.going ≡ false = not-true (is_halted s.going) (and_parts (not (is_halted s.going)) (is_signalled s name.slot) parts.0).0 in
     let open_parts = and_parts (is_parked lives.row.place && not (is_lingering lives.row))
-          (nat_lt (carried s.rows lives.row.child) (child_of s lives.row).shape.threads) lives.passes in
+    (nat_lt (carried s.rows lives.row.child) (child_of s lives.row).shape.threads) lives.passes in
     let serves : is_lingering lives.row ≡ false =
-          not-true (is_lingering lives.row) (and_parts (is_parked lives.row.place) (not (is_lingering lives.row)) open_parts.0).1 in
+    not-true (is_lingering lives.row) (and_parts (is_parked lives.row.place) (not (is_lingering lives.row)) open_parts.0).1 in
     let queued : slice_get (next s (event.Queue name)).rows name.slot ≡ Some (queued_row lives.row) =
-          get-update_same s.rows name.slot lives.row queued_row lives.at in
+    get-update_same s.rows name.slot lives.row queued_row lives.at in
     let queued1 : slice_get s1.rows name.slot ≡ Some (queued_row lives.row) = rw queued_is queued in
     let started : live_row (next s1 (event.Start name)).rows name ≡ Some (served_row s1 (queued_row lives.row)) =
-          live_row-update s1.rows name (queued_row lives.row) (served_row s1) queued1 refl lives.life in
+    live_row-update s1.rows name (queued_row lives.row) (served_row s1) queued1 refl lives.life in
     let here : live_row (next s1 (event.Start name)).rows name ≡ Some row =
-          subst (λ (n : ConnName). live_row (next s1 (event.Start name)).rows n ≡ Some row) name_is found in
+    subst (λ (n : ConnName). live_row (next s1 (event.Start name)).rows n ≡ Some row) name_is found in
     let same : row ≡ served_row s1 (queued_row lives.row) = cc (started, here) in
     record {
       row = row;
@@ -196,7 +194,7 @@ may-start s s1 name may queued_is =
     let parts = and_parts (not (is_halted s.going) && is_signalled s name.slot) (lives_and (may_be_queued s) s.rows name) may in
     let lives = lives_as s.rows name (may_be_queued s) parts.1 in
     let found : live_row (next s (event.Queue name)).rows name ≡ Some (queued_row lives.row) =
-          live_row-update s.rows name lives.row queued_row lives.at refl lives.life in
+    live_row-update s.rows name lives.row queued_row lives.at refl lives.life in
     rw queued_is (test-at (next s (event.Queue name)).rows name (queued_row lives.row) (λ (r : Row). is_queued r.place) found)
 
 -- where the connection found no memory for its response, it may be closed for that
@@ -204,4 +202,3 @@ pub may-give_up_noted : (s : State) (c : SeenConn) (ask : Ask) (note : Note) →
     → MayGiveUp (next s (event.Answer c.name ask)) c.name
 may-give_up_noted s c ask note served is_note =
     may-give_up (next s (event.Answer c.name ask)) (record c { notes = c.notes ++ note ∷ [] }) (served-answered s c ask note served is_note)
-

@@ -40,8 +40,14 @@ pub record Fits (c : SeenConn) (r : Row) : Type 0 where
 abbrev pub new_conn : Option LinkTold → LinkCounts → ConnName → ℕ → ℕ → SeenConn
 new_conn told counts name child generation =
     record {
-      told = told; counts = counts; name = name; child = child; generation = generation;
-      notes = []; pending = []; rest = [];
+      told = told;
+      counts = counts;
+      name = name;
+      child = child;
+      generation = generation;
+      notes = [];
+      pending = [];
+      rest = [];
     }
 
 -- the connection is still the one that it was, and has the same responses

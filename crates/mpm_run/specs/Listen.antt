@@ -1,10 +1,8 @@
 -- What the listener keeps, and how a run ends.
-use Rattle.std.specs.Prelude.{◌≡◌, ◌<◌, ℕ, Bool, true, false, List, is_some, if◌then◌else◌, Option}
+use Rattle.std.specs.Prelude.{◌≡◌, ◌<◌, ℕ, true, false, is_some, if◌then◌else◌, Option}
 use Rattle.std.specs.List.{list_any}
 use Rattle.mpm_base.specs.Count.{next_count}
 use Rattle.mpm_base.specs.declared.shape.Shape.{Shape}
-use Rattle.conn_machine.specs.declared.child.Child.{Child}
-use Rattle.conn_machine.specs.declared.row.Row.{Row}
 use Rattle.conn_machine.specs.declared.event.Why.TheVariants as why
 use Rattle.conn_machine.specs.declared.state.Going.TheVariants.{Halted}
 use Rattle.conn_machine.specs.declared.state.State.{State}

@@ -1,5 +1,5 @@
 -- What a worker knows of the connection that it serves, and how it may leave it.
-use Rattle.std.specs.Prelude.{◌≡◌, ℕ, Bool, true, false, Option, Some, ◌⊎◌}
+use Rattle.std.specs.Prelude.{◌≡◌, true, false, Some, ◌⊎◌}
 use Rattle.mpm_base.specs.declared.conn.ConnName.{ConnName}
 use Rattle.mpm_base.specs.declared.conn.Kind.TheVariants.{Writing}
 use Rattle.mpm_base.specs.declared.conn.Cause.TheVariants as cause
@@ -12,7 +12,6 @@ use Rattle.conn_machine.specs.States.{is_halted}
 use Rattle.conn_machine.specs.Table.{allowed}
 use Rattle.mpm_run.specs.Book.{SeenBook}
 use Rattle.mpm_run.specs.Conn.{SeenConn, Fits}
-use Rattle.mpm_run.specs.Board.{SeenBoard}
 use Rattle.mpm_run.specs.declared.serve.Exit.{Exit}
 use Rattle.mpm_run.specs.declared.serve.Exit.TheVariants as exit
 

@@ -123,13 +123,7 @@ impl Book {
 }
 
 /// Puts the pass's entry at the end, with its next number.
-fn append(
-    history: &mut Vec<Entry>,
-    ordinals: &mut Vec<u64>,
-    who: u32,
-    event: Event,
-    reply: Reply,
-)
+fn append(history: &mut Vec<Entry>, ordinals: &mut Vec<u64>, who: u32, event: Event, reply: Reply)
     requires room { vec_len history.old < vec_capacity history.old }
     requires who { who < length ordinals.old.items }
     requires numbers { AreNext ordinals.old.items history.old.items }

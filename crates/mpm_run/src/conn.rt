@@ -66,20 +66,20 @@ impl<L: Link> Model for Conn<L> {
     ghost Value = { SeenConn };
 
     ghost view = { λ c. record {
-      told = L.told c.link; counts = L.counts c.link; name = c.name; child = c.child; generation = c.generation;
-      notes = c.notes; pending = drop c.sent c.pending; rest = c.rest.items;
+      told = L.told c.link;
+      counts = L.counts c.link;
+      name = c.name;
+      child = c.child;
+      generation = c.generation;
+      notes = c.notes;
+      pending = drop c.sent c.pending;
+      rest = c.rest.items;
     } };
 }
 
 impl<L: Link> Conn<L> {
     /// A connection of that name over a link of which nothing was read, and to which nothing was written. Takes no memory.
-    pub fn new(
-        alloc: Global,
-        name: ConnName,
-        child: u32,
-        generation: u32,
-        link: L,
-    ) -> Conn<L>
+    pub fn new(alloc: Global, name: ConnName, child: u32, generation: u32, link: L) -> Conn<L>
         ensures { result ≡ new_conn (L.told link) (L.counts link) name child generation }
     {
         Conn {
@@ -259,7 +259,13 @@ impl<L: Link> Model for Ended<L> {
     ghost Value = { SeenEnded };
 
     ghost view = { λ e. record {
-      told = L.told e.link; counts = L.counts e.link; name = e.name; child = e.child; generation = e.generation;
-      notes = e.notes; cause = e.cause; tail = e.tail;
+      told = L.told e.link;
+      counts = L.counts e.link;
+      name = e.name;
+      child = e.child;
+      generation = e.generation;
+      notes = e.notes;
+      cause = e.cause;
+      tail = e.tail;
     } };
 }

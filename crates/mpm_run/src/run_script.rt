@@ -4,12 +4,13 @@ ghost use Rattle.mpm_run.specs.Listen.{IsRunFrom, IsWholeRun};
 ghost use Rattle.mpm_run.specs.FirstShape as spec;
 
 use crate::board::Board;
-use crate::listen::{PASSES, listen};
 use crate::counting::tally;
+use crate::listen::{PASSES, listen};
 use crate::report::report_text;
 use crate::texts::{ScriptRefusal, script_refused_text, store_fault_text, usage_text};
 use mpm_base::{
-    Calls, Link, NoMemory, Octets, Put, Script, ScriptFault, ScriptLink, Shape, Sink, Store, StoreFault, Words, read_script,
+    Calls, Link, NoMemory, Octets, Put, Script, ScriptFault, ScriptLink, Shape, Sink, Store,
+    StoreFault, Words, read_script,
 };
 use std::alloc::Global;
 use std::sync::Wait;

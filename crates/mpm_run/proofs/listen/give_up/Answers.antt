@@ -20,7 +20,7 @@ close-requires-clause-allowed g c =
     let serves : lives_and is_lingering s.rows n ≡ false = search rules in
     let there = held-stops s n may c.loop-slot.invariant.halted serves in
     let held = subst (λ (t : State). allowed t (event.Close n cause.Stopped tail.Direct) ≡ true)
-          (sym (ap (λ (b : SeenBook). b.state) c.hold-conn.ensures.is)) there in
+    (sym (ap (λ (b : SeenBook). b.state) c.hold-conn.ensures.is)) there in
     let t = c.hold-conn.new.self.book.state in
     let name : c.end.result.name ≡ n = c.end.ensures.name ∙ c.hold-conn.ensures.name in
     let named = subst (λ (m : ConnName). allowed t (event.Close m cause.Stopped tail.Direct) ≡ true) (sym name) held in

@@ -1,7 +1,6 @@
-use Rattle.std.proofs.Common.{◌≡◌, false, length, sym, ap, ◌∙◌, rules}
+use Rattle.std.proofs.Common.{◌≡◌, false, length, ap, ◌∙◌, rules}
 use Rattle.conn_machine.specs.declared.event.Event.TheVariants as event
-use Rattle.conn_machine.specs.declared.state.State.{State}
-use Rattle.conn_machine.specs.Table.{allowed, next}
+use Rattle.conn_machine.specs.Table.{allowed}
 use Rattle.conn_machine.proofs.SizeLemmas.{length-children}
 use Rattle.mpm_run.specs.Book.{SeenBook}
 use Rattle.mpm_run.proofs.ListenLemmas.{retire-refused, retire-runs, retire-below}
@@ -16,7 +15,7 @@ returns-then-not-may-clause-empty g c =
 pub returns-clause-running : goal.returns-clause-running
 returns-clause-running g c =
     retire-runs c.args.board.now.book.state c.retire.new.self.book.state c.args.child
-        (ap (λ (b : SeenBook). b.state) c.retire.ensures.is) c.requires.running
+    (ap (λ (b : SeenBook). b.state) c.retire.ensures.is) c.requires.running
 
 pub returns-clause-count : goal.returns-clause-count
 returns-clause-count g c =

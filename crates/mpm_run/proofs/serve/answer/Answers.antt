@@ -1,4 +1,4 @@
-use Rattle.std.proofs.Common.{◌≡◌, true, subst, sym, ap, ◌∙◌}
+use Rattle.std.proofs.Common.{◌≡◌, subst, sym, ap, ◌∙◌}
 use Rattle.mpm_base.specs.declared.conn.ConnName.{ConnName}
 use Rattle.conn_machine.specs.declared.event.Event.TheVariants as event
 use Rattle.conn_machine.specs.declared.state.State.{State}
@@ -16,11 +16,11 @@ returns-in-Ok-answer-clause-served g c =
     let conn = c.args.conn.now in
     let ask = c.args.ask in
     let step : c.answer.new.self.book.state ≡ next s (event.Answer conn.name ask) =
-          ap (λ (b : SeenBook). b.state) c.in-Ok.ensures.ok ∙ ap (λ (n : ConnName). next s (event.Answer n ask)) c.name.ensures in
+    ap (λ (b : SeenBook). b.state) c.in-Ok.ensures.ok ∙ ap (λ (n : ConnName). next s (event.Answer n ask)) c.name.ensures in
     let is_note : IsNoteOf s conn.name ask c.in-Ok.note =
-          subst (λ (n : ConnName). IsNoteOf s n ask c.in-Ok.note) c.name.ensures c.in-Ok.ensures.note in
+    subst (λ (n : ConnName). IsNoteOf s n ask c.in-Ok.note) c.name.ensures c.in-Ok.ensures.note in
     subst (λ (t : State). IsServed t c.answer-2.new.self) (sym step)
-        (served-noted s conn c.answer-2.new.self ask c.in-Ok.note c.requires.served is_note c.in-Ok-answer.ensures.ok)
+    (served-noted s conn c.answer-2.new.self ask c.in-Ok.note c.requires.served is_note c.in-Ok-answer.ensures.ok)
 
 pub returns-in-Err-clause-refused : goal.returns-in-Err-clause-refused
 returns-in-Err-clause-refused g c =
@@ -28,9 +28,9 @@ returns-in-Err-clause-refused g c =
     let conn = c.args.conn.now in
     let ask = c.args.ask in
     let step : c.answer.new.self.book.state ≡ next s (event.Answer conn.name ask) =
-          ap (λ (b : SeenBook). b.state) c.in-Ok.ensures.ok ∙ ap (λ (n : ConnName). next s (event.Answer n ask)) c.name.ensures in
+    ap (λ (b : SeenBook). b.state) c.in-Ok.ensures.ok ∙ ap (λ (n : ConnName). next s (event.Answer n ask)) c.name.ensures in
     let is_note : IsNoteOf s conn.name ask c.in-Ok.note =
-          subst (λ (n : ConnName). IsNoteOf s n ask c.in-Ok.note) c.name.ensures c.in-Ok.ensures.note in
+    subst (λ (n : ConnName). IsNoteOf s n ask c.in-Ok.note) c.name.ensures c.in-Ok.ensures.note in
     let given_up : MayGiveUp (next s (event.Answer conn.name ask)) conn.name = may-give_up_noted s conn ask c.in-Ok.note c.requires.served is_note in
     let there : MayGiveUp c.answer.new.self.book.state conn.name = subst (λ (t : State). MayGiveUp t conn.name) (sym step) given_up in
     subst (λ (x : SeenConn). MayGiveUp c.answer.new.self.book.state x.name) (sym c.in-Err.ensures.err) there

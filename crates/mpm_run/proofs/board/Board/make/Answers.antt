@@ -1,9 +1,4 @@
-use Rattle.std.proofs.Common.{◌≡◌, ◌+◌, ◌≤◌, ◌<◌, ◌++◌, [], ◌∷◌, true, false, Some, None, length, vec_capacity, vec_len, subst, sym, refl, ap, ◌∙◌, rules, arith}
-use Rattle.conn_machine.specs.Table.{allowed, next}
-use Rattle.conn_machine.specs.declared.event.Event.TheVariants as event
-use Rattle.mpm_run.specs.Book.{SeenBook, recorded}
-use Rattle.mpm_run.specs.Conn.{SeenConn}
-use Rattle.mpm_run.specs.Board.{SeenBoard, Agrees, conn_at}
+use Rattle.std.proofs.Common.{◌≡◌, None, length, vec_capacity, ap, ◌∙◌, rules, arith}
 use Rattle.std.proofs.Common.{replicate, ℕ}
 use Rattle.mpm_run.proofs.EventLemmas.{opening-agrees}
 use Rattle.mpm_run.proofs.board.Board.make.Goals as goal

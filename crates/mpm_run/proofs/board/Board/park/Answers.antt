@@ -1,9 +1,6 @@
-use Rattle.std.proofs.Common.{◌≡◌, ◌+◌, ◌≤◌, ◌<◌, ◌++◌, [], ◌∷◌, true, false, Some, None, length, vec_capacity, vec_len, subst, sym, refl, ap, ◌∙◌, rules, arith}
-use Rattle.conn_machine.specs.Table.{allowed, next}
+use Rattle.std.proofs.Common.{◌≡◌, true, Some, length, vec_capacity, sym, rules}
+use Rattle.conn_machine.specs.Table.{allowed}
 use Rattle.conn_machine.specs.declared.event.Event.TheVariants as event
-use Rattle.mpm_run.specs.Book.{SeenBook, recorded}
-use Rattle.mpm_run.specs.Conn.{SeenConn}
-use Rattle.mpm_run.specs.Board.{SeenBoard, Agrees, conn_at}
 use Rattle.conn_machine.specs.Rows.{live_row}
 use Rattle.mpm_run.proofs.EventLemmas.{park-agrees, park-below}
 use Rattle.mpm_run.proofs.board.Board.park.Goals as goal
@@ -24,4 +21,4 @@ invariant_of-self g c =
     let may : allowed inside.book.state (event.Park name c.args.kind) ≡ true = search rules in
     rw c.in-Ok.ensures.ok
     (park-agrees inside.book.state name c.args.kind inside.conns.items c.args.conn c.requires.fits.row (length inside.ended.items)
-        (vec_capacity inside.ended) may c.self.invariant found (sym c.name-name.ensures) c.requires.fits.fits)
+    (vec_capacity inside.ended) may c.self.invariant found (sym c.name-name.ensures) c.requires.fits.fits)

@@ -1,8 +1,7 @@
-use Rattle.std.proofs.Common.{◌≡◌, ◌+◌, ◌≤◌, ◌<◌, ◌++◌, [], ◌∷◌, true, false, length, vec_capacity, vec_len, subst, sym, refl, ap, ◌∙◌, rules, arith}
-use Rattle.conn_machine.specs.Table.{allowed, next}
+use Rattle.std.proofs.Common.{◌≡◌, true, length, vec_capacity, subst, sym}
+use Rattle.conn_machine.specs.Table.{allowed}
 use Rattle.conn_machine.specs.declared.event.Event.TheVariants as event
-use Rattle.mpm_run.specs.Book.{SeenBook, recorded}
-use Rattle.mpm_run.specs.Board.{SeenBoard, Agrees}
+use Rattle.mpm_run.specs.Board.{SeenBoard}
 use Rattle.mpm_run.proofs.EventLemmas.{queue-agrees}
 use Rattle.mpm_run.proofs.board.Board.queue.Goals as goal
 
@@ -10,6 +9,6 @@ pub invariant_of-self-2 : goal.invariant_of-self-2
 invariant_of-self-2 g c =
     let inside = c.self.inside in
     let may : allowed inside.book.state (event.Queue c.args.name) ≡ true =
-          subst (λ (v : SeenBoard). allowed v.book.state (event.Queue c.args.name) ≡ true) (sym c.self.view_is) c.requires.allowed in
+    subst (λ (v : SeenBoard). allowed v.book.state (event.Queue c.args.name) ≡ true) (sym c.self.view_is) c.requires.allowed in
     rw (c.in_ok-record.ensures.ok)
     (queue-agrees inside.book.state c.args.name inside.conns.items (length inside.ended.items) (vec_capacity inside.ended) may c.self.invariant)

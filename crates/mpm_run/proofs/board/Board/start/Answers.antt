@@ -1,11 +1,11 @@
-use Rattle.std.proofs.Common.{◌≡◌, ◌+◌, ◌≤◌, ◌<◌, ◌++◌, [], ◌∷◌, true, false, Option, Some, None, length, vec_capacity, vec_len, subst, sym, refl, ap, ◌∙◌, rules, arith}
+use Rattle.std.proofs.Common.{◌≡◌, true, Option, Some, None, length, vec_capacity, subst, sym, ◌∙◌, rules}
 use Rattle.conn_machine.specs.Rows.{live_row}
-use Rattle.conn_machine.specs.Table.{allowed, next}
+use Rattle.conn_machine.specs.Table.{allowed}
 use Rattle.conn_machine.specs.declared.event.Event.TheVariants as event
-use Rattle.mpm_run.specs.Book.{SeenBook, recorded}
+use Rattle.mpm_run.specs.Book.{SeenBook}
 use Rattle.std.proofs.lemmas.List.{get_or_default}
 use Rattle.mpm_run.specs.Conn.{SeenConn}
-use Rattle.mpm_run.specs.Board.{SeenBoard, Agrees, conn_at}
+use Rattle.mpm_run.specs.Board.{SeenBoard, conn_at}
 use Rattle.mpm_run.proofs.EventLemmas.{start-agrees, start-there, start-hands}
 use Rattle.mpm_run.proofs.board.Board.start.Goals as goal
 
@@ -13,7 +13,7 @@ pub index_mut-requires : goal.index_mut-requires
 index_mut-requires g c =
     let inside = c.self.inside in
     let may : allowed inside.book.state (event.Start c.args.name) ≡ true =
-          subst (λ (v : SeenBoard). allowed v.book.state (event.Start c.args.name) ≡ true) (sym c.self.view_is) c.requires.allowed in
+    subst (λ (v : SeenBoard). allowed v.book.state (event.Start c.args.name) ≡ true) (sym c.self.view_is) c.requires.allowed in
     let there = start-there inside.book.state c.args.name inside.conns.items (length inside.ended.items) (vec_capacity inside.ended) may c.self.invariant in
     search (rules, there.0)
 
@@ -21,7 +21,7 @@ pub unreachable-requires-in-None : goal.unreachable-requires-in-None
 unreachable-requires-in-None g c =
     let inside = c.self.inside in
     let may : allowed inside.book.state (event.Start c.args.name) ≡ true =
-          subst (λ (v : SeenBoard). allowed v.book.state (event.Start c.args.name) ≡ true) (sym c.self.view_is) c.requires.allowed in
+    subst (λ (v : SeenBoard). allowed v.book.state (event.Start c.args.name) ≡ true) (sym c.self.view_is) c.requires.allowed in
     let there = start-there inside.book.state c.args.name inside.conns.items (length inside.ended.items) (vec_capacity inside.ended) may c.self.invariant in
     let none : conn_at inside.conns.items c.args.name.slot ≡ None = search rules in
     let some = there.1.1 in
@@ -31,7 +31,7 @@ pub invariant_of-self : goal.invariant_of-self
 invariant_of-self g c =
     let inside = c.self.inside in
     let may : allowed inside.book.state (event.Start c.args.name) ≡ true =
-          subst (λ (v : SeenBoard). allowed v.book.state (event.Start c.args.name) ≡ true) (sym c.self.view_is) c.requires.allowed in
+    subst (λ (v : SeenBoard). allowed v.book.state (event.Start c.args.name) ≡ true) (sym c.self.view_is) c.requires.allowed in
     rw (c.record_sure-reply.ensures.is, c.take.ensures.after)
     (start-agrees inside.book.state c.args.name inside.conns.items (length inside.ended.items) (vec_capacity inside.ended) may c.self.invariant)
 
@@ -39,22 +39,22 @@ pub returns-clause-name : goal.returns-clause-name
 returns-clause-name g c =
     let inside = c.self.inside in
     let may : allowed inside.book.state (event.Start c.args.name) ≡ true =
-          subst (λ (v : SeenBoard). allowed v.book.state (event.Start c.args.name) ≡ true) (sym c.self.view_is) c.requires.allowed in
+    subst (λ (v : SeenBoard). allowed v.book.state (event.Start c.args.name) ≡ true) (sym c.self.view_is) c.requires.allowed in
     let there = start-there inside.book.state c.args.name inside.conns.items (length inside.ended.items) (vec_capacity inside.ended) may c.self.invariant in
     let has : conn_at inside.conns.items c.args.name.slot ≡ Some c.in-Some.conn =
-          get_or_default {X = Option SeenConn} inside.conns.items c.args.name.slot None c.index_mut.result.now there.0
-          ∙ sym c.index_mut.ensures.value ∙ sym c.take.ensures.value ∙ c.in-Some.is in
+    get_or_default {X = Option SeenConn} inside.conns.items c.args.name.slot None c.index_mut.result.now there.0
+    ∙ sym c.index_mut.ensures.value ∙ sym c.take.ensures.value ∙ c.in-Some.is in
     (start-hands inside.book.state c.args.name inside.conns.items c.in-Some.conn (length inside.ended.items) (vec_capacity inside.ended) may c.self.invariant has).name_is
 
 pub returns-clause-fits : goal.returns-clause-fits
 returns-clause-fits g c =
     let inside = c.self.inside in
     let may : allowed inside.book.state (event.Start c.args.name) ≡ true =
-          subst (λ (v : SeenBoard). allowed v.book.state (event.Start c.args.name) ≡ true) (sym c.self.view_is) c.requires.allowed in
+    subst (λ (v : SeenBoard). allowed v.book.state (event.Start c.args.name) ≡ true) (sym c.self.view_is) c.requires.allowed in
     let there = start-there inside.book.state c.args.name inside.conns.items (length inside.ended.items) (vec_capacity inside.ended) may c.self.invariant in
     let has : conn_at inside.conns.items c.args.name.slot ≡ Some c.in-Some.conn =
-          get_or_default {X = Option SeenConn} inside.conns.items c.args.name.slot None c.index_mut.result.now there.0
-          ∙ sym c.index_mut.ensures.value ∙ sym c.take.ensures.value ∙ c.in-Some.is in
+    get_or_default {X = Option SeenConn} inside.conns.items c.args.name.slot None c.index_mut.result.now there.0
+    ∙ sym c.index_mut.ensures.value ∙ sym c.take.ensures.value ∙ c.in-Some.is in
     let hands = start-hands inside.book.state c.args.name inside.conns.items c.in-Some.conn (length inside.ended.items) (vec_capacity inside.ended) may c.self.invariant has in
     record {
       row = hands.row;

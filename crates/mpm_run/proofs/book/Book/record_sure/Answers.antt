@@ -1,8 +1,8 @@
-use Rattle.std.proofs.Common.{◌≡◌, ◌+◌, ◌*◌, ◌≤◌, ◌<◌, true, length, vec_capacity, vec_len, subst, sym, refl, ◌∙◌, ap, rules, arith}
-use Rattle.conn_machine.specs.Table.{allowed, reply, next}
+use Rattle.std.proofs.Common.{◌≡◌, ◌+◌, ◌≤◌, ◌<◌, true, length, vec_capacity, subst, sym, refl, rules, arith}
+use Rattle.conn_machine.specs.Table.{allowed, next}
 use Rattle.mpm_run.specs.Book.{SeenBook, numbered}
 use Rattle.mpm_run.specs.Room.{owed}
-use Rattle.mpm_run.proofs.BookLemmas.{kept_sure, recorded_is}
+use Rattle.mpm_run.proofs.BookLemmas.{kept_sure}
 use Rattle.mpm_run.proofs.RoomLemmas.{owed-sure}
 use Rattle.mpm_run.proofs.book.Book.record_sure.Goals as goal
 
@@ -20,6 +20,6 @@ invariant_of-self c =
     let inside = c.self.inside in
     let may = subst (λ (v : SeenBook). allowed v.state c.args.event ≡ true) (sym c.self.view_is) c.requires.allowed in
     kept_sure inside.base.value inside.history.items c.append.new.history.items inside.state c.step.new.state inside.ordinals.items
-        c.append.new.ordinals.items (vec_capacity inside.history) (vec_capacity c.append.new.history)
-        (numbered c.args.who c.args.event c.in-Ok.reply inside.history.items) c.self.invariant may c.in-Ok.ensures.reply refl
-        c.append.ensures.numbers c.append.ensures.history c.in-Ok.ensures.state c.requires.sure c.append.ensures.room
+    c.append.new.ordinals.items (vec_capacity inside.history) (vec_capacity c.append.new.history)
+    (numbered c.args.who c.args.event c.in-Ok.reply inside.history.items) c.self.invariant may c.in-Ok.ensures.reply refl
+    c.append.ensures.numbers c.append.ensures.history c.in-Ok.ensures.state c.requires.sure c.append.ensures.room
