@@ -1,8 +1,10 @@
 //! The current folder as a store.
-ghost use Rattle.std.specs.Prelude.{◌≡◌, ◌≤◌, None, IfOk, IsTrue, OnTrue};
-ghost use Rattle.mpm_base.specs.Store.{MayRead, MayList, StoreCounts};
+ghost use Rattle.std.specs.Prelude.{None, IfErr};
+ghost use Rattle.mpm_base.specs.Count.{RisesWhere};
+ghost use Rattle.mpm_base.specs.Store.{MayRead, MayList, is_failure, is_refusal};
+ghost use Rattle.event_server.specs.Listing.{IsListFault, IsListed};
 
-use mpm_base::{NoMemory, Names, Octets, Store, StoreFault};
+use mpm_base::{Names, NoMemory, Octets, Store, StoreFault};
 use std::alloc::Global;
 use std::fs;
 use std::fs::OpenFile;
@@ -13,6 +15,7 @@ use std::rt::Files;
 const PIECE: usize = 4_096;
 
 /// The current folder. It tells nothing.
+#[derive(Drop)]
 pub struct Folder<'a, R: Files> {
     rt: &'a R,
     faults: u64,
@@ -30,7 +33,10 @@ impl<'a, R: Files> Folder<'a, R> {
     }
 
     /// Counts the fault as a failed call or as a refusal.
-    fn count(&mut self, fault: StoreFault) {
+    fn count(&mut self, fault: StoreFault)
+        ensures faults { RisesWhere (is_failure fault) self.old.faults self.new.faults }
+        ensures refusals { RisesWhere (is_refusal fault) self.old.refusals self.new.refusals }
+    {
         match fault {
             StoreFault::Missing | StoreFault::Large(_) | StoreFault::Many => {
                 self.refusals = self.refusals.saturating_add(1);
@@ -117,4 +123,70 @@ fn list<R: Files + AllocGlobal + Clone + Drop>(
         list_one(rt, alloc, folder.as_str(), most, &mut names, &mut folders)?;
     }
     Err(StoreFault::Failed)
+}
+
+/// Adds the names of the files right in the folder, and the folders in it.
+fn list_one<R: Files + AllocGlobal + Clone + Drop>(
+    rt: &R,
+    alloc: Global,
+    folder: &str,
+    most: u32,
+    names: &mut Names,
+    folders: &mut Vec<String>,
+) -> Result<(), StoreFault>
+    requires { IsListed names.old most }
+    ensures names { IsListed names.new most }
+    ensures fault { IfErr result IsListFault }
+{
+    let entries = match fs::read_dir(rt, folder) {
+        Ok(entries) => entries,
+        Err(error) if error.kind() == ErrorKind::NotFound => return Ok(()),
+        Err(_) => return Err(StoreFault::Failed),
+    };
+    for entry in entries {
+        let Ok(entry) = entry else {
+            return Err(StoreFault::Failed);
+        };
+        let Ok(kind) = entry.file_type() else {
+            return Err(StoreFault::Failed);
+        };
+        let path = entry.path().as_str();
+        if kind.is_dir() {
+            push_text(alloc, folders, path)?;
+        } else {
+            add_name(alloc, names, path, most)?;
+        }
+    }
+    Ok(())
+}
+
+/// Adds the name, where there are fewer than so many.
+fn add_name(alloc: Global, names: &mut Names, name: &str, most: u32) -> Result<(), StoreFault>
+    requires { IsListed names.old most }
+    ensures names { IsListed names.new most }
+    ensures fault { IfErr result IsListFault }
+{
+    if names.len() as u64 >= most as u64 {
+        return Err(StoreFault::Many);
+    }
+    let Ok(name) = Octets::of(alloc, name.as_bytes()) else {
+        return Err(StoreFault::NoMemory);
+    };
+    match names.add(name) {
+        Ok(()) => Ok(()),
+        Err(_) => Err(StoreFault::NoMemory),
+    }
+}
+
+/// Puts a copy of the text at the end.
+fn push_text(alloc: Global, texts: &mut Vec<String>, text: &str) -> Result<(), StoreFault>
+    ensures { IfErr result IsListFault }
+{
+    let Ok(text) = String::from_str(alloc, text) else {
+        return Err(StoreFault::NoMemory);
+    };
+    match texts.push(text) {
+        Ok(()) => Ok(()),
+        Err(_) => Err(StoreFault::NoMemory),
+    }
 }

@@ -11,7 +11,7 @@ use folder::Folder;
 use mpm_base::{NoMemory, Words};
 use mpm_run::run;
 use output::Output;
-use std::env;
+use std::env::{self, Env};
 use std::process::ExitCode;
 
 /// The status for want of memory.

@@ -5,6 +5,7 @@ use mpm_base::{Put, Sink};
 use std::io::{self, Write};
 
 /// Standard output. It tells nothing.
+#[derive(Drop)]
 pub struct Output<'a, R: Print> {
     rt: &'a R,
     faults: u64,
