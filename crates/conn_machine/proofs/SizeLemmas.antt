@@ -8,7 +8,7 @@ use Rattle.conn_machine.specs.declared.event.Commanded.{Commanded}
 use Rattle.conn_machine.specs.declared.event.Commanded.TheVariants.{Graceful, Refused, GracefulStop, Stop}
 use Rattle.conn_machine.specs.declared.state.State.{State}
 use Rattle.conn_machine.specs.Lists.{update}
-use Rattle.conn_machine.specs.Children.{all_stopped, stopped_child}
+use Rattle.conn_machine.specs.Children.{stopped_child}
 use Rattle.std.proofs.lemmas.Bool.{leb-true}
 use Rattle.std.specs.List.{list_any}
 use Rattle.conn_machine.specs.States.{greatest_moment, is_halted, is_overdue}
