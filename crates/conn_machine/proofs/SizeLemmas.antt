@@ -8,7 +8,7 @@ use Rattle.conn_machine.specs.declared.event.Commanded.{Commanded}
 use Rattle.conn_machine.specs.declared.event.Commanded.TheVariants.{Graceful, Refused, GracefulStop, Stop}
 use Rattle.conn_machine.specs.declared.state.State.{State}
 use Rattle.conn_machine.specs.Lists.{update}
-use Rattle.conn_machine.specs.Children.{all_stopped, stopped_child}
+use Rattle.conn_machine.specs.Children.{stopped_child}
 use Rattle.std.proofs.lemmas.Bool.{leb-true}
 use Rattle.std.specs.List.{list_any}
 use Rattle.conn_machine.specs.States.{greatest_moment, is_halted, is_overdue}
@@ -82,6 +82,8 @@ length-children s (event.StartChild k) = length-update s.children k _
 length-children s (event.Command c) = children_of-command s c
 length-children s (event.Retire k) = length-update s.children k _
 
+-- no event changes a size
+pub ruleset sizes_kept = (length-rows, length-signals, length-children)
 
 -- moments stay within their range
 moment_of-command : (s : State) (c : Commanded) → (after_command s c).moment ≡ s.moment
@@ -108,7 +110,7 @@ moment-within s (event.Close name why how) may before = before
 moment-within s (event.Ready slot) may before = before
 moment-within s (event.Tick m) may before =
     leb-true m greatest_moment
-        (within_tick (not (is_halted s.going)) (nat_lt s.moment m) (nat_le m greatest_moment) (not (list_any (is_overdue s.moment) s.rows)) may)
+    (within_tick (not (is_halted s.going)) (nat_lt s.moment m) (nat_le m greatest_moment) (not (list_any (is_overdue s.moment) s.rows)) may)
 moment-within s (event.StartChild k) may before = before
 moment-within s (event.Command c) may before = rw (moment_of-command s c) before
 moment-within s (event.Retire k) may before = before

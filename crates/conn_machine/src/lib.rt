@@ -15,6 +15,8 @@ mod row;
 mod rows;
 mod state;
 mod stepping;
+#[cfg(test)]
+mod tests;
 
 pub use child::{Child, ChildPhase, Children};
 pub use conditions::{is_in_bounds, may};
