@@ -1,0 +1,4 @@
+pub mod Changes
+pub mod Inside
+pub mod Lending
+pub mod Slots
