@@ -6,6 +6,7 @@
 //! call may fail. Their definitions stand in `specs/`, one file for each trait.
 #![tactic(auto)]
 
+mod addr;
 mod conn;
 mod link;
 mod memory;
@@ -16,6 +17,7 @@ mod sink;
 mod store;
 mod words;
 
+pub use addr::Addr;
 pub use conn::{Ask, Cause, ConnName, Kind, Moment, Tail};
 pub use link::{Got, Link, Sent};
 pub use memory::NoMemory;

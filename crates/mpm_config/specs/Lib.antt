@@ -1,0 +1,3 @@
+pub mod Directive
+pub mod Numbers
+pub mod Range
