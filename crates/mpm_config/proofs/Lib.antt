@@ -1,1 +1,3 @@
+pub mod CorrectionLemmas
 pub mod NameLemmas
+pub mod RangeLemmas

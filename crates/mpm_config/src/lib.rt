@@ -1,10 +1,13 @@
 //! The configuration language of the server.
 #![tactic(auto)]
 
+mod config;
+mod correction;
 mod directive;
 mod numbers;
 mod range;
+mod warning;
 
-pub use directive::{Directive, Quantity};
 pub use numbers::Numbers;
-pub use range::Range;
+pub use config::{Config, carry_limits, shape_of};
+pub use warning::{Warning, Warnings};

@@ -49,7 +49,7 @@ pub struct Numbers {
 }
 
 impl Numbers {
-    ghost use Rattle.mpm_config.specs.Numbers.{initial_numbers, with_number};
+    ghost use Rattle.mpm_config.specs.Numbers.{initial_numbers, number_at, with_number};
 
     /// The numbers of the empty configuration.
     pub fn initial() -> Numbers
@@ -74,6 +74,30 @@ impl Numbers {
             line: LIMIT_REQUEST_LINE.default,
             field: LIMIT_REQUEST_FIELD_SIZE.default,
             fields: LIMIT_REQUEST_FIELDS.default,
+        }
+    }
+
+    /// One of the numbers.
+    pub fn get(&self, quantity: Quantity) -> u64
+        ensures { result ≡ number_at self.now quantity }
+    {
+        match quantity {
+            Quantity::ServerLimit => u64::from(self.server_limit),
+            Quantity::ThreadLimit => u64::from(self.thread_limit),
+            Quantity::StartServers => u64::from(self.start_servers),
+            Quantity::MinSpareThreads => u64::from(self.min_spare),
+            Quantity::MaxSpareThreads => u64::from(self.max_spare),
+            Quantity::ThreadsPerChild => u64::from(self.threads),
+            Quantity::MaxRequestWorkers => u64::from(self.max_workers),
+            Quantity::MaxConnectionsPerChild => u64::from(self.max_conns),
+            Quantity::AsyncRequestWorkerFactor => u64::from(self.factor),
+            Quantity::Timeout => self.timeout_ms,
+            Quantity::KeepAliveTimeout => self.keep_ms,
+            Quantity::MaxKeepAliveRequests => u64::from(self.most),
+            Quantity::GracefulShutdownTimeout => self.stop_ms,
+            Quantity::LimitRequestLine => u64::from(self.line),
+            Quantity::LimitRequestFieldSize => u64::from(self.field),
+            Quantity::LimitRequestFields => u64::from(self.fields),
         }
     }
 
