@@ -1,14 +1,15 @@
 -- The ten corrections, in their order: which number each corrects, where it applies, and what the number becomes.
-use Rattle.std.specs.Prelude.{ℕ, ◌+◌, ◌-◌, ◌*◌, ◌/◌, ◌%◌, ◌<◌, ◌^◌, ◌==◌, nat_lt, if◌then◌else◌, List, [], ◌∷◌, ◌++◌, Option, Some, None, option_map, unwrap_or}
-use Rattle.std.specs.Option.{option_to_list}
+use Rattle.std.specs.Prelude.{ℕ, ◌+◌, ◌-◌, ◌*◌, ◌/◌, ◌%◌, ◌<◌, ◌^◌, ◌==◌, nat_lt, if◌then◌else◌, List, [], ◌∷◌, ◌++◌, Option, Some, None, option_map, unwrap_or, slice_get}
+use Rattle.std.specs.Option.{option_to_list, option_map_or}
 use Rattle.mpm_config.specs.declared.numbers.Numbers.{Numbers}
 use Rattle.mpm_config.specs.declared.directive.Quantity.{Quantity}
 use Rattle.mpm_config.specs.declared.directive.Quantity.TheVariants.{ThreadsPerChild, MaxRequestWorkers, StartServers, MinSpareThreads, MaxSpareThreads, MaxKeepAliveRequests}
 use Rattle.mpm_config.specs.declared.correction.Correction.{Correction}
 use Rattle.mpm_config.specs.declared.correction.Correction.TheVariants.{NoThreads, ThreadsAboveLimit, WorkersBelowThreads, WorkersNoMultiple, WorkersAboveProduct, NoServers, ServersAboveQuotient, NoSpare, SpareBelowSum, RequestsAboveLimit}
 use Rattle.mpm_config.specs.declared.correction.TheConstants.{MOST_RESPONSES}
+use Rattle.mpm_config.specs.Directive.{quantity_name}
 use Rattle.mpm_config.specs.Numbers.{number_at, with_number}
-use Rattle.mpm_config.specs.Warning.{Notice}
+use Rattle.mpm_config.specs.Warning.{Notice, warning_bytes}
 
 -- the corrections in the order in which they are made
 abbrev pub order : List Correction
@@ -91,3 +92,11 @@ IsReady c n = Unit {0}
 abbrev pub AllReady : List Correction → Numbers → Type 0
 AllReady [] n = Unit {0}
 AllReady (c ∷ cs) n = IsReady c n × AllReady cs (fixed c n)
+
+-- the name of the number that the correction of a number corrects
+abbrev pub corrected_name_of : ℕ → List ℕ
+corrected_name_of place = option_map_or (λ c. quantity_name (quantity_of c)) (slice_get order (place - 1)) []
+
+-- the line that tells a correction: its directive goes by the first spelling of its name
+abbrev pub notice_text : Notice → List ℕ
+notice_text n = warning_bytes (corrected_name_of n.correction) n.before n.after

@@ -1,13 +1,17 @@
 //! The ten corrections of numbers that do not go together.
-ghost use Rattle.std.specs.Prelude.{◌≡◌, Some, None, nat_lt, if◌then◌else◌, ◌++◌, IfOk, OnOk};
-ghost use Rattle.mpm_config.specs.Correction.{AllReady, becomes, corrected, corrected_by, fixed, notices, notices_by, noticed, place_of, quantity_of, IsReady};
+ghost use Rattle.std.specs.Prelude.{◌≡◌, Some, None, nat_lt, if◌then◌else◌, ◌++◌, ◌<◌, ◌≤◌, [], length, slice_get, IfOk, OnOk};
+ghost use Rattle.mpm_config.specs.Correction.{AllReady, becomes, corrected, corrected_by, corrected_name_of, fixed, notices, notices_by, notice_text, noticed, place_of, quantity_of, IsReady};
 ghost use Rattle.mpm_config.specs.Numbers.{IsInRange};
+ghost use Rattle.mpm_config.specs.Warning.{warning_bytes};
+ghost use Rattle.mpm_config.specs.Directive.{quantity_name};
+ghost use Rattle.std.specs.Option.{option_map_or};
+ghost use Rattle.std.specs.String.{string_bytes};
 
 use crate::directive::Quantity;
 use crate::numbers::Numbers;
 use crate::warning::{Warning, Warnings};
-use mpm_base::NoMemory;
-use std::alloc::Global;
+use mpm_base::{NoMemory, Octets};
+use std::alloc::{AllocError, Global};
 
 /// A correction, named for what it finds.
 #[derive(Clone, Copy, Debug, PartialEq, Eq)]
@@ -158,4 +162,37 @@ pub fn warnings_of(alloc: Global, written: &Numbers) -> Result<Warnings, NoMemor
     let mut warnings = Warnings::make(alloc);
     tell_by(&mut numbers, &ORDER, &mut warnings)?;
     Ok(warnings)
+}
+
+/// The name of the number that the correction at a place corrects.
+fn name_at(corrections: &[Correction], place: usize) -> &'static str
+    requires { place < length corrections.now }
+    ensures { result.now ≡ option_map_or (λ c. quantity_name (quantity_of c)) (slice_get corrections.now place) [] }
+{
+    corrections[place].quantity().name()
+}
+
+/// The name of the number that a correction of that number corrects.
+fn corrected_name(correction: u8) -> &'static str
+    requires from { 1 ≤ correction }
+    requires to { correction ≤ 10 }
+    ensures { result.now ≡ corrected_name_of correction }
+{
+    name_at(&ORDER, usize::from(correction) - 1)
+}
+
+/// The text of a warning.
+fn warning_line(alloc: Global, name: &str, was: u64, now: u64) -> Result<String, AllocError>
+    ensures { IfOk result (λ text. string_bytes text ≡ warning_bytes name.now was now) }
+{
+    format!(in alloc; "warning: {name} {was} changed to {now}\n")
+}
+
+/// The line that tells an operator of a correction: `warning: NAME WAS changed to NOW` and a line feed.
+pub fn warning_text(alloc: Global, w: &Warning) -> Result<Octets, NoMemory>
+    ensures { IfOk result (λ text. text ≡ notice_text w.entry.now) }
+{
+    let name = corrected_name(w.correction);
+    let text = warning_line(alloc, name, w.was, w.now)?;
+    Octets::of(alloc, text.as_bytes())
 }

@@ -9,5 +9,6 @@ mod range;
 mod warning;
 
 pub use numbers::Numbers;
+pub use correction::warning_text;
 pub use config::{Config, carry_limits, shape_of};
 pub use warning::{Warning, Warnings};
