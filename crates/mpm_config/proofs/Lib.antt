@@ -1,3 +1,4 @@
 pub mod CorrectionLemmas
+pub mod DigitLemmas
 pub mod NameLemmas
 pub mod RangeLemmas

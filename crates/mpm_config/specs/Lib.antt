@@ -4,4 +4,5 @@ pub mod Directive
 pub mod Numbers
 pub mod Range
 pub mod Shape
+pub mod Value
 pub mod Warning

@@ -1,5 +1,5 @@
 -- What the table of numbers says of each directive whose value is a number.
-use Rattle.std.specs.Prelude.{ℕ, ◌*◌, ◌≤◌, ◌==◌, if◌then◌else◌}
+use Rattle.std.specs.Prelude.{ℕ, ◌*◌, ◌^◌, ◌<◌, ◌≤◌, ◌==◌, ◌&&◌, nat_le, if◌then◌else◌, Option, Some, None}
 use Rattle.mpm_config.specs.declared.range.Range.{Range}
 use Rattle.mpm_config.specs.declared.directive.Quantity.{Quantity}
 use Rattle.mpm_config.specs.declared.directive.Quantity.TheVariants.{ServerLimit, ThreadLimit, StartServers, MinSpareThreads, MaxSpareThreads, ThreadsPerChild, MaxRequestWorkers, MaxConnectionsPerChild, AsyncRequestWorkerFactor, Timeout, KeepAliveTimeout, MaxKeepAliveRequests, GracefulShutdownTimeout, LimitRequestLine, LimitRequestFieldSize, LimitRequestFields}
@@ -45,3 +45,12 @@ kept_range q = range_of q
 -- a number that the directive may have
 abbrev pub IsAllowed : Quantity → ℕ → Type 0
 IsAllowed q n = IsWithin (kept_range q) n
+
+-- a line of the table that is well formed: what 0 is taken as is in the range, and what is kept fits 32 bits
+pub record IsWellFormed (r : Range) : Type 0 where
+  pub zero : r.zero ≤ r.greatest
+  pub fits : r.greatest * r.unit < 2 ^ 32
+
+-- what a number is kept as, where it is in the range
+abbrev pub within : Range → ℕ → Option ℕ
+within r n = if nat_le r.least n && nat_le n r.greatest then Some (kept r n) else None

@@ -6,6 +6,7 @@ mod correction;
 mod directive;
 mod numbers;
 mod range;
+mod value;
 mod warning;
 
 pub use numbers::Numbers;
