@@ -2,3 +2,4 @@ pub mod CorrectionLemmas
 pub mod DigitLemmas
 pub mod NameLemmas
 pub mod RangeLemmas
+pub mod WordLemmas

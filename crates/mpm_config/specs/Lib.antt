@@ -1,8 +1,10 @@
 pub mod Config
 pub mod Correction
 pub mod Directive
+pub mod First
 pub mod Numbers
 pub mod Range
 pub mod Shape
 pub mod Value
 pub mod Warning
+pub mod Words

@@ -8,6 +8,7 @@ mod numbers;
 mod range;
 mod value;
 mod warning;
+mod word;
 
 pub use numbers::Numbers;
 pub use correction::warning_text;
