@@ -4,6 +4,7 @@ pub mod Directive
 pub mod First
 pub mod Numbers
 pub mod Range
+pub mod Setting
 pub mod Shape
 pub mod Value
 pub mod Warning

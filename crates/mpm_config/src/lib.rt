@@ -6,6 +6,7 @@ mod correction;
 mod directive;
 mod numbers;
 mod range;
+mod setting;
 mod value;
 mod warning;
 mod word;
