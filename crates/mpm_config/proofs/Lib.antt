@@ -1,5 +1,6 @@
 pub mod CorrectionLemmas
 pub mod DigitLemmas
+pub mod FormLemmas
 pub mod NameLemmas
 pub mod RangeLemmas
 pub mod WordLemmas

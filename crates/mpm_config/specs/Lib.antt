@@ -2,6 +2,7 @@ pub mod Config
 pub mod Correction
 pub mod Directive
 pub mod First
+pub mod Form
 pub mod Numbers
 pub mod Range
 pub mod Setting

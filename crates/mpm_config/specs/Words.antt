@@ -31,3 +31,8 @@ abbrev mutual
   pub in_quotes : List ℕ → List Word
   in_quotes [] = Unclosed ∷ []
   in_quotes (b ∷ bs) = if b == 34 then Closed [] ∷ words bs else lengthened b (in_quotes bs)
+
+-- the bytes from the first on that is no blank
+abbrev pub from_blanks : List ℕ → List ℕ
+from_blanks [] = []
+from_blanks (b ∷ bs) = if is_blank b then from_blanks bs else b ∷ bs

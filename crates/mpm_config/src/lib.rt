@@ -4,6 +4,7 @@
 mod config;
 mod correction;
 mod directive;
+mod form;
 mod numbers;
 mod range;
 mod setting;

@@ -2,6 +2,7 @@
 ghost use Rattle.std.specs.Prelude.{◌≡◌, ◌<◌, ◌≤◌, ◌==◌, drop, false, length, option_map, position, slice_index};
 ghost use Rattle.std.specs.List.{before_first, position_or_len};
 ghost use Rattle.mpm_config.specs.First.{Shows};
+ghost use Rattle.mpm_config.specs.Words.{from_blanks};
 ghost use Rattle.mpm_config.specs.Value.{cut, Parts};
 ghost use Rattle.mpm_config.specs.Words.{in_quotes, in_word, is_blank, words};
 
@@ -62,7 +63,8 @@ fn at_blank(text: &str) -> (&str, &str)
 }
 
 /// The line without the blanks at its front.
-fn skip_blanks(line: &str) -> &str
+pub fn skip_blanks(line: &str) -> &str
+    ensures value { result.now ≡ from_blanks line.now }
     ensures words { words result.now ≡ words line.now }
     ensures next { 0 < length result.now → is_blank (slice_index result.now 0) ≡ false }
 {
