@@ -1,6 +1,7 @@
 pub mod CorrectionLemmas
 pub mod DigitLemmas
 pub mod FormLemmas
+pub mod LineLemmas
 pub mod NameLemmas
 pub mod RangeLemmas
 pub mod WordLemmas

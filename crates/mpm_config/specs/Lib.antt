@@ -3,6 +3,7 @@ pub mod Correction
 pub mod Directive
 pub mod First
 pub mod Form
+pub mod Line
 pub mod Numbers
 pub mod Range
 pub mod Setting

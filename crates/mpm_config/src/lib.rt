@@ -5,6 +5,7 @@ mod config;
 mod correction;
 mod directive;
 mod form;
+mod line;
 mod numbers;
 mod range;
 mod setting;
