@@ -1,5 +1,5 @@
 -- The lines of a text as they are cut at the first line feed, and logical lines as they are joined from the front.
-use Rattle.std.proofs.Common.{◌≡◌, ℕ, ◌+◌, ◌-◌, ◌<◌, ◌≤◌, ◌==◌, nat_lt, if◌then◌else◌, Bool, true, false, List, [], ◌∷◌, ◌++◌, Option, Some, None, length, take, get_or, refl, ap, subst, sym, ◌∙◌, arith, count_by, append_assoc, append-nil}
+use Rattle.std.proofs.Common.{◌≡◌, ℕ, ◌+◌, ◌-◌, ◌<◌, ◌≤◌, ◌==◌, nat_lt, if◌then◌else◌, Bool, true, false, List, [], ◌∷◌, ◌++◌, Option, Some, None, length, take, get_or, refl, ap, subst, sym, ◌∙◌, arith, count_by, append_assoc, append-nil, add-zero}
 use Rattle.std.specs.List.{All, before_first, after_first, position_or_len, slice_split}
 use Rattle.std.specs.Str.Lines.{lines, lines_of_parts, strip_carriage_return}
 use Rattle.std.proofs.lemmas.List.Sums.{fails_before_first}
@@ -53,3 +53,45 @@ cut_none xs h e =
     let test : nat_lt (position_or_len feed xs) (length xs) ≡ false = test_none _ _ e in
     let k : length xs ≤ position_or_len feed xs = grind (arith, nat_tests) in
     lines_last xs h k
+
+-- a text that isn't empty has a line
+pub lines_some : (xs : List ℕ) → 0 < length xs → (p : List ℕ) × (ps : List (List ℕ)) × (lines xs ≡ p ∷ ps)
+lines_some xs h = some_of (nat_lt (position_or_len feed xs) (length xs)) refl
+  where
+    some_of : (t : Bool) → nat_lt (position_or_len feed xs) (length xs) ≡ t → (p : List ℕ) × (ps : List (List ℕ)) × (lines xs ≡ p ∷ ps)
+    some_of true e = let k : position_or_len feed xs < length xs = grind (arith, nat_tests) in (_, _, lines_first xs k)
+    some_of false e = let k : length xs ≤ position_or_len feed xs = grind (arith, nat_tests) in (_, _, lines_last xs h k)
+
+-- nothing joined with the first logical line leaves it as it is
+nothing_joined : (t : Bool) (n : ℕ) (p : List ℕ) (ls : List Line)
+  → joined n [] (if t then joined n (front p) ls else record { number = n; bytes = p } ∷ ls) ≡ (if t then joined n (front p) ls else record { number = n; bytes = p } ∷ ls)
+nothing_joined true n p [] = refl
+nothing_joined true n p (l ∷ ls) = refl
+nothing_joined false n p ls = refl
+
+begins_of : (n : ℕ) (ps : List (List ℕ)) (qs : List (List ℕ)) (q : List ℕ) → ps ≡ q ∷ qs → logical n ps ≡ joined n [] (logical n ps)
+begins_of n ps qs q e = rw e (sym (nothing_joined (continues q) n q (logical (n + 1) qs)))
+
+pub begins : (n : ℕ) (xs : List ℕ) → 0 < length xs → logical n (lines xs) ≡ joined n [] (logical (n + 0) (lines xs))
+begins n xs h =
+    let some = lines_some xs h in
+    rw add-zero (begins_of n (lines xs) some.1 some.0 some.2)
+
+-- two pieces that are joined one after the other are joined as one
+joined_twice : (n m : ℕ) (xs ys : List ℕ) (ls : List Line) → joined n xs (joined m ys ls) ≡ joined n (xs ++ ys) ls
+joined_twice n m xs ys [] = refl
+joined_twice n m xs ys (l ∷ ls) = rw append_assoc refl
+
+-- a piece that continues is joined, and the line goes on
+pub goes_on : (n k : ℕ) (buffer piece : List ℕ) (ps : List (List ℕ)) → continues piece ≡ true
+  → joined n buffer (logical (n + k) (piece ∷ ps)) ≡ joined n (buffer ++ front piece) (logical (n + (k + 1)) ps)
+goes_on n k buffer piece ps h =
+    let next : n + k + 1 ≡ n + (k + 1) = omega arith in
+    rw (h, next) (joined_twice n (n + k) buffer (front piece) (logical (n + (k + 1)) ps))
+
+-- a piece that does not continue ends the line
+pub ends_line : (n k : ℕ) (buffer piece : List ℕ) (ps : List (List ℕ)) → continues piece ≡ false
+  → joined n buffer (logical (n + k) (piece ∷ ps)) ≡ record { number = n; bytes = buffer ++ piece } ∷ logical (n + (k + 1)) ps
+ends_line n k buffer piece ps h =
+    let next : n + k + 1 ≡ n + (k + 1) = omega arith in
+    rw (h, next) refl

@@ -52,3 +52,27 @@ fn first_line(text: &str) -> (&str, &str)
         None => (text, ""),
     }
 }
+
+/// Puts the first logical line of a text into `line`. Answers the text after it, and of how many lines it
+/// was joined. Where memory lacks, `line` has some of it.
+pub fn take_line<'a>(text: &'a str, line: &mut String) -> Result<(&'a str, u64), NoMemory>
+    requires { 0 < length text.now }
+    ensures line { IfOk result (λ r. (n : ℕ) → logical n (lines text.now) ≡ record { number = n; bytes = string_bytes line.new } ∷ logical (n + r.1) (lines r.0.now)) }
+    ensures room { IfOk result (λ r. length r.0.now + r.1 ≤ length text.now) }
+    ensures shorter { IfOk result (λ r. length r.0.now < length text.now) }
+{
+    line.clear();
+    let mut rest = text;
+    let mut count = 0;
+    while !rest.is_empty() {
+        let (piece, after) = first_line(rest);
+        rest = after;
+        count += 1;
+        if !ends_with(piece, b'\\') {
+            line.push_str(piece)?;
+            return Ok((rest, count));
+        }
+        line.push_str(before_last(piece))?;
+    }
+    Ok((rest, count))
+}
