@@ -6,7 +6,9 @@ pub mod Form
 pub mod Line
 pub mod Numbers
 pub mod Range
+pub mod Reading
 pub mod Setting
+pub mod Settings
 pub mod Shape
 pub mod Value
 pub mod Warning

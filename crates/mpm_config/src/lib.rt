@@ -4,15 +4,19 @@
 mod config;
 mod correction;
 mod directive;
+mod draft;
+mod fault;
 mod form;
 mod line;
 mod numbers;
 mod range;
+mod reader;
 mod setting;
 mod value;
 mod warning;
 mod word;
 
+pub use fault::ConfFault;
 pub use numbers::Numbers;
 pub use correction::warning_text;
 pub use config::{Config, carry_limits, shape_of};
