@@ -4,4 +4,5 @@ pub mod FormLemmas
 pub mod LineLemmas
 pub mod NameLemmas
 pub mod RangeLemmas
+pub mod TextLemmas
 pub mod WordLemmas

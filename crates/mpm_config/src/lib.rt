@@ -10,6 +10,7 @@ mod form;
 mod line;
 mod numbers;
 mod range;
+mod read;
 mod reader;
 mod setting;
 mod value;
@@ -18,6 +19,7 @@ mod word;
 
 pub use fault::ConfFault;
 pub use numbers::Numbers;
+pub use read::read_config;
 pub use correction::warning_text;
 pub use config::{Config, carry_limits, shape_of};
 pub use warning::{Warning, Warnings};

@@ -74,7 +74,7 @@ impl Range {
 }
 
 /// The place of the first such byte.
-fn place_of(value: &[u8], byte: u8) -> Option<usize>
+pub fn place_of(value: &[u8], byte: u8) -> Option<usize>
     ensures { result ≡ position (λ b. b == byte) value.now }
 {
     value.iter().position(|b| *b == byte)
