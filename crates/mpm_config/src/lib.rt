@@ -23,3 +23,6 @@ pub use read::read_config;
 pub use correction::warning_text;
 pub use config::{Config, carry_limits, shape_of};
 pub use warning::{Warning, Warnings};
+
+#[cfg(test)]
+mod tests;
