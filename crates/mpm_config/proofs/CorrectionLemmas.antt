@@ -1,14 +1,13 @@
 -- The corrections in terms of plain numbers, and what holds of the numbers after them.
-use Rattle.std.proofs.Common.{◌≡◌, ◌++◌, subst, option_to_list, ℕ, ◌+◌, ◌-◌, ◌*◌, ◌/◌, ◌%◌, ◌<◌, ◌≤◌, ◌^◌, ◌==◌, nat_lt, if◌then◌else◌, List, [], ◌∷◌, Option, Some, None, unwrap_or, arith, ap, sym, length, drop, slice_index_or, add-one, drop-cons, suc}
+use Rattle.std.proofs.Common.{◌≡◌, ℕ, ◌+◌, ◌-◌, ◌*◌, ◌/◌, ◌%◌, ◌<◌, ◌≤◌, ◌^◌, ◌==◌, nat_lt, if◌then◌else◌, Some, None, unwrap_or, arith}
 use Rattle.std.proofs.Math.Nat.{mul-le-mul_right}
 use Rattle.std.proofs.lemmas.Nat.{le-div, div_below, div-add-mod'}
 use Rattle.std.proofs.lemmas.Bool.Decides.{nat_tests}
 use Rattle.mpm_config.specs.declared.numbers.Numbers.{Numbers}
-use Rattle.mpm_config.specs.declared.correction.Correction.{Correction}
 use Rattle.mpm_config.specs.declared.directive.Quantity.TheVariants.{ServerLimit, ThreadLimit, MinSpareThreads, AsyncRequestWorkerFactor, Timeout, KeepAliveTimeout, MaxKeepAliveRequests}
 use Rattle.mpm_config.specs.Numbers.{IsInRange}
-use Rattle.mpm_config.specs.Correction.{AllReady, IsReady, fixed, order, corrected, corrected_by, notices_by, noticed}
-use Rattle.mpm_config.specs.Shape.{shape_of_numbers, IsFromTo, IsInBounds}
+use Rattle.mpm_config.specs.Correction.{AllReady, order, corrected}
+use Rattle.mpm_config.specs.Shape.{shape_of_numbers, IsInBounds}
 
 -- a number that is raised to a bound, lowered to one, made 1 where it is 0, made a multiple
 abbrev pub up : ℕ → ℕ → ℕ
@@ -72,16 +71,17 @@ ready n h =
 
 -- the workers after their three corrections: at least the threads, at most as many as the servers' limit times the threads
 pub workers_bounds : (w t limit : ℕ) → 1 ≤ t → 1 ≤ limit → limit ≤ 32 →
-  let v = down (whole (up w t) t) (limit * t) in (1 ≤ v / t) × (v / t ≤ 32)
+    let v = down (whole (up w t) t) (limit * t) in (1 ≤ v / t) × (v / t ≤ 32)
 workers_bounds w t limit a b k =
     let many : t ≤ up w t = up-ge w t in
     let kept : t ≤ whole (up w t) t = whole-ge (up w t) t a many in
     let room : 1 * t ≤ limit * t = mul-le-mul_right t b in
     let least : t ≤ down (whole (up w t) t) (limit * t) = down-ge (whole (up w t) t) (limit * t) t kept (omega arith) in
     let greatest : down (whole (up w t) t) (limit * t) ≤ limit * t = down-le (whole (up w t) t) (limit * t) in
-    let wide : limit * t ≤ 32 * t = mul-le-mul_right t k in
-    (le-div 1 (down (whole (up w t) t) (limit * t)) t a (omega arith),
-     omega (arith, div_below (down (whole (up w t) t) (limit * t)) t 33 a (omega arith)))
+    let wide : limit * t ≤ 32 * t = mul-le-mul_right t k in (
+      le-div 1 (down (whole (up w t) t) (limit * t)) t a (omega arith),
+      omega (arith, div_below (down (whole (up w t) t) (limit * t)) t 33 a (omega arith)),
+    )
 
 pub in_bounds : (n : Numbers) → IsInRange n → IsInBounds (shape_of_numbers (corrected n))
 in_bounds n h =
@@ -100,27 +100,5 @@ in_bounds n h =
       keep_ms = record { from = keep_range.least; to = keep_range.greatest };
       most = record { from = down-ge n.most 65535 1 most_range.least (omega arith); to = down-le n.most 65535 };
       children = record { from = w.0; to = w.1 };
-      target = record { from = down-ge (one n.start_servers) _ 1 (one-ge n.start_servers) w.0; to = down-le (one n.start_servers) _ }
-      }
-
--- the list from a place on is the element there and the list from the next place on
-pub drop_at : {A : Type 0} (xs : List A) (i : ℕ) (x : A) → i < length xs → x ≡ slice_index_or xs i x → drop i xs ≡ x ∷ drop (i + 1) xs
-drop_at xs i x h e = rw (add-one, drop-cons xs i x) (ap (λ y. y ∷ drop (suc i) xs) (sym e))
-
--- one more correction of the list: it is ready, the others are, and the numbers go on
-pub record Turn (cs : List Correction) (i : ℕ) (c : Correction) (n : Numbers) : Type 0 where
-  pub is_ready : IsReady c n
-  pub are_ready : AllReady (drop (i + 1) cs) (fixed c n)
-  pub numbers : corrected_by (drop i cs) n ≡ corrected_by (drop (i + 1) cs) (fixed c n)
-  pub notices : notices_by (drop i cs) n ≡ option_to_list (noticed c n) ++ notices_by (drop (i + 1) cs) (fixed c n)
-
-pub turn : (cs : List Correction) (i : ℕ) (c : Correction) (n : Numbers) → i < length cs → c ≡ slice_index_or cs i c → AllReady (drop i cs) n → Turn cs i c n
-turn cs i c n h e r =
-    let split : drop i cs ≡ c ∷ drop (i + 1) cs = drop_at cs i c h e in
-    let all : AllReady (c ∷ drop (i + 1) cs) n = subst (λ ds. AllReady ds n) split r in
-    record {
-      is_ready = all.0;
-      are_ready = all.1;
-      numbers = ap (λ ds. corrected_by ds n) split;
-      notices = ap (λ ds. notices_by ds n) split
-      }
+      target = record { from = down-ge (one n.start_servers) _ 1 (one-ge n.start_servers) w.0; to = down-le (one n.start_servers) _ };
+    }

@@ -1,5 +1,5 @@
 -- Decimal digits, and the number that they spell as it is read from the front.
-use Rattle.std.proofs.Common.{◌≡◌, ℕ, ◌+◌, ◌-◌, ◌*◌, ◌<◌, ◌≤◌, ◌^◌, List, [], ◌∷◌, Bool, true, false, ◌&&◌, length, take, get_or, arith, add-one, suc, refl, sym, ◌∙◌, ap}
+use Rattle.std.proofs.Common.{◌≡◌, ℕ, ◌+◌, ◌-◌, ◌*◌, ◌<◌, ◌≤◌, ◌^◌, List, [], ◌∷◌, true, length, take, get_or, arith, add-one}
 use Rattle.std.specs.Char.{is_ascii_digit, digit_value}
 use Rattle.std.specs.List.{list_all}
 use Rattle.std.specs.Str.Parse.{digits_value, AllDigits}
@@ -33,8 +33,8 @@ step ds i n few all h e b =
       greatest = d.1;
       small = omega (arith, power, b);
       value = omega (arith, more, is, e);
-      bound = rw (add-one, pow-suc) (omega (arith, b, d.1))
-      }
+      bound = rw (add-one, pow-suc) (omega (arith, b, d.1));
+    }
 
 -- a list that passes the test is of digits
 pub all_digits : (xs : List ℕ) → list_all is_ascii_digit xs ≡ true → AllDigits 10 xs

@@ -1,6 +1,7 @@
 pub mod CorrectionLemmas
 pub mod DigitLemmas
 pub mod FormLemmas
+pub mod LawLemmas
 pub mod LineLemmas
 pub mod NameLemmas
 pub mod RangeLemmas

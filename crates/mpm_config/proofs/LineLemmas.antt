@@ -1,12 +1,12 @@
 -- The lines of a text as they are cut at the first line feed, and logical lines as they are joined from the front.
-use Rattle.std.proofs.Common.{◌≡◌, ℕ, ◌+◌, ◌-◌, ◌<◌, ◌≤◌, ◌==◌, nat_lt, if◌then◌else◌, Bool, true, false, List, [], ◌∷◌, ◌++◌, Option, Some, None, length, take, get_or, refl, ap, subst, sym, ◌∙◌, arith, count_by, append_assoc, append-nil, add-zero}
-use Rattle.std.specs.List.{All, before_first, after_first, position_or_len, slice_split}
+use Rattle.std.proofs.Common.{◌≡◌, ℕ, ◌+◌, ◌<◌, ◌≤◌, ◌==◌, nat_lt, if◌then◌else◌, Bool, true, false, List, [], ◌∷◌, Some, None, length, refl, ap, subst, sym, ◌∙◌, arith, add-zero}
+use Rattle.std.specs.List.{before_first, after_first, position_or_len, slice_split}
 use Rattle.std.specs.Str.Lines.{lines, lines_of_parts, strip_carriage_return}
 use Rattle.std.proofs.lemmas.List.Sums.{fails_before_first}
 use Rattle.std.proofs.lemmas.List.Splits.{slice_split_first, slice_split_none, length-slice_split}
 use Rattle.std.proofs.lemmas.Bool.Decides.{nat_tests}
 use Rattle.mpm_config.specs.Value.{cut, Parts}
-use Rattle.mpm_config.specs.Line.{Line, continues, front, joined, with_piece, logical}
+use Rattle.mpm_config.specs.Line.{Line, continues, front, joined, logical}
 
 -- a line feed
 abbrev pub feed : ℕ → Bool
@@ -64,7 +64,7 @@ lines_some xs h = some_of (nat_lt (position_or_len feed xs) (length xs)) refl
 
 -- nothing joined with the first logical line leaves it as it is
 nothing_joined : (t : Bool) (n : ℕ) (p : List ℕ) (ls : List Line)
-  → joined n [] (if t then joined n (front p) ls else record { number = n; bytes = p } ∷ ls) ≡ (if t then joined n (front p) ls else record { number = n; bytes = p } ∷ ls)
+    → joined n [] (if t then joined n (front p) ls else record { number = n; bytes = p } ∷ ls) ≡ (if t then joined n (front p) ls else record { number = n; bytes = p } ∷ ls)
 nothing_joined true n p [] = refl
 nothing_joined true n p (l ∷ ls) = refl
 nothing_joined false n p ls = refl
@@ -76,22 +76,3 @@ pub begins : (n : ℕ) (xs : List ℕ) → 0 < length xs → logical n (lines xs
 begins n xs h =
     let some = lines_some xs h in
     rw add-zero (begins_of n (lines xs) some.1 some.0 some.2)
-
--- two pieces that are joined one after the other are joined as one
-joined_twice : (n m : ℕ) (xs ys : List ℕ) (ls : List Line) → joined n xs (joined m ys ls) ≡ joined n (xs ++ ys) ls
-joined_twice n m xs ys [] = refl
-joined_twice n m xs ys (l ∷ ls) = rw append_assoc refl
-
--- a piece that continues is joined, and the line goes on
-pub goes_on : (n k : ℕ) (buffer piece : List ℕ) (ps : List (List ℕ)) → continues piece ≡ true
-  → joined n buffer (logical (n + k) (piece ∷ ps)) ≡ joined n (buffer ++ front piece) (logical (n + (k + 1)) ps)
-goes_on n k buffer piece ps h =
-    let next : n + k + 1 ≡ n + (k + 1) = omega arith in
-    rw (h, next) (joined_twice n (n + k) buffer (front piece) (logical (n + (k + 1)) ps))
-
--- a piece that does not continue ends the line
-pub ends_line : (n k : ℕ) (buffer piece : List ℕ) (ps : List (List ℕ)) → continues piece ≡ false
-  → joined n buffer (logical (n + k) (piece ∷ ps)) ≡ record { number = n; bytes = buffer ++ piece } ∷ logical (n + (k + 1)) ps
-ends_line n k buffer piece ps h =
-    let next : n + k + 1 ≡ n + (k + 1) = omega arith in
-    rw (h, next) refl

@@ -6,7 +6,6 @@ use Rattle.std.specs.Str.Lossy.{utf8_valid_len}
 use Rattle.std.proofs.lemmas.Str.{utf8_valid_len-IsUtf8}
 use Rattle.std.proofs.lemmas.Bool.Decides.{nat_tests}
 use Rattle.mpm_config.specs.Reading.{text_len}
-use Rattle.mpm_config.specs.declared.fault.ConfFault.{ConfFault}
 use Rattle.mpm_config.specs.declared.fault.ConfFault.TheVariants.{NotText}
 use Rattle.mpm_config.proofs.WordLemmas.{position-le}
 

@@ -1,9 +1,9 @@
 -- The words of a line as they are cut at the first blank or the first quote.
-use Rattle.std.proofs.Common.{◌≡◌, ℕ, ◌+◌, ◌<◌, ◌≤◌, ◌==◌, nat_lt, if◌then◌else◌, cond, Bool, true, false, not, List, [], ◌∷◌, Option, Some, None, unwrap_or, position, length, take, drop, refl, ap, sym, ◌∙◌, arith, one-add, add-one, suc, get_or}
+use Rattle.std.proofs.Common.{◌≡◌, ℕ, ◌+◌, ◌<◌, ◌≤◌, ◌==◌, nat_lt, if◌then◌else◌, cond, Bool, true, false, not, List, [], ◌∷◌, Option, Some, None, unwrap_or, position, length, take, drop, refl, ap, sym, arith, one-add, add-one, suc, get_or}
 use Rattle.std.specs.Str.{IsCharBoundary, IsUtf8}
 use Rattle.std.proofs.lemmas.List.Sums.{passes_at_first}
 use Rattle.std.proofs.lemmas.Str.{IsCharBoundary-after_ascii}
-use Rattle.std.specs.List.{position_or_len, before_first, after_first, prefix_len}
+use Rattle.std.specs.List.{position_or_len, before_first}
 use Rattle.std.proofs.lemmas.Bool.Decides.{nat_tests}
 use Rattle.std.proofs.lemmas.Grind.{common_steps}
 use Rattle.mpm_config.specs.Value.{cut, Parts}
@@ -19,8 +19,8 @@ position-or p xs = grind (arith, nat_tests, position-le p xs)
 
 -- one more byte of a word without quotes
 bare_step : (t : Bool) (b : ℕ) (bs : List ℕ) (n : ℕ) (ws : List Word) → (t ≡ true → words (b ∷ bs) ≡ words bs)
-  → ws ≡ Closed (take n bs) ∷ words (drop n bs)
-  → (if t then Closed [] ∷ words bs else lengthened b ws) ≡ Closed (take (cond (not t) (1 + n) 0) (b ∷ bs)) ∷ words (drop (cond (not t) (1 + n) 0) (b ∷ bs))
+    → ws ≡ Closed (take n bs) ∷ words (drop n bs)
+    → (if t then Closed [] ∷ words bs else lengthened b ws) ≡ Closed (take (cond (not t) (1 + n) 0) (b ∷ bs)) ∷ words (drop (cond (not t) (1 + n) 0) (b ∷ bs))
 bare_step true b bs n ws w e = ap (λ l. Closed [] ∷ l) (sym (w refl))
 bare_step false b bs n ws w e = rw (e, one-add) refl
 
@@ -38,14 +38,14 @@ quoted None = Unclosed ∷ []
 quoted (Some p) = Closed p.before ∷ words p.after
 
 longer : (t : Bool) (b : ℕ) (bs : List ℕ) (n : ℕ) (ws : List Word)
-  → ws ≡ quoted (if t then Some (record { before = take n bs; after = drop (n + 1) bs }) else None)
-  → lengthened b ws ≡ quoted (if t then Some (record { before = take (1 + n) (b ∷ bs); after = drop (1 + n + 1) (b ∷ bs) }) else None)
+    → ws ≡ quoted (if t then Some (record { before = take n bs; after = drop (n + 1) bs }) else None)
+    → lengthened b ws ≡ quoted (if t then Some (record { before = take (1 + n) (b ∷ bs); after = drop (1 + n + 1) (b ∷ bs) }) else None)
 longer true b bs n ws e = rw e (simp (one-add, add-one))
 longer false b bs n ws e = rw e refl
 
 quote_step : (t : Bool) (b : ℕ) (bs : List ℕ) (n : ℕ) (ws : List Word)
-  → ws ≡ quoted (if nat_lt n (length bs) then Some (record { before = take n bs; after = drop (n + 1) bs }) else None)
-  → (if t then Closed [] ∷ words bs else lengthened b ws)
+    → ws ≡ quoted (if nat_lt n (length bs) then Some (record { before = take n bs; after = drop (n + 1) bs }) else None)
+    → (if t then Closed [] ∷ words bs else lengthened b ws)
     ≡ quoted (if nat_lt (cond (not t) (1 + n) 0) (length (b ∷ bs)) then Some (record { before = take (cond (not t) (1 + n) 0) (b ∷ bs); after = drop (cond (not t) (1 + n) 0 + 1) (b ∷ bs) }) else None)
 quote_step true b bs n ws e =
     let first : nat_lt 0 (suc (length bs)) ≡ true = grind (arith, nat_tests) in
@@ -64,21 +64,12 @@ blank_is_ascii b h = grind (arith, nat_tests)
 
 -- a text may be cut before its first blank
 pub blank_boundary : (xs : List ℕ) → IsCharBoundary xs (position_or_len is_blank xs)
-blank_boundary xs =
-    (position-le is_blank xs,
-     λ h k. let low : get_or xs (position_or_len is_blank xs) 0 < 128 = blank_is_ascii (get_or xs (position_or_len is_blank xs) 0) (passes_at_first is_blank xs 0 h) in
-            absurd (omega arith))
+blank_boundary xs = (
+  position-le is_blank xs,
+  λ h k. let low : get_or xs (position_or_len is_blank xs) 0 < 128 = blank_is_ascii (get_or xs (position_or_len is_blank xs) 0) (passes_at_first is_blank xs 0 h) in
+      absurd (omega arith),
+)
 
 -- a text may be cut after its first byte, where that is an ASCII character
 pub first_boundary : (xs : List ℕ) → IsUtf8 xs → 0 < length xs → get_or xs 0 0 < 128 → IsCharBoundary xs 1
 first_boundary xs u h k = IsCharBoundary-after_ascii xs 0 u h k
-
--- a word without quotes begins with its first byte
-pub bare_first : (xs : List ℕ) → 0 < length xs → is_blank (get_or xs 0 0) ≡ false → (get_or xs 0 0 == 34) ≡ false → words xs ≡ in_word xs
-bare_first [] h k l = absurd (omega arith)
-bare_first (b ∷ bs) h k l = rw (k, l) refl
-
--- a word in quotes begins after the quote
-pub quoted_first : (xs : List ℕ) → 0 < length xs → get_or xs 0 0 ≡ 34 → words xs ≡ in_quotes (drop 1 xs)
-quoted_first [] h k = absurd (omega arith)
-quoted_first (b ∷ bs) h k = rw k refl

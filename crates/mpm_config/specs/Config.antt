@@ -26,5 +26,5 @@ pub record IsConfiguration (written current : Numbers) (root index : List ℕ) :
 -- the new configuration with the two limits of the old one, corrected again
 abbrev pub with_limits : Configuration → Configuration → Configuration
 with_limits old new =
-  let written = record new.written { server_limit = old.written.server_limit; thread_limit = old.written.thread_limit } in
-  record new { written = written; current = corrected written }
+    let written = record new.written { server_limit = old.written.server_limit; thread_limit = old.written.thread_limit } in
+    record new { written = written; current = corrected written }

@@ -14,7 +14,7 @@ use Rattle.mpm_config.specs.Warning.{Notice, warning_bytes}
 -- the corrections in the order in which they are made
 abbrev pub order : List Correction
 order = NoThreads ∷ ThreadsAboveLimit ∷ WorkersBelowThreads ∷ WorkersNoMultiple ∷ WorkersAboveProduct
-  ∷ NoServers ∷ ServersAboveQuotient ∷ NoSpare ∷ SpareBelowSum ∷ RequestsAboveLimit ∷ []
+    ∷ NoServers ∷ ServersAboveQuotient ∷ NoSpare ∷ SpareBelowSum ∷ RequestsAboveLimit ∷ []
 
 -- the number of a correction, from 1
 abbrev pub place_of : Correction → ℕ

@@ -1,5 +1,5 @@
 -- The names of the language. A name is compared without regard to the case of ASCII letters.
-use Rattle.std.specs.Prelude.{ℕ, List, [], ◌∷◌, ◌++◌, Option, map, Bool, find, codes, option_map}
+use Rattle.std.specs.Prelude.{ℕ, List, [], ◌∷◌, Option, map, Bool, find, codes, option_map}
 use Rattle.std.specs.Char.{to_ascii_lowercase}
 use Rattle.std.specs.Str.{bytes_eq}
 use Rattle.mpm_config.specs.declared.directive.Directive.{Directive}
@@ -42,30 +42,30 @@ first_name q = record { text = quantity_name q; directive = Number q }
 -- every name of the language, in the order of the table
 abbrev pub names : List Name
 names =
-  first_name number.ServerLimit ∷
-  first_name number.ThreadLimit ∷
-  first_name number.StartServers ∷
-  first_name number.MinSpareThreads ∷
-  first_name number.MaxSpareThreads ∷
-  first_name number.ThreadsPerChild ∷
-  first_name number.MaxRequestWorkers ∷
-  record { text = codes "MaxClients"; directive = Number number.MaxRequestWorkers } ∷
-  first_name number.MaxConnectionsPerChild ∷
-  record { text = codes "MaxRequestsPerChild"; directive = Number number.MaxConnectionsPerChild } ∷
-  first_name number.AsyncRequestWorkerFactor ∷
-  first_name number.Timeout ∷
-  record { text = codes "KeepAlive"; directive = KeepAlive } ∷
-  first_name number.KeepAliveTimeout ∷
-  first_name number.MaxKeepAliveRequests ∷
-  first_name number.GracefulShutdownTimeout ∷
-  first_name number.LimitRequestLine ∷
-  first_name number.LimitRequestFieldSize ∷
-  first_name number.LimitRequestFields ∷
-  record { text = codes "Listen"; directive = Listen } ∷
-  record { text = codes "ControlListen"; directive = ControlListen } ∷
-  record { text = codes "DocumentRoot"; directive = DocumentRoot } ∷
-  record { text = codes "DirectoryIndex"; directive = DirectoryIndex } ∷
-  record { text = codes "ServerName"; directive = ServerName } ∷ []
+    first_name number.ServerLimit ∷
+    first_name number.ThreadLimit ∷
+    first_name number.StartServers ∷
+    first_name number.MinSpareThreads ∷
+    first_name number.MaxSpareThreads ∷
+    first_name number.ThreadsPerChild ∷
+    first_name number.MaxRequestWorkers ∷
+    record { text = codes "MaxClients"; directive = Number number.MaxRequestWorkers } ∷
+    first_name number.MaxConnectionsPerChild ∷
+    record { text = codes "MaxRequestsPerChild"; directive = Number number.MaxConnectionsPerChild } ∷
+    first_name number.AsyncRequestWorkerFactor ∷
+    first_name number.Timeout ∷
+    record { text = codes "KeepAlive"; directive = KeepAlive } ∷
+    first_name number.KeepAliveTimeout ∷
+    first_name number.MaxKeepAliveRequests ∷
+    first_name number.GracefulShutdownTimeout ∷
+    first_name number.LimitRequestLine ∷
+    first_name number.LimitRequestFieldSize ∷
+    first_name number.LimitRequestFields ∷
+    record { text = codes "Listen"; directive = Listen } ∷
+    record { text = codes "ControlListen"; directive = ControlListen } ∷
+    record { text = codes "DocumentRoot"; directive = DocumentRoot } ∷
+    record { text = codes "DirectoryIndex"; directive = DirectoryIndex } ∷
+    record { text = codes "ServerName"; directive = ServerName } ∷ []
 
 -- the directive of the first of the names that the word is
 abbrev pub directive_among : List Name → List ℕ → Option Directive

@@ -1,5 +1,5 @@
 -- What the reader of words answers.
-use Rattle.std.specs.Prelude.{◌≡◌, ℕ, List, [], ◌∷◌}
+use Rattle.std.specs.Prelude.{◌≡◌, List, [], ◌∷◌}
 use Rattle.mpm_config.specs.declared.word.First.{First}
 use Rattle.mpm_config.specs.declared.word.First.TheVariants as first
 use Rattle.mpm_config.specs.Words.{Word, Closed, Unclosed, words}

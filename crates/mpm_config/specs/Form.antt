@@ -1,13 +1,13 @@
 -- What kind of line a line is. A section of the kind IfModule hides what stands in it unless a module of its name is
 -- there, or, with an exclamation mark before the name, unless none is.
-use Rattle.std.specs.Prelude.{ℕ, ◌==◌, ◌&&◌, ◌||◌, if◌then◌else◌, Bool, not, List, [], ◌∷◌, length, slice_index, drop, codes, Option, Some, None, option_map}
+use Rattle.std.specs.Prelude.{ℕ, ◌==◌, ◌&&◌, ◌||◌, if◌then◌else◌, Bool, not, List, [], ◌∷◌, codes, Option, Some, None, option_map}
 use Rattle.std.specs.List.{list_all}
 use Rattle.std.specs.Option.{option_map_or}
 use Rattle.std.specs.Str.{bytes_eq}
 use Rattle.mpm_config.specs.declared.form.Form.{Form}
 use Rattle.mpm_config.specs.declared.form.Form.TheVariants.{Blank, Opening, Closing, ClosingWithWord, OtherSection, Directive}
 use Rattle.mpm_config.specs.Directive.{is_same_word}
-use Rattle.mpm_config.specs.Words.{Word, Closed, Unclosed, is_blank, words, from_blanks}
+use Rattle.mpm_config.specs.Words.{Word, Closed, is_blank, words, from_blanks}
 
 -- the modules that are there
 abbrev pub is_present : List ℕ → Bool
@@ -47,7 +47,7 @@ closing (w ∷ ws) = ClosingWithWord
 abbrev pub of_inside : List ℕ → Form
 of_inside [] = OtherSection
 of_inside (b ∷ bs) = if b == 47 then option_map_or closing (arguments bs) OtherSection
-  else option_map_or (λ ws. Opening (guard ws)) (arguments (b ∷ bs)) OtherSection
+    else option_map_or (λ ws. Opening (guard ws)) (arguments (b ∷ bs)) OtherSection
 
 -- what stands before the > (62) that only blanks follow
 abbrev pub before_end : List ℕ → Option (List ℕ)

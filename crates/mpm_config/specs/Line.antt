@@ -1,5 +1,5 @@
 -- The logical lines of a text: its lines, those that end with a backslash joined with the next ones.
-use Rattle.std.specs.Prelude.{ℕ, ◌+◌, ◌-◌, ◌==◌, if◌then◌else◌, Bool, List, [], ◌∷◌, ◌++◌, length, take, slice_index}
+use Rattle.std.specs.Prelude.{ℕ, ◌+◌, ◌-◌, ◌≤◌, ◌==◌, if◌then◌else◌, Bool, List, [], ◌∷◌, ◌++◌, length, take, slice_index}
 use Rattle.std.specs.Str.Lines.{lines}
 
 -- a logical line, and the number, from 1, of the first line that it is joined of
@@ -32,3 +32,8 @@ logical n (p ∷ ps) = with_piece n p (logical (n + 1) ps)
 -- the logical lines of a text
 abbrev pub logical_lines : List ℕ → List Line
 logical_lines text = logical 1 (lines text)
+
+-- the numbers of lines rise, from one on
+abbrev pub Rise : ℕ → List Line → Type 0
+Rise n [] = Unit {0}
+Rise n (l ∷ ls) = (n ≤ l.number) × Rise (l.number + 1) ls

@@ -66,8 +66,8 @@ initial_numbers = record {
   stop_ms = default_of GracefulShutdownTimeout;
   line = default_of LimitRequestLine;
   field = default_of LimitRequestFieldSize;
-  fields = default_of LimitRequestFields
-  }
+  fields = default_of LimitRequestFields;
+}
 
 -- every number is one that its directive may have
 abbrev pub IsInRange : Numbers → Type 0

@@ -1,5 +1,5 @@
 -- The configuration of a text: its logical lines are read in order, each in the sections that are open before it.
-use Rattle.std.specs.Prelude.{◌≡◌, ℕ, ◌-◌, ◌==◌, nat_lt, min, if◌then◌else◌, Bool, true, not, List, [], ◌∷◌, ◌++◌, length, take, slice_get, Option, Some, None, Result, Ok, Err}
+use Rattle.std.specs.Prelude.{◌≡◌, ℕ, ◌-◌, ◌==◌, nat_lt, min, if◌then◌else◌, Bool, true, not, List, [], ◌∷◌, ◌++◌, length, take, slice_get, Option, Some, None, Result, Ok, Err, MatchResult}
 use Rattle.std.specs.List.{list_any, position_or_len}
 use Rattle.std.specs.Str.Lossy.{utf8_valid_len}
 use Rattle.mpm_config.specs.declared.fault.ConfFault.{ConfFault}
@@ -101,8 +101,8 @@ pub record Configured : Type 0 where
 abbrev pub configured : Settings → Configured
 configured s = record {
   config = record { written = s.numbers; current = corrected s.numbers; listen = s.listen; control = s.control; root = s.root; index = s.index };
-  warnings = notices s.numbers
-  }
+  warnings = notices s.numbers;
+}
 
 -- the settings of a text
 abbrev pub text_settings : List ℕ → Result Settings ConfFault
@@ -116,3 +116,24 @@ config_of bytes = and_then (text_settings bytes) (λ s. Ok (configured s))
 abbrev pub Refuses : {A : Type 0} → Result A ConfFault → ConfFault → Type 0
 Refuses r NoMemory = Unit {0}
 Refuses r e = r ≡ Err e
+
+-- what stands after some lines
+abbrev pub after_lines : Progress → List Line → Result Progress ConfFault
+after_lines p [] = Ok p
+after_lines p (l ∷ ls) = and_then (after_line p l) (λ q. after_lines q ls)
+
+-- the line that a refusal of a line names
+abbrev pub IsAtLine : ℕ → ConfFault → Type 0
+IsAtLine n (UnknownDirective m) = m ≡ n
+IsAtLine n (BadValue m) = m ≡ n
+IsAtLine n (BadSection m) = m ≡ n
+IsAtLine n (TooDeep m) = m ≡ n
+IsAtLine n e = ⊥
+
+-- an answer is what was to be answered, or its refusal
+abbrev pub IsAnswer : {A : Type 0} → Result A ConfFault → Result A ConfFault → Type 0
+IsAnswer {A} r answer = MatchResult answer (λ (a : A). r ≡ Ok a) (Refuses r)
+
+-- after an answer stands what was to stand, or it is its refusal
+abbrev pub LeadsTo : {A : Type 0} → Result Progress ConfFault → Progress → Result A ConfFault → Type 0
+LeadsTo r new answer = MatchResult answer (λ _. r ≡ Ok new) (Refuses r)

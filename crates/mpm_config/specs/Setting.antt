@@ -1,5 +1,5 @@
 -- What the line of a directive sets.
-use Rattle.std.specs.Prelude.{ℕ, ◌<◌, ◌^◌, List, [], ◌∷◌, Option, Some, None, option_map, if◌then◌else◌, Result, Ok, Err}
+use Rattle.std.specs.Prelude.{ℕ, List, [], ◌∷◌, Option, Some, None, option_map, if◌then◌else◌, Result, Ok, Err}
 use Rattle.mpm_config.specs.declared.directive.Directive.{Directive}
 use Rattle.mpm_config.specs.declared.directive.Directive.TheVariants.{Number, KeepAlive, Listen, ControlListen, DocumentRoot, DirectoryIndex, ServerName}
 use Rattle.mpm_config.specs.declared.setting.Setting.{Setting}
@@ -10,7 +10,7 @@ use Rattle.mpm_config.specs.Directive.{directive_of}
 use Rattle.mpm_config.specs.Range.{IsAllowed}
 use Rattle.mpm_config.specs.Value.{number, number_of, switch, address, is_folder, is_file}
 use Rattle.mpm_config.specs.declared.range.TheConstants.{PORT}
-use Rattle.mpm_config.specs.Words.{Word, Closed, Unclosed, words}
+use Rattle.mpm_config.specs.Words.{Word, Closed, words}
 
 -- what a value sets, where the directive may have it
 abbrev pub setting_of : Directive → List ℕ → Option Setting

@@ -1,5 +1,5 @@
 -- What the directives of a text set.
-use Rattle.std.specs.Prelude.{ℕ, List, [], ◌∷◌, Option, Some, None, codes}
+use Rattle.std.specs.Prelude.{◌≡◌, ℕ, List, [], ◌∷◌, Option, Some, None, codes}
 use Rattle.std.specs.Str.{IsUtf8}
 use Rattle.mpm_base.specs.declared.addr.Addr.{Addr}
 use Rattle.mpm_config.specs.declared.numbers.Numbers.{Numbers}
@@ -23,8 +23,8 @@ initial_settings = record {
   listen = record { host = 127 ∷ 0 ∷ 0 ∷ 1 ∷ []; port = PORT.default };
   control = None;
   root = codes "htdocs";
-  index = codes "index.html"
-  }
+  index = codes "index.html";
+}
 
 -- the settings after one more, which that value spells
 abbrev pub with_setting : Settings → List ℕ → Setting → Settings
@@ -41,3 +41,14 @@ pub record AreKept (numbers : Numbers) (root index : List ℕ) : Type 0 where
   pub in_range : IsInRange numbers
   pub root_text : IsUtf8 root
   pub index_text : IsUtf8 index
+
+-- both settings are of one directive
+abbrev pub IsSameDirective : Setting → Setting → Type 0
+IsSameDirective (Number q m) (Number r n) = q ≡ r
+IsSameDirective (KeepAlive b) (KeepAlive c) = Unit {0}
+IsSameDirective (Listen a) (Listen b) = Unit {0}
+IsSameDirective (ControlListen p) (ControlListen q) = Unit {0}
+IsSameDirective DocumentRoot DocumentRoot = Unit {0}
+IsSameDirective DirectoryIndex DirectoryIndex = Unit {0}
+IsSameDirective ServerName ServerName = Unit {0}
+IsSameDirective s t = ⊥

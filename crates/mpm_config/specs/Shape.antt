@@ -13,8 +13,8 @@ shape_of_numbers n = record {
   keep = n.keep;
   most = n.most;
   target = n.start_servers;
-  children = n.max_workers / n.threads
-  }
+  children = n.max_workers / n.threads;
+}
 
 -- from one number to another
 pub record IsFromTo (least greatest n : ℕ) : Type 0 where

@@ -47,7 +47,7 @@ hundredths v = hundredths_of v (cut 46 v)
 -- milliseconds: a number that ends in ms, or else seconds
 abbrev pub milliseconds : List ℕ → Option ℕ
 milliseconds v =
-  if bytes_eq (drop (length v - 2) v) (codes "ms") then number KEEP_ALIVE_MILLISECONDS (take (length v - 2) v) else number KEEP_ALIVE_TIMEOUT v
+    if bytes_eq (drop (length v - 2) v) (codes "ms") then number KEEP_ALIVE_MILLISECONDS (take (length v - 2) v) else number KEEP_ALIVE_TIMEOUT v
 
 -- the number of a directive
 abbrev pub number_of : Quantity → List ℕ → Option ℕ
@@ -62,9 +62,9 @@ switch v = if is_same_word (codes "On") v then Some true else (if is_same_word (
 -- the four octets of an address, with a point (46) between them
 abbrev pub octets : List ℕ → Option (List ℕ)
 octets v =
-  option_and_then (λ (p : Parts). option_and_then (λ (q : Parts). option_and_then (λ (r : Parts).
+    option_and_then (λ (p : Parts). option_and_then (λ (q : Parts). option_and_then (λ (r : Parts).
     option_and_then (λ a. option_and_then (λ b. option_and_then (λ c. option_map (λ d. a ∷ b ∷ c ∷ d ∷ [])
-      (number OCTET r.after)) (number OCTET r.before)) (number OCTET q.before)) (number OCTET p.before))
+    (number OCTET r.after)) (number OCTET r.before)) (number OCTET q.before)) (number OCTET p.before))
     (cut 46 q.after)) (cut 46 p.after)) (cut 46 v)
 
 -- a port, or an address, a colon (58) and a port; without an address it is that of this machine alone

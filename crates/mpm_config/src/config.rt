@@ -34,8 +34,17 @@ impl Model for Config {
     ghost invariant = { λ c. IsConfiguration c.written c.now c.root c.index };
 }
 
-ghost use Rattle.mpm_config.specs.Config.{with_limits};
+ghost use Rattle.mpm_config.specs.Config.{with_limits, IsConfiguration};
 ghost use Rattle.mpm_config.specs.Shape.{shape_of_numbers, IsInBounds};
+
+impl Config {
+    /// What every configuration keeps, for callers that see it as one value. It does nothing.
+    pub fn show(&self)
+        ensures { let c = self.entry.now in IsConfiguration c.written c.current c.root c.index }
+    {
+        let _ = &self.written;
+    }
+}
 
 /// Gives a new configuration the two limits of the old one, which a restart keeps, and corrects it again.
 pub fn carry_limits(old: &Config, new: &mut Config)

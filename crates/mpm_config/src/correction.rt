@@ -92,7 +92,10 @@ impl Correction {
             Correction::NoThreads => raised(n.threads, 1),
             Correction::ThreadsAboveLimit => lowered(n.threads, n.thread_limit),
             Correction::WorkersBelowThreads => raised(n.max_workers, n.threads),
-            Correction::WorkersNoMultiple => lowered(n.max_workers, n.max_workers / n.threads * n.threads),
+            Correction::WorkersNoMultiple => lowered(
+                n.max_workers,
+                n.max_workers / n.threads * n.threads,
+            ),
             Correction::WorkersAboveProduct => lowered(n.max_workers, n.server_limit * n.threads),
             Correction::NoServers => raised(n.start_servers, 1),
             Correction::ServersAboveQuotient => lowered(n.start_servers, n.max_workers / n.threads),
@@ -131,7 +134,11 @@ fn correct_by(numbers: &mut Numbers, corrections: &[Correction])
 }
 
 /// Makes some corrections, one after the other, and puts down what they tell.
-fn tell_by(numbers: &mut Numbers, corrections: &[Correction], warnings: &mut Warnings) -> Result<(), NoMemory>
+fn tell_by(
+    numbers: &mut Numbers,
+    corrections: &[Correction],
+    warnings: &mut Warnings,
+) -> Result<(), NoMemory>
     requires { AllReady corrections.now numbers.old }
     ensures { OnOk result (warnings.new ≡ warnings.old ++ notices_by corrections.now numbers.old) }
 {

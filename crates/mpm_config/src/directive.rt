@@ -44,30 +44,102 @@ pub struct Spelling {
 
 /// Every name of the language, the first spelling of a directive before the others.
 pub const SPELLINGS: [Spelling; 24] = [
-    Spelling { name: "ServerLimit", directive: Directive::Number(Quantity::ServerLimit) },
-    Spelling { name: "ThreadLimit", directive: Directive::Number(Quantity::ThreadLimit) },
-    Spelling { name: "StartServers", directive: Directive::Number(Quantity::StartServers) },
-    Spelling { name: "MinSpareThreads", directive: Directive::Number(Quantity::MinSpareThreads) },
-    Spelling { name: "MaxSpareThreads", directive: Directive::Number(Quantity::MaxSpareThreads) },
-    Spelling { name: "ThreadsPerChild", directive: Directive::Number(Quantity::ThreadsPerChild) },
-    Spelling { name: "MaxRequestWorkers", directive: Directive::Number(Quantity::MaxRequestWorkers) },
-    Spelling { name: "MaxClients", directive: Directive::Number(Quantity::MaxRequestWorkers) },
-    Spelling { name: "MaxConnectionsPerChild", directive: Directive::Number(Quantity::MaxConnectionsPerChild) },
-    Spelling { name: "MaxRequestsPerChild", directive: Directive::Number(Quantity::MaxConnectionsPerChild) },
-    Spelling { name: "AsyncRequestWorkerFactor", directive: Directive::Number(Quantity::AsyncRequestWorkerFactor) },
-    Spelling { name: "Timeout", directive: Directive::Number(Quantity::Timeout) },
-    Spelling { name: "KeepAlive", directive: Directive::KeepAlive },
-    Spelling { name: "KeepAliveTimeout", directive: Directive::Number(Quantity::KeepAliveTimeout) },
-    Spelling { name: "MaxKeepAliveRequests", directive: Directive::Number(Quantity::MaxKeepAliveRequests) },
-    Spelling { name: "GracefulShutdownTimeout", directive: Directive::Number(Quantity::GracefulShutdownTimeout) },
-    Spelling { name: "LimitRequestLine", directive: Directive::Number(Quantity::LimitRequestLine) },
-    Spelling { name: "LimitRequestFieldSize", directive: Directive::Number(Quantity::LimitRequestFieldSize) },
-    Spelling { name: "LimitRequestFields", directive: Directive::Number(Quantity::LimitRequestFields) },
-    Spelling { name: "Listen", directive: Directive::Listen },
-    Spelling { name: "ControlListen", directive: Directive::ControlListen },
-    Spelling { name: "DocumentRoot", directive: Directive::DocumentRoot },
-    Spelling { name: "DirectoryIndex", directive: Directive::DirectoryIndex },
-    Spelling { name: "ServerName", directive: Directive::ServerName },
+    Spelling {
+        name: "ServerLimit",
+        directive: Directive::Number(Quantity::ServerLimit),
+    },
+    Spelling {
+        name: "ThreadLimit",
+        directive: Directive::Number(Quantity::ThreadLimit),
+    },
+    Spelling {
+        name: "StartServers",
+        directive: Directive::Number(Quantity::StartServers),
+    },
+    Spelling {
+        name: "MinSpareThreads",
+        directive: Directive::Number(Quantity::MinSpareThreads),
+    },
+    Spelling {
+        name: "MaxSpareThreads",
+        directive: Directive::Number(Quantity::MaxSpareThreads),
+    },
+    Spelling {
+        name: "ThreadsPerChild",
+        directive: Directive::Number(Quantity::ThreadsPerChild),
+    },
+    Spelling {
+        name: "MaxRequestWorkers",
+        directive: Directive::Number(Quantity::MaxRequestWorkers),
+    },
+    Spelling {
+        name: "MaxClients",
+        directive: Directive::Number(Quantity::MaxRequestWorkers),
+    },
+    Spelling {
+        name: "MaxConnectionsPerChild",
+        directive: Directive::Number(Quantity::MaxConnectionsPerChild),
+    },
+    Spelling {
+        name: "MaxRequestsPerChild",
+        directive: Directive::Number(Quantity::MaxConnectionsPerChild),
+    },
+    Spelling {
+        name: "AsyncRequestWorkerFactor",
+        directive: Directive::Number(Quantity::AsyncRequestWorkerFactor),
+    },
+    Spelling {
+        name: "Timeout",
+        directive: Directive::Number(Quantity::Timeout),
+    },
+    Spelling {
+        name: "KeepAlive",
+        directive: Directive::KeepAlive,
+    },
+    Spelling {
+        name: "KeepAliveTimeout",
+        directive: Directive::Number(Quantity::KeepAliveTimeout),
+    },
+    Spelling {
+        name: "MaxKeepAliveRequests",
+        directive: Directive::Number(Quantity::MaxKeepAliveRequests),
+    },
+    Spelling {
+        name: "GracefulShutdownTimeout",
+        directive: Directive::Number(Quantity::GracefulShutdownTimeout),
+    },
+    Spelling {
+        name: "LimitRequestLine",
+        directive: Directive::Number(Quantity::LimitRequestLine),
+    },
+    Spelling {
+        name: "LimitRequestFieldSize",
+        directive: Directive::Number(Quantity::LimitRequestFieldSize),
+    },
+    Spelling {
+        name: "LimitRequestFields",
+        directive: Directive::Number(Quantity::LimitRequestFields),
+    },
+    Spelling {
+        name: "Listen",
+        directive: Directive::Listen,
+    },
+    Spelling {
+        name: "ControlListen",
+        directive: Directive::ControlListen,
+    },
+    Spelling {
+        name: "DocumentRoot",
+        directive: Directive::DocumentRoot,
+    },
+    Spelling {
+        name: "DirectoryIndex",
+        directive: Directive::DirectoryIndex,
+    },
+    Spelling {
+        name: "ServerName",
+        directive: Directive::ServerName,
+    },
 ];
 
 /// Whether the word is the name, in which case does not count.
@@ -81,7 +153,9 @@ pub fn is_word(word: &[u8], name: &str) -> bool
 fn first_among(word: &[u8], spellings: &[Spelling]) -> Option<Directive>
     ensures { result ≡ option_map (λ s. s.directive) (find (λ (s : Spelling). is_same_word s.name.now word.now) spellings.now) }
 {
-    let found = spellings.iter().find(|spelling| is_word(word, spelling.name))?;
+    let found = spellings
+        .iter()
+        .find(|spelling| is_word(word, spelling.name))?;
     Some(found.directive)
 }
 

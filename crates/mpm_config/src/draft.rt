@@ -72,7 +72,13 @@ impl Draft {
     pub fn finish(self, alloc: Global) -> Result<(Config, Warnings), NoMemory>
         ensures { IfOk result (λ r. record { config = r.0; warnings = r.1 } ≡ configured self) }
     {
-        let Draft { numbers, listen, control, root, index } = self;
+        let Draft {
+            numbers,
+            listen,
+            control,
+            root,
+            index,
+        } = self;
         let warnings = warnings_of(alloc, &numbers)?;
         let config = Config {
             written: numbers,

@@ -65,7 +65,11 @@ fn arguments(text: &str) -> Option<&str>
     let First::Closed(kind, after) = first_word(text) else {
         return None;
     };
-    if is_word(kind.as_bytes(), "IfModule") { Some(after) } else { None }
+    if is_word(kind.as_bytes(), "IfModule") {
+        Some(after)
+    } else {
+        None
+    }
 }
 
 /// The kind of a closing, by what follows its kind.

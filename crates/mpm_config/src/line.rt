@@ -38,7 +38,11 @@ fn ends_with(text: &str, byte: u8) -> bool
 fn without_return(line: &str) -> &str
     ensures { result.now ≡ strip_carriage_return line.now }
 {
-    if ends_with(line, b'\r') { before_last(line) } else { line }
+    if ends_with(line, b'\r') {
+        before_last(line)
+    } else {
+        line
+    }
 }
 
 /// The first line of a text, and the text after it.
@@ -57,7 +61,9 @@ fn first_line(text: &str) -> (&str, &str)
 /// was joined. Where memory lacks, `line` has some of it.
 pub fn take_line<'a>(text: &'a str, line: &mut String) -> Result<(&'a str, u64), NoMemory>
     requires { 0 < length text.now }
-    ensures line { IfOk result (λ r. (n : ℕ) → logical n (lines text.now) ≡ record { number = n; bytes = string_bytes line.new } ∷ logical (n + r.1) (lines r.0.now)) }
+    ensures line { IfOk result (λ r. (n : ℕ)
+        → logical n (lines text.now)
+        ≡ record { number = n; bytes = string_bytes line.new } ∷ logical (n + r.1) (lines r.0.now)) }
     ensures room { IfOk result (λ r. length r.0.now + r.1 ≤ length text.now) }
     ensures shorter { IfOk result (λ r. length r.0.now < length text.now) }
 {

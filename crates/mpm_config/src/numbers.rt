@@ -3,10 +3,10 @@ ghost use Rattle.std.specs.Prelude.{◌≡◌, ◌<◌, ◌^◌};
 
 use crate::directive::Quantity;
 use crate::range::{
-    ASYNC_REQUEST_WORKER_FACTOR, GRACEFUL_SHUTDOWN_TIMEOUT, KEEP_ALIVE_TIMEOUT, LIMIT_REQUEST_FIELDS,
-    LIMIT_REQUEST_FIELD_SIZE, LIMIT_REQUEST_LINE, MAX_CONNECTIONS_PER_CHILD, MAX_KEEP_ALIVE_REQUESTS,
-    MAX_REQUEST_WORKERS, MAX_SPARE_THREADS, MIN_SPARE_THREADS, SERVER_LIMIT, START_SERVERS,
-    THREADS_PER_CHILD, THREAD_LIMIT, TIMEOUT,
+    ASYNC_REQUEST_WORKER_FACTOR, GRACEFUL_SHUTDOWN_TIMEOUT, KEEP_ALIVE_TIMEOUT,
+    LIMIT_REQUEST_FIELD_SIZE, LIMIT_REQUEST_FIELDS, LIMIT_REQUEST_LINE, MAX_CONNECTIONS_PER_CHILD,
+    MAX_KEEP_ALIVE_REQUESTS, MAX_REQUEST_WORKERS, MAX_SPARE_THREADS, MIN_SPARE_THREADS,
+    SERVER_LIMIT, START_SERVERS, THREAD_LIMIT, THREADS_PER_CHILD, TIMEOUT,
 };
 
 /// The numbers of a configuration, and whether connections are kept.
@@ -52,7 +52,7 @@ impl Numbers {
     ghost use Rattle.mpm_config.specs.Numbers.{initial_numbers, number_at, with_number};
 
     /// The numbers of the empty configuration.
-    pub fn initial() -> Numbers
+    pub(crate) fn initial() -> Numbers
         ensures { result ≡ initial_numbers }
     {
         Numbers {
@@ -78,7 +78,7 @@ impl Numbers {
     }
 
     /// One of the numbers.
-    pub fn get(&self, quantity: Quantity) -> u64
+    pub(crate) fn get(&self, quantity: Quantity) -> u64
         ensures { result ≡ number_at self.now quantity }
     {
         match quantity {
@@ -102,7 +102,7 @@ impl Numbers {
     }
 
     /// Sets one of the numbers.
-    pub fn set(&mut self, quantity: Quantity, number: u32)
+    pub(crate) fn set(&mut self, quantity: Quantity, number: u32)
         ensures { self.new ≡ with_number self.old quantity number }
     {
         match quantity {

@@ -2,7 +2,7 @@
 ghost use Rattle.std.specs.Prelude.{◌≡◌, ◌==◌, ◌<◌, true, false, nat_lt, length, MatchResult, Ok};
 ghost use Rattle.std.specs.List.{position_or_len};
 ghost use Rattle.mpm_config.specs.Line.{logical_lines};
-ghost use Rattle.mpm_config.specs.Reading.{config_of, settings_of, start, text_len, Configured, Refuses};
+ghost use Rattle.mpm_config.specs.Reading.{config_of, settings_of, start, text_len, Configured, IsAnswer, Refuses};
 
 use crate::config::Config;
 use crate::draft::Draft;
@@ -22,7 +22,9 @@ fn nul_place(bytes: &[u8]) -> usize
 
 /// The bytes as a text, where they are UTF-8 without a NUL.
 fn text_of(bytes: &[u8]) -> Result<&str, ConfFault>
-    ensures { MatchResult result (λ text. (text.now ≡ bytes.now) × (nat_lt (text_len bytes.now) (length bytes.now) ≡ false)) (λ e. (nat_lt (text_len bytes.now) (length bytes.now) ≡ true) × (e ≡ ConfFault.NotText (text_len bytes.now))) }
+    ensures { MatchResult result
+        (λ text. (text.now ≡ bytes.now) × (nat_lt (text_len bytes.now) (length bytes.now) ≡ false))
+        (λ e. (nat_lt (text_len bytes.now) (length bytes.now) ≡ true) × (e ≡ ConfFault.NotText (text_len bytes.now))) }
 {
     let nul = nul_place(bytes);
     match std::str::from_utf8(bytes) {
@@ -38,7 +40,7 @@ fn text_of(bytes: &[u8]) -> Result<&str, ConfFault>
 
 /// Reads the lines of a text.
 fn read_lines(alloc: Global, text: &str) -> Result<Draft, ConfFault>
-    ensures { MatchResult result (λ draft. settings_of start (logical_lines text.now) ≡ Ok draft) (Refuses (settings_of start (logical_lines text.now))) }
+    ensures { IsAnswer (settings_of start (logical_lines text.now)) result }
 {
     let mut reader = Reader::start(alloc)?;
     let mut line = String::new(alloc);
@@ -56,7 +58,9 @@ fn read_lines(alloc: Global, text: &str) -> Result<Draft, ConfFault>
 /// Reads a configuration. Refused are, in this order: bytes that are no text, then the first line that has
 /// something wrong, then a section that is not closed. Want of memory may come at any point.
 pub fn read_config(alloc: Global, text: &[u8]) -> Result<(Config, Warnings), ConfFault>
-    ensures { MatchResult result (λ r. config_of text.now ≡ Ok (record { config = r.0; warnings = r.1 })) (Refuses (config_of text.now)) }
+    ensures { MatchResult result
+        (λ read. config_of text.now ≡ Ok (record { config = read.0; warnings = read.1 }))
+        (Refuses (config_of text.now)) }
 {
     let draft = read_lines(alloc, text_of(text)?)?;
     match draft.finish(alloc) {

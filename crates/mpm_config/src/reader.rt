@@ -1,10 +1,7 @@
 //! The reader of a text: its lines in order, each in the sections that are open before it.
-ghost use Rattle.std.specs.Prelude.{◌≡◌, ◌<◌, ◌≤◌, ◌-◌, [], IfOk, MatchResult, Ok, length, slice_get};
-
-
-ghost use Rattle.mpm_config.specs.Reading.{after_line, assigns, closed, hides, in_hiding, in_sight, opened, opened_by, settings_of, start, Progress, Refuses};
+ghost use Rattle.std.specs.Prelude.{◌≡◌, ◌<◌, ◌≤◌, ◌-◌, [], IfOk, length, slice_get};
+ghost use Rattle.mpm_config.specs.Reading.{after_line, assigns, closed, hides, in_hiding, in_sight, opened, opened_by, settings_of, start, IsAnswer, LeadsTo};
 ghost use Rattle.mpm_config.specs.Setting.{assignment};
-
 
 use crate::draft::Draft;
 use crate::fault::ConfFault;
@@ -61,7 +58,7 @@ impl Reader {
 
     /// Opens a section.
     fn open(&mut self, line: u64, shown: bool) -> Result<(), ConfFault>
-        ensures { MatchResult result (λ _. opened line shown self.old ≡ Ok self.new) (Refuses (opened line shown self.old)) }
+        ensures { LeadsTo (opened line shown self.old) self.new result }
     {
         if self.sections.len() >= GREATEST_DEPTH {
             return Err(ConfFault::TooDeep(line));
@@ -74,7 +71,7 @@ impl Reader {
 
     /// Opens a section by its guard.
     fn open_by(&mut self, line: u64, guard: Option<bool>) -> Result<(), ConfFault>
-        ensures { MatchResult result (λ _. opened_by line guard self.old ≡ Ok self.new) (Refuses (opened_by line guard self.old)) }
+        ensures { LeadsTo (opened_by line guard self.old) self.new result }
     {
         match guard {
             Some(shown) => self.open(line, shown),
@@ -84,7 +81,7 @@ impl Reader {
 
     /// Closes the innermost section.
     fn close(&mut self, line: u64) -> Result<(), ConfFault>
-        ensures { MatchResult result (λ _. closed line self.old ≡ Ok self.new) (Refuses (closed line self.old)) }
+        ensures { LeadsTo (closed line self.old) self.new result }
     {
         match self.sections.pop() {
             Some(_) => Ok(()),
@@ -94,7 +91,7 @@ impl Reader {
 
     /// Sets what the line of a directive sets.
     fn assign(&mut self, alloc: Global, number: u64, line: &str) -> Result<(), ConfFault>
-        ensures { MatchResult result (λ _. assigns number self.old (assignment line.now) ≡ Ok self.new) (Refuses (assigns number self.old (assignment line.now))) }
+        ensures { LeadsTo (assigns number self.old (assignment line.now)) self.new result }
     {
         match read_assignment(line) {
             Ok((setting, value)) => match self.draft.set(alloc, setting, value) {
@@ -107,8 +104,14 @@ impl Reader {
     }
 
     /// Reads a line where all open sections are shown.
-    fn read_in_sight(&mut self, alloc: Global, number: u64, line: &str, form: Form) -> Result<(), ConfFault>
-        ensures { MatchResult result (λ _. in_sight self.old (record { number = number; bytes = line.now }) form ≡ Ok self.new) (Refuses (in_sight self.old (record { number = number; bytes = line.now }) form)) }
+    fn read_in_sight(
+        &mut self,
+        alloc: Global,
+        number: u64,
+        line: &str,
+        form: Form,
+    ) -> Result<(), ConfFault>
+        ensures { LeadsTo (in_sight self.old (record { number = number; bytes = line.now }) form) self.new result }
     {
         match form {
             Form::Blank => Ok(()),
@@ -121,7 +124,7 @@ impl Reader {
 
     /// Reads a line in a part that is skipped.
     fn read_in_hiding(&mut self, number: u64, line: &str, form: Form) -> Result<(), ConfFault>
-        ensures { MatchResult result (λ _. in_hiding self.old (record { number = number; bytes = line.now }) form ≡ Ok self.new) (Refuses (in_hiding self.old (record { number = number; bytes = line.now }) form)) }
+        ensures { LeadsTo (in_hiding self.old (record { number = number; bytes = line.now }) form) self.new result }
     {
         match form {
             Form::Opening(_) => self.open(number, true),
@@ -133,7 +136,7 @@ impl Reader {
 
     /// Reads a line. After a refusal the reader is used no more.
     pub fn read_line(&mut self, alloc: Global, number: u64, line: &str) -> Result<(), ConfFault>
-        ensures { MatchResult result (λ _. after_line self.old (record { number = number; bytes = line.now }) ≡ Ok self.new) (Refuses (after_line self.old (record { number = number; bytes = line.now }))) }
+        ensures { LeadsTo (after_line self.old (record { number = number; bytes = line.now })) self.new result }
     {
         let form = form_of(line);
         if self.hides() {
@@ -152,7 +155,7 @@ impl Reader {
 
     /// What was set, where no section is open.
     pub fn finish(self) -> Result<Draft, ConfFault>
-        ensures { MatchResult result (λ draft. settings_of self [] ≡ Ok draft) (Refuses (settings_of self [])) }
+        ensures { IsAnswer (settings_of self []) result }
     {
         if let Some(section) = self.innermost() {
             return Err(ConfFault::Unclosed(section.line));

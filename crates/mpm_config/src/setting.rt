@@ -41,10 +41,18 @@ impl Directive {
             Directive::Listen => Some(Setting::Listen(address(value)?)),
             Directive::ControlListen => Some(Setting::ControlListen(port(value)?)),
             Directive::DocumentRoot => {
-                if is_folder(value) { Some(Setting::DocumentRoot) } else { None }
+                if is_folder(value) {
+                    Some(Setting::DocumentRoot)
+                } else {
+                    None
+                }
             }
             Directive::DirectoryIndex => {
-                if is_file(value) { Some(Setting::DirectoryIndex) } else { None }
+                if is_file(value) {
+                    Some(Setting::DirectoryIndex)
+                } else {
+                    None
+                }
             }
             Directive::ServerName => Some(Setting::ServerName),
         }
@@ -52,7 +60,9 @@ impl Directive {
 
     /// What the words after the name set, and the value.
     fn assigned(self, line: &str) -> Result<(Setting, &str), Wrong>
-        ensures value { MatchResult result (λ a. of_words self (words line.now) ≡ Ok (record { setting = a.0; value = a.1.now })) (λ wrong. of_words self (words line.now) ≡ Err wrong) }
+        ensures value { MatchResult result
+            (λ a. of_words self (words line.now) ≡ Ok (record { setting = a.0; value = a.1.now }))
+            (λ wrong. of_words self (words line.now) ≡ Err wrong) }
         ensures settable { IfOk result (λ a. IsSettable a.0) }
     {
         let First::Closed(value, after) = first_word(line) else {
@@ -70,7 +80,9 @@ impl Directive {
 
 /// What the line of a directive sets, and the value.
 pub fn read_assignment(line: &str) -> Result<(Setting, &str), Wrong>
-    ensures value { MatchResult result (λ a. assignment line.now ≡ Ok (record { setting = a.0; value = a.1.now })) (λ wrong. assignment line.now ≡ Err wrong) }
+    ensures value { MatchResult result
+        (λ a. assignment line.now ≡ Ok (record { setting = a.0; value = a.1.now }))
+        (λ wrong. assignment line.now ≡ Err wrong) }
     ensures settable { IfOk result (λ a. IsSettable a.0) }
 {
     let First::Closed(name, after) = first_word(line) else {

@@ -46,7 +46,11 @@ fn whole(value: &[u8], most: usize) -> Option<u32>
     ensures value { result ≡ whole most value.now }
     ensures bound { IfSome result (λ n. n < 10 ^ most) }
 {
-    if is_digits(value, most) { Some(decimal(value)) } else { None }
+    if is_digits(value, most) {
+        Some(decimal(value))
+    } else {
+        None
+    }
 }
 
 impl Range {
@@ -94,7 +98,11 @@ fn decimals(value: &[u8]) -> Option<u32>
     ensures bound { IfSome result (λ n. n < 1000) }
 {
     let n = whole(value, 2)?;
-    if value.len() == 1 { Some(10 * n) } else { Some(n) }
+    if value.len() == 1 {
+        Some(10 * n)
+    } else {
+        Some(n)
+    }
 }
 
 /// A number of hundredths: one to three digits, or these, a point and one or two digits.
@@ -167,9 +175,15 @@ pub fn address(value: &[u8]) -> Option<Addr>
     match cut(value, b':') {
         Some((host, after)) => {
             let host = octets(host)?;
-            Some(Addr { host, port: port(after)? })
+            Some(Addr {
+                host,
+                port: port(after)?,
+            })
         }
-        None => Some(Addr { host: [127, 0, 0, 1], port: port(value)? }),
+        None => Some(Addr {
+            host: [127, 0, 0, 1],
+            port: port(value)?,
+        }),
     }
 }
 

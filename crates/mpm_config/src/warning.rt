@@ -1,5 +1,5 @@
 //! What an operator is told of a number that was corrected.
-ghost use Rattle.std.specs.Prelude.{◌≡◌, ◌==◌, [], ◌∷◌, ◌++◌, length, OnOk, OnErr};
+ghost use Rattle.std.specs.Prelude.{◌≡◌, ◌==◌, [], ◌∷◌, ◌++◌, ◌≤◌, length, OnOk, OnErr};
 
 use mpm_base::NoMemory;
 use std::alloc::Global;
@@ -27,6 +27,16 @@ impl Model for Warning {
     ghost invariant = { λ w. (1 ≤ w.correction) × (w.correction ≤ 10) };
 
     ghost inverse = { λ n. record { correction = n.correction; was = n.before; now = n.after } };
+}
+
+impl Warning {
+    /// What every warning keeps, for callers that see it as one value. It does nothing.
+    pub fn show(&self)
+        ensures from { 1 ≤ self.entry.now.correction }
+        ensures to { self.entry.now.correction ≤ 10 }
+    {
+        let _ = &self.correction;
+    }
 }
 
 /// The warnings of a configuration, in the order of the corrections.

@@ -10,5 +10,5 @@ invariant_of-new c = record {
   in_range = limits_in_range c.new.inside.written c.old.inside.written c.new.invariant.in_range c.old.invariant.in_range;
   fixed = c.correct-new-inside.ensures;
   root_text = c.new.invariant.root_text;
-  index_text = c.new.invariant.index_text
-  }
+  index_text = c.new.invariant.index_text;
+}

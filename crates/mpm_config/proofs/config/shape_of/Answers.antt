@@ -1,7 +1,6 @@
 -- The corrected numbers are in the bounds of a shape, and the numbers of a configuration are corrected.
-use Rattle.std.proofs.Common.{arith, subst, sym, ◌<◌}
+use Rattle.std.proofs.Common.{arith, subst, sym}
 use Rattle.mpm_config.specs.declared.numbers.Numbers.{Numbers}
-use Rattle.mpm_config.specs.Config.{IsConfiguration}
 use Rattle.mpm_config.specs.Numbers.{IsInRange}
 use Rattle.mpm_config.specs.Shape.{shape_of_numbers, IsInBounds}
 use Rattle.mpm_config.specs.Correction.{corrected}

@@ -1,6 +1,6 @@
 -- The search in the code's table is the search among the names.
 use Rattle.std.proofs.Common.{◌∙◌, ap}
-use Rattle.mpm_config.specs.Directive.{directive_among, Name}
+use Rattle.mpm_config.specs.Directive.{directive_among}
 use Rattle.mpm_config.proofs.NameLemmas.{same_search}
 use Rattle.mpm_config.proofs.directive.among.Goals as goal
 

@@ -1,5 +1,4 @@
 -- The first line, by where the first line feed is.
-use Rattle.std.proofs.Common.{ap, ◌∷◌, ◌∙◌}
 use Rattle.mpm_config.proofs.LineLemmas.{cut_some, cut_none}
 use Rattle.mpm_config.proofs.line.first_line.Goals as goal
 

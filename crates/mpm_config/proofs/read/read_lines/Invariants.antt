@@ -1,5 +1,5 @@
 -- What is read so far, continued over the lines that are left, is what the whole text gives.
-use Rattle.std.proofs.Common.{◌≡◌, ℕ, ◌+◌, ◌≤◌, length}
+use Rattle.std.proofs.Common.{◌≡◌, ◌+◌, ◌≤◌, length}
 use denote.Text.{Utf8}
 use denote.Shadow.{shadow}
 use Rattle.std.specs.Str.Lines.{lines}

@@ -7,7 +7,8 @@ returns-then-nul-bytes c =
     (text_len-utf8 c.args.bytes.now c.nul_place-nul.result c.in-Ok.ensures.cases.1 c.nul_place-nul.ensures) c.if-nul-bytes.true
 
 pub returns-else-nul-bytes : goal.returns-else-nul-bytes
-returns-else-nul-bytes c =
-    (c.in-Ok.ensures.cases.0,
-     no_nul c.args.bytes.now c.nul_place-nul.result
-     (text_len-utf8 c.args.bytes.now c.nul_place-nul.result c.in-Ok.ensures.cases.1 c.nul_place-nul.ensures) c.if-nul-bytes.false)
+returns-else-nul-bytes c = (
+  c.in-Ok.ensures.cases.0,
+  no_nul c.args.bytes.now c.nul_place-nul.result
+      (text_len-utf8 c.args.bytes.now c.nul_place-nul.result c.in-Ok.ensures.cases.1 c.nul_place-nul.ensures) c.if-nul-bytes.false,
+)

@@ -1,5 +1,5 @@
-use Rattle.std.proofs.Common.{arith, ◌≡◌, ◌-◌, get_or}
-use Rattle.mpm_config.proofs.DigitLemmas.{step, Step}
+use Rattle.std.proofs.Common.{arith}
+use Rattle.mpm_config.proofs.DigitLemmas.{step}
 use Rattle.mpm_config.proofs.value.decimal.Goals as goal
 
 pub overflow_mul-n : goal.overflow_mul-n
