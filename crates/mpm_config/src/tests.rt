@@ -366,3 +366,35 @@ fn a_restart_keeps_the_limits(rt: HostRuntime) -> Result<(), Fail> {
     assert_eq!(rt; new.written.threads, 25);
     Ok(())
 }
+
+#[test]
+fn ranges_end_where_they_should(rt: HostRuntime) -> Result<(), Fail> {
+    let table = [
+        ("ServerLimit", 1u32, 32u32),
+        ("ThreadLimit", 1, 64),
+        ("StartServers", 0, 999_999_999),
+        ("MinSpareThreads", 0, 999_999_999),
+        ("MaxSpareThreads", 0, 999_999_999),
+        ("ThreadsPerChild", 0, 999_999_999),
+        ("MaxRequestWorkers", 0, 999_999_999),
+        ("MaxConnectionsPerChild", 0, 999_999_999),
+        ("AsyncRequestWorkerFactor", 1, 100),
+        ("Timeout", 1, 65_535),
+        ("KeepAliveTimeout", 1, 65_535),
+        ("MaxKeepAliveRequests", 0, 999_999_999),
+        ("GracefulShutdownTimeout", 0, 65_535),
+        ("LimitRequestLine", 1, 65_000),
+        ("LimitRequestFieldSize", 1, 65_000),
+        ("LimitRequestFields", 0, 1_000),
+        ("Listen", 1, 65_535),
+        ("ControlListen", 1, 65_535),
+    ];
+    for (name, least, greatest) in table {
+        for number in [0, 1, least, greatest, greatest.saturating_add(1)] {
+            let text = format!(in rt.alloc(); "{name} {number}")?;
+            let accepted = read_config(rt.alloc(), text.as_bytes()).is_ok();
+            assert_eq!(rt; accepted, least <= number && number <= greatest, "{text}");
+        }
+    }
+    Ok(())
+}
