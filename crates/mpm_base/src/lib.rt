@@ -8,6 +8,7 @@
 //! form of request that is read so far (`specs/Script.antt`, `specs/RootRequest.antt`).
 #![tactic(auto)]
 
+mod addr;
 mod calls;
 mod conn;
 mod escapes;
@@ -30,6 +31,7 @@ mod store;
 mod tests;
 mod words;
 
+pub use addr::Addr;
 pub use calls::Calls;
 pub use conn::{Ask, Cause, ConnName, Kind, Moment, Tail};
 pub use files::Files;

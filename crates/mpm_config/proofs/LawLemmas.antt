@@ -1,0 +1,140 @@
+-- The laws of the language.
+use Rattle.std.proofs.Common.{◌≡◌, ℕ, ◌+◌, ◌≤◌, ◌==◌, ◌++◌, nat_lt, if◌then◌else◌, Bool, true, false, List, [], ◌∷◌, Option, Some, None, Result, Ok, Err, length, refl, ap, sym, ◌∙◌, subst, arith}
+use Rattle.std.specs.Result.{IfOk, IfErr}
+use Rattle.mpm_config.specs.declared.directive.Quantity.{Quantity}
+use Rattle.mpm_config.specs.declared.directive.Quantity.TheVariants.{ServerLimit, ThreadLimit, StartServers, MinSpareThreads, MaxSpareThreads, ThreadsPerChild, MaxRequestWorkers, MaxConnectionsPerChild, AsyncRequestWorkerFactor, Timeout, KeepAliveTimeout, MaxKeepAliveRequests, GracefulShutdownTimeout, LimitRequestLine, LimitRequestFieldSize, LimitRequestFields}
+use Rattle.mpm_config.specs.declared.fault.ConfFault.{ConfFault}
+use Rattle.mpm_config.specs.declared.form.Form.{Form}
+use Rattle.mpm_config.specs.declared.form.Form.TheVariants as form
+use Rattle.mpm_config.specs.declared.numbers.Numbers.{Numbers}
+use Rattle.mpm_config.specs.declared.setting.Setting.{Setting}
+use Rattle.mpm_config.specs.declared.setting.Setting.TheVariants as sets
+use Rattle.mpm_config.specs.declared.setting.Wrong.{Wrong}
+use Rattle.mpm_config.specs.declared.setting.Wrong.TheVariants as wrong
+use Rattle.mpm_config.specs.Form.{form_of}
+use Rattle.mpm_config.specs.Line.{Line, Rise, continues, front, joined, logical}
+use Rattle.mpm_config.specs.Numbers.{with_number}
+use Rattle.mpm_config.specs.Reading.{Progress, after_line, after_lines, and_then, assigns, closed, hides, in_hiding, in_sight, opened, opened_by, settings_of, IsAtLine}
+use Rattle.mpm_config.specs.Setting.{Assignment, assignment}
+use Rattle.mpm_config.specs.Settings.{Settings, with_setting, IsSameDirective}
+
+set_twice : (n : Numbers) (q : Quantity) (a b : ℕ) → with_number (with_number n q a) q b ≡ with_number n q b
+set_twice n ServerLimit a b = refl
+set_twice n ThreadLimit a b = refl
+set_twice n StartServers a b = refl
+set_twice n MinSpareThreads a b = refl
+set_twice n MaxSpareThreads a b = refl
+set_twice n ThreadsPerChild a b = refl
+set_twice n MaxRequestWorkers a b = refl
+set_twice n MaxConnectionsPerChild a b = refl
+set_twice n AsyncRequestWorkerFactor a b = refl
+set_twice n Timeout a b = refl
+set_twice n KeepAliveTimeout a b = refl
+set_twice n MaxKeepAliveRequests a b = refl
+set_twice n GracefulShutdownTimeout a b = refl
+set_twice n LimitRequestLine a b = refl
+set_twice n LimitRequestFieldSize a b = refl
+set_twice n LimitRequestFields a b = refl
+
+pub replaced : (s : Settings) (v w : List ℕ) (a b : Setting) → IsSameDirective a b → with_setting (with_setting s v a) w b ≡ with_setting s w b
+replaced s v w (sets.Number q m) (sets.Number r n) h =
+    ap (λ t. with_setting (with_setting s v (sets.Number t m)) w (sets.Number r n)) h ∙ ap (λ k. record s { numbers = k }) (set_twice s.numbers r m n)
+replaced s v w (sets.KeepAlive b) (sets.KeepAlive c) h = refl
+replaced s v w (sets.Listen a) (sets.Listen b) h = refl
+replaced s v w (sets.ControlListen p) (sets.ControlListen q) h = refl
+replaced s v w sets.DocumentRoot sets.DocumentRoot h = refl
+replaced s v w sets.DirectoryIndex sets.DirectoryIndex h = refl
+replaced s v w sets.ServerName sets.ServerName h = refl
+replaced s v w a b h = absurd h
+
+-- what holds of both outcomes of a test holds of its outcome
+choice : (P : Result Progress ConfFault → Type 0) (t : Bool) (r s : Result Progress ConfFault) → P r → P s → P (if t then r else s)
+choice P true r s a b = a
+choice P false r s a b = b
+
+-- to open or close a section sets nothing
+opened_sets : (n : ℕ) (shown : Bool) (p : Progress) → IfOk (opened n shown p) (λ q. q.settings ≡ p.settings)
+opened_sets n shown p = choice (λ r. IfOk r (λ q. q.settings ≡ p.settings)) (nat_lt (length p.sections) 8) _ _ refl tt
+
+closed_sets : (n : ℕ) (p : Progress) → IfOk (closed n p) (λ q. q.settings ≡ p.settings)
+closed_sets n p = choice (λ r. IfOk r (λ q. q.settings ≡ p.settings)) (length p.sections == 0) _ _ tt refl
+
+hiding_sets : (p : Progress) (l : Line) (f : Form) → IfOk (in_hiding p l f) (λ q. q.settings ≡ p.settings)
+hiding_sets p l form.Blank = refl
+hiding_sets p l (form.Opening g) = opened_sets l.number true p
+hiding_sets p l form.Closing = closed_sets l.number p
+hiding_sets p l form.ClosingWithWord = tt
+hiding_sets p l form.OtherSection = refl
+hiding_sets p l form.Directive = refl
+
+pub hidden_sets_nothing : (p : Progress) (l : Line) → hides p.sections ≡ true → IfOk (after_line p l) (λ q. q.settings ≡ p.settings)
+hidden_sets_nothing p l h = rw h (hiding_sets p l (form_of l.bytes))
+
+-- numbers that rise from one on rise from each smaller one on
+rise_from : (m n : ℕ) (ls : List Line) → m ≤ n → Rise n ls → Rise m ls
+rise_from m n [] h r = tt
+rise_from m n (l ∷ ls) h r = (omega (arith, r.0), r.1)
+
+joined_rise : (n : ℕ) (piece : List ℕ) (ls : List Line) → Rise (n + 1) ls → Rise n (joined n piece ls)
+joined_rise n piece [] r = (omega arith, tt)
+joined_rise n piece (l ∷ ls) r = (omega arith, rise_from (n + 1) (l.number + 1) ls (omega (arith, r.0)) r.1)
+
+piece_rise : (t : Bool) (n : ℕ) (p : List ℕ) (ls : List Line) → Rise (n + 1) ls → Rise n (if t then joined n (front p) ls else record { number = n; bytes = p } ∷ ls)
+piece_rise true n p ls r = joined_rise n (front p) ls r
+piece_rise false n p ls r = (omega arith, r)
+
+pub lines_rise : (n : ℕ) (ps : List (List ℕ)) → Rise n (logical n ps)
+lines_rise n [] = tt
+lines_rise n (p ∷ ps) = piece_rise (continues p) n p (logical (n + 1) ps) (lines_rise (n + 1) ps)
+
+-- a line is refused by its own number
+opened_own : (n : ℕ) (shown : Bool) (p : Progress) → IfErr (opened n shown p) (IsAtLine n)
+opened_own n shown p = choice (λ r. IfErr r (IsAtLine n)) (nat_lt (length p.sections) 8) _ _ tt refl
+
+opened_by_own : (n : ℕ) (guard : Option Bool) (p : Progress) → IfErr (opened_by n guard p) (IsAtLine n)
+opened_by_own n None p = refl
+opened_by_own n (Some shown) p = opened_own n shown p
+
+closed_own : (n : ℕ) (p : Progress) → IfErr (closed n p) (IsAtLine n)
+closed_own n p = choice (λ r. IfErr r (IsAtLine n)) (length p.sections == 0) _ _ refl tt
+
+assigns_own : (n : ℕ) (p : Progress) (a : Result Assignment Wrong) → IfErr (assigns n p a) (IsAtLine n)
+assigns_own n p (Ok a) = tt
+assigns_own n p (Err wrong.Name) = refl
+assigns_own n p (Err wrong.Value) = refl
+
+hiding_own : (p : Progress) (l : Line) (f : Form) → IfErr (in_hiding p l f) (IsAtLine l.number)
+hiding_own p l form.Blank = tt
+hiding_own p l (form.Opening g) = opened_own l.number true p
+hiding_own p l form.Closing = closed_own l.number p
+hiding_own p l form.ClosingWithWord = refl
+hiding_own p l form.OtherSection = tt
+hiding_own p l form.Directive = tt
+
+sight_own : (p : Progress) (l : Line) (f : Form) → IfErr (in_sight p l f) (IsAtLine l.number)
+sight_own p l form.Blank = tt
+sight_own p l (form.Opening g) = opened_by_own l.number g p
+sight_own p l form.Closing = closed_own l.number p
+sight_own p l form.ClosingWithWord = refl
+sight_own p l form.OtherSection = refl
+sight_own p l form.Directive = assigns_own l.number p (assignment l.bytes)
+
+pub own_number : (p : Progress) (l : Line) → IfErr (after_line p l) (IsAtLine l.number)
+own_number p l =
+    choice (λ r. IfErr r (IsAtLine l.number)) (hides p.sections) (in_hiding p l (form_of l.bytes)) (in_sight p l (form_of l.bytes))
+    (hiding_own p l (form_of l.bytes)) (sight_own p l (form_of l.bytes))
+
+-- a line that is accepted leaves the refusal to those after it
+passed : (r : Result Progress ConfFault) (f : Progress → Result Progress ConfFault) (g : Progress → Result Settings ConfFault) (q : Progress) (e : ConfFault)
+    → ((p : Progress) → f p ≡ Ok q → g p ≡ Err e) → and_then r f ≡ Ok q → and_then r g ≡ Err e
+passed (Ok p) f g q e ih h = ih p h
+passed (Err d) f g q e ih h = absurd (cc)
+
+-- the lines after some others are read from what stands after these
+pub first_decides : (p q : Progress) (before later : List Line) (l : Line) (e : ConfFault) → after_lines p before ≡ Ok q → after_line q l ≡ Err e → settings_of p (before ++ l ∷ later) ≡ Err e
+first_decides p q [] later l e h k =
+    let same : p ≡ q = cc in
+    let refused : after_line p l ≡ Err e = subst (λ r. after_line r l ≡ Err e) (sym same) k in
+    rw refused refl
+first_decides p q (b ∷ bs) later l e h k =
+    passed (after_line p b) (λ r. after_lines r bs) (λ r. settings_of r (bs ++ l ∷ later)) q e (λ r g. first_decides r q bs later l e g k) h

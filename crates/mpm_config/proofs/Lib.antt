@@ -1,0 +1,9 @@
+pub mod CorrectionLemmas
+pub mod DigitLemmas
+pub mod FormLemmas
+pub mod LawLemmas
+pub mod LineLemmas
+pub mod NameLemmas
+pub mod RangeLemmas
+pub mod TextLemmas
+pub mod WordLemmas

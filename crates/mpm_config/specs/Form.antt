@@ -1,0 +1,68 @@
+-- What kind of line a line is. A section of the kind IfModule hides what stands in it unless a module of its name is
+-- there, or, with an exclamation mark before the name, unless none is.
+use Rattle.std.specs.Prelude.{ℕ, ◌==◌, ◌&&◌, ◌||◌, if◌then◌else◌, Bool, not, List, [], ◌∷◌, codes, Option, Some, None, option_map}
+use Rattle.std.specs.List.{list_all}
+use Rattle.std.specs.Option.{option_map_or}
+use Rattle.std.specs.Str.{bytes_eq}
+use Rattle.mpm_config.specs.declared.form.Form.{Form}
+use Rattle.mpm_config.specs.declared.form.Form.TheVariants.{Blank, Opening, Closing, ClosingWithWord, OtherSection, Directive}
+use Rattle.mpm_config.specs.Directive.{is_same_word}
+use Rattle.mpm_config.specs.Words.{Word, Closed, is_blank, words, from_blanks}
+
+-- the modules that are there
+abbrev pub is_present : List ℕ → Bool
+is_present name = bytes_eq name (codes "mpm_event_module") || bytes_eq name (codes "core_module")
+
+-- whether a guard with an exclamation mark holds; without a name it is none
+abbrev pub negated : List ℕ → Option Bool
+negated [] = None
+negated (b ∷ bs) = Some (not (is_present (b ∷ bs)))
+
+-- whether a guard holds; an exclamation mark is 33
+abbrev pub guard_of : List ℕ → Option Bool
+guard_of [] = None
+guard_of (b ∷ bs) = if b == 33 then negated bs else Some (is_present (b ∷ bs))
+
+-- the guard of an opening: exactly one name
+abbrev pub guard : List Word → Option Bool
+guard (Closed name ∷ []) = guard_of name
+guard ws = None
+
+-- the words after the kind of a section, where that is IfModule
+abbrev pub after_kind : List Word → Option (List Word)
+after_kind (Closed kind ∷ ws) = if is_same_word (codes "IfModule") kind then Some ws else None
+after_kind ws = None
+
+-- the same of a section's text, which does not begin with a blank
+abbrev pub arguments : List ℕ → Option (List Word)
+arguments [] = None
+arguments (b ∷ bs) = if is_blank b then None else after_kind (words (b ∷ bs))
+
+-- what closes a section has no further word
+abbrev pub closing : List Word → Form
+closing [] = Closing
+closing (w ∷ ws) = ClosingWithWord
+
+-- what stands between < and >; a slash is 47
+abbrev pub of_inside : List ℕ → Form
+of_inside [] = OtherSection
+of_inside (b ∷ bs) = if b == 47 then option_map_or closing (arguments bs) OtherSection
+    else option_map_or (λ ws. Opening (guard ws)) (arguments (b ∷ bs)) OtherSection
+
+-- what stands before the > (62) that only blanks follow
+abbrev pub before_end : List ℕ → Option (List ℕ)
+before_end [] = None
+before_end (b ∷ bs) = if b == 62 && list_all is_blank bs then Some [] else option_map (λ v. b ∷ v) (before_end bs)
+
+-- the kind of a line that begins with <, by what follows that
+abbrev pub of_section : List ℕ → Form
+of_section v = option_map_or of_inside (before_end v) OtherSection
+
+-- the kind of a line, by what follows the blanks at the front; a comment begins with # (35), a section with < (60)
+abbrev pub of_line : List ℕ → Form
+of_line [] = Blank
+of_line (b ∷ bs) = if b == 35 then Blank else (if b == 60 then of_section bs else Directive)
+
+-- the kind of a line
+abbrev pub form_of : List ℕ → Form
+form_of line = of_line (from_blanks line)

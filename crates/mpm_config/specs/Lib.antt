@@ -1,0 +1,15 @@
+pub mod Config
+pub mod Correction
+pub mod Directive
+pub mod First
+pub mod Form
+pub mod Line
+pub mod Numbers
+pub mod Range
+pub mod Reading
+pub mod Setting
+pub mod Settings
+pub mod Shape
+pub mod Value
+pub mod Warning
+pub mod Words

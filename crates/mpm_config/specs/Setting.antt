@@ -1,0 +1,57 @@
+-- What the line of a directive sets.
+use Rattle.std.specs.Prelude.{ℕ, List, [], ◌∷◌, Option, Some, None, option_map, if◌then◌else◌, Result, Ok, Err}
+use Rattle.mpm_config.specs.declared.directive.Directive.{Directive}
+use Rattle.mpm_config.specs.declared.directive.Directive.TheVariants.{Number, KeepAlive, Listen, ControlListen, DocumentRoot, DirectoryIndex, ServerName}
+use Rattle.mpm_config.specs.declared.setting.Setting.{Setting}
+use Rattle.mpm_config.specs.declared.setting.Setting.TheVariants as sets
+use Rattle.mpm_config.specs.declared.setting.Wrong.{Wrong}
+use Rattle.mpm_config.specs.declared.setting.Wrong.TheVariants.{Name, Value}
+use Rattle.mpm_config.specs.Directive.{directive_of}
+use Rattle.mpm_config.specs.Range.{IsAllowed}
+use Rattle.mpm_config.specs.Value.{number, number_of, switch, address, is_folder, is_file}
+use Rattle.mpm_config.specs.declared.range.TheConstants.{PORT}
+use Rattle.mpm_config.specs.Words.{Word, Closed, words}
+
+-- what a value sets, where the directive may have it
+abbrev pub setting_of : Directive → List ℕ → Option Setting
+setting_of (Number q) v = option_map (λ n. sets.Number q n) (number_of q v)
+setting_of KeepAlive v = option_map (λ b. sets.KeepAlive b) (switch v)
+setting_of Listen v = option_map (λ a. sets.Listen a) (address v)
+setting_of ControlListen v = option_map (λ p. sets.ControlListen p) (number PORT v)
+setting_of DocumentRoot v = if is_folder v then Some sets.DocumentRoot else None
+setting_of DirectoryIndex v = if is_file v then Some sets.DirectoryIndex else None
+setting_of ServerName v = Some sets.ServerName
+
+-- a number that is set is one that its directive may have
+abbrev pub IsSettable : Setting → Type 0
+IsSettable (sets.Number q n) = IsAllowed q n
+IsSettable s = Unit {0}
+
+-- a setting, and the value that spells it
+pub record Assignment : Type 0 where
+  pub setting : Setting
+  pub value : List ℕ
+
+-- what the value sets, or that the directive may not have it
+abbrev pub assigned : List ℕ → Option Setting → Result Assignment Wrong
+assigned v None = Err Value
+assigned v (Some s) = Ok (record { setting = s; value = v })
+
+-- the words after the name of a directive: exactly one value
+abbrev pub of_words : Directive → List Word → Result Assignment Wrong
+of_words d (Closed v ∷ []) = assigned v (setting_of d v)
+of_words d ws = Err Value
+
+-- the words after a name
+abbrev pub of_name : Option Directive → List Word → Result Assignment Wrong
+of_name None ws = Err Name
+of_name (Some d) ws = of_words d ws
+
+-- the words of the line of a directive: its name, then its value; a quote that isn't closed spells no name
+abbrev pub meaning : List Word → Result Assignment Wrong
+meaning (Closed name ∷ ws) = of_name (directive_of name) ws
+meaning ws = Err Value
+
+-- what the line of a directive sets
+abbrev pub assignment : List ℕ → Result Assignment Wrong
+assignment line = meaning (words line)

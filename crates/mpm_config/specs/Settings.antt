@@ -1,0 +1,54 @@
+-- What the directives of a text set.
+use Rattle.std.specs.Prelude.{◌≡◌, ℕ, List, [], ◌∷◌, Option, Some, None, codes}
+use Rattle.std.specs.Str.{IsUtf8}
+use Rattle.mpm_base.specs.declared.addr.Addr.{Addr}
+use Rattle.mpm_config.specs.declared.numbers.Numbers.{Numbers}
+use Rattle.mpm_config.specs.declared.range.TheConstants.{PORT}
+use Rattle.mpm_config.specs.declared.setting.Setting.{Setting}
+use Rattle.mpm_config.specs.declared.setting.Setting.TheVariants.{Number, KeepAlive, Listen, ControlListen, DocumentRoot, DirectoryIndex, ServerName}
+use Rattle.mpm_config.specs.Numbers.{initial_numbers, with_number, IsInRange}
+
+-- the numbers, the address to listen at, the port of the control line, the folder of the files and a folder's own file
+pub record Settings : Type 0 where
+  pub numbers : Numbers
+  pub listen : Addr
+  pub control : Option ℕ
+  pub root : List ℕ
+  pub index : List ℕ
+
+-- the settings of the empty text
+abbrev pub initial_settings : Settings
+initial_settings = record {
+  numbers = initial_numbers;
+  listen = record { host = 127 ∷ 0 ∷ 0 ∷ 1 ∷ []; port = PORT.default };
+  control = None;
+  root = codes "htdocs";
+  index = codes "index.html";
+}
+
+-- the settings after one more, which that value spells
+abbrev pub with_setting : Settings → List ℕ → Setting → Settings
+with_setting s v (Number q n) = record s { numbers = with_number s.numbers q n }
+with_setting s v (KeepAlive b) = record s { numbers = record s.numbers { keep = b } }
+with_setting s v (Listen a) = record s { listen = a }
+with_setting s v (ControlListen p) = record s { control = Some p }
+with_setting s v DocumentRoot = record s { root = v }
+with_setting s v DirectoryIndex = record s { index = v }
+with_setting s v ServerName = s
+
+-- what settings keep
+pub record AreKept (numbers : Numbers) (root index : List ℕ) : Type 0 where
+  pub in_range : IsInRange numbers
+  pub root_text : IsUtf8 root
+  pub index_text : IsUtf8 index
+
+-- both settings are of one directive
+abbrev pub IsSameDirective : Setting → Setting → Type 0
+IsSameDirective (Number q m) (Number r n) = q ≡ r
+IsSameDirective (KeepAlive b) (KeepAlive c) = Unit {0}
+IsSameDirective (Listen a) (Listen b) = Unit {0}
+IsSameDirective (ControlListen p) (ControlListen q) = Unit {0}
+IsSameDirective DocumentRoot DocumentRoot = Unit {0}
+IsSameDirective DirectoryIndex DirectoryIndex = Unit {0}
+IsSameDirective ServerName ServerName = Unit {0}
+IsSameDirective s t = ⊥

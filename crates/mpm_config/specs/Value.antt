@@ -1,0 +1,88 @@
+-- What the value of a directive spells.
+use Rattle.std.specs.Prelude.{ℕ, ◌+◌, ◌-◌, ◌*◌, ◌==◌, ◌&&◌, nat_le, nat_lt, if◌then◌else◌, Bool, true, false, not, List, [], ◌∷◌, length, take, drop, codes, Option, Some, None, option_map, option_and_then, slice_index}
+use Rattle.std.specs.List.{list_all, list_any, before_first, after_first, position_or_len}
+use Rattle.std.specs.Char.{is_ascii_digit}
+use Rattle.std.specs.Str.{bytes_eq}
+use Rattle.std.specs.Str.Parse.{digits_value}
+use Rattle.mpm_base.specs.declared.addr.Addr.{Addr}
+use Rattle.mpm_config.specs.declared.directive.Quantity.{Quantity}
+use Rattle.mpm_config.specs.declared.directive.Quantity.TheVariants.{AsyncRequestWorkerFactor, KeepAliveTimeout}
+use Rattle.mpm_config.specs.declared.range.Range.{Range}
+use Rattle.mpm_config.specs.declared.range.TheConstants.{ASYNC_REQUEST_WORKER_FACTOR, KEEP_ALIVE_TIMEOUT, KEEP_ALIVE_MILLISECONDS, PORT, OCTET}
+use Rattle.mpm_config.specs.Range.{range_of, within}
+use Rattle.mpm_config.specs.Directive.{is_same_word}
+
+-- 1 to `most` decimal digits
+abbrev pub is_number : ℕ → List ℕ → Bool
+is_number most v = nat_le 1 (length v) && nat_le (length v) most && list_all is_ascii_digit v
+
+-- the number that they spell
+abbrev pub whole : ℕ → List ℕ → Option ℕ
+whole most v = if is_number most v then Some (digits_value 10 v) else None
+
+-- a whole number, of at most nine digits, in a range of the table
+abbrev pub number : Range → List ℕ → Option ℕ
+number r v = option_and_then (within r) (whole 9 v)
+
+-- what stands before and after the first byte c
+pub record Parts : Type 0 where
+  pub before : List ℕ
+  pub after : List ℕ
+
+abbrev pub cut : ℕ → List ℕ → Option Parts
+cut c v = if nat_lt (position_or_len (λ b. b == c) v) (length v) then Some (record { before = before_first (λ b. b == c) v; after = after_first (λ b. b == c) v }) else None
+
+-- hundredths: one or two digits after the point
+abbrev pub decimals : List ℕ → Option ℕ
+decimals v = option_map (λ n. if length v == 1 then 10 * n else n) (whole 2 v)
+
+-- hundredths: one to three digits, and where there is a point (46) the decimals after it
+abbrev pub hundredths_of : List ℕ → Option Parts → Option ℕ
+hundredths_of v None = option_map (λ n. 100 * n) (whole 3 v)
+hundredths_of v (Some p) = option_and_then (λ n. option_map (λ m. 100 * n + m) (decimals p.after)) (whole 3 p.before)
+
+abbrev pub hundredths : List ℕ → Option ℕ
+hundredths v = hundredths_of v (cut 46 v)
+
+-- milliseconds: a number that ends in ms, or else seconds
+abbrev pub milliseconds : List ℕ → Option ℕ
+milliseconds v =
+    if bytes_eq (drop (length v - 2) v) (codes "ms") then number KEEP_ALIVE_MILLISECONDS (take (length v - 2) v) else number KEEP_ALIVE_TIMEOUT v
+
+-- the number of a directive
+abbrev pub number_of : Quantity → List ℕ → Option ℕ
+number_of AsyncRequestWorkerFactor v = option_and_then (within ASYNC_REQUEST_WORKER_FACTOR) (hundredths v)
+number_of KeepAliveTimeout v = milliseconds v
+number_of q v = number (range_of q) v
+
+-- on or off, in which case does not count
+abbrev pub switch : List ℕ → Option Bool
+switch v = if is_same_word (codes "On") v then Some true else (if is_same_word (codes "Off") v then Some false else None)
+
+-- the four octets of an address, with a point (46) between them
+abbrev pub octets : List ℕ → Option (List ℕ)
+octets v =
+    option_and_then (λ (p : Parts). option_and_then (λ (q : Parts). option_and_then (λ (r : Parts).
+    option_and_then (λ a. option_and_then (λ b. option_and_then (λ c. option_map (λ d. a ∷ b ∷ c ∷ d ∷ [])
+    (number OCTET r.after)) (number OCTET r.before)) (number OCTET q.before)) (number OCTET p.before))
+    (cut 46 q.after)) (cut 46 p.after)) (cut 46 v)
+
+-- a port, or an address, a colon (58) and a port; without an address it is that of this machine alone
+abbrev pub address_of : List ℕ → Option Parts → Option Addr
+address_of v None = option_map (λ port. record { host = 127 ∷ 0 ∷ 0 ∷ 1 ∷ []; port = port }) (number PORT v)
+address_of v (Some p) = option_and_then (λ host. option_map (λ port. record { host = host; port = port }) (number PORT p.after)) (octets p.before)
+
+abbrev pub address : List ℕ → Option Addr
+address v = address_of v (cut 58 v)
+
+-- 1 to 255 bytes
+abbrev pub is_short : List ℕ → Bool
+is_short v = nat_le 1 (length v) && nat_le (length v) 255
+
+-- the name of a folder: no slash (47) at its ends
+abbrev pub is_folder : List ℕ → Bool
+is_folder v = is_short v && not (slice_index v 0 == 47) && not (slice_index v (length v - 1) == 47)
+
+-- the name of a file: no slash
+abbrev pub is_file : List ℕ → Bool
+is_file v = is_short v && not (list_any (λ b. b == 47) v)

@@ -1,0 +1,76 @@
+//! A configuration.
+ghost use Rattle.std.specs.Prelude.{◌≡◌};
+
+use crate::correction::correct;
+use crate::numbers::Numbers;
+use mpm_base::{Addr, Octets, Shape};
+use std::marker::Model;
+
+/// What a text configures. Each number in `written` is in the range of its directive, `now` is what the
+/// corrections make of `written`, and `root` and `index` are UTF-8.
+#[derive(Debug, Drop)]
+pub struct Config {
+    /// The numbers as they were written, before the corrections.
+    pub written: Numbers,
+    /// The numbers after the corrections.
+    pub now: Numbers,
+    /// Listen: where the server listens.
+    pub listen: Addr,
+    /// ControlListen: the port of the control line on 127.0.0.1, where there is one.
+    pub control: Option<u16>,
+    /// DocumentRoot, without a `/` at its ends.
+    pub root: Octets,
+    /// DirectoryIndex, without a `/`.
+    pub index: Octets,
+}
+
+impl Model for Config {
+    ghost use Rattle.mpm_config.specs.Config.{Configuration, IsConfiguration};
+
+    ghost Value = { Configuration };
+
+    ghost view = { λ c. record { written = c.written; current = c.now; listen = c.listen; control = c.control; root = c.root; index = c.index } };
+
+    ghost invariant = { λ c. IsConfiguration c.written c.now c.root c.index };
+}
+
+ghost use Rattle.mpm_config.specs.Config.{with_limits, IsConfiguration};
+ghost use Rattle.mpm_config.specs.Shape.{shape_of_numbers, IsInBounds};
+
+impl Config {
+    /// What every configuration keeps, for callers that see it as one value. It does nothing.
+    pub fn show(&self)
+        ensures { let c = self.entry.now in IsConfiguration c.written c.current c.root c.index }
+    {
+        let _ = &self.written;
+    }
+}
+
+/// Gives a new configuration the two limits of the old one, which a restart keeps, and corrects it again.
+pub fn carry_limits(old: &Config, new: &mut Config)
+    ensures { new.new ≡ with_limits old.entry.now new.old }
+{
+    let mut written = new.written;
+    written.server_limit = old.written.server_limit;
+    written.thread_limit = old.written.thread_limit;
+    new.written = written;
+    new.now = correct(&written);
+}
+
+/// What the table of connections works by.
+pub fn shape_of(config: &Config) -> Shape
+    ensures value { result ≡ shape_of_numbers config.entry.now.current }
+    ensures bounds { IsInBounds result }
+{
+    let now = &config.now;
+    Shape {
+        threads: now.threads,
+        factor: now.factor,
+        read_ms: now.timeout_ms,
+        keep_ms: now.keep_ms,
+        keep: now.keep,
+        most: now.most,
+        target: now.start_servers,
+        children: now.max_workers / now.threads,
+    }
+}

@@ -1,0 +1,40 @@
+//! Laws of the language, which say in its own words what the definitions come to. The functions do nothing:
+//! each is there for what it ensures.
+ghost use Rattle.std.specs.Prelude.{◌≡◌, ℕ, true, List, [], ◌∷◌, ◌++◌, Ok, Err, IfOk, IfErr};
+ghost use Rattle.std.specs.Str.Lines.{lines};
+ghost use Rattle.mpm_config.specs.Correction.{corrected};
+ghost use Rattle.mpm_config.specs.Line.{logical_lines, Line, Rise};
+ghost use Rattle.mpm_config.specs.Numbers.{IsInRange};
+ghost use Rattle.mpm_config.specs.Reading.{after_line, after_lines, and_then, hides, settings_of, IsAtLine, Progress};
+ghost use Rattle.mpm_config.specs.Settings.{with_setting, IsSameDirective, Settings};
+ghost use Rattle.mpm_config.specs.Shape.{shape_of_numbers, IsInBounds};
+ghost use Rattle.mpm_config.specs.declared.fault.ConfFault.{ConfFault};
+ghost use Rattle.mpm_config.specs.declared.numbers.Numbers.{Numbers};
+ghost use Rattle.mpm_config.specs.declared.setting.Setting.{Setting};
+
+/// A later setting of a directive replaces an earlier one.
+pub fn later_settings_replace()
+    ensures { (s : Settings) (v w : List ℕ) (a b : Setting) → IsSameDirective a b
+        → with_setting (with_setting s v a) w b ≡ with_setting s w b }
+{}
+
+/// A line in a part that is skipped sets nothing.
+pub fn skipped_lines_set_nothing()
+    ensures { (p : Progress) (l : Line) → hides p.sections ≡ true
+        → IfOk (after_line p l) (λ q. q.settings ≡ p.settings) }
+{}
+
+/// The lines of a text are numbered upwards from 1, a line is refused by its own number, and the first line that
+/// is refused decides, whatever follows it.
+pub fn first_refusal_decides()
+    ensures upwards { (text : List ℕ) → Rise 1 (logical_lines text) }
+    ensures own { (p : Progress) (l : Line) → IfErr (after_line p l) (IsAtLine l.number) }
+    ensures first { (p q : Progress) (before later : List Line) (l : Line) (e : ConfFault)
+        → after_lines p before ≡ Ok q → after_line q l ≡ Err e
+        → settings_of p (before ++ l ∷ later) ≡ Err e }
+{}
+
+/// Numbers in their ranges are, once they are corrected, those of a shape in its bounds.
+pub fn corrected_numbers_are_in_bounds()
+    ensures { (n : Numbers) → IsInRange n → IsInBounds (shape_of_numbers (corrected n)) }
+{}

@@ -1,0 +1,204 @@
+//! The table of numbers: of each directive whose value is a number, its default, its least and greatest
+//! value, and the unit in which it is written. Reader, definition and documentation speak from it.
+ghost use Rattle.std.specs.Prelude.{◌≡◌};
+
+use crate::directive::Quantity;
+
+/// The numbers that a value may be.
+#[derive(Clone, Copy, Debug, PartialEq, Eq)]
+pub struct Range {
+    /// What stands where no line names the directive.
+    pub default: u32,
+    /// The least number that may be written.
+    pub least: u32,
+    /// The greatest number that may be written.
+    pub greatest: u32,
+    /// What a written 0 is taken as; 0 where it means nothing else.
+    pub zero: u32,
+    /// What a written 1 is kept as: 1,000 for seconds that are kept in milliseconds, else 1.
+    pub unit: u32,
+}
+
+/// The greatest whole number: nine digits.
+pub const WHOLE: u32 = 999_999_999;
+
+pub const SERVER_LIMIT: Range = Range {
+    default: 16,
+    least: 1,
+    greatest: 32,
+    zero: 0,
+    unit: 1,
+};
+
+pub const THREAD_LIMIT: Range = Range {
+    default: 64,
+    least: 1,
+    greatest: 64,
+    zero: 0,
+    unit: 1,
+};
+
+pub const START_SERVERS: Range = Range {
+    default: 3,
+    least: 0,
+    greatest: WHOLE,
+    zero: 0,
+    unit: 1,
+};
+
+pub const MIN_SPARE_THREADS: Range = Range {
+    default: 75,
+    least: 0,
+    greatest: WHOLE,
+    zero: 0,
+    unit: 1,
+};
+
+pub const MAX_SPARE_THREADS: Range = Range {
+    default: 250,
+    least: 0,
+    greatest: WHOLE,
+    zero: 0,
+    unit: 1,
+};
+
+pub const THREADS_PER_CHILD: Range = Range {
+    default: 25,
+    least: 0,
+    greatest: WHOLE,
+    zero: 0,
+    unit: 1,
+};
+
+pub const MAX_REQUEST_WORKERS: Range = Range {
+    default: 400,
+    least: 0,
+    greatest: WHOLE,
+    zero: 0,
+    unit: 1,
+};
+
+pub const MAX_CONNECTIONS_PER_CHILD: Range = Range {
+    default: 0,
+    least: 0,
+    greatest: WHOLE,
+    zero: 0,
+    unit: 1,
+};
+/// In hundredths.
+pub const ASYNC_REQUEST_WORKER_FACTOR: Range = Range {
+    default: 200,
+    least: 1,
+    greatest: 10_000,
+    zero: 0,
+    unit: 1,
+};
+/// In seconds.
+pub const TIMEOUT: Range = Range {
+    default: 60,
+    least: 1,
+    greatest: 65_535,
+    zero: 0,
+    unit: 1_000,
+};
+/// In seconds.
+pub const KEEP_ALIVE_TIMEOUT: Range = Range {
+    default: 5,
+    least: 1,
+    greatest: 65_535,
+    zero: 0,
+    unit: 1_000,
+};
+/// The same directive where its value ends in `ms`, in milliseconds.
+pub const KEEP_ALIVE_MILLISECONDS: Range = Range {
+    default: 5_000,
+    least: 1,
+    greatest: 65_535_000,
+    zero: 0,
+    unit: 1,
+};
+
+pub const MAX_KEEP_ALIVE_REQUESTS: Range = Range {
+    default: 100,
+    least: 0,
+    greatest: WHOLE,
+    zero: 65_535,
+    unit: 1,
+};
+/// In seconds.
+pub const GRACEFUL_SHUTDOWN_TIMEOUT: Range = Range {
+    default: 0,
+    least: 0,
+    greatest: 65_535,
+    zero: 0,
+    unit: 1_000,
+};
+
+pub const LIMIT_REQUEST_LINE: Range = Range {
+    default: 8_190,
+    least: 1,
+    greatest: 65_000,
+    zero: 0,
+    unit: 1,
+};
+
+pub const LIMIT_REQUEST_FIELD_SIZE: Range = Range {
+    default: 8_190,
+    least: 1,
+    greatest: 65_000,
+    zero: 0,
+    unit: 1,
+};
+
+pub const LIMIT_REQUEST_FIELDS: Range = Range {
+    default: 100,
+    least: 0,
+    greatest: 1_000,
+    zero: 1_000,
+    unit: 1,
+};
+
+/// A port.
+pub const PORT: Range = Range {
+    default: 8_080,
+    least: 1,
+    greatest: 65_535,
+    zero: 0,
+    unit: 1,
+};
+/// A part of an IPv4 address.
+pub const OCTET: Range = Range {
+    default: 0,
+    least: 0,
+    greatest: 255,
+    zero: 0,
+    unit: 1,
+};
+
+impl Quantity {
+    ghost use Rattle.mpm_config.specs.Range.{range_of};
+
+    /// The line of the table.
+    pub fn range(self) -> Range
+        ensures { result ≡ range_of self }
+    {
+        match self {
+            Quantity::ServerLimit => SERVER_LIMIT,
+            Quantity::ThreadLimit => THREAD_LIMIT,
+            Quantity::StartServers => START_SERVERS,
+            Quantity::MinSpareThreads => MIN_SPARE_THREADS,
+            Quantity::MaxSpareThreads => MAX_SPARE_THREADS,
+            Quantity::ThreadsPerChild => THREADS_PER_CHILD,
+            Quantity::MaxRequestWorkers => MAX_REQUEST_WORKERS,
+            Quantity::MaxConnectionsPerChild => MAX_CONNECTIONS_PER_CHILD,
+            Quantity::AsyncRequestWorkerFactor => ASYNC_REQUEST_WORKER_FACTOR,
+            Quantity::Timeout => TIMEOUT,
+            Quantity::KeepAliveTimeout => KEEP_ALIVE_TIMEOUT,
+            Quantity::MaxKeepAliveRequests => MAX_KEEP_ALIVE_REQUESTS,
+            Quantity::GracefulShutdownTimeout => GRACEFUL_SHUTDOWN_TIMEOUT,
+            Quantity::LimitRequestLine => LIMIT_REQUEST_LINE,
+            Quantity::LimitRequestFieldSize => LIMIT_REQUEST_FIELD_SIZE,
+            Quantity::LimitRequestFields => LIMIT_REQUEST_FIELDS,
+        }
+    }
+}

@@ -1,0 +1,232 @@
+//! What the value of a directive spells: numbers, switches, addresses and names.
+ghost use Rattle.std.specs.Prelude.{◌≡◌, ◌==◌, position, ◌<◌, ◌≤◌, ◌^◌, length, option_map, IfSome};
+ghost use Rattle.std.specs.List.{list_all, list_any};
+ghost use Rattle.std.specs.Char.{is_ascii_digit};
+ghost use Rattle.std.specs.Str.Parse.{digits_value, AllDigits};
+ghost use Rattle.mpm_config.specs.Range.{within, IsAllowed, IsWellFormed, IsWithin};
+ghost use Rattle.mpm_config.specs.Value.{address, cut, decimals, hundredths, is_file, is_folder, is_number, is_short, milliseconds, number, number_of, octets, switch, whole, Parts};
+
+use crate::directive::{Quantity, is_word};
+use crate::range::{
+    ASYNC_REQUEST_WORKER_FACTOR, KEEP_ALIVE_MILLISECONDS, KEEP_ALIVE_TIMEOUT, OCTET, PORT, Range,
+};
+use mpm_base::Addr;
+
+/// The number that decimal digits spell.
+fn decimal(digits: &[u8]) -> u32
+    requires few { length digits.now ≤ 9 }
+    requires digits { AllDigits 10 digits.now }
+    ensures value { result ≡ digits_value 10 digits.now }
+    ensures bound { result < 10 ^ length digits.now }
+{
+    let mut n = 0;
+    for digit in digits {
+        n = n * 10 + u32::from(*digit - b'0');
+    }
+    n
+}
+
+/// Whether each byte is a decimal digit.
+fn all_digits(value: &[u8]) -> bool
+    ensures { result ≡ list_all is_ascii_digit value.now }
+{
+    value.iter().all(|b| b.is_ascii_digit())
+}
+
+/// Whether these are 1 to `most` decimal digits.
+fn is_digits(value: &[u8], most: usize) -> bool
+    ensures { result ≡ is_number most value.now }
+{
+    1 <= value.len() && value.len() <= most && all_digits(value)
+}
+
+/// The number of 1 to `most` decimal digits.
+fn whole(value: &[u8], most: usize) -> Option<u32>
+    requires { most ≤ 9 }
+    ensures value { result ≡ whole most value.now }
+    ensures bound { IfSome result (λ n. n < 10 ^ most) }
+{
+    if is_digits(value, most) {
+        Some(decimal(value))
+    } else {
+        None
+    }
+}
+
+impl Range {
+    /// What a number is kept as, where it is in the range.
+    pub fn within(self, n: u32) -> Option<u32>
+        requires { IsWellFormed self }
+        ensures value { result ≡ within self n }
+        ensures kept { IfSome result (IsWithin self) }
+    {
+        if n < self.least || n > self.greatest {
+            return None;
+        }
+        let taken = if n == 0 { self.zero } else { n };
+        Some(taken * self.unit)
+    }
+
+    /// A whole number in the range.
+    pub fn number(self, value: &[u8]) -> Option<u32>
+        requires { IsWellFormed self }
+        ensures value { result ≡ number self value.now }
+        ensures kept { IfSome result (IsWithin self) }
+    {
+        self.within(whole(value, 9)?)
+    }
+}
+
+/// The place of the first such byte.
+pub fn place_of(value: &[u8], byte: u8) -> Option<usize>
+    ensures { result ≡ position (λ b. b == byte) value.now }
+{
+    value.iter().position(|b| *b == byte)
+}
+
+/// What stands before and after the first such byte.
+fn cut(value: &[u8], at: u8) -> Option<(&[u8], &[u8])>
+    ensures { option_map (λ p. record { before = p.0.now; after = p.1.now }) result ≡ cut at value.now }
+{
+    let place = place_of(value, at)?;
+    Some((&value[..place], &value[place + 1..]))
+}
+
+/// The decimals after a point, as hundredths: one or two digits.
+fn decimals(value: &[u8]) -> Option<u32>
+    ensures value { result ≡ decimals value.now }
+    ensures bound { IfSome result (λ n. n < 1000) }
+{
+    let n = whole(value, 2)?;
+    if value.len() == 1 {
+        Some(10 * n)
+    } else {
+        Some(n)
+    }
+}
+
+/// A number of hundredths: one to three digits, or these, a point and one or two digits.
+fn hundredths(value: &[u8]) -> Option<u32>
+    ensures { result ≡ hundredths value.now }
+{
+    match cut(value, b'.') {
+        Some((before, after)) => {
+            let ones = whole(before, 3)?;
+            Some(100 * ones + decimals(after)?)
+        }
+        None => Some(100 * whole(value, 3)?),
+    }
+}
+
+/// Milliseconds: a number that ends in `ms`, or else a number of seconds.
+fn milliseconds(value: &[u8]) -> Option<u32>
+    ensures value { result ≡ milliseconds value.now }
+    ensures kept { IfSome result (IsWithin KEEP_ALIVE_MILLISECONDS) }
+{
+    match value.strip_suffix(b"ms") {
+        Some(front) => KEEP_ALIVE_MILLISECONDS.number(front),
+        None => KEEP_ALIVE_TIMEOUT.number(value),
+    }
+}
+
+/// On or Off, in which case does not count.
+pub fn switch(value: &[u8]) -> Option<bool>
+    ensures { result ≡ switch value.now }
+{
+    if is_word(value, "On") {
+        Some(true)
+    } else if is_word(value, "Off") {
+        Some(false)
+    } else {
+        None
+    }
+}
+
+/// A part of an address.
+fn octet(value: &[u8]) -> Option<u8>
+    ensures { result ≡ number OCTET value.now }
+{
+    let n = OCTET.number(value)?;
+    Some(n as u8)
+}
+
+/// A port.
+pub fn port(value: &[u8]) -> Option<u16>
+    ensures { result ≡ number PORT value.now }
+{
+    let n = PORT.number(value)?;
+    Some(n as u16)
+}
+
+/// The four parts of an address, with a point between them.
+fn octets(value: &[u8]) -> Option<[u8; 4]>
+    ensures { result ≡ octets value.now }
+{
+    let (first, rest) = cut(value, b'.')?;
+    let (second, rest) = cut(rest, b'.')?;
+    let (third, fourth) = cut(rest, b'.')?;
+    Some([octet(first)?, octet(second)?, octet(third)?, octet(fourth)?])
+}
+
+/// A port, or an address, a colon and a port. Without an address it is that of this machine alone.
+pub fn address(value: &[u8]) -> Option<Addr>
+    ensures { result ≡ address value.now }
+{
+    match cut(value, b':') {
+        Some((host, after)) => {
+            let host = octets(host)?;
+            Some(Addr {
+                host,
+                port: port(after)?,
+            })
+        }
+        None => Some(Addr {
+            host: [127, 0, 0, 1],
+            port: port(value)?,
+        }),
+    }
+}
+
+/// Whether these are 1 to 255 bytes.
+fn is_short(value: &[u8]) -> bool
+    ensures { result ≡ is_short value.now }
+{
+    1 <= value.len() && value.len() <= 255
+}
+
+/// Whether this may name the folder of the files: 1 to 255 bytes without a `/` at the ends.
+pub fn is_folder(value: &[u8]) -> bool
+    ensures { result ≡ is_folder value.now }
+{
+    is_short(value) && value[0] != b'/' && value[value.len() - 1] != b'/'
+}
+
+/// Whether there is a `/`.
+fn has_slash(value: &[u8]) -> bool
+    ensures { result ≡ list_any (λ b. b == 47) value.now }
+{
+    value.iter().any(|b| *b == b'/')
+}
+
+/// Whether this may name a folder's own file: 1 to 255 bytes without a `/`.
+pub fn is_file(value: &[u8]) -> bool
+    ensures { result ≡ is_file value.now }
+{
+    is_short(value) && !has_slash(value)
+}
+
+impl Quantity {
+    /// The number that a value spells.
+    pub fn read(self, value: &[u8]) -> Option<u32>
+        ensures value { result ≡ number_of self value.now }
+        ensures allowed { IfSome result (IsAllowed self) }
+    {
+        match self {
+            Quantity::AsyncRequestWorkerFactor => {
+                ASYNC_REQUEST_WORKER_FACTOR.within(hundredths(value)?)
+            }
+            Quantity::KeepAliveTimeout => milliseconds(value),
+            _ => self.range().number(value),
+        }
+    }
+}
