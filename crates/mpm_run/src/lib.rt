@@ -15,6 +15,8 @@ mod report;
 mod response;
 mod run_script;
 mod serve;
+#[cfg(test)]
+mod tests;
 mod texts;
 
 pub use board::Board;
