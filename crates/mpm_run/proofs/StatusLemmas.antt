@@ -1,5 +1,5 @@
 -- What a run leaves of its output.
-use Rattle.std.proofs.Common.{◌≡◌, ℕ, ◌+◌, ◌-◌, List, [], ◌∷◌, ◌++◌, length, take, drop, Option, Some, None, option_map, slice_get, codes, Bor, refl, sym, ap, ◌∙◌, arith}
+use Rattle.std.proofs.Common.{◌≡◌, ℕ, ◌+◌, ◌-◌, List, [], ◌∷◌, ◌++◌, length, take, drop, Option, Some, None, option_map, slice_get, codes, Bor, sym, ap, ◌∙◌, arith}
 use Rattle.std.specs.Option.{IfSome}
 use Rattle.std.proofs.Math.Seq.{take-add, take-length}
 use Rattle.std.proofs.lemmas.List.{append_assoc, length-drop}
@@ -25,11 +25,11 @@ pub told_puts : (bytes : List ℕ) (from count : ℕ) (o p q : Option (List ℕ)
     → q ≡ option_map (λ written. written ++ take (from + count) bytes) o
 told_puts bytes from count o p q faults faults' answer first puts put_is =
     let left : take (length bytes - from) (drop from bytes) ≡ drop from bytes =
-      ap (λ (n : ℕ). take n (drop from bytes)) (sym (length-drop from bytes)) ∙ take-length (drop from bytes) in
+    ap (λ (n : ℕ). take n (drop from bytes)) (sym (length-drop from bytes)) ∙ take-length (drop from bytes) in
     told_grows bytes from count o p q first
-      (puts.told_is
-        ∙ ap (λ (x : Put). option_map (λ (written : List ℕ). written ++ put_bytes x (take (length bytes - from) (drop from bytes))) p) put_is
-        ∙ ap (λ (x : List ℕ). option_map (λ (written : List ℕ). written ++ take count x) p) left)
+    (puts.told_is
+    ∙ ap (λ (x : Put). option_map (λ (written : List ℕ). written ++ put_bytes x (take (length bytes - from) (drop from bytes))) p) put_is
+    ∙ ap (λ (x : List ℕ). option_map (λ (written : List ℕ). written ++ take count x) p) left)
 
 -- two words, of which the first is that of the command
 command_of : (words : List (List ℕ)) (name : List ℕ) → length words ≡ 2 → slice_get words 0 ≡ Some (codes "--script") → slice_get words 1 ≡ Some name

@@ -1,10 +1,12 @@
 -- Why a run ends with its status, and what it leaves of the output.
-use Rattle.std.specs.Prelude.{◌≡◌, ℕ, ◌≤◌, Bool, true, false, ◌⊎◌, List, [], ◌∷◌, ◌++◌, Option, Some, None, option_map, Result, Ok, Err, codes}
+use Rattle.std.specs.Prelude.{◌≡◌, ℕ, Bool, true, false, ◌⊎◌, List, [], ◌∷◌, ◌++◌, Option, Some, None, option_map, Result, Ok, Err, codes}
 use Rattle.mpm_base.specs.Count.{NeverFalls, Rises}
 use Rattle.mpm_base.specs.Script.{IsNotYet, IsSomeScript}
 use Rattle.mpm_base.specs.Store.{ReadsFile, StoreCounts, StoreTold}
 use Rattle.mpm_base.specs.declared.store.StoreFault.{StoreFault}
 use Rattle.mpm_base.specs.declared.store.StoreFault.TheVariants as fault
+use Rattle.mpm_run.specs.Board.{SeenBoard}
+use Rattle.mpm_run.specs.Report.{report_of}
 use Rattle.mpm_run.specs.Texts.{script_refused, store_fault, usage}
 use Rattle.mpm_run.specs.declared.texts.ScriptRefusal.TheVariants.{BadLine, NotYet}
 
@@ -21,15 +23,26 @@ pub record SinkSeen : Type 0 where
   pub told : Option (List ℕ)
   pub faults : ℕ
 
+abbrev pub sink_seen : Option (List ℕ) → ℕ → SinkSeen
+sink_seen told faults = record { told = told; faults = faults }
+
 -- the text was written whole, unless a write failed; then nothing is said of how much of it was
 pub record Writes (old new : SinkSeen) (text : List ℕ) : Type 0 where
   pub faults : NeverFalls old.faults new.faults
   pub whole : (new.told ≡ option_map (λ written. written ++ text) old.told) ⊎ Rises old.faults new.faults
 
+-- all of the text was written, or a write failed
+abbrev pub WritesAll : SinkSeen → SinkSeen → List ℕ → Bool → Type 0
+WritesAll old new text true = new.told ≡ option_map (λ written. written ++ text) old.told
+WritesAll old new text false = Rises old.faults new.faults
+
 -- what a store tells, and its counts
 pub record StoreSeen : Type 0 where
   pub told : Option StoreTold
   pub counts : StoreCounts
+
+abbrev pub store_seen : Option StoreTold → StoreCounts → StoreSeen
+store_seen told counts = record { told = told; counts = counts }
 
 -- the greatest size of a script, in bytes
 abbrev pub most_script : ℕ
@@ -45,8 +58,9 @@ abbrev pub IsUnread : StoreFault → Option ℕ → Type 0
 IsUnread e shown = ((e ≡ fault.Missing) × (shown ≡ Some 0)) ⊎ ((e ≡ fault.Failed) × (shown ≡ None))
 
 -- with status 2
-pub record EndsUnknown (words : List (List ℕ)) (sink sink' : SinkSeen) (shown : Option ℕ) : Type 0 where
+pub record EndsUnknown (words : List (List ℕ)) (store store' : StoreSeen) (sink sink' : SinkSeen) (shown : Option ℕ) : Type 0 where
   pub unknown : IsNoCommand words
+  pub unasked : store' ≡ store
   pub shows : shown ≡ None
   pub text : Writes sink sink' usage
 
@@ -84,22 +98,14 @@ pub record Plays (words : List (List ℕ)) (store store' : StoreSeen) (shown : O
   pub script : IsSomeScript bytes
   pub shows : shown ≡ None
 
+-- a script that was read ends with status 0, with 5 where a write failed, or with 6
+abbrev pub HasPlayed : ℕ → ℕ → ℕ → Type 0
+HasPlayed status faults faults' = (status ≡ 0) ⊎ ((status ≡ 5) × Rises faults faults') ⊎ (status ≡ 6)
+
 -- the statuses that there are
 abbrev pub IsStatus : ℕ → Type 0
 IsStatus s = (s ≡ 0) ⊎ (s ≡ 2) ⊎ (s ≡ 3) ⊎ (s ≡ 5) ⊎ (s ≡ 6) ⊎ (s ≡ 8)
 
--- what is seen of a sink and of a store
-abbrev pub sink_seen : Option (List ℕ) → ℕ → SinkSeen
-sink_seen told faults = record { told = told; faults = faults }
-
-abbrev pub store_seen : Option StoreTold → StoreCounts → StoreSeen
-store_seen told counts = record { told = told; counts = counts }
-
--- all of the text was written, or a write failed
-abbrev pub WritesAll : SinkSeen → SinkSeen → List ℕ → Bool → Type 0
-WritesAll old new text true = new.told ≡ option_map (λ written. written ++ text) old.told
-WritesAll old new text false = Rises old.faults new.faults
-
--- a script that was read ends with status 0, with 5 where a write failed, or with 6
-abbrev pub HasPlayed : ℕ → ℕ → ℕ → Type 0
-HasPlayed status faults faults' = (status ≡ 0) ⊎ ((status ≡ 5) × Rises faults faults') ⊎ (status ≡ 6)
+-- the report of the board was written whole
+abbrev pub Reports : SinkSeen → SinkSeen → SeenBoard → Type 0
+Reports old new b = new.told ≡ option_map (λ written. written ++ report_of b.book.history b.book.state.newest b.ended) old.told

@@ -1,7 +1,8 @@
 //! The top call: from the words of the command line to the report.
-ghost use Rattle.std.specs.Prelude.{◌≡◌, ◌<◌, ◌≤◌, ◌⊎◌, ◌++◌, Some, None, IfSome, IfNone, IsSomeAnd, IsNone, is_some, length, take, option_map};
+ghost use Rattle.std.specs.Prelude.{◌≡◌, ◌<◌, ◌≤◌, ◌⊎◌, ◌++◌, Some, None, IfOk, IfSome, IfNone, IsSomeAnd, IsNone, is_some, length, take, option_map};
 ghost use Rattle.mpm_base.specs.Count.{NeverFalls, Rises};
-ghost use Rattle.mpm_run.specs.Statuses.{EndsAtLine, EndsTooLarge, EndsUnknown, EndsUnread, HasPlayed, IsCommand, IsNoCommand, IsStatus, Plays, Writes, WritesAll, sink_seen, store_seen};
+ghost use Rattle.mpm_run.specs.Report.{report_of};
+ghost use Rattle.mpm_run.specs.Statuses.{EndsAtLine, EndsTooLarge, EndsUnknown, EndsUnread, HasPlayed, IsCommand, IsNoCommand, IsStatus, Plays, Reports, Writes, WritesAll, sink_seen, store_seen};
 ghost use Rattle.mpm_run.specs.Listen.{IsRunFrom, IsWholeRun};
 ghost use Rattle.mpm_run.specs.FirstShape as spec;
 
@@ -11,7 +12,7 @@ use crate::listen::{PASSES, listen};
 use crate::report::report_text;
 use crate::texts::{ScriptRefusal, script_refused_text, store_fault_text, usage_text};
 use mpm_base::{
-    Calls, Link, Octets, Put, Script, ScriptFault, ScriptLink, Shape, Sink, Store,
+    Calls, Link, NoMemory, Octets, Put, Script, ScriptFault, ScriptLink, Shape, Sink, Store,
     StoreFault, Words, read_script,
 };
 use std::alloc::Global;
@@ -80,11 +81,15 @@ pub fn run<R: Threads + Wait + Sync, D: Store, K: Sink>(
 
     // Each status has its cause.
     ensures known { IsStatus result.status }
-    ensures unknown { result.status ≡ 2 → EndsUnknown words.now (sink_seen (K.told out.old) (K.faults out.old)) (sink_seen (K.told out.new) (K.faults out.new)) result.shown }
+    ensures unknown { result.status ≡ 2 → EndsUnknown words.now (store_seen (D.told store.old) (D.counts store.old)) (store_seen (D.told store.new) (D.counts store.new)) (sink_seen (K.told out.old) (K.faults out.old)) (sink_seen (K.told out.new) (K.faults out.new)) result.shown }
     ensures unread { result.status ≡ 3 → EndsUnread words.now (store_seen (D.told store.old) (D.counts store.old)) (store_seen (D.told store.new) (D.counts store.new)) (sink_seen (K.told out.old) (K.faults out.old)) (sink_seen (K.told out.new) (K.faults out.new)) result.shown }
     ensures refused { result.status ≡ 8 → EndsTooLarge words.now (store_seen (D.told store.old) (D.counts store.old)) (store_seen (D.told store.new) (D.counts store.new)) (sink_seen (K.told out.old) (K.faults out.old)) (sink_seen (K.told out.new) (K.faults out.new)) result.shown ⊎ EndsAtLine words.now (store_seen (D.told store.old) (D.counts store.old)) (store_seen (D.told store.new) (D.counts store.new)) (sink_seen (K.told out.old) (K.faults out.old)) (sink_seen (K.told out.new) (K.faults out.new)) result.shown }
     ensures played { result.status ≡ 0 → Plays words.now (store_seen (D.told store.old) (D.counts store.old)) (store_seen (D.told store.new) (D.counts store.new)) result.shown }
     ensures unwritten { result.status ≡ 5 → Plays words.now (store_seen (D.told store.old) (D.counts store.old)) (store_seen (D.told store.new) (D.counts store.new)) result.shown × Rises (K.faults out.old) (K.faults out.new) }
+
+    // With status 0 the output has the report of what is left, and a run that did not open for want of memory writes nothing.
+    ensures reported { result.status ≡ 0 → IsSomeAnd result.scripted (λ s. Reports (sink_seen (K.told out.old) (K.faults out.old)) (sink_seen (K.told out.new) (K.faults out.new)) s.board) }
+    ensures silent { result.status ≡ 6 → IsNone result.scripted → K.told out.new ≡ K.told out.old }
 {
     let Some(name) = script_name(words) else {
         let Ok(text) = usage_text(alloc) else {
@@ -174,6 +179,8 @@ fn play<R: Wait, K: Sink>(rt: &R, alloc: Global, script: Script, out: &mut K) ->
     ensures kept { IfSome result.scripted (λ s. IsRunFrom 64 1 spec.first_shape s.board.book) }
     ensures played { HasPlayed result.status (K.faults out.old) (K.faults out.new) }
     ensures shown { result.shown ≡ None }
+    ensures reported { result.status ≡ 0 → IsSomeAnd result.scripted (λ s. Reports (sink_seen (K.told out.old) (K.faults out.old)) (sink_seen (K.told out.new) (K.faults out.new)) s.board) }
+    ensures silent { IsNone result.scripted → K.told out.new ≡ K.told out.old }
 {
     let Ok(mut board) = Board::make(alloc, SLOTS, CHILDREN, PASSES, first_shape()) else {
         return no_memory();
@@ -198,6 +205,7 @@ fn finish<K: Sink>(alloc: Global, board: Board<ScriptLink>, out: &mut K, status:
     ensures scripted { IsSomeAnd result.scripted (λ s. s.board ≡ board) }
     ensures played { status ≡ 0 ⊎ status ≡ 6 → HasPlayed result.status (K.faults out.old) (K.faults out.new) }
     ensures shown { result.shown ≡ None }
+    ensures reported { result.status ≡ 0 → IsSomeAnd result.scripted (λ s. Reports (sink_seen (K.told out.old) (K.faults out.old)) (sink_seen (K.told out.new) (K.faults out.new)) s.board) }
 {
     let status = report(alloc, &board, out, status);
     Outcome {
@@ -211,17 +219,22 @@ fn finish<K: Sink>(alloc: Global, board: Board<ScriptLink>, out: &mut K, status:
 fn report<L: Link, K: Sink>(alloc: Global, board: &Board<L>, out: &mut K, status: u8) -> u8
     ensures status { result ≡ 0 → status ≡ 0 }
     ensures played { status ≡ 0 ⊎ status ≡ 6 → HasPlayed result (K.faults out.old) (K.faults out.new) }
+    ensures reported { result ≡ 0 → Reports (sink_seen (K.told out.old) (K.faults out.old)) (sink_seen (K.told out.new) (K.faults out.new)) board.now }
 {
-    let text = match tally(alloc, board) {
-        Ok(tally) => report_text(alloc, &tally),
-        Err(refused) => Err(refused),
-    };
-    match text {
+    match board_report(alloc, board) {
         Ok(text) if write_all(out, text.as_slice()) => status,
         Ok(_) if status == 0 => 5,
         Ok(_) => status,
         Err(_) => 6,
     }
+}
+
+/// The report of the board.
+fn board_report<L: Link>(alloc: Global, board: &Board<L>) -> Result<Octets, NoMemory>
+    ensures { IfOk result (λ text. text ≡ report_of board.now.book.history board.now.book.state.newest board.now.ended) }
+{
+    let tally = tally(alloc, board)?;
+    report_text(alloc, &tally)
 }
 
 /// Writes all the bytes. False where a write failed.
