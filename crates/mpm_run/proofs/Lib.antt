@@ -4,4 +4,5 @@ pub mod BoardLemmas
 pub mod EventLemmas
 pub mod ReportLemmas
 pub mod ServeLemmas
+pub mod StatusLemmas
 pub mod ListenLemmas

@@ -6,4 +6,5 @@ pub mod Listen
 pub mod Report
 pub mod Room
 pub mod Serve
+pub mod Statuses
 pub mod Texts

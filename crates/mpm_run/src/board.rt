@@ -61,7 +61,7 @@ impl<L: Link> Kept for Board<L> {
 
 impl<L: Link> Board<L> {
     /// A board without connections, in its opening state. Takes the room that stopping it needs.
-    pub fn make(
+    pub(crate) fn make(
         alloc: Global,
         slots: u32,
         children: u32,
@@ -90,7 +90,7 @@ impl<L: Link> Board<L> {
     }
 
     /// The state after the history.
-    pub fn state(&self) -> &State
+    pub(crate) fn state(&self) -> &State
         ensures is { result.now ≡ self.now.book.state }
         ensures sized { IsSized self.now.book.state }
     {
@@ -113,7 +113,7 @@ impl<L: Link> Board<L> {
     }
 
     /// The history is one of the machine, from its base to its state.
-    pub fn show(&self)
+    pub(crate) fn show(&self)
         ensures history { IsHistory self.now.book.base self.now.book.history }
         ensures state { after self.now.book.base self.now.book.history ≡ self.now.book.state }
     {
@@ -121,7 +121,7 @@ impl<L: Link> Board<L> {
     }
 
     /// How many slots there are.
-    pub fn slots(&self) -> u32
+    pub(crate) fn slots(&self) -> u32
         ensures { result ≡ length self.now.book.state.rows }
     {
         self.book.show();
@@ -129,7 +129,7 @@ impl<L: Link> Board<L> {
     }
 
     /// How many child numbers there are.
-    pub fn children(&self) -> u32
+    pub(crate) fn children(&self) -> u32
         ensures { result ≡ length self.now.book.state.children }
     {
         self.book.show();
@@ -137,7 +137,7 @@ impl<L: Link> Board<L> {
     }
 
     /// A vacant slot, where a child takes the next connection.
-    pub fn free_slot(&self) -> Option<u32>
+    pub(crate) fn free_slot(&self) -> Option<u32>
         ensures { IfSome result (λ slot. allowed self.now.book.state (event.Accept slot) ≡ true) }
     {
         self.book.show();
@@ -146,7 +146,7 @@ impl<L: Link> Board<L> {
     }
 
     /// Whether the connection of the slot waits.
-    pub fn is_parked(&self, slot: u32) -> bool
+    pub(crate) fn is_parked(&self, slot: u32) -> bool
         ensures { result ≡ row_passes (λ r. is_parked r.place) self.now.book.state.rows slot }
     {
         match self.book.state().rows.get(slot) {
@@ -156,7 +156,7 @@ impl<L: Link> Board<L> {
     }
 
     /// The name that a connection of the slot has.
-    pub fn name(&self, slot: u32) -> Option<ConnName>
+    pub(crate) fn name(&self, slot: u32) -> Option<ConnName>
         ensures { IfSome result (λ name. name.slot ≡ slot) }
     {
         match self.book.state().rows.get(slot) {
@@ -169,7 +169,7 @@ impl<L: Link> Board<L> {
     }
 
     /// Whether the last response of the live connection was decided.
-    pub fn is_last(&self, name: ConnName) -> bool
+    pub(crate) fn is_last(&self, name: ConnName) -> bool
         ensures { result ≡ lives_and (λ r. r.last) self.now.book.state.rows name }
     {
         match self.book.state().rows.live(name) {
@@ -179,7 +179,7 @@ impl<L: Link> Board<L> {
     }
 
     /// Whether the service of the live connection ended, and it is being closed.
-    pub fn is_lingering(&self, name: ConnName) -> bool
+    pub(crate) fn is_lingering(&self, name: ConnName) -> bool
         ensures { result ≡ lives_and is_lingering self.now.book.state.rows name }
     {
         match self.book.state().rows.live(name) {
@@ -189,7 +189,7 @@ impl<L: Link> Board<L> {
     }
 
     /// Takes a connection for the child that the rule of admission names, into the vacant slot.
-    pub fn accept(&mut self, who: u32, slot: u32) -> Result<Taken, NoMemory>
+    pub(crate) fn accept(&mut self, who: u32, slot: u32) -> Result<Taken, NoMemory>
         requires who { who < self.old.book.passes }
         requires allowed { allowed self.old.book.state (event.Accept slot) ≡ true }
         ensures ok { OnOk result (self.new.book ≡ recorded who (event.Accept slot) self.old.book) }
@@ -212,7 +212,12 @@ impl<L: Link> Board<L> {
     }
 
     /// The connection waits. Where memory lacks it comes back.
-    pub fn park(&mut self, who: u32, kind: Kind, conn: Conn<L>) -> Result<(), (NoMemory, Conn<L>)>
+    pub(crate) fn park(
+        &mut self,
+        who: u32,
+        kind: Kind,
+        conn: Conn<L>,
+    ) -> Result<(), (NoMemory, Conn<L>)>
         requires who { who < self.old.book.passes }
         requires allowed { allowed self.old.book.state (event.Park conn.name kind) ≡ true }
         requires fits { IsOf self.old conn }
@@ -231,7 +236,7 @@ impl<L: Link> Board<L> {
     }
 
     /// The listener takes a connection that waits. Takes no memory.
-    pub fn hold(&mut self, who: u32, name: ConnName) -> Conn<L>
+    pub(crate) fn hold(&mut self, who: u32, name: ConnName) -> Conn<L>
         requires who { who < self.old.book.passes }
         requires allowed { allowed self.old.book.state (event.Hold name) ≡ true }
         ensures is { self.new.book ≡ recorded who (event.Hold name) self.old.book }
@@ -246,7 +251,7 @@ impl<L: Link> Board<L> {
     }
 
     /// The connection is handed to the workers of its child.
-    pub fn queue(&mut self, who: u32, name: ConnName) -> Result<(), NoMemory>
+    pub(crate) fn queue(&mut self, who: u32, name: ConnName) -> Result<(), NoMemory>
         requires who { who < self.old.book.passes }
         requires allowed { allowed self.old.book.state (event.Queue name) ≡ true }
         ensures ok { OnOk result (self.new.book ≡ recorded who (event.Queue name) self.old.book) }
@@ -257,7 +262,7 @@ impl<L: Link> Board<L> {
     }
 
     /// A worker begins to serve the connection: its cell, and the connection. Takes no memory.
-    pub fn start(&mut self, who: u32, name: ConnName) -> (u32, Conn<L>)
+    pub(crate) fn start(&mut self, who: u32, name: ConnName) -> (u32, Conn<L>)
         requires who { who < self.old.book.passes }
         requires allowed { allowed self.old.book.state (event.Start name) ≡ true }
         ensures is { self.new.book ≡ recorded who (event.Start name) self.old.book }
@@ -276,7 +281,7 @@ impl<L: Link> Board<L> {
     }
 
     /// A response is decided: its note.
-    pub fn answer(&mut self, who: u32, name: ConnName, ask: Ask) -> Result<Note, NoMemory>
+    pub(crate) fn answer(&mut self, who: u32, name: ConnName, ask: Ask) -> Result<Note, NoMemory>
         requires who { who < self.old.book.passes }
         requires allowed { allowed self.old.book.state (event.Answer name ask) ≡ true }
         ensures ok { OnOk result (self.new.book ≡ recorded who (event.Answer name ask) self.old.book) }
@@ -292,7 +297,7 @@ impl<L: Link> Board<L> {
     }
 
     /// The connection ended. Takes no memory.
-    pub fn close(&mut self, who: u32, ended: Ended<L>)
+    pub(crate) fn close(&mut self, who: u32, ended: Ended<L>)
         requires who { who < self.old.book.passes }
         requires allowed { allowed self.old.book.state (event.Close ended.name ended.cause ended.tail) ≡ true }
         ensures is { self.new.book ≡ recorded who (event.Close ended.name ended.cause ended.tail) self.old.book }
@@ -308,7 +313,7 @@ impl<L: Link> Board<L> {
     }
 
     /// Something may have come for the slot.
-    pub fn ready(&mut self, who: u32, slot: u32) -> Result<(), NoMemory>
+    pub(crate) fn ready(&mut self, who: u32, slot: u32) -> Result<(), NoMemory>
         requires who { who < self.old.book.passes }
         requires allowed { allowed self.old.book.state (event.Ready slot) ≡ true }
         ensures ok { OnOk result (self.new.book ≡ recorded who (event.Ready slot) self.old.book) }
@@ -319,7 +324,7 @@ impl<L: Link> Board<L> {
     }
 
     /// The child starts.
-    pub fn start_child(&mut self, who: u32, child: u32) -> Result<(), NoMemory>
+    pub(crate) fn start_child(&mut self, who: u32, child: u32) -> Result<(), NoMemory>
         requires who { who < self.old.book.passes }
         requires allowed { allowed self.old.book.state (event.StartChild child) ≡ true }
         ensures ok { OnOk result (self.new.book ≡ recorded who (event.StartChild child) self.old.book) }
@@ -330,7 +335,7 @@ impl<L: Link> Board<L> {
     }
 
     /// The server stops. Takes no memory.
-    pub fn halt(&mut self, who: u32, why: Why)
+    pub(crate) fn halt(&mut self, who: u32, why: Why)
         requires who { who < self.old.book.passes }
         requires allowed { allowed self.old.book.state (event.Command (Stop why)) ≡ true }
         ensures is { self.new.book ≡ recorded who (event.Command (Stop why)) self.old.book }
@@ -341,7 +346,7 @@ impl<L: Link> Board<L> {
     }
 
     /// The child is gone. Takes no memory.
-    pub fn retire(&mut self, who: u32, child: u32)
+    pub(crate) fn retire(&mut self, who: u32, child: u32)
         requires who { who < self.old.book.passes }
         requires allowed { allowed self.old.book.state (event.Retire child) ≡ true }
         ensures is { self.new.book ≡ recorded who (event.Retire child) self.old.book }

@@ -1,5 +1,8 @@
 //! The top call: from the words of the command line to the report.
-ghost use Rattle.std.specs.Prelude.{◌≡◌, ◌<◌, ◌≤◌, Some, None, IfSome, IsSomeAnd, IsNone, is_some};
+ghost use Rattle.std.specs.Prelude.{◌≡◌, ◌<◌, ◌≤◌, ◌⊎◌, ◌++◌, Some, None, IfOk, IfSome, IfNone, IsSomeAnd, IsNone, is_some, length, take, option_map};
+ghost use Rattle.mpm_base.specs.Count.{NeverFalls, Rises};
+ghost use Rattle.mpm_run.specs.Report.{report_of};
+ghost use Rattle.mpm_run.specs.Statuses.{EndsAtLine, EndsTooLarge, EndsUnknown, EndsUnread, HasPlayed, IsCommand, IsNoCommand, IsStatus, Plays, Reports, Writes, WritesAll, sink_seen, store_seen};
 ghost use Rattle.mpm_run.specs.Listen.{IsRunFrom, IsWholeRun};
 ghost use Rattle.mpm_run.specs.FirstShape as spec;
 
@@ -75,26 +78,64 @@ pub fn run<R: Threads + Wait + Sync, D: Store, K: Sink>(
 
     // Whatever the status, what is left of a run has a history of the machine.
     ensures kept { IfSome result.scripted (λ s. IsRunFrom 64 1 spec.first_shape s.board.book) }
+
+    // Each status has its cause.
+    ensures known { IsStatus result.status }
+    ensures unknown { result.status ≡ 2 → EndsUnknown words.now (store_seen (D.told store.old) (D.counts store.old)) (store_seen (D.told store.new) (D.counts store.new)) (sink_seen (K.told out.old) (K.faults out.old)) (sink_seen (K.told out.new) (K.faults out.new)) result.shown }
+    ensures unread { result.status ≡ 3 → EndsUnread words.now (store_seen (D.told store.old) (D.counts store.old)) (store_seen (D.told store.new) (D.counts store.new)) (sink_seen (K.told out.old) (K.faults out.old)) (sink_seen (K.told out.new) (K.faults out.new)) result.shown }
+    ensures refused { result.status ≡ 8 → EndsTooLarge words.now (store_seen (D.told store.old) (D.counts store.old)) (store_seen (D.told store.new) (D.counts store.new)) (sink_seen (K.told out.old) (K.faults out.old)) (sink_seen (K.told out.new) (K.faults out.new)) result.shown ⊎ EndsAtLine words.now (store_seen (D.told store.old) (D.counts store.old)) (store_seen (D.told store.new) (D.counts store.new)) (sink_seen (K.told out.old) (K.faults out.old)) (sink_seen (K.told out.new) (K.faults out.new)) result.shown }
+    ensures played { result.status ≡ 0 → Plays words.now (store_seen (D.told store.old) (D.counts store.old)) (store_seen (D.told store.new) (D.counts store.new)) result.shown }
+    ensures unwritten { result.status ≡ 5 → Plays words.now (store_seen (D.told store.old) (D.counts store.old)) (store_seen (D.told store.new) (D.counts store.new)) result.shown × Rises (K.faults out.old) (K.faults out.new) }
+
+    // With status 0 the output has the report of what is left, and a run that did not open for want of memory writes nothing.
+    ensures reported { result.status ≡ 0 → IsSomeAnd result.scripted (λ s. Reports (sink_seen (K.told out.old) (K.faults out.old)) (sink_seen (K.told out.new) (K.faults out.new)) s.board) }
+    ensures silent { result.status ≡ 6 → IsNone result.scripted → K.told out.new ≡ K.told out.old }
 {
     let Some(name) = script_name(words) else {
-        return refuse(out, 2, None, usage_text(alloc));
+        let Ok(text) = usage_text(alloc) else {
+            return no_memory();
+        };
+        return refuse(out, 2, None, &text);
     };
     let bytes = match store.read(alloc, name, MOST_SCRIPT) {
         Ok(bytes) => bytes,
-        Err(fault) => return refuse_file(alloc, out, name, fault),
+        Err(StoreFault::Missing) => {
+            let Ok(text) = store_fault_text(alloc, name.as_bytes()) else {
+                return no_memory();
+            };
+            return refuse(out, 3, Some(0), &text);
+        }
+        Err(StoreFault::Failed) => {
+            let Ok(text) = store_fault_text(alloc, name.as_bytes()) else {
+                return no_memory();
+            };
+            return refuse(out, 3, None, &text);
+        }
+        Err(StoreFault::Large(_)) => {
+            let Ok(text) = script_refused_text(alloc, 0, ScriptRefusal::BadLine) else {
+                return no_memory();
+            };
+            return refuse(out, 8, Some(0), &text);
+        }
+        Err(StoreFault::Many | StoreFault::NoMemory) => return no_memory(),
     };
     match read_script(alloc, bytes.as_slice()) {
         Ok(script) => play(rt, alloc, script, out),
         Err(ScriptFault::NotYet(line)) => {
-            let text = script_refused_text(alloc, line, ScriptRefusal::NotYet);
-            refuse(out, 8, Some(line), text)
+            let Ok(text) = script_refused_text(alloc, line, ScriptRefusal::NotYet) else {
+                return no_memory();
+            };
+            refuse(out, 8, Some(line), &text)
         }
         Err(ScriptFault::NoMemory) => no_memory(),
     }
 }
 
 /// The name of the script, where the words are `--script` and one more.
-fn script_name(words: &Words) -> Option<&str> {
+fn script_name(words: &Words) -> Option<&str>
+    ensures some { IfSome result (λ name. IsCommand words.now name.now) }
+    ensures none { IfNone result (IsNoCommand words.now) }
+{
     if words.len() != 2 {
         return None;
     }
@@ -107,6 +148,7 @@ fn script_name(words: &Words) -> Option<&str> {
 /// The end of a run that found no memory to open.
 fn no_memory() -> Outcome
     ensures status { result.status ≡ 6 }
+    ensures shown { result.shown ≡ None }
     ensures scripted { IsNone result.scripted }
 {
     Outcome {
@@ -116,45 +158,18 @@ fn no_memory() -> Outcome
     }
 }
 
-/// The end of a run whose script can't be read.
-fn refuse_file<K: Sink>(alloc: Global, out: &mut K, name: &str, fault: StoreFault) -> Outcome
-    ensures status { result.status ≡ 0 → ⊥ }
-    ensures scripted { IsNone result.scripted }
-{
-    match fault {
-        StoreFault::Missing => refuse(out, 3, Some(0), store_fault_text(alloc, name.as_bytes())),
-        StoreFault::Large(_) => {
-            let text = script_refused_text(alloc, 0, ScriptRefusal::BadLine);
-            refuse(out, 8, Some(0), text)
-        }
-        StoreFault::Many | StoreFault::Failed => {
-            refuse(out, 3, None, store_fault_text(alloc, name.as_bytes()))
-        }
-        StoreFault::NoMemory => no_memory(),
-    }
-}
-
 /// The end of a run that is refused: its text is written, as far as the output takes it.
-fn refuse<K: Sink>(
-    out: &mut K,
-    status: u8,
-    shown: Option<u64>,
-    text: Result<Octets, NoMemory>,
-) -> Outcome
-    requires { status ≡ 0 → ⊥ }
-    ensures status { result.status ≡ 0 → ⊥ }
+fn refuse<K: Sink>(out: &mut K, status: u8, shown: Option<u64>, text: &Octets) -> Outcome
+    ensures status { result.status ≡ status }
+    ensures shown { result.shown ≡ shown }
     ensures scripted { IsNone result.scripted }
+    ensures text { Writes (sink_seen (K.told out.old) (K.faults out.old)) (sink_seen (K.told out.new) (K.faults out.new)) text.now }
 {
-    match text {
-        Ok(text) => {
-            let _ = write_all(out, text.as_slice());
-            Outcome {
-                status,
-                shown,
-                scripted: None,
-            }
-        }
-        Err(_) => no_memory(),
+    let _ = write_all(out, text.as_slice());
+    Outcome {
+        status,
+        shown,
+        scripted: None,
     }
 }
 
@@ -162,6 +177,10 @@ fn refuse<K: Sink>(
 fn play<R: Wait, K: Sink>(rt: &R, alloc: Global, script: Script, out: &mut K) -> Outcome
     ensures served { result.status ≡ 0 → IsSomeAnd result.scripted (λ s. IsWholeRun 64 1 spec.first_shape s.board.book) }
     ensures kept { IfSome result.scripted (λ s. IsRunFrom 64 1 spec.first_shape s.board.book) }
+    ensures played { HasPlayed result.status (K.faults out.old) (K.faults out.new) }
+    ensures shown { result.shown ≡ None }
+    ensures reported { result.status ≡ 0 → IsSomeAnd result.scripted (λ s. Reports (sink_seen (K.told out.old) (K.faults out.old)) (sink_seen (K.told out.new) (K.faults out.new)) s.board) }
+    ensures silent { IsNone result.scripted → K.told out.new ≡ K.told out.old }
 {
     let Ok(mut board) = Board::make(alloc, SLOTS, CHILDREN, PASSES, first_shape()) else {
         return no_memory();
@@ -184,6 +203,9 @@ fn play<R: Wait, K: Sink>(rt: &R, alloc: Global, script: Script, out: &mut K) ->
 fn finish<K: Sink>(alloc: Global, board: Board<ScriptLink>, out: &mut K, status: u8) -> Outcome
     ensures status { result.status ≡ 0 → status ≡ 0 }
     ensures scripted { IsSomeAnd result.scripted (λ s. s.board ≡ board) }
+    ensures played { status ≡ 0 ⊎ status ≡ 6 → HasPlayed result.status (K.faults out.old) (K.faults out.new) }
+    ensures shown { result.shown ≡ None }
+    ensures reported { result.status ≡ 0 → IsSomeAnd result.scripted (λ s. Reports (sink_seen (K.told out.old) (K.faults out.old)) (sink_seen (K.told out.new) (K.faults out.new)) s.board) }
 {
     let status = report(alloc, &board, out, status);
     Outcome {
@@ -195,13 +217,11 @@ fn finish<K: Sink>(alloc: Global, board: Board<ScriptLink>, out: &mut K, status:
 
 /// Writes the report of the run. A failed write changes status 0 alone.
 fn report<L: Link, K: Sink>(alloc: Global, board: &Board<L>, out: &mut K, status: u8) -> u8
-    ensures { result ≡ 0 → status ≡ 0 }
+    ensures status { result ≡ 0 → status ≡ 0 }
+    ensures played { status ≡ 0 ⊎ status ≡ 6 → HasPlayed result (K.faults out.old) (K.faults out.new) }
+    ensures reported { result ≡ 0 → Reports (sink_seen (K.told out.old) (K.faults out.old)) (sink_seen (K.told out.new) (K.faults out.new)) board.now }
 {
-    let text = match tally(alloc, board) {
-        Ok(tally) => report_text(alloc, &tally),
-        Err(refused) => Err(refused),
-    };
-    match text {
+    match board_report(alloc, board) {
         Ok(text) if write_all(out, text.as_slice()) => status,
         Ok(_) if status == 0 => 5,
         Ok(_) => status,
@@ -209,8 +229,19 @@ fn report<L: Link, K: Sink>(alloc: Global, board: &Board<L>, out: &mut K, status
     }
 }
 
+/// The report of the board.
+fn board_report<L: Link>(alloc: Global, board: &Board<L>) -> Result<Octets, NoMemory>
+    ensures { IfOk result (λ text. text ≡ report_of board.now.book.history board.now.book.state.newest board.now.ended) }
+{
+    let tally = tally(alloc, board)?;
+    report_text(alloc, &tally)
+}
+
 /// Writes all the bytes. False where a write failed.
-fn write_all<K: Sink>(out: &mut K, bytes: &[u8]) -> bool {
+fn write_all<K: Sink>(out: &mut K, bytes: &[u8]) -> bool
+    ensures all { WritesAll (sink_seen (K.told out.old) (K.faults out.old)) (sink_seen (K.told out.new) (K.faults out.new)) bytes.now result }
+    ensures faults { NeverFalls (K.faults out.old) (K.faults out.new) }
+{
     let mut from = 0;
     while from < bytes.len() {
         match out.write(&bytes[from..]) {
