@@ -1,6 +1,9 @@
 pub mod Children
+pub mod Events
+pub mod Laws
 pub mod Lists
 pub mod Rows
 pub mod Runs
+pub mod Sound
 pub mod States
 pub mod Table

@@ -11,6 +11,7 @@ mod child;
 mod conditions;
 mod event;
 mod kept;
+pub mod laws;
 mod row;
 mod rows;
 mod state;

@@ -1,0 +1,56 @@
+-- What the laws of the machine say, in words of their own.
+use Rattle.std.specs.Prelude.{◌≡◌, ℕ, ◌+◌, ◌*◌, ◌-◌, ◌≤◌, Bool, true, false, ◌&&◌, ◌==◌, nat_lt, List, [], ◌++◌, Option, Some}
+use Rattle.mpm_base.specs.declared.conn.ConnName.{ConnName}
+use Rattle.mpm_base.specs.declared.note.Note.{Note}
+use Rattle.conn_machine.specs.declared.event.Reply.{Reply}
+use Rattle.conn_machine.specs.declared.event.Reply.TheVariants.{Took}
+use Rattle.conn_machine.specs.declared.event.Entry.{Entry}
+use Rattle.conn_machine.specs.declared.state.State.{State}
+use Rattle.conn_machine.specs.Rows.{carried, open_count, lives_and}
+use Rattle.conn_machine.specs.Children.{child_at, is_running}
+use Rattle.conn_machine.specs.Events.{count_events, is_accept, is_hold, is_queue, is_ready}
+use Rattle.conn_machine.specs.Runs.{after}
+use Rattle.conn_machine.specs.Sound.{IsSound, says_last}
+
+-- after each first part of the history, the whole of it among them, the state is sound
+abbrev pub StaysSound : State → List Entry → Type 0
+StaysSound base history = (before rest : List Entry) → history ≡ before ++ rest → IsSound (after base before)
+
+-- connections are handed to workers and to the listener only where something came for them, but for three times for each
+-- connection, so that a history can't be filled for nothing
+pub record IsEarned (history : List Entry) : Type 0 where
+  pub queues : count_events is_queue history ≤ count_events is_ready history
+  pub holds : count_events is_hold history ≤ count_events is_ready history + 3 * count_events is_accept history
+
+-- the connection of that name is live
+abbrev pub is_alive : State → ConnName → Bool
+is_alive s name = lives_and (λ r. true) s.rows name
+
+-- the workers of the child that carry nothing
+abbrev pub idle_in : State → ℕ → ℕ
+idle_in s k = (child_at s.children k).shape.threads - carried s.rows k
+
+-- the child takes a further connection: it runs, is of the newest generation, and its open connections are below its limit
+abbrev pub admits_in : State → ℕ → Bool
+admits_in s k =
+    is_running (child_at s.children k).phase && (child_at s.children k).generation == s.newest
+    && nat_lt (100 * open_count s.rows k) (100 * (child_at s.children k).shape.threads + (child_at s.children k).shape.factor * idle_in s k)
+
+-- the child takes a connection, and has most idle workers of those that do, and the lowest number of those that have as many
+pub record IsChosen (s : State) (k : ℕ) : Type 0 where
+  pub admits : admits_in s k ≡ true
+  pub none_idler : (other : ℕ) → admits_in s other ≡ true → idle_in s other ≤ idle_in s k
+  pub none_lower : (other : ℕ) → admits_in s other ≡ true → idle_in s other ≡ idle_in s k → k ≤ other
+
+-- the connection was taken for the chosen child, whose generation is the newest
+pub record IsTakenFor (s : State) (answer : Reply) : Type 0 where
+  pub name : ConnName
+  pub child : ℕ
+  pub replied : answer ≡ Took name child s.newest
+  pub chosen : IsChosen s child
+
+-- a connection has its responses and perhaps further ones, and none after its last
+pub record OnlyGrows (old new : List Note) : Type 0 where
+  pub more : List Note
+  pub grown : new ≡ old ++ more
+  pub ended : says_last old ≡ true → more ≡ []

@@ -1,0 +1,69 @@
+//! Laws of the machine: what holds of every state, and of every run, that the event table allows. Each is the contract
+//! of a function that does nothing.
+ghost use Rattle.std.specs.Prelude.{◌≡◌, ◌<◌, ℕ, true, false, List, [], ◌∷◌, ◌++◌, Some, slice_get};
+ghost use Rattle.std.specs.List.{list_any};
+ghost use Rattle.mpm_base.specs.declared.conn.ConnName.{ConnName};
+ghost use Rattle.mpm_base.specs.declared.conn.Cause.{Cause};
+ghost use Rattle.mpm_base.specs.declared.conn.Tail.{Tail};
+ghost use Rattle.mpm_base.specs.declared.shape.Shape.{Shape};
+ghost use Rattle.conn_machine.specs.declared.row.Phase.{Phase};
+ghost use Rattle.conn_machine.specs.declared.row.Place.TheVariants.{Working};
+ghost use Rattle.conn_machine.specs.declared.row.Row.{Row};
+ghost use Rattle.conn_machine.specs.declared.event.Event.{Event};
+ghost use Rattle.conn_machine.specs.declared.event.Event.TheVariants as event;
+ghost use Rattle.conn_machine.specs.declared.event.Commanded.TheVariants.{Graceful};
+ghost use Rattle.conn_machine.specs.declared.event.Reply.TheVariants.{Took};
+ghost use Rattle.conn_machine.specs.declared.event.Entry.{Entry};
+ghost use Rattle.conn_machine.specs.declared.state.State.{State};
+ghost use Rattle.conn_machine.specs.Rows.{is_live_in, live_row};
+ghost use Rattle.conn_machine.specs.Children.{is_in_bounds};
+ghost use Rattle.conn_machine.specs.States.{opening};
+ghost use Rattle.conn_machine.specs.Table.{allowed, next};
+ghost use Rattle.conn_machine.specs.Runs.{Run, after};
+ghost use Rattle.conn_machine.specs.Sound.{IsSound};
+ghost use Rattle.conn_machine.specs.Laws.{IsEarned, IsTakenFor, OnlyGrows, StaysSound, is_alive};
+
+/// The opening state is sound, every event that the table allows keeps a sound state sound, and so does every run.
+pub fn events_keep_states_sound()
+    ensures opening { (slots children : ℕ) (shape : Shape) → is_in_bounds shape ≡ true → IsSound (opening slots children shape) }
+    ensures step { (s : State) (e : Event) → IsSound s → allowed s e ≡ true → IsSound (next s e) }
+    ensures run { (s : State) (history : List Entry) → IsSound s → Run s history → StaysSound s history }
+{}
+
+/// In every run from the opening state connections are handed to workers at most as often as something came, and to the
+/// listener at most as often and three times for each connection.
+pub fn queues_and_holds_are_earned()
+    ensures { (slots children : ℕ) (shape : Shape) (history : List Entry) → is_in_bounds shape ≡ true → Run (opening slots children shape) history → IsEarned history }
+{}
+
+/// A connection that was closed is never live again.
+pub fn closed_names_stay_closed()
+    ensures { (s : State) (before rest : List Entry) (e : Entry) (name : ConnName) (why : Cause) (how : Tail) → Run s (before ++ e ∷ rest) → e.event ≡ event.Close name why how → is_alive (after s (before ++ e ∷ rest)) name ≡ false }
+{}
+
+/// Two connections that live at the same time have different slots, and two of a child that are served different cells.
+pub fn live_connections_share_nothing()
+    ensures slots { (rows : List Row) (name other : ConnName) (r r' : Row) → live_row rows name ≡ Some r → live_row rows other ≡ Some r' → name.slot ≡ other.slot → name ≡ other }
+    ensures cells { (s : State) (slot other cell : ℕ) (r r' : Row) (phase phase' : Phase) → IsSound s → slice_get s.rows slot ≡ Some r → slice_get s.rows other ≡ Some r' → r.place ≡ Working cell phase → r'.place ≡ Working cell phase' → r.child ≡ r'.child → slot ≡ other }
+{}
+
+/// A connection that is taken after a graceful restart is of the generation that it made, or of a newer one.
+pub fn replaced_generations_take_nothing()
+    ensures { (s : State) (before between : List Entry) (restart taking : Entry) (shape : Shape) (slot : ℕ) (name : ConnName) (child generation : ℕ) → Run s (before ++ restart ∷ between ++ taking ∷ []) → restart.event ≡ event.Command (Graceful shape) → taking.event ≡ event.Accept slot → taking.reply ≡ Took name child generation → (after s before).newest < generation }
+{}
+
+/// No connection of a child that is let go of is live.
+pub fn retired_children_are_drained()
+    ensures { (s : State) (before rest : List Entry) (e : Entry) (child : ℕ) → Run s (before ++ e ∷ rest) → e.event ≡ event.Retire child → list_any (is_live_in child) (after s before).rows ≡ false }
+{}
+
+/// Each connection is taken for the child that the rule of admission names: of those that take one, the one with most idle
+/// workers, and of those with as many the one with the lowest number.
+pub fn connections_go_to_the_chosen_child()
+    ensures { (s : State) (before rest : List Entry) (e : Entry) (slot : ℕ) → Run s (before ++ e ∷ rest) → e.event ≡ event.Accept slot → IsTakenFor (after s before) e.reply }
+{}
+
+/// The responses of a live connection only grow, and stay once the last was decided.
+pub fn responses_only_grow()
+    ensures { (s : State) (history : List Entry) (name : ConnName) (r r' : Row) → IsSound s → Run s history → live_row s.rows name ≡ Some r → live_row (after s history).rows name ≡ Some r' → OnlyGrows r.notes r'.notes }
+{}
