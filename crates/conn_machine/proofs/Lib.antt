@@ -5,3 +5,4 @@ pub mod PickLemmas
 pub mod RunLemmas
 pub mod SizeLemmas
 pub mod SoundLemmas
+pub mod UpdateLemmas
