@@ -66,6 +66,7 @@ count_update_more p (z ∷ xs) (suc i) change =
 abbrev pub HasRoom : Type 0 → ℕ → ℕ → Type 0
 HasRoom Room old new = (new ≤ old) ⊎ (Room × (new ≤ old + 1))
 
+-- so it is, by whether the changed item passes
 room_by : {X : Type 0} (p : X → Bool) (xs : List X) (i : ℕ) (x : X) (change : X → X) (Room : Type 0) (b : Bool) → slice_get xs i ≡ Some x
     → p (change x) ≡ b → (b ≡ true → (p x ≡ true) ⊎ Room) → HasRoom Room (count_by p xs) (count_by p (update xs i change))
 room_by p xs i x change Room true is test room =
@@ -76,7 +77,7 @@ room_by p xs i x change Room true is test room =
 room_by p xs i x change Room false is test room =
     inl (count_update_kept p xs i x change is (λ h. absurd (cc)))
 
--- so it is where the changed item passes only if it did before, or if there is room
+-- so it is where the changed item passes only if it did before, or if there is room for it
 pub count_update : {X : Type 0} (p : X → Bool) (xs : List X) (i : ℕ) (x : X) (change : X → X) (Room : Type 0) → slice_get xs i ≡ Some x
     → (p (change x) ≡ true → (p x ≡ true) ⊎ Room) → HasRoom Room (count_by p xs) (count_by p (update xs i change))
 count_update p xs i x change Room is room = room_by p xs i x change Room (p (change x)) is refl room
