@@ -1,0 +1,18 @@
+//! One connection over a link: it reads requests, however their bytes are cut, and sends the responses that are decided.
+//!
+//! What was sent, followed by what is pending, is at every turn the reply stream of the responses that were noted and the
+//! bytes that were received. The items of the bytes stand in `specs/Items.antt`, a response in `specs/Response.antt`, the
+//! reply stream in `specs/Replies.antt`, what is seen of a connection and holds of it in `specs/Conn.antt`, what each
+//! turn leaves in `specs/Turns.antt`, and what an ended connection shows in `specs/Answered.antt`. The site is one file.
+#![tactic(auto)]
+
+mod conn;
+mod ended;
+mod response;
+#[cfg(test)]
+mod tests;
+mod turn;
+
+pub use conn::Conn;
+pub use ended::Ended;
+pub use turn::{LastTurn, ReadTurn, WriteTurn};
