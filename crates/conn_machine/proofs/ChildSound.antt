@@ -1,11 +1,9 @@
 -- The events that change no row keep a sound state sound, and the opening state is sound.
-use Rattle.std.proofs.Common.{◌≡◌, ◌⊎◌, inl, inr, ◌<◌, ◌≤◌, ◌==◌, ℕ, zero, suc, ◌+◌, ◌*◌, Bool, true, false, not, ◌&&◌, ◌||◌, nat_lt, nat_le, List, [], ◌∷◌, map, length, count_by, get_or, slice_get, slice_set, replicate, Some, None, refl, sym, ap, ◌∙◌, subst, arith}
+use Rattle.std.proofs.Common.{◌≡◌, ◌⊎◌, inl, inr, ◌<◌, ◌≤◌, ◌==◌, ℕ, zero, suc, ◌+◌, ◌*◌, Bool, true, false, not, ◌&&◌, ◌||◌, nat_lt, nat_le, List, [], ◌∷◌, length, count_by, slice_get, slice_set, replicate, Some, refl, sym, ap, ◌∙◌, arith}
 use Rattle.std.specs.List.{list_any}
 use Rattle.std.specs.Option.{option_map_or}
 use Rattle.std.proofs.lemmas.List.{length-map}
-use Rattle.std.proofs.lemmas.Bool.{cases_Bool, cases_eq, and_parts, and_left, and_right, and_from, or_parts, or_from, not-true, leb-true, eq-eqb}
-use Rattle.std.proofs.lemmas.Bool.Decides.{nat_tests}
-use Rattle.mpm_base.specs.Count.{greatest_count}
+use Rattle.std.proofs.lemmas.Bool.{cases_eq, and_parts, and_left, and_right, and_from, or_parts, or_from, not-true, leb-true, eq-eqb}
 use Rattle.mpm_base.specs.declared.shape.Shape.{Shape}
 use Rattle.conn_machine.specs.declared.row.Place.{Place}
 use Rattle.conn_machine.specs.declared.row.Place.TheVariants.{Vacant, Spent, Held, Parked, Queued, Working}
@@ -23,10 +21,10 @@ use Rattle.conn_machine.specs.Rows.{is_unused, is_live, is_live_in, is_lingering
 use Rattle.conn_machine.specs.Children.{child_at, is_empty, is_running, is_stopping, no_child, stopped_child, all_stopped, started_child, retired_child, is_in_bounds, running_count}
 use Rattle.conn_machine.specs.States.{child_of, greatest_moment, is_serving, is_halted, is_overdue, unused_row, opening}
 use Rattle.conn_machine.specs.Table.{may_tick, after_tick, after_ready, child_passes, may_start_child, after_start_child, may_retire, after_retire, greatest_generation, command_fits, may_command, after_command}
-use Rattle.conn_machine.specs.Sound.{EachLive, IsNewest, IsGone, IsOfChild, CellIsBelow, HasSoundNotes, HasSoundArrivals, IsSound}
+use Rattle.conn_machine.specs.Sound.{IsGone, IsSound}
 use Rattle.conn_machine.proofs.SizeLemmas.{length-update}
 
--- ---- the children after a change
+-- ---- a list of children after a change
 
 -- the child of a number that passes a test is one of the list
 passes-child : (test : Child → Bool) (cs : List Child) (k : ℕ) → option_map_or test (slice_get cs k) false ≡ true
@@ -61,7 +59,7 @@ child_at-stopped (c ∷ cs) (suc k) = child_at-stopped cs k
 
 -- ---- a child with no live row
 
--- no row of the list passes a test that none passes
+-- the row of a slot fails a test that no row passes
 none_at : (test : Row → Bool) (rows : List Row) (slot : ℕ) (r : Row) → list_any test rows ≡ false
     → slice_get rows slot ≡ Some r → test r ≡ false
 none_at test [] slot r none at = absurd (cc)
@@ -80,6 +78,27 @@ count_none wide narrow (x ∷ rows) narrower none =
     let first : narrow x ≡ false = narrower x parts.0 in
     let later : count_by narrow rows ≡ 0 = count_none wide narrow rows narrower parts.1 in
     rw first (omega arith)
+
+-- a row that its workers carry is live
+carried_lives : (own : Bool) (place : Place) → (own && not (is_unused place)) ≡ false
+    → (own && (is_queued place || is_working place)) ≡ false
+carried_lives false place dead = refl
+carried_lives true Vacant dead = refl
+carried_lives true Spent dead = refl
+carried_lives true Held dead = refl
+carried_lives true (Parked kind) dead = refl
+carried_lives true Queued dead = absurd (cc)
+carried_lives true (Working cell phase) dead = absurd (cc)
+
+-- a child with no live row carries none
+carried_none : (rows : List Row) (k : ℕ) → list_any (is_live_in k) rows ≡ false → carried rows k ≡ 0
+carried_none rows k none =
+    count_none (is_live_in k) (is_carried_by k) rows (λ r dead. carried_lives (r.child == k) r.place dead) none
+
+-- nor has it an open one
+open_none : (rows : List Row) (k : ℕ) → list_any (is_live_in k) rows ≡ false → open_count rows k ≡ 0
+open_none rows k none =
+    count_none (is_live_in k) (is_open_in k) rows (λ r dead. and_left (is_live_in k r) (not (is_lingering r)) dead) none
 
 -- ---- signals and the moment
 
@@ -109,39 +128,18 @@ sound-moment s signals' moment' sound within = record {
   };
 }
 
--- a signal changes nothing else
+-- a signal leaves a sound state sound
 pub sound-ready : (s : State) (slot : ℕ) → IsSound s → IsSound (after_ready s slot)
 sound-ready s slot sound = sound-moment s (slice_set s.signals slot true) s.moment sound sound.numbers.moment
 
--- nor does the moment, which stays in range
+-- so does the time that passes
 pub sound-tick : (s : State) (m : ℕ) → IsSound s → may_tick s m ≡ true → IsSound (after_tick s m)
 sound-tick s m sound may =
     let before = and_parts (not (is_halted s.going) && nat_lt s.moment m && nat_le m greatest_moment) (not (list_any (is_overdue s.moment) s.rows)) may in
     let within = and_parts (not (is_halted s.going) && nat_lt s.moment m) (nat_le m greatest_moment) before.0 in
     sound-moment s s.signals m sound (leb-true m greatest_moment within.1)
 
--- a row that its workers carry is live
-carried_lives : (own : Bool) (place : Place) → (own && not (is_unused place)) ≡ false
-    → (own && (is_queued place || is_working place)) ≡ false
-carried_lives false place dead = refl
-carried_lives true Vacant dead = refl
-carried_lives true Spent dead = refl
-carried_lives true Held dead = refl
-carried_lives true (Parked kind) dead = refl
-carried_lives true Queued dead = absurd (cc)
-carried_lives true (Working cell phase) dead = absurd (cc)
-
--- a child with no live row carries none
-carried_none : (rows : List Row) (k : ℕ) → list_any (is_live_in k) rows ≡ false → carried rows k ≡ 0
-carried_none rows k none =
-    count_none (is_live_in k) (is_carried_by k) rows (λ r dead. carried_lives (r.child == k) r.place dead) none
-
--- nor has it an open one
-open_none : (rows : List Row) (k : ℕ) → list_any (is_live_in k) rows ≡ false → open_count rows k ≡ 0
-open_none rows k none =
-    count_none (is_live_in k) (is_open_in k) rows (λ r dead. and_left (is_live_in k r) (not (is_lingering r)) dead) none
-
--- ---- a change of the children
+-- ---- a sound state after a change of its children
 
 -- the child has the numbers and the generation that it had, and is gone only if it was
 record IsLike (c c' : Child) : Type 0 where
@@ -267,12 +265,13 @@ sound-retire s k sound may =
 
 -- ---- Command
 
--- a child that stops is like it was, and doesn't run
+-- a child that stops is like it was
 stopped_like : (c : Child) (phase : ChildPhase) → c.phase ≡ phase → IsLike c (stopped_child c)
 stopped_like c Empty is = record { shape = rw is refl; generation = rw is refl; empty = rw is refl }
 stopped_like c Running is = record { shape = rw is refl; generation = rw is refl; empty = rw is refl }
 stopped_like c Stopping is = record { shape = rw is refl; generation = rw is refl; empty = rw is refl }
 
+-- and doesn't run
 stopped_rests : (c : Child) (phase : ChildPhase) → c.phase ≡ phase → is_running (stopped_child c).phase ≡ false
 stopped_rests c Empty is = rw is refl
 stopped_rests c Running is = rw is refl
@@ -311,6 +310,7 @@ sound-commanded s (Refused reason) sound fits = sound
 sound-commanded s (GracefulStop until) sound fits = sound-stopped s s.newest s.shape (Ending until) sound sound.children.newest
 sound-commanded s (Stop reason) sound fits = sound-stopped s s.newest s.shape (Halted reason) sound sound.children.newest
 
+-- a command that is allowed keeps a sound state sound
 pub sound-command : (s : State) (c : Commanded) → IsSound s → may_command s c ≡ true → IsSound (after_command s c)
 sound-command s c sound may = sound-commanded s c sound (and_parts (not (is_halted s.going)) (command_fits s c) may).1
 
@@ -328,11 +328,12 @@ none_open n slot r at live =
     let unused : is_live r ≡ false = ap is_live (sym (same_row n slot r unused_row at)) in
     absurd (cc)
 
--- nor passes one a test that an unused row fails
+-- nor does one pass a test that an unused row fails
 any_unused : (test : Row → Bool) (n : ℕ) → test unused_row ≡ false → list_any test (replicate n unused_row) ≡ false
 any_unused test zero fails = refl
 any_unused test (suc n) fails = or_from (test unused_row) (list_any test (replicate n unused_row)) fails (any_unused test n fails)
 
+-- so no child of an opening state has a live row
 live_unused : (k n : ℕ) → list_any (is_live_in k) (replicate n unused_row) ≡ false
 live_unused k n = any_unused (is_live_in k) n (and_right (0 == k) false refl)
 
@@ -342,6 +343,7 @@ child_at-opening zero k = refl
 child_at-opening (suc n) zero = refl
 child_at-opening (suc n) (suc k) = child_at-opening n k
 
+-- the opening state is sound
 pub sound-opening : (slots children : ℕ) (shape : Shape) → is_in_bounds shape ≡ true → IsSound (opening slots children shape)
 sound-opening slots children shape bounds =
     record {
@@ -358,8 +360,11 @@ sound-opening slots children shape bounds =
       };
       owners = λ slot r at live. absurd (none_open slots slot r at live);
       cells = record {
-        differ = λ k c. omega (arith, count_none (is_served_in k c) (is_served_in k c) (replicate slots unused_row) (λ r fails. fails)
-            (any_unused (is_served_in k c) slots (and_right (0 == k) false refl)));
+        differ = λ k c. omega (
+          arith,
+          count_none (is_served_in k c) (is_served_in k c) (replicate slots unused_row) (λ r fails. fails)
+              (any_unused (is_served_in k c) slots (and_right (0 == k) false refl)),
+        );
         below = λ slot r at live. absurd (none_open slots slot r at live);
       };
       kinds = λ slot r at live. absurd (none_open slots slot r at live);

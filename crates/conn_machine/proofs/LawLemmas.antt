@@ -59,7 +59,7 @@ chosen-newest : (s : State) (k : ℕ) → IsChosen s k → (child_at s.children 
 chosen-newest s k chosen =
     let c = child_at s.children k in
     let parts = and_parts (is_running c.phase && c.generation == s.newest)
-        (nat_lt (100 * open_count s.rows k) (100 * c.shape.threads + c.shape.factor * idle_in s k)) chosen.admits in
+    (nat_lt (100 * open_count s.rows k) (100 * c.shape.threads + c.shape.factor * idle_in s k)) chosen.admits in
     eqb-true c.generation s.newest (and_parts (is_running c.phase) (c.generation == s.newest) parts.0).1
 
 -- where there is a child that takes connections, it is the chosen one

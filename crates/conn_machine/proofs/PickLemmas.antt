@@ -1,5 +1,5 @@
 -- The child that admission names.
-use Rattle.std.proofs.Common.{◌≡◌, ◌<◌, ◌≤◌, ◌==◌, ℕ, ◌+◌, ◌*◌, true, ◌&&◌, nat_lt, map, length, get_or, Some, All, inl, inr, sym, ap, ◌∙◌, subst, arith}
+use Rattle.std.proofs.Common.{◌≡◌, ◌<◌, ◌≤◌, ◌==◌, ℕ, ◌+◌, ◌*◌, true, ◌&&◌, nat_lt, length, get_or, Some, All, inl, inr, sym, ap, ◌∙◌, subst, arith}
 use Rattle.std.specs.List.{enumerate_from}
 use Rattle.std.proofs.lemmas.Bool.{cases_lt, and_parts, and_from}
 use Rattle.std.proofs.lemmas.List.{length-map, get_or-map, get_or_past}
@@ -39,7 +39,7 @@ admits_below s k admits =
           let none = ap (λ (c : Child). is_running c.phase) (get_or_past s.children k no_child past) in
           let c = child_at s.children k in
           let parts = and_parts (is_running c.phase && c.generation == s.newest)
-              (nat_lt (100 * open_count s.rows k) (100 * c.shape.threads + c.shape.factor * idle_in s k)) admits in
+          (nat_lt (100 * open_count s.rows k) (100 * c.shape.threads + c.shape.factor * idle_in s k)) admits in
           let runs = (and_parts (is_running c.phase) (c.generation == s.newest) parts.0).0 in
           absurd (cc)
     ]
@@ -64,7 +64,7 @@ at_admitting s P each other admits =
     = subst (λ (c : ChildCount). is_candidate c ≡ true → P c) (get_or-counts s other d few) (each other d below) in
     holds admits
 
--- the child that admission names is the chosen one
+-- the child whose number is picked is the chosen one
 chosen_if_picked : (s : State) (k : ℕ) → IsPicked (child_counts s) k → IsChosen s k
 chosen_if_picked s k found =
     let own = picked-count s k found in
@@ -78,5 +78,6 @@ chosen_if_picked s k found =
           at_admitting s (λ c. c.idle ≡ found.child.idle → k ≤ c.child) found.none_lower other admits (as_many ∙ sym idle);
     }
 
+-- the child that admission names is the chosen one
 pub pick_is_chosen : (s : State) (k : ℕ) → pick_child s ≡ Some k → IsChosen s k
 pick_is_chosen s k picked = chosen_if_picked s k (picked_if_some (child_counts s) k picked)
