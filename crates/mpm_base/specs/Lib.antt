@@ -5,6 +5,7 @@ pub mod Files
 pub mod Link
 pub mod MemSink
 pub mod MemStore
+pub mod Notes
 pub mod PlainLink
 pub mod PlainStore
 pub mod RootRequest

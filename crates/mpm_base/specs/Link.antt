@@ -1,5 +1,5 @@
 -- A link is one connection's way to its client. What it tells of itself, its counts, and what each call does to them.
-use Rattle.std.specs.Prelude.{◌≡◌, ◌==◌, ℕ, ◌<◌, ◌≤◌, Bool, true, false, not, List, [], ◌++◌, take, length, Option, option_map, if◌then◌else◌, ⊤}
+use Rattle.std.specs.Prelude.{◌≡◌, ◌==◌, ℕ, ◌<◌, ◌≤◌, Bool, true, false, not, List, [], ◌++◌, take, drop, length, Option, option_map, IfSome, if◌then◌else◌, ⊤}
 use Rattle.mpm_base.specs.Count.{next_count, RisesWhere, RisesExactlyWhere}
 use Rattle.mpm_base.specs.declared.link.Got.{Got}
 use Rattle.mpm_base.specs.declared.link.Got.TheVariants as got
@@ -7,10 +7,12 @@ use Rattle.mpm_base.specs.declared.link.Sent.{Sent}
 use Rattle.mpm_base.specs.declared.link.Sent.TheVariants as sent
 
 -- what a link that tells has done: the bytes that its reads gave, those of them that came before it was half-closed, the
--- bytes that its writes took, how often it was half-closed and closed, and the number that the front gave it
+-- bytes that its client sends behind them, now or later, the bytes that its writes took, how often it was half-closed and
+-- closed, and the number that the front gave it
 pub record LinkTold : Type 0 where
   pub received : List ℕ
   pub before_shut : List ℕ
+  pub coming : List ℕ
   pub sent : List ℕ
   pub shuts : ℕ
   pub closes : ℕ
@@ -24,25 +26,34 @@ pub record LinkCounts : Type 0 where
   pub late_writes : ℕ
   pub ends : ℕ
 
--- a link as the front hands it out: nothing was received or sent, and it was neither half-closed nor closed
-abbrev pub fresh_link : ℕ → LinkTold
-fresh_link number =
-    record { received = []; before_shut = []; sent = []; shuts = 0; closes = 0; rank = number }
+-- a link as the front hands it out, whose client sends these bytes: nothing was received or sent, and it was neither
+-- half-closed nor closed
+abbrev pub fresh_link : ℕ → List ℕ → LinkTold
+fresh_link number bytes =
+    record { received = []; before_shut = []; coming = bytes; sent = []; shuts = 0; closes = 0; rank = number }
 
--- bytes were received
-abbrev pub with_received : List ℕ → LinkTold → LinkTold
-with_received bytes t =
+-- so many of the bytes that come were received
+abbrev pub with_received : ℕ → LinkTold → LinkTold
+with_received n t =
     record t {
-      received = t.received ++ bytes;
-      before_shut = if t.shuts == 0 then t.before_shut ++ bytes else t.before_shut;
+      received = t.received ++ take n t.coming;
+      before_shut = if t.shuts == 0 then t.before_shut ++ take n t.coming else t.before_shut;
+      coming = drop n t.coming;
     }
 
--- what the link tells after a read that left this in the buffer
-abbrev pub after_read : Got → List ℕ → LinkTold → LinkTold
-after_read (got.Got n) buffer t = with_received (take n buffer) t
-after_read got.End buffer t = t
-after_read got.NotReady buffer t = t
-after_read got.Failed buffer t = t
+-- what the link tells after a read that answered this
+abbrev pub after_read : Got → LinkTold → LinkTold
+after_read (got.Got n) t = with_received n t
+after_read got.End t = t
+after_read got.NotReady t = t
+after_read got.Failed t = t
+
+-- a read gives what comes next, and finds the end only where nothing more comes
+abbrev pub GivesNext : Got → List ℕ → LinkTold → Type 0
+GivesNext (got.Got n) buffer t = (n ≤ length t.coming) × (take n buffer ≡ take n t.coming)
+GivesNext got.End buffer t = t.coming ≡ []
+GivesNext got.NotReady buffer t = ⊤
+GivesNext got.Failed buffer t = ⊤
 
 -- the number of bytes is within the piece, and isn't 0 unless the piece is empty
 abbrev pub IsSomeOf : ℕ → ℕ → Type 0
@@ -77,7 +88,8 @@ read_failed got.Failed = true
 
 -- what a read answered, and left of the link and of the buffer
 pub record Reads (told told' : Option LinkTold) (counts counts' : LinkCounts) (answer : Got) (buffer : List ℕ) : Type 0 where
-  pub told_is : told' ≡ option_map (after_read answer buffer) told
+  pub told_is : told' ≡ option_map (after_read answer) told
+  pub gives : IfSome told (GivesNext answer buffer)
   pub fits : FitsBuffer answer (length buffer)
   pub faults : RisesWhere (read_failed answer) counts.faults counts'.faults
   pub late_reads : RisesExactlyWhere (read_late answer) counts.late_reads counts'.late_reads

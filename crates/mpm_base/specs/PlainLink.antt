@@ -7,12 +7,10 @@ use Rattle.mpm_base.specs.declared.link.Got.TheVariants as got
 use Rattle.mpm_base.specs.declared.link.Sent.{Sent}
 use Rattle.mpm_base.specs.declared.link.Sent.TheVariants as sent
 
--- what the link tells and counts, the bytes of its client that no read gave yet, and whether the client sends no more
--- behind them
+-- what the link tells and counts, and whether the client sends no more behind the bytes that come
 pub record SeenLink : Type 0 where
   pub told : LinkTold
   pub counts : LinkCounts
-  pub left : List ℕ
   pub ends : Bool
 
 -- the counts of a link of which no call was made
@@ -22,7 +20,7 @@ no_link_counts = record { faults = 0; late_reads = 0; late_writes = 0; ends = 0 
 -- the link as the front hands it out: its number, what its client sent, and whether the client sends no more
 abbrev pub new_link : ℕ → List ℕ → Bool → SeenLink
 new_link number coming ended =
-    record { told = fresh_link number; counts = no_link_counts; left = coming; ends = ended }
+    record { told = fresh_link number coming; counts = no_link_counts; ends = ended }
 
 -- what a read into so much room answers where no byte is left
 abbrev pub answer_at_end : Bool → Got
