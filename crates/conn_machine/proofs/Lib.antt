@@ -1,5 +1,7 @@
 pub mod ChildLemmas
+pub mod ChildSound
 pub mod FairLemmas
+pub mod LawLemmas
 pub mod ListLemmas
 pub mod PickLemmas
 pub mod RunLemmas

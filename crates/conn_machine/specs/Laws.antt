@@ -1,16 +1,19 @@
 -- What the laws of the machine say, in words of their own.
-use Rattle.std.specs.Prelude.{◌≡◌, ℕ, ◌+◌, ◌*◌, ◌-◌, ◌≤◌, Bool, true, false, ◌&&◌, ◌==◌, nat_lt, List, [], ◌++◌, Option, Some}
+use Rattle.std.specs.Prelude.{◌≡◌, ℕ, ◌+◌, ◌*◌, ◌-◌, ◌≤◌, Bool, true, false, ◌&&◌, ◌==◌, nat_lt, List, [], ◌∷◌, ◌++◌, Some, ⊤}
 use Rattle.mpm_base.specs.declared.conn.ConnName.{ConnName}
+use Rattle.mpm_base.specs.Notes.{says_last}
 use Rattle.mpm_base.specs.declared.note.Note.{Note}
 use Rattle.conn_machine.specs.declared.event.Reply.{Reply}
 use Rattle.conn_machine.specs.declared.event.Reply.TheVariants.{Took}
 use Rattle.conn_machine.specs.declared.event.Entry.{Entry}
 use Rattle.conn_machine.specs.declared.state.State.{State}
-use Rattle.conn_machine.specs.Rows.{carried, open_count, lives_and}
+use Rattle.conn_machine.specs.declared.row.Row.{Row}
+use Rattle.conn_machine.specs.Rows.{carried, open_count, live_row, lives_and}
 use Rattle.conn_machine.specs.Children.{child_at, is_running}
 use Rattle.conn_machine.specs.Events.{count_events, is_accept, is_hold, is_queue, is_ready}
+use Rattle.conn_machine.specs.Table.{after_accept}
 use Rattle.conn_machine.specs.Runs.{after}
-use Rattle.conn_machine.specs.Sound.{IsSound, says_last}
+use Rattle.conn_machine.specs.Sound.{IsSound}
 
 -- after each first part of the history, the whole of it among them, the state is sound
 abbrev pub StaysSound : State → List Entry → Type 0
@@ -42,15 +45,26 @@ pub record IsChosen (s : State) (k : ℕ) : Type 0 where
   pub none_idler : (other : ℕ) → admits_in s other ≡ true → idle_in s other ≤ idle_in s k
   pub none_lower : (other : ℕ) → admits_in s other ≡ true → idle_in s other ≡ idle_in s k → k ≤ other
 
--- the connection was taken for the chosen child, whose generation is the newest
-pub record IsTakenFor (s : State) (answer : Reply) : Type 0 where
+-- the connection was taken into the slot for the chosen child, whose generation is the newest, and so says its row
+pub record IsTakenFor (s : State) (slot : ℕ) (answer : Reply) : Type 0 where
   pub name : ConnName
   pub child : ℕ
+  pub row : Row
   pub replied : answer ≡ Took name child s.newest
+  pub in_slot : name.slot ≡ slot
   pub chosen : IsChosen s child
+  pub found : live_row (after_accept s slot).rows name ≡ Some row
+  pub of_child : row.child ≡ child
+  pub of_generation : row.generation ≡ s.newest
 
--- a connection has its responses and perhaps further ones, and none after its last
+-- these notes may follow, where the one before them says so much: none follows one that says that it is the last
+abbrev pub MayFollow : Bool → List Note → Type 0
+MayFollow last [] = ⊤
+MayFollow true (note ∷ notes) = ⊥
+MayFollow false (note ∷ notes) = MayFollow note.last notes
+
+-- a connection has its responses and perhaps further ones, and none after one that is the last
 pub record OnlyGrows (old new : List Note) : Type 0 where
   pub more : List Note
   pub grown : new ≡ old ++ more
-  pub ended : says_last old ≡ true → more ≡ []
+  pub follows : MayFollow (says_last old) more

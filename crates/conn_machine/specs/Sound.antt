@@ -1,10 +1,10 @@
 -- What holds of every state that the machine comes to. A number that no child has stands for a child that was never started.
-use Rattle.std.specs.Prelude.{◌≡◌, ℕ, ◌+◌, ◌*◌, ◌<◌, ◌≤◌, Bool, true, false, ◌||◌, List, length, count_by, fold, Option, None, Some, slice_get, ⊤}
+use Rattle.std.specs.Prelude.{◌≡◌, ℕ, ◌+◌, ◌*◌, ◌<◌, ◌≤◌, Bool, true, false, ◌||◌, List, length, count_by, Option, None, Some, slice_get, ⊤}
 use Rattle.std.specs.List.{list_any}
 use Rattle.mpm_base.specs.Count.{greatest_count}
 use Rattle.mpm_base.specs.declared.conn.Kind.{Kind}
 use Rattle.mpm_base.specs.declared.conn.Kind.TheVariants.{Reading, KeepAlive, Writing, Linger, ShortLinger}
-use Rattle.mpm_base.specs.declared.note.Note.{Note}
+use Rattle.mpm_base.specs.Notes.{says_last}
 use Rattle.conn_machine.specs.declared.row.Place.{Place}
 use Rattle.conn_machine.specs.declared.row.Place.TheVariants.{Vacant, Spent, Held, Parked, Queued, Working}
 use Rattle.conn_machine.specs.declared.row.Row.{Row}
@@ -138,10 +138,6 @@ RequestFits Queued r = ExpectedMore r.from r
 RequestFits (Working cell phase) r = ⊤
 
 -- ## Responses
-
--- whether the last of the notes says that it is the last response; there may be none
-abbrev pub says_last : List Note → Bool
-says_last notes = fold (λ before note. note.last) false notes
 
 -- the responses of a row: as many as its child allows at most, with room for one more unless the last was decided
 pub record HasSoundNotes (most : ℕ) (r : Row) : Type 0 where

@@ -49,7 +49,7 @@ pub fn live_connections_share_nothing()
 
 /// A connection that is taken after a graceful restart is of the generation that it made, or of a newer one.
 pub fn replaced_generations_take_nothing()
-    ensures { (s : State) (before between : List Entry) (restart taking : Entry) (shape : Shape) (slot : ℕ) (name : ConnName) (child generation : ℕ) → Run s (before ++ restart ∷ between ++ taking ∷ []) → restart.event ≡ event.Command (Graceful shape) → taking.event ≡ event.Accept slot → taking.reply ≡ Took name child generation → (after s before).newest < generation }
+    ensures { (s : State) (before between rest : List Entry) (restart taking : Entry) (shape : Shape) (slot : ℕ) (name : ConnName) (child generation : ℕ) → Run s (before ++ restart ∷ between ++ taking ∷ rest) → restart.event ≡ event.Command (Graceful shape) → taking.event ≡ event.Accept slot → taking.reply ≡ Took name child generation → (after s before).newest < generation }
 {}
 
 /// No connection of a child that is let go of is live.
@@ -60,10 +60,10 @@ pub fn retired_children_are_drained()
 /// Each connection is taken for the child that the rule of admission names: of those that take one, the one with most idle
 /// workers, and of those with as many the one with the lowest number.
 pub fn connections_go_to_the_chosen_child()
-    ensures { (s : State) (before rest : List Entry) (e : Entry) (slot : ℕ) → Run s (before ++ e ∷ rest) → e.event ≡ event.Accept slot → IsTakenFor (after s before) e.reply }
+    ensures { (s : State) (before rest : List Entry) (e : Entry) (slot : ℕ) → Run s (before ++ e ∷ rest) → e.event ≡ event.Accept slot → IsTakenFor (after s before) slot e.reply }
 {}
 
-/// The responses of a live connection only grow, and stay once the last was decided.
+/// The responses of a live connection only grow, and none comes after one that says that it is the last.
 pub fn responses_only_grow()
     ensures { (s : State) (history : List Entry) (name : ConnName) (r r' : Row) → IsSound s → Run s history → live_row s.rows name ≡ Some r → live_row (after s history).rows name ≡ Some r' → OnlyGrows r.notes r'.notes }
 {}

@@ -3,6 +3,7 @@ ghost use Rattle.std.specs.Prelude.{◌≡◌, ◌≤◌, ◌<◌, true, false, 
 ghost use Rattle.conn_machine.specs.Rows as rows;
 ghost use Rattle.conn_machine.specs.States as states;
 ghost use Rattle.conn_machine.specs.Table as table;
+ghost use Rattle.conn_machine.specs.Sound.{IsSound};
 ghost use Rattle.conn_machine.specs.declared.event.Reply.TheVariants.{Done, Cell, Noted};
 
 use crate::event::{Commanded, Event, Reply};
@@ -23,6 +24,7 @@ pub fn step(alloc: Global, state: &mut State, event: &Event) -> Result<Reply, No
     ensures reply { IfOk result (λ answer. answer ≡ table.reply state.old event.now) }
     ensures err { OnErr result (state.new ≡ state.old) }
     ensures sure { table.takes_memory event.now ≡ false → IsOk result }
+    ensures sound { IsSound state.old → IsSound state.new }
 {
     let _ = alloc;
     match *event {

@@ -1,0 +1,138 @@
+-- What the laws of the machine say of one entry of a run: a child that is let go of, a connection that is taken.
+use Rattle.std.proofs.Common.{◌≡◌, ◌<◌, ◌≤◌, ◌==◌, ℕ, ◌+◌, ◌*◌, true, false, not, ◌&&◌, nat_lt, List, [], ◌∷◌, ◌++◌, Option, Some, None, is_some, unwrap_or, refl, ap, le_trans, arith}
+use Rattle.std.specs.List.{list_any}
+use Rattle.std.proofs.lemmas.Bool.{and_parts, not-true, eqb-true}
+use Rattle.mpm_base.specs.declared.shape.Shape.{Shape}
+use Rattle.mpm_base.specs.declared.conn.ConnName.{ConnName}
+use Rattle.conn_machine.specs.declared.event.Commanded.{Commanded}
+use Rattle.conn_machine.specs.declared.event.Commanded.TheVariants.{Graceful, Refused, GracefulStop, Stop}
+use Rattle.conn_machine.specs.declared.event.Event.{Event}
+use Rattle.conn_machine.specs.declared.event.Event.TheVariants as event
+use Rattle.conn_machine.specs.declared.event.Reply.TheVariants.{Took}
+use Rattle.conn_machine.specs.declared.event.Entry.{Entry}
+use Rattle.conn_machine.specs.declared.state.State.{State}
+use Rattle.conn_machine.specs.Rows.{is_live_in, open_count}
+use Rattle.conn_machine.specs.Children.{child_at, is_running, is_stopping}
+use Rattle.conn_machine.specs.States.{is_serving, pick_child}
+use Rattle.conn_machine.specs.Table.{allowed, next, reply, is_vacant_at, life_at, picked_child, taken_reply, child_passes, may_accept, may_retire, after_command}
+use Rattle.conn_machine.specs.Runs.{after, Run}
+use Rattle.conn_machine.specs.Laws.{idle_in, IsChosen, IsTakenFor}
+use Rattle.conn_machine.proofs.PickLemmas.{pick_is_chosen}
+
+-- ---- an entry of a run
+
+-- what follows the first entries of a run is a run from the state after them
+pub run_after : (s : State) (before rest : List Entry) → Run s (before ++ rest) → Run (after s before) rest
+run_after s [] rest run = run
+run_after s (e ∷ before) rest run = run_after (next s e.event) before rest run.2
+
+-- a history goes on from the state after its first entries
+after-append : (s : State) (before rest : List Entry) → after s (before ++ rest) ≡ after (after s before) rest
+after-append s [] rest = refl
+after-append s (e ∷ before) rest = after-append (next s e.event) before rest
+
+-- the state before an entry allows its event
+pub run-allowed : (s : State) (before rest : List Entry) (e : Entry) (event : Event) → Run s (before ++ e ∷ rest)
+    → e.event ≡ event → allowed (after s before) event ≡ true
+run-allowed s before rest e event run is = rw (← is) (run_after s before (e ∷ rest) run).0
+
+-- and replies so
+pub run-replied : (s : State) (before rest : List Entry) (e : Entry) (event : Event) → Run s (before ++ e ∷ rest)
+    → e.event ≡ event → e.reply ≡ reply (after s before) event
+run-replied s before rest e event run is = rw (← is) (run_after s before (e ∷ rest) run).1
+
+-- ---- a child that is let go of
+
+-- no connection of it is live
+pub retired-drained : (s : State) (before rest : List Entry) (e : Entry) (child : ℕ) → Run s (before ++ e ∷ rest)
+    → e.event ≡ event.Retire child → list_any (is_live_in child) (after s before).rows ≡ false
+retired-drained s before rest e child run is =
+    let st = after s before in
+    let may : may_retire st child ≡ true = run-allowed s before rest e (event.Retire child) run is in
+    not-true (list_any (is_live_in child) st.rows)
+    (and_parts (child_passes (λ c. is_stopping c.phase) st child) (not (list_any (is_live_in child) st.rows)) may).1
+
+-- ---- a connection that is taken
+
+-- the chosen child is of the newest generation
+chosen-newest : (s : State) (k : ℕ) → IsChosen s k → (child_at s.children k).generation ≡ s.newest
+chosen-newest s k chosen =
+    let c = child_at s.children k in
+    let parts = and_parts (is_running c.phase && c.generation == s.newest)
+    (nat_lt (100 * open_count s.rows k) (100 * c.shape.threads + c.shape.factor * idle_in s k)) chosen.admits in
+    eqb-true c.generation s.newest (and_parts (is_running c.phase) (c.generation == s.newest) parts.0).1
+
+-- where there is a child that takes connections, it is the chosen one
+taken_by : (s : State) (slot : ℕ) (choice : Option ℕ) → pick_child s ≡ choice → is_some choice ≡ true
+    → IsTakenFor s (taken_reply s slot)
+taken_by s slot None is some = absurd (cc)
+taken_by s slot (Some k) is some =
+    let chosen = pick_is_chosen s k is in
+    let name : ConnName = record { slot = slot; life = life_at s.rows slot } in
+    let child : picked_child s ≡ k = ap (λ (choice : Option ℕ). unwrap_or choice 0) is in
+    record {
+      name = name;
+      child = k;
+      replied = rw child (ap (Took name k) (chosen-newest s k chosen));
+      chosen = chosen;
+    }
+
+-- a connection is taken for the chosen child
+pub taken-chosen : (s : State) (before rest : List Entry) (e : Entry) (slot : ℕ) → Run s (before ++ e ∷ rest)
+    → e.event ≡ event.Accept slot → IsTakenFor (after s before) e.reply
+taken-chosen s before rest e slot run is =
+    let st = after s before in
+    let may : may_accept st slot ≡ true = run-allowed s before rest e (event.Accept slot) run is in
+    let some = and_parts (is_serving st.going && is_vacant_at st slot) (is_some (pick_child st)) may in
+    rw (run-replied s before rest e (event.Accept slot) run is) (taken_by st slot (pick_child st) refl some.1)
+
+-- ---- the newest generation
+
+-- no command leads back to an older generation
+newest-commanded : (s : State) (c : Commanded) → s.newest ≤ (after_command s c).newest
+newest-commanded s (Graceful shape) = omega arith
+newest-commanded s (Refused reason) = omega arith
+newest-commanded s (GracefulStop until) = omega arith
+newest-commanded s (Stop reason) = omega arith
+
+-- nor any other event
+newest-next : (s : State) (e : Event) → s.newest ≤ (next s e).newest
+newest-next s (event.Accept slot) = omega arith
+newest-next s (event.Park name kind) = omega arith
+newest-next s (event.Hold name) = omega arith
+newest-next s (event.Queue name) = omega arith
+newest-next s (event.Start name) = omega arith
+newest-next s (event.Answer name ask) = omega arith
+newest-next s (event.Linger name why) = omega arith
+newest-next s (event.Close name why how) = omega arith
+newest-next s (event.Ready slot) = omega arith
+newest-next s (event.Tick m) = omega arith
+newest-next s (event.StartChild k) = omega arith
+newest-next s (event.Command c) = newest-commanded s c
+newest-next s (event.Retire k) = omega arith
+
+-- nor does a history
+newest-after : (s : State) (history : List Entry) → s.newest ≤ (after s history).newest
+newest-after s [] = omega arith
+newest-after s (e ∷ history) = le_trans (newest-next s e.event) (newest-after (next s e.event) history)
+
+-- a connection that is taken is of the newest generation
+taken-newest : (s : State) (before rest : List Entry) (e : Entry) (slot : ℕ) (name : ConnName) (child generation : ℕ)
+    → Run s (before ++ e ∷ rest) → e.event ≡ event.Accept slot → e.reply ≡ Took name child generation
+    → generation ≡ (after s before).newest
+taken-newest s before rest e slot name child generation run is replied =
+    let taken = taken-chosen s before rest e slot run is in
+    let same = taken.replied in
+    cc
+
+-- after a graceful restart it is of a newer one than was the newest before
+pub taken-newer : (s : State) (before between : List Entry) (restart taking : Entry) (shape : Shape) (slot : ℕ) (name : ConnName)
+    (child generation : ℕ) → Run s (before ++ restart ∷ between ++ taking ∷ []) → restart.event ≡ event.Command (Graceful shape)
+    → taking.event ≡ event.Accept slot → taking.reply ≡ Took name child generation → (after s before).newest < generation
+taken-newer s before between restart taking shape slot name child generation run restarts takes replied =
+    let st = after s before in
+    let own = taken-newest s (before ++ restart ∷ between) [] taking slot name child generation run takes replied in
+    let there = ap (λ (t : State). t.newest) (after-append s before (restart ∷ between)) in
+    let grown = newest-after (next st restart.event) between in
+    let more : (next st restart.event).newest ≡ st.newest + 1 = ap (λ (e : Event). (next st e).newest) restarts in
+    omega arith
