@@ -1,0 +1,124 @@
+-- How the connections of a board agree with its rows, while one row changes.
+use Rattle.std.proofs.Common.{◌≡◌, ◌==◌, ℕ, zero, suc, ◌+◌, ◌<◌, ◌≤◌, Bool, true, false, cond, List, [], ◌∷◌, length, Option, None, Some, slice_get, count_by, sum_by, refl, sym, ap, subst, ◌∙◌, get_or-set_same, get_or-set_other, eqb-true, eq-eqb, arith}
+use Rattle.std.proofs.Math.ListN.{set, length-set}
+use Rattle.std.proofs.lemmas.List.Sums.{sum_by-cons}
+use Rattle.std.proofs.lemmas.Bool.{and_parts}
+use Rattle.mpm_base.specs.declared.conn.ConnName.{ConnName}
+use Rattle.conn_machine.specs.declared.row.Row.{Row}
+use Rattle.conn_machine.specs.Lists.{update}
+use Rattle.conn_machine.specs.Rows.{is_live, is_named, live_row, lives_and}
+use Rattle.conn_machine.proofs.SizeLemmas.{length-update}
+use Rattle.board.specs.Fits.{SeenConn}
+use Rattle.board.specs.Board.{IsHome, conn_at, Agrees}
+
+-- ## One item
+
+pub get-update_same : {X : Type 0} (xs : List X) (i : ℕ) (x : X) (change : X → X) → slice_get xs i ≡ Some x
+    → slice_get (update xs i change) i ≡ Some (change x)
+get-update_same [] i x change at = absurd (cc)
+get-update_same (y ∷ xs) zero x change at = let e : y ≡ x = cc in ap (λ z. Some (change z)) e
+get-update_same (y ∷ xs) (suc i) x change at = get-update_same xs i x change at
+
+pub get-update_other : {X : Type 0} (xs : List X) (i j : ℕ) (change : X → X) → (j ≡ i → ⊥)
+    → slice_get (update xs i change) j ≡ slice_get xs j
+get-update_other [] i j change differs = refl
+get-update_other (y ∷ xs) zero zero change differs = absurd (differs refl)
+get-update_other (y ∷ xs) zero (suc j) change differs = refl
+get-update_other (y ∷ xs) (suc i) zero change differs = refl
+get-update_other (y ∷ xs) (suc i) (suc j) change differs = get-update_other xs i j change (λ e. differs (ap suc e))
+
+pub get-below : {X : Type 0} (xs : List X) (i : ℕ) (x : X) → slice_get xs i ≡ Some x → i < length xs
+get-below [] i x at = absurd (cc)
+get-below (y ∷ xs) zero x at = omega arith
+get-below (y ∷ xs) (suc i) x at = let h : i < length xs = get-below xs i x at in omega arith
+
+sum-update : {X : Type 0} (w : X → ℕ) (xs : List X) (i : ℕ) (x : X) (change : X → X) → slice_get xs i ≡ Some x
+    → sum_by w (update xs i change) + w x ≡ sum_by w xs + w (change x)
+sum-update w [] i x change at = absurd (cc)
+sum-update {X} w (y ∷ xs) zero x change at =
+    let e : y ≡ x = cc in
+    omega (arith, sum_by-cons w (change y) xs, sum_by-cons w y xs, ap w e, ap (λ (z : X). w (change z)) e)
+sum-update w (y ∷ xs) (suc i) x change at =
+    omega (arith, sum-update w xs i x change at, sum_by-cons w y (update xs i change), sum_by-cons w y xs)
+
+-- how many pass a test, once one was changed
+pub count-update : {X : Type 0} (test : X → Bool) (xs : List X) (i : ℕ) (x : X) (change : X → X) → slice_get xs i ≡ Some x
+    → count_by test (update xs i change) + cond (test x) 1 0 ≡ count_by test xs + cond (test (change x)) 1 0
+count-update {X} test xs i x change at = sum-update (λ (y : X). cond (test y) 1 0) xs i x change at
+
+-- ## A live row
+
+-- what is known of the row of a connection that lives
+pub record LivesAs (rows : List Row) (name : ConnName) (test : Row → Bool) : Type 0 where
+  pub row : Row
+  pub found : live_row rows name ≡ Some row
+  pub at : slice_get rows name.slot ≡ Some row
+  pub live : is_live row ≡ true
+  pub life : row.life ≡ name.life
+  pub passes : test row ≡ true
+
+lives_if : (rows : List Row) (name : ConnName) (test : Row → Bool) (r : Row) (named : Bool) → is_named name r ≡ named
+    → slice_get rows name.slot ≡ Some r → lives_and test rows name ≡ true → LivesAs rows name test
+lives_if rows name test r true named at lives = record {
+  row = r;
+  found = rw at (rw named refl);
+  at = at;
+  live = (and_parts _ _ named).0;
+  life = eqb-true r.life name.life (and_parts _ _ named).1;
+  passes = rw named at (rw at at lives);
+}
+lives_if rows name test r false named at lives =
+    let never : false ≡ true = rw named at (rw at at lives) in
+    absurd (cc)
+
+lives_where : (rows : List Row) (name : ConnName) (test : Row → Bool) (o : Option Row) → slice_get rows name.slot ≡ o
+    → lives_and test rows name ≡ true → LivesAs rows name test
+lives_where rows name test None at lives =
+    let never : false ≡ true = rw at at lives in
+    absurd (cc)
+lives_where rows name test (Some r) at lives = lives_if rows name test r (is_named name r) refl at lives
+
+pub lives_as : (rows : List Row) (name : ConnName) (test : Row → Bool) → lives_and test rows name ≡ true → LivesAs rows name test
+lives_as rows name test lives = lives_where rows name test (slice_get rows name.slot) refl lives
+
+-- ## Agreement
+
+-- the connection of a slot, once that of this slot was set
+homes_by : (rows : List Row) (conns : List (Option SeenConn)) (slot : ℕ) (r : Row) (change : Row → Row) (c : Option SeenConn) (ended room : ℕ)
+    → Agrees rows conns ended room → slice_get rows slot ≡ Some r → IsHome slot (change r) c
+    → (j : ℕ) (r' : Row) (same : Bool) → (j == slot) ≡ same → slice_get (update rows slot change) j ≡ Some r'
+    → IsHome j r' (conn_at (set conns slot c) j)
+homes_by rows conns slot r change c ended room agrees at home j r' true is_same at' =
+    let e : j ≡ slot = eqb-true j slot is_same in
+    let here : slice_get (update rows slot change) slot ≡ Some (change r) = get-update_same rows slot r change at in
+    let there : slice_get (update rows slot change) slot ≡ Some r' =
+    subst (λ (k : ℕ). slice_get (update rows slot change) k ≡ Some r') e at' in
+    let row_is : change r ≡ r' = cc in
+    let below : slot < length conns = omega (arith, get-below rows slot r at, agrees.slots) in
+    subst (λ (k : ℕ). IsHome k r' (conn_at (set conns slot c) k)) (sym e)
+    (rw (get_or-set_same conns slot c None below) (subst (λ (x : Row). IsHome slot x c) row_is home))
+homes_by rows conns slot r change c ended room agrees at home j r' false other at' =
+    let differs : (j ≡ slot → ⊥) = (λ (e : j ≡ slot). let eq : (j == slot) ≡ true = eq-eqb j slot e in cc) in
+    let before : slice_get rows j ≡ Some r' = sym (get-update_other rows slot j change differs) ∙ at' in
+    rw (get_or-set_other conns slot j c None differs) (agrees.homes j r' before)
+
+-- one row and the connection of its slot change together
+pub agrees_set : (rows : List Row) (conns : List (Option SeenConn)) (slot : ℕ) (r : Row) (change : Row → Row) (c : Option SeenConn)
+    (ended room ended' room' : ℕ)
+    → Agrees rows conns ended room → slice_get rows slot ≡ Some r → IsHome slot (change r) c
+    → ended' + count_by is_live (update rows slot change) ≤ room'
+    → Agrees (update rows slot change) (set conns slot c) ended' room'
+agrees_set rows conns slot r change c ended room ended' room' agrees at home space = record {
+  slots = length-set conns slot c ∙ agrees.slots ∙ sym (length-update rows slot change);
+  homes = λ j r' at'. homes_by rows conns slot r change c ended room agrees at home j r' (j == slot) refl at';
+  has_room = space;
+}
+
+-- more room is room enough
+pub agrees_more : (rows : List Row) (conns : List (Option SeenConn)) (ended room room' : ℕ)
+    → Agrees rows conns ended room → room ≤ room' → Agrees rows conns ended room'
+agrees_more rows conns ended room room' agrees more = record {
+  slots = agrees.slots;
+  homes = agrees.homes;
+  has_room = omega (arith, agrees.has_room, more);
+}

@@ -1,0 +1,25 @@
+use Rattle.std.proofs.Common.{◌≡◌, ◌+◌, ◌≤◌, ◌<◌, true, length, vec_capacity, subst, sym, refl, rules, arith}
+use Rattle.conn_machine.specs.Table.{allowed, next}
+use Rattle.board.specs.Book.{SeenBook, numbered}
+use Rattle.board.specs.Room.{owed}
+use Rattle.board.proofs.BookLemmas.{kept_sure}
+use Rattle.board.proofs.RoomLemmas.{owed-sure}
+use Rattle.board.proofs.book.Book.record_sure.Goals as goal
+
+pub append-requires-clause-room : goal.append-requires-clause-room
+append-requires-clause-room c =
+    let inside = c.self.inside in
+    let may = subst (λ (v : SeenBook). allowed v.state c.args.event ≡ true) (sym c.self.view_is) c.requires.allowed in
+    let owes : owed (next inside.state c.args.event) + 1 ≤ owed inside.state = owed-sure inside.state c.args.event may c.requires.sure in
+    let room : length inside.history.items + owed inside.state ≤ vec_capacity inside.history = c.self.invariant.has_room in
+    let below : length inside.history.items < vec_capacity inside.history = omega (arith, owes, room) in
+    search rules
+
+pub invariant_of-self : goal.invariant_of-self
+invariant_of-self c =
+    let inside = c.self.inside in
+    let may = subst (λ (v : SeenBook). allowed v.state c.args.event ≡ true) (sym c.self.view_is) c.requires.allowed in
+    kept_sure inside.base.value inside.history.items c.append.new.history.items inside.state c.step.new.state inside.ordinals.items
+    c.append.new.ordinals.items (vec_capacity inside.history) (vec_capacity c.append.new.history)
+    (numbered c.args.who c.args.event c.in-Ok.reply inside.history.items) c.self.invariant may c.in-Ok.ensures.reply refl
+    c.append.ensures.numbers c.append.ensures.history c.in-Ok.ensures.state c.requires.sure c.append.ensures.room

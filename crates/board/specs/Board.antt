@@ -1,0 +1,93 @@
+-- What is seen of a board, and how its connections agree with its rows and its history.
+use Rattle.std.specs.Prelude.{◌≡◌, ℕ, ◌+◌, ◌≤◌, Bool, true, false, List, [], ◌∷◌, length, count_by, Option, None, Some, slice_get, slice_index_or, ⊤}
+use Rattle.mpm_base.specs.declared.conn.ConnName.{ConnName}
+use Rattle.conn_machine.specs.declared.row.Place.{Place}
+use Rattle.conn_machine.specs.declared.row.Place.TheVariants.{Vacant, Spent, Held, Parked, Queued, Working}
+use Rattle.conn_machine.specs.declared.row.Row.{Row}
+use Rattle.conn_machine.specs.declared.event.Event.{Event}
+use Rattle.conn_machine.specs.declared.event.Event.TheVariants as event
+use Rattle.conn_machine.specs.declared.event.Entry.{Entry}
+use Rattle.conn_machine.specs.declared.state.State.{State}
+use Rattle.conn_machine.specs.Rows.{is_live}
+use Rattle.conn_machine.specs.Table.{next}
+use Rattle.conn_state.specs.Conn.{SeenConn}
+use Rattle.conn_state.specs.Answered.{SeenEnded, IsEnded}
+use Rattle.board.specs.Book.{SeenBook}
+use Rattle.board.specs.Fits.{Fits, IsSettled, IsSettledFrom, IsClosing}
+
+-- a board: its history and state, the connections that it has by their slots, and those that ended
+pub record SeenBoard : Type 0 where
+  pub book : SeenBook
+  pub conns : List (Option SeenConn)
+  pub ended : List SeenEnded
+
+-- ## The connections that wait
+
+-- the board has the connection of a row that waits, for something to come or for a worker
+abbrev pub IsHeldHere : Place → Row → SeenConn → Type 0
+IsHeldHere Vacant r c = ⊥
+IsHeldHere Spent r c = ⊥
+IsHeldHere Held r c = ⊥
+IsHeldHere (Parked kind) r c = IsSettled kind c
+IsHeldHere Queued r c = IsSettledFrom r.from c
+IsHeldHere (Working cell phase) r c = ⊥
+
+-- a row of that place waits here
+abbrev pub is_home : Place → Bool
+is_home Vacant = false
+is_home Spent = false
+is_home Held = false
+is_home (Parked kind) = true
+is_home Queued = true
+is_home (Working cell phase) = false
+
+-- the connection is that of the slot's row, which waits, and is as one that waits so
+pub record IsAtHome (slot : ℕ) (r : Row) (c : SeenConn) : Type 0 where
+  pub name : c.name ≡ record { slot = slot; life = r.life }
+  pub fits : Fits c r
+  pub here : IsHeldHere r.place r c
+
+-- the board has the connection of the slot's row exactly where the row waits
+abbrev pub IsHome : ℕ → Row → Option SeenConn → Type 0
+IsHome slot r None = is_home r.place ≡ false
+IsHome slot r (Some c) = IsAtHome slot r c
+
+-- the connection of a slot
+abbrev pub conn_at : List (Option SeenConn) → ℕ → Option SeenConn
+conn_at conns slot = slice_index_or conns slot None
+
+-- each row that waits has its one fitting connection, and there are no others
+pub record AreHome (rows : List Row) (conns : List (Option SeenConn)) : Type 0 where
+  pub slots : length conns ≡ length rows
+  pub homes : (slot : ℕ) (r : Row) → slice_get rows slot ≡ Some r → IsHome slot r (conn_at conns slot)
+
+-- ## The connections that ended
+
+-- the first of the connections that ended is the one that the event closes, where it closes one; the others come later
+abbrev pub Closes : State → Event → (List SeenEnded → Type 0) → List SeenEnded → Type 0
+Closes s (event.Close name why how) Others [] = ⊥
+Closes s (event.Close name why how) Others (e ∷ ended) = IsClosing s name why how e × Others ended
+Closes s other Others ended = Others ended
+
+-- the connections that ended are those that the entries close, in their order
+abbrev pub AreClosed : State → List Entry → List SeenEnded → Type 0
+AreClosed s [] ended = ended ≡ []
+AreClosed s (entry ∷ entries) ended = Closes s entry.event (AreClosed (next s entry.event) entries) ended
+
+-- each of them shows what an ended connection shows
+abbrev pub AreEnded : List SeenEnded → Type 0
+AreEnded [] = ⊤
+AreEnded (e ∷ ended) = IsEnded e × AreEnded ended
+
+-- ## Agreement
+
+-- a board agrees with its history
+pub record Agrees (b : SeenBoard) : Type 0 where
+  pub waiting : AreHome b.book.state.rows b.conns
+  pub closed : AreClosed b.book.base b.book.history b.ended
+  pub answered : AreEnded b.ended
+
+-- and each live connection finds room among those that ended
+pub record IsBoard (b : SeenBoard) (room : ℕ) : Type 0 where
+  pub agrees : Agrees b
+  pub has_room : length b.ended + count_by is_live b.book.state.rows ≤ room

@@ -1,0 +1,59 @@
+-- Why a call of the board is refused, and what it records.
+use Rattle.std.specs.Prelude.{◌≡◌, ℕ, ◌<◌, ◌≤◌, true, false, Option, None, Some, is_some}
+use Rattle.conn_machine.specs.declared.event.Event.{Event}
+use Rattle.conn_machine.specs.declared.state.State.{State}
+use Rattle.conn_machine.specs.Rows.{is_vacant}
+use Rattle.conn_machine.specs.States.{is_halted, pick_child}
+use Rattle.conn_machine.specs.Table.{is_vacant_at}
+use Rattle.conn_machine.specs.Runs.{load, full_load}
+use Rattle.board.specs.declared.faults.BoardFault.{BoardFault}
+use Rattle.board.specs.declared.faults.BoardFault.TheVariants as fault
+use Rattle.board.specs.declared.faults.AcceptFault.{AcceptFault}
+use Rattle.board.specs.declared.faults.AcceptFault.TheVariants as accept
+use Rattle.board.specs.Book.{SeenBook, recorded}
+
+-- the server goes on, and the history has room
+pub record IsOpen (b : SeenBook) : Type 0 where
+  pub going : is_halted b.state.going ≡ false
+  pub light : load b.history < full_load
+
+-- the server goes on, and the history is full
+pub record IsFull (b : SeenBook) : Type 0 where
+  pub going : is_halted b.state.going ≡ false
+  pub heavy : full_load ≤ load b.history
+
+-- the call is refused for this: it had to be, unless memory lacked
+abbrev pub IsRefusedFor : BoardFault → SeenBook → Type 0
+IsRefusedFor fault.Halted b = is_halted b.state.going ≡ true
+IsRefusedFor fault.Full b = IsFull b
+IsRefusedFor fault.NoMemory b = IsOpen b
+
+-- the pass recorded the event, in a history that could be recorded in
+pub record IsRecorded (who : ℕ) (event : Event) (old new : SeenBook) : Type 0 where
+  pub was_open : IsOpen old
+  pub new_is : new ≡ recorded who event old
+
+-- no child takes a connection
+pub record HasNoChild (b : SeenBook) : Type 0 where
+  pub was_open : IsOpen b
+  pub none_picked : pick_child b.state ≡ None
+
+-- a child would take one, and no slot is vacant
+pub record HasNoSlot (b : SeenBook) : Type 0 where
+  pub was_open : IsOpen b
+  pub picked : is_some (pick_child b.state) ≡ true
+  pub none_vacant : (slot : ℕ) → is_vacant_at b.state slot ≡ false
+
+-- no connection is taken for this
+abbrev pub IsNotTakenFor : AcceptFault → SeenBook → Type 0
+IsNotTakenFor accept.Halted b = is_halted b.state.going ≡ true
+IsNotTakenFor accept.Full b = IsFull b
+IsNotTakenFor accept.NoChild b = HasNoChild b
+IsNotTakenFor accept.NoSlot b = HasNoSlot b
+IsNotTakenFor accept.NoMemory b = IsOpen b
+
+-- the same fault of a call that takes a connection
+abbrev pub accept_fault : BoardFault → AcceptFault
+accept_fault fault.Halted = accept.Halted
+accept_fault fault.Full = accept.Full
+accept_fault fault.NoMemory = accept.NoMemory

@@ -1,0 +1,82 @@
+-- What the tests of a board look for in its state.
+use Rattle.std.specs.Prelude.{◌≡◌, ℕ, Bool, true, false, not, ◌&&◌, ◌||◌, List, [], ◌∷◌, ◌++◌, length, map, filter, find, nat_lt, Option, None, Some, slice_get, option_map, if◌then◌else◌}
+use Rattle.std.specs.List.{list_any, range_with_len}
+use Rattle.std.specs.Option.{option_and_then}
+use Rattle.admission.specs.Admission.{least}
+use Rattle.mpm_base.specs.declared.conn.ConnName.{ConnName}
+use Rattle.mpm_base.specs.declared.conn.Kind.{Kind}
+use Rattle.conn_machine.specs.declared.row.Place.{Place}
+use Rattle.conn_machine.specs.declared.row.Place.TheVariants.{Vacant, Spent, Held, Parked, Queued, Working}
+use Rattle.conn_machine.specs.declared.row.Row.{Row}
+use Rattle.conn_machine.specs.declared.state.Going.{Going}
+use Rattle.conn_machine.specs.declared.state.Going.TheVariants.{Serving, Ending, Halted}
+use Rattle.conn_machine.specs.declared.state.State.{State}
+use Rattle.conn_machine.specs.Rows.{is_vacant, is_held, is_parked, is_queued, is_working, live_row, lives_and}
+use Rattle.conn_machine.specs.Children.{is_empty, running_count}
+use Rattle.conn_machine.specs.States.{is_serving, is_signalled, is_overdue, pick_child}
+use Rattle.conn_machine.specs.Table.{child_passes, may_be_queued, may_retire}
+
+-- the child that the next connection goes to, while the server takes connections and a slot is vacant
+abbrev pub acceptable : State → Option ℕ
+acceptable s = if is_serving s.going && list_any (λ r. is_vacant r.place) s.rows then pick_child s else None
+
+-- the lowest child that is gone, while the server takes connections and fewer children run than should
+abbrev pub startable : State → Option ℕ
+startable s =
+    if is_serving s.going && nat_lt (running_count s.children) s.shape.target
+    then find (child_passes (λ c. is_empty c.phase) s) (range_with_len 0 (length s.children)) else None
+
+-- the number is that of a child that may be let go of, or there is none
+abbrev pub FindsRetirable : State → Option ℕ → Type 0
+FindsRetirable s None = (k : ℕ) → may_retire s k ≡ false
+FindsRetirable s (Some k) = may_retire s k ≡ true
+
+-- the name is that of a live connection whose row passes the test, or no row passes it
+abbrev pub FindsRow : (ℕ → Row → Bool) → State → Option ConnName → Type 0
+FindsRow test s None = (slot : ℕ) (r : Row) → slice_get s.rows slot ≡ Some r → test slot r ≡ false
+FindsRow test s (Some name) = lives_and (test name.slot) s.rows name ≡ true
+
+-- the row waits and is late
+abbrev pub is_late : State → ℕ → Row → Bool
+is_late s slot r = is_overdue s.moment r
+
+-- something may have come for the row, which waits for service, and a worker of its child is free
+abbrev pub is_due : State → ℕ → Row → Bool
+is_due s slot r = is_signalled s slot && may_be_queued s r
+
+-- the row waits
+abbrev pub is_waiting : ℕ → Row → Bool
+is_waiting slot r = is_parked r.place
+
+-- what a row waits for
+abbrev pub kind_of : Place → Option Kind
+kind_of Vacant = None
+kind_of Spent = None
+kind_of Held = None
+kind_of (Parked kind) = Some kind
+kind_of Queued = None
+kind_of (Working cell phase) = None
+
+-- what the connection of that name waits for, where it lives and waits
+abbrev pub waits_for : State → ConnName → Option Kind
+waits_for s name = option_and_then (λ r. kind_of r.place) (live_row s.rows name)
+
+-- the moment at which the server stops, where it ends at one
+abbrev pub ending_moments : Going → List ℕ
+ending_moments Serving = []
+ending_moments (Ending None) = []
+ending_moments (Ending (Some until)) = until ∷ []
+ending_moments (Halted why) = []
+
+-- the least deadline of a row that waits, the moment at which the server stops among them
+abbrev pub next_deadline_of : State → Option ℕ
+next_deadline_of s =
+    least (map (λ r. r.deadline) (filter (λ r. is_parked r.place) s.rows) ++ ending_moments s.going)
+
+-- the row is in hand: a worker or the listener has it, or it waits for a worker
+abbrev pub is_in_hand : Row → Bool
+is_in_hand r = is_held r.place || is_queued r.place || is_working r.place
+
+-- no row is in hand
+abbrev pub is_quiet : State → Bool
+is_quiet s = not (list_any is_in_hand s.rows)

@@ -1,0 +1,84 @@
+-- How a connection fits its row, and what holds of one that the board has.
+use Rattle.std.specs.Prelude.{◌≡◌, ◌⊎◌, ℕ, List, [], ◌∷◌, ◌++◌, Option, None, Some, IfSome, ⊤}
+use Rattle.mpm_base.specs.declared.conn.Kind.{Kind}
+use Rattle.mpm_base.specs.declared.conn.Kind.TheVariants.{Reading, KeepAlive, Writing, Linger, ShortLinger}
+use Rattle.mpm_base.specs.declared.conn.ConnName.{ConnName}
+use Rattle.mpm_base.specs.declared.conn.Cause.{Cause}
+use Rattle.mpm_base.specs.declared.conn.Cause.TheVariants as cause
+use Rattle.mpm_base.specs.declared.conn.Tail.{Tail}
+use Rattle.mpm_base.specs.declared.note.Note.{Note}
+use Rattle.conn_machine.specs.declared.row.Place.{Place}
+use Rattle.conn_machine.specs.declared.row.Place.TheVariants.{Vacant, Spent, Held, Parked, Queued, Working}
+use Rattle.conn_machine.specs.declared.row.Row.{Row}
+use Rattle.conn_machine.specs.declared.state.State.{State}
+use Rattle.conn_machine.specs.Rows.{live_row}
+use Rattle.conn_state.specs.declared.turn.LastTurn.TheVariants as turn
+use Rattle.conn_state.specs.Conn.{SeenConn, IsConn}
+use Rattle.conn_state.specs.Answered.{SeenEnded, IsEnded}
+
+-- the connection is the one of the row: a link that tells has the row's arrival as its rank
+pub record Fits (c : SeenConn) (r : Row) : Type 0 where
+  pub child : c.child ≡ r.child
+  pub generation : c.generation ≡ r.generation
+  pub notes : c.notes ≡ r.notes
+  pub rank : IfSome c.told (λ t. t.rank ≡ r.arrival)
+
+-- ## A connection that waits
+
+-- it waits for a further request: its last turn found no byte of one
+pub record WaitsForNext (c : SeenConn) : Type 0 where
+  pub turn : c.turn ≡ turn.More
+  pub rest : c.rest ≡ []
+
+-- the connection may wait so: as new or after a turn that found no whole request; after one that found nothing at all; after
+-- one that found no room to write. None lingers yet.
+abbrev pub WaitsAs : Kind → SeenConn → Type 0
+WaitsAs Reading c = (c.turn ≡ turn.New) ⊎ (c.turn ≡ turn.More)
+WaitsAs KeepAlive c = WaitsForNext c
+WaitsAs Writing c = c.turn ≡ turn.NotReady
+WaitsAs Linger c = ⊥
+WaitsAs ShortLinger c = ⊥
+
+-- what holds of a connection that waits, or did until it was taken up
+pub record IsSettled (kind : Kind) (c : SeenConn) : Type 0 where
+  pub waits : WaitsAs kind c
+  pub is_conn : IsConn c
+
+-- the same by what its row waited for
+abbrev pub IsSettledFrom : Option Kind → SeenConn → Type 0
+IsSettledFrom None c = ⊥
+IsSettledFrom (Some kind) c = IsSettled kind c
+
+-- ## A connection in hand
+
+-- the connection is the one of a live row
+pub record IsOf (s : State) (c : SeenConn) : Type 0 where
+  pub row : Row
+  pub found : live_row s.rows c.name ≡ Some row
+  pub fits : Fits c row
+
+-- the connection was handed out: it is the one of a live row, and as it waited
+pub record IsHandedOut (s : State) (c : SeenConn) : Type 0 where
+  pub row : Row
+  pub found : live_row s.rows c.name ≡ Some row
+  pub fits : Fits c row
+  pub settled : IsSettledFrom row.from c
+
+-- ## A connection that ended
+
+-- the notes are those of the row; where memory lacked for its response, the last may be missing
+abbrev pub NotesEnd : Cause → List Note → List Note → Type 0
+NotesEnd cause.NoMemory notes noted = (notes ≡ noted) ⊎ ((note : Note) × (noted ≡ notes ++ note ∷ []))
+NotesEnd other notes noted = notes ≡ noted
+
+-- the connection that ended so is the one of a live row
+pub record IsClosing (s : State) (name : ConnName) (why : Cause) (how : Tail) (e : SeenEnded) : Type 0 where
+  pub row : Row
+  pub found : live_row s.rows name ≡ Some row
+  pub name_is : e.name ≡ name
+  pub cause : e.cause ≡ why
+  pub tail : e.tail ≡ how
+  pub child : e.child ≡ row.child
+  pub generation : e.generation ≡ row.generation
+  pub notes : NotesEnd why e.notes row.notes
+  pub rank : IfSome e.told (λ t. t.rank ≡ row.arrival)

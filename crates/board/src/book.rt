@@ -1,0 +1,147 @@
+//! The history that a board keeps, and the state after it.
+ghost use Rattle.std.specs.Prelude.{◌≡◌, ◌<◌, ◌≤◌, ◌^◌, true, [], ◌∷◌, ◌++◌, length, vec_len, vec_capacity, IfOk, OnOk, OnErr};
+ghost use Rattle.conn_machine.specs.States.{opening};
+ghost use Rattle.conn_machine.specs.Table.{allowed, reply};
+ghost use Rattle.conn_machine.specs.Runs.{IsHistory, after};
+ghost use Rattle.board.specs.Book.{AreNext, IsSized, numbered, recorded};
+ghost use Rattle.board.specs.Room.{is_sure};
+
+use conn_machine::{Entry, Event, Reply, State, step};
+use mpm_base::{NoMemory, Shape};
+use std::alloc::Global;
+use std::marker::Model;
+use std::snapshot::Snapshot;
+
+/// A history of the machine, the state before it, which only contracts see, and the state after it.
+#[derive(Drop)]
+pub struct Book {
+    alloc: Global,
+    base: Snapshot<State>,
+    history: Vec<Entry>,
+    state: State,
+    ordinals: Vec<u64>,
+}
+
+impl Model for Book {
+    ghost use Rattle.std.specs.Prelude.{length, vec_capacity};
+    ghost use Rattle.board.specs.Book.{SeenBook, IsKept};
+
+    ghost Value = { SeenBook };
+
+    ghost view = { λ b. record { base = b.base.value; history = b.history.items; state = b.state; passes = length b.ordinals.items } };
+
+    ghost invariant = { λ b. IsKept b.base.value b.history.items b.state b.ordinals.items (vec_capacity b.history) };
+}
+
+impl Book {
+    /// An empty history, with the room that stopping the server needs.
+    pub fn open(
+        alloc: Global,
+        slots: u32,
+        children: u32,
+        passes: u32,
+        shape: Shape,
+    ) -> Result<Book, NoMemory>
+        requires slots { slots ≤ 8192 }
+        requires children { children ≤ 32 }
+        ensures base { IfOk result (λ book. book.base ≡ opening slots children shape) }
+        ensures history { IfOk result (λ book. book.history ≡ []) }
+        ensures state { IfOk result (λ book. book.state ≡ opening slots children shape) }
+        ensures passes { IfOk result (λ book. book.passes ≡ passes) }
+    {
+        let state = State::opening(alloc, slots, children, shape)?;
+        let Ok(ordinals) = vec![in alloc; 0u64; passes as usize] else {
+            return Err(NoMemory);
+        };
+        let Ok(history) = Vec::with_capacity(alloc, 1) else {
+            return Err(NoMemory);
+        };
+        Ok(Book {
+            alloc,
+            base: Snapshot::of(&state),
+            history,
+            state,
+            ordinals,
+        })
+    }
+
+    /// The state after the history.
+    pub fn state(&self) -> &State
+        ensures { result.now ≡ self.now.state }
+    {
+        &self.state
+    }
+
+    /// The entries, oldest first.
+    pub fn history(&self) -> &[Entry]
+        ensures { result.now ≡ self.now.history }
+    {
+        self.history.as_slice()
+    }
+
+    /// The history is one of the machine, from its base to its state.
+    pub fn show(&self)
+        ensures history { IsHistory self.now.base self.now.history }
+        ensures state { after self.now.base self.now.history ≡ self.now.state }
+        ensures sized { IsSized self.now.state }
+    {
+        let _ = &self.history;
+    }
+
+    /// Records an event of the pass, and takes the room for what must follow it. Where memory lacks nothing changes.
+    pub fn record(&mut self, who: u32, event: Event) -> Result<Reply, NoMemory>
+        requires who { who < self.old.passes }
+        requires allowed { allowed self.old.state event ≡ true }
+        ensures ok { OnOk result (self.new ≡ recorded who event self.old) }
+        ensures reply { IfOk result (λ answer. answer ≡ reply self.old.state event) }
+        ensures err { OnErr result (self.new ≡ self.old) }
+    {
+        let room = 4 * self.state.rows.len() + self.state.children.len() + 2;
+        match self.history.reserve(room) {
+            Ok(()) => (),
+            Err(_) => return Err(NoMemory),
+        }
+        let reply = step(self.alloc, &mut self.state, &event)?;
+        append(&mut self.history, &mut self.ordinals, who, event, reply);
+        Ok(reply)
+    }
+
+    /// Records an event whose room was taken before.
+    pub fn record_sure(&mut self, who: u32, event: Event) -> Reply
+        requires who { who < self.old.passes }
+        requires allowed { allowed self.old.state event ≡ true }
+        requires sure { is_sure event ≡ true }
+        ensures is { self.new ≡ recorded who event self.old }
+        ensures reply { result ≡ reply self.old.state event }
+    {
+        let Ok(reply) = step(self.alloc, &mut self.state, &event) else {
+            unreachable!()
+        };
+        append(&mut self.history, &mut self.ordinals, who, event, reply);
+        reply
+    }
+}
+
+/// Puts the pass's entry at the end, with its next number.
+fn append(history: &mut Vec<Entry>, ordinals: &mut Vec<u64>, who: u32, event: Event, reply: Reply)
+    requires room { vec_len history.old < vec_capacity history.old }
+    requires who { who < length ordinals.old.items }
+    requires numbers { AreNext ordinals.old.items history.old.items }
+    ensures history { history.new.items ≡ history.old.items ++ numbered who event reply history.old.items ∷ [] }
+    ensures numbers { AreNext ordinals.new.items history.new.items }
+    ensures passes { length ordinals.new.items ≡ length ordinals.old.items }
+    ensures room { vec_capacity history.old ≤ vec_capacity history.new }
+{
+    let ordinal = ordinals[who as usize];
+    ordinals[who as usize] = ordinal + 1;
+    let entry = Entry {
+        pass: who,
+        ordinal,
+        event,
+        reply,
+    };
+    match history.push(entry) {
+        Ok(()) => (),
+        Err(_) => unreachable!(),
+    }
+}
