@@ -1,7 +1,10 @@
+pub mod CellLemmas
 pub mod ChildLemmas
 pub mod FairLemmas
 pub mod ListLemmas
 pub mod PickLemmas
+pub mod RowLemmas
+pub mod RowSound
 pub mod RunLemmas
 pub mod SizeLemmas
 pub mod SoundLemmas
