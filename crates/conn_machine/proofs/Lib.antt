@@ -1,3 +1,4 @@
+pub mod AcceptLemmas
 pub mod CellLemmas
 pub mod ChildLemmas
 pub mod FairLemmas
@@ -6,5 +7,7 @@ pub mod PickLemmas
 pub mod RowLemmas
 pub mod RowSound
 pub mod RunLemmas
+pub mod ServeLemmas
 pub mod SizeLemmas
 pub mod SoundLemmas
+pub mod WaitLemmas
