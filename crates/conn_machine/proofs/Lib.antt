@@ -1,10 +1,16 @@
+pub mod AcceptLemmas
+pub mod CellLemmas
 pub mod ChildLemmas
 pub mod ChildSound
 pub mod FairLemmas
 pub mod LawLemmas
 pub mod ListLemmas
 pub mod PickLemmas
+pub mod RowLemmas
+pub mod RowSound
 pub mod RunLemmas
+pub mod ServeLemmas
 pub mod SizeLemmas
 pub mod SoundLemmas
 pub mod UpdateLemmas
+pub mod WaitLemmas
