@@ -1,48 +1,57 @@
-//! The board: the table of connections, with one call for each event.
-ghost use Rattle.std.specs.Prelude.{◌≡◌, ◌+◌, ◌<◌, ◌≤◌, ◌^◌, true, false, [], ◌∷◌, ◌++◌, length, replicate, IsSome, IfSome, IfOk, IfErr, OnOk, OnErr};
-ghost use Rattle.std.specs.Option.{option_map_or};
-ghost use Rattle.conn_machine.specs.Rows.{is_lingering, is_parked, live_row, lives_and, row_passes};
-ghost use Rattle.conn_machine.specs.States.{opening};
-ghost use Rattle.conn_machine.specs.Table.{allowed, cell_at, next, note_for, taken_reply};
-ghost use Rattle.conn_machine.specs.Runs.{IsHistory, after};
+//! The board's events.
+ghost use Rattle.std.specs.Prelude.{◌≡◌, ◌<◌, ◌≤◌, true, false, Some, None, [], ◌∷◌, ◌++◌, length, slice_set, IfOk, IfErr, OnOk, OnErr};
+ghost use Rattle.conn_machine.specs.Children.{is_in_bounds};
+ghost use Rattle.conn_machine.specs.States.{is_halted, opening};
+ghost use Rattle.conn_machine.specs.Table.{allowed, cell_at, taken_reply};
+ghost use Rattle.conn_machine.specs.Runs.{IsHistory, after, load, full_load};
+ghost use Rattle.conn_machine.specs.Sound.{IsSound};
 ghost use Rattle.conn_machine.specs.declared.event.Event.TheVariants as event;
 ghost use Rattle.conn_machine.specs.declared.event.Commanded.TheVariants.{Stop};
 ghost use Rattle.conn_machine.specs.declared.event.Reply.TheVariants.{Took};
+ghost use Rattle.conn_machine.specs.declared.event.Why.TheVariants as why;
+ghost use Rattle.conn_state.specs.Answered.{IsEnded};
 ghost use Rattle.board.specs.Book.{IsSized, recorded};
-ghost use Rattle.board.specs.Board.{IsNoteOf, IsOf, noted};
+ghost use Rattle.board.specs.Board.{Agrees, conn_at};
+ghost use Rattle.board.specs.Events.{IsAdded, IsDecided, IsStoppable, IsTaken, added, noted};
+ghost use Rattle.board.specs.Faults.{IsNotTakenFor, IsRefusedFor};
+ghost use Rattle.board.specs.Fits.{IsClosing, IsHandedOut, IsOf, IsSettled};
 
 use crate::book::Book;
-use crate::conn::{Conn, Ended};
-use conn_machine::{Commanded, Entry, Event, Kept, Reply, State, Why, may};
-use mpm_base::{Ask, ConnName, Kind, Link, NoMemory, Note, Shape};
+use crate::faults::{AcceptFault, BoardFault};
+use conn_machine::{Commanded, Entry, Event, Kept, Reply, State, Why};
+use conn_state::{Conn, Ended};
+use mpm_base::{Ask, ConnName, Kind, Link, Moment, NoMemory, Note, Shape};
 use std::alloc::Global;
 use std::marker::Model;
 
 /// The connection that was taken.
-#[derive(Clone, Copy, Debug)]
+#[derive(Clone, Copy, Debug, PartialEq, Eq)]
 pub struct Taken {
+    /// Its name.
     pub name: ConnName,
+    /// The number of its child.
     pub child: u32,
+    /// The generation of its child.
     pub generation: u32,
 }
 
 /// The table of connections: its history, the connections that wait, and those that ended.
 #[derive(Drop)]
 pub struct Board<L: Link> {
-    book: Book,
+    pub(crate) book: Book,
     conns: Vec<Option<Conn<L>>>,
     ended: Vec<Ended<L>>,
 }
 
 impl<L: Link> Model for Board<L> {
-    ghost use Rattle.std.specs.Prelude.{length, vec_capacity};
-    ghost use Rattle.board.specs.Board.{SeenBoard, Agrees};
+    ghost use Rattle.std.specs.Prelude.{vec_capacity};
+    ghost use Rattle.board.specs.Board.{SeenBoard, IsBoard};
 
     ghost Value = { SeenBoard };
 
     ghost view = { λ b. record { book = b.book; conns = b.conns.items; ended = b.ended.items } };
 
-    ghost invariant = { λ b. Agrees b.book.state.rows b.conns.items (length b.ended.items) (vec_capacity b.ended) };
+    ghost invariant = { λ b. IsBoard (record { book = b.book; conns = b.conns.items; ended = b.ended.items }) (vec_capacity b.ended) };
 }
 
 impl<L: Link> Kept for Board<L> {
@@ -60,20 +69,24 @@ impl<L: Link> Kept for Board<L> {
 }
 
 impl<L: Link> Board<L> {
-    /// A board without connections, in its opening state. Takes the room that stopping it needs.
-    pub(crate) fn make(
+    /// A board without connections, in its opening state, for passes with the numbers below `passes`. Takes the room that
+    /// stopping it needs.
+    pub fn make(
         alloc: Global,
         slots: u32,
         children: u32,
         passes: u32,
         shape: Shape,
     ) -> Result<Board<L>, NoMemory>
-        requires slots { slots ≤ 8192 }
-        requires children { children ≤ 32 }
+        requires slots { (1 ≤ slots) × (slots ≤ 8192) }
+        requires children { (1 ≤ children) × (children ≤ 32) }
+        requires passes { (1 ≤ passes) × (passes ≤ 4099) }
+        requires shape { is_in_bounds shape ≡ true }
         ensures base { IfOk result (λ board. board.book.base ≡ opening slots children shape) }
         ensures history { IfOk result (λ board. board.book.history ≡ []) }
         ensures state { IfOk result (λ board. board.book.state ≡ opening slots children shape) }
         ensures passes { IfOk result (λ board. board.book.passes ≡ passes) }
+        ensures ended { IfOk result (λ board. board.ended ≡ []) }
     {
         let book = Book::open(alloc, slots, children, passes, shape)?;
         let mut conns = Vec::new(alloc);
@@ -89,20 +102,18 @@ impl<L: Link> Board<L> {
         })
     }
 
-    /// The state after the history.
-    pub(crate) fn state(&self) -> &State
-        ensures is { result.now ≡ self.now.book.state }
-        ensures sized { IsSized self.now.book.state }
-    {
-        self.book.show();
-        self.book.state()
-    }
-
     /// The entries of the history, oldest first.
     pub fn history(&self) -> &[Entry]
         ensures { result.now ≡ self.now.book.history }
     {
         self.book.history()
+    }
+
+    /// The state after the history.
+    pub fn state(&self) -> &State
+        ensures { result.now ≡ self.now.book.state }
+    {
+        self.book.state()
     }
 
     /// The connections that ended, in the order of their closes.
@@ -112,118 +123,60 @@ impl<L: Link> Board<L> {
         self.ended.as_slice()
     }
 
-    /// The history is one of the machine, from its base to its state.
-    pub(crate) fn show(&self)
+    /// What holds of every board: its history is one of the machine, from its base to its state, which are sound, and its
+    /// connections agree with it.
+    pub fn show(&self)
         ensures history { IsHistory self.now.book.base self.now.book.history }
         ensures state { after self.now.book.base self.now.book.history ≡ self.now.book.state }
+        ensures opened { IsSound self.now.book.base }
+        ensures sound { IsSound self.now.book.state }
+        ensures sized { IsSized self.now.book.state }
+        ensures agrees { Agrees self.now }
     {
         self.book.show();
     }
 
-    /// How many slots there are.
-    pub(crate) fn slots(&self) -> u32
-        ensures { result ≡ length self.now.book.state.rows }
-    {
-        self.book.show();
-        self.book.state().rows.len() as u32
-    }
-
-    /// How many child numbers there are.
-    pub(crate) fn children(&self) -> u32
-        ensures { result ≡ length self.now.book.state.children }
-    {
-        self.book.show();
-        self.book.state().children.len() as u32
-    }
-
-    /// A vacant slot, where a child takes the next connection.
-    pub(crate) fn free_slot(&self) -> Option<u32>
-        ensures { IfSome result (λ slot. allowed self.now.book.state (event.Accept slot) ≡ true) }
-    {
-        self.book.show();
-        let state = self.book.state();
-        (0..state.rows.len() as u32).find(|slot| may(state, &Event::Accept(*slot)))
-    }
-
-    /// Whether the connection of the slot waits.
-    pub(crate) fn is_parked(&self, slot: u32) -> bool
-        ensures { result ≡ row_passes (λ r. is_parked r.place) self.now.book.state.rows slot }
-    {
-        match self.book.state().rows.get(slot) {
-            Some(row) => row.place.is_parked(),
-            None => false,
-        }
-    }
-
-    /// The name that a connection of the slot has.
-    pub(crate) fn name(&self, slot: u32) -> Option<ConnName>
-        ensures { IfSome result (λ name. name.slot ≡ slot) }
-    {
-        match self.book.state().rows.get(slot) {
-            Some(row) => Some(ConnName {
-                slot,
-                life: row.life,
-            }),
-            None => None,
-        }
-    }
-
-    /// Whether the last response of the live connection was decided.
-    pub(crate) fn is_last(&self, name: ConnName) -> bool
-        ensures { result ≡ lives_and (λ r. r.last) self.now.book.state.rows name }
-    {
-        match self.book.state().rows.live(name) {
-            Some(row) => row.last,
-            None => false,
-        }
-    }
-
-    /// Whether the service of the live connection ended, and it is being closed.
-    pub(crate) fn is_lingering(&self, name: ConnName) -> bool
-        ensures { result ≡ lives_and is_lingering self.now.book.state.rows name }
-    {
-        match self.book.state().rows.live(name) {
-            Some(row) => row.is_lingering(),
-            None => false,
-        }
-    }
-
-    /// Takes a connection for the child that the rule of admission names, into the vacant slot.
-    pub(crate) fn accept(&mut self, who: u32, slot: u32) -> Result<Taken, NoMemory>
+    /// Takes a connection for the child that the rule of admission names, into a vacant slot. Takes the room that closing it
+    /// needs.
+    pub fn accept(&mut self, who: u32) -> Result<Taken, AcceptFault>
         requires who { who < self.old.book.passes }
-        requires allowed { allowed self.old.book.state (event.Accept slot) ≡ true }
-        ensures ok { OnOk result (self.new.book ≡ recorded who (event.Accept slot) self.old.book) }
-        ensures taken { IfOk result (λ taken. Took taken.name taken.child taken.generation ≡ taken_reply self.old.book.state slot) }
+        ensures ok { IfOk result (λ taken. IsAdded who (event.Accept taken.name.slot) self.old self.new) }
+        ensures taken { IfOk result (λ taken. IsTaken self.old.book.state taken.name taken.child taken.generation) }
+        ensures why { IfErr result (λ fault. IsNotTakenFor fault self.old.book) }
         ensures err { OnErr result (self.new ≡ self.old) }
     {
+        let slot = self.slot_for_accept()?;
         let slots = self.conns.len();
-        match self.ended.reserve(slots) {
-            Ok(()) => (),
-            Err(_) => return Err(NoMemory),
+        if self.ended.reserve(slots).is_err() {
+            return Err(AcceptFault::NoMemory);
         }
-        match self.book.record(who, Event::Accept(slot))? {
-            Reply::Took(name, child, generation) => Ok(Taken {
+        match self.book.record(who, Event::Accept(slot)) {
+            Ok(Reply::Took(name, child, generation)) => Ok(Taken {
                 name,
                 child,
                 generation,
             }),
-            _ => unreachable!(),
+            Ok(_) => unreachable!(),
+            Err(fault) => Err(AcceptFault::of(fault)),
         }
     }
 
-    /// The connection waits. Where memory lacks it comes back.
-    pub(crate) fn park(
+    /// The connection waits. Where it is refused it comes back.
+    pub fn park(
         &mut self,
         who: u32,
         kind: Kind,
         conn: Conn<L>,
-    ) -> Result<(), (NoMemory, Conn<L>)>
+    ) -> Result<(), (BoardFault, Conn<L>)>
         requires who { who < self.old.book.passes }
-        requires allowed { allowed self.old.book.state (event.Park conn.name kind) ≡ true }
-        requires fits { IsOf self.old conn }
-        ensures ok { OnOk result (self.new.book ≡ recorded who (event.Park conn.name kind) self.old.book) }
-        ensures err { OnErr result (self.new ≡ self.old) }
+        requires allowed { is_halted self.old.book.state.going ≡ false → allowed self.old.book.state (event.Park conn.name kind) ≡ true }
+        requires fits { IsOf self.old.book.state conn }
+        requires settled { IsSettled kind conn }
+        ensures ok { OnOk result (IsAdded who (event.Park conn.name kind) self.old (record self.new { conns = self.old.conns })) }
+        ensures parked { OnOk result (self.new.conns ≡ slice_set self.old.conns conn.name.slot (Some conn)) }
+        ensures why { IfErr result (λ e. IsRefusedFor e.0 self.old.book) }
         ensures back { IfErr result (λ e. e.1 ≡ conn) }
+        ensures err { OnErr result (self.new ≡ self.old) }
     {
         let name = conn.name();
         match self.book.record(who, Event::Park(name, kind)) {
@@ -231,17 +184,18 @@ impl<L: Link> Board<L> {
                 self.conns[name.slot as usize] = Some(conn);
                 Ok(())
             }
-            Err(refused) => Err((refused, conn)),
+            Err(fault) => Err((fault, conn)),
         }
     }
 
     /// The listener takes a connection that waits. Takes no memory.
-    pub(crate) fn hold(&mut self, who: u32, name: ConnName) -> Conn<L>
+    pub fn hold(&mut self, who: u32, name: ConnName) -> Conn<L>
         requires who { who < self.old.book.passes }
         requires allowed { allowed self.old.book.state (event.Hold name) ≡ true }
-        ensures is { self.new.book ≡ recorded who (event.Hold name) self.old.book }
+        ensures is { self.new ≡ record (added who (event.Hold name) self.old) { conns = slice_set self.old.conns name.slot None } }
+        ensures conn { conn_at self.old.conns name.slot ≡ Some result }
         ensures name { result.name ≡ name }
-        ensures fits { IsOf self.new result }
+        ensures handed { IsHandedOut self.new.book.state result }
     {
         let _ = self.book.record_sure(who, Event::Hold(name));
         match self.conns[name.slot as usize].take() {
@@ -250,11 +204,12 @@ impl<L: Link> Board<L> {
         }
     }
 
-    /// The connection is handed to the workers of its child.
-    pub(crate) fn queue(&mut self, who: u32, name: ConnName) -> Result<(), NoMemory>
+    /// The connection is handed to the workers of its child. Takes the room that its start and its closing need.
+    pub fn queue(&mut self, who: u32, name: ConnName) -> Result<(), BoardFault>
         requires who { who < self.old.book.passes }
-        requires allowed { allowed self.old.book.state (event.Queue name) ≡ true }
-        ensures ok { OnOk result (self.new.book ≡ recorded who (event.Queue name) self.old.book) }
+        requires allowed { is_halted self.old.book.state.going ≡ false → allowed self.old.book.state (event.Queue name) ≡ true }
+        ensures ok { OnOk result (IsAdded who (event.Queue name) self.old self.new) }
+        ensures why { IfErr result (λ fault. IsRefusedFor fault self.old.book) }
         ensures err { OnErr result (self.new ≡ self.old) }
     {
         self.book.record(who, Event::Queue(name))?;
@@ -262,16 +217,16 @@ impl<L: Link> Board<L> {
     }
 
     /// A worker begins to serve the connection: its cell, and the connection. Takes no memory.
-    pub(crate) fn start(&mut self, who: u32, name: ConnName) -> (u32, Conn<L>)
+    pub fn start(&mut self, who: u32, name: ConnName) -> (u32, Conn<L>)
         requires who { who < self.old.book.passes }
         requires allowed { allowed self.old.book.state (event.Start name) ≡ true }
-        ensures is { self.new.book ≡ recorded who (event.Start name) self.old.book }
+        ensures is { self.new ≡ record (added who (event.Start name) self.old) { conns = slice_set self.old.conns name.slot None } }
         ensures cell { result.0 ≡ cell_at self.old.book.state name.slot }
+        ensures conn { conn_at self.old.conns name.slot ≡ Some result.1 }
         ensures name { result.1.name ≡ name }
-        ensures fits { IsOf self.new result.1 }
+        ensures handed { IsHandedOut self.new.book.state result.1 }
     {
-        let reply = self.book.record_sure(who, Event::Start(name));
-        let Reply::Cell(cell) = reply else {
+        let Reply::Cell(cell) = self.book.record_sure(who, Event::Start(name)) else {
             unreachable!()
         };
         match self.conns[name.slot as usize].take() {
@@ -281,12 +236,13 @@ impl<L: Link> Board<L> {
     }
 
     /// A response is decided: its note.
-    pub(crate) fn answer(&mut self, who: u32, name: ConnName, ask: Ask) -> Result<Note, NoMemory>
+    pub fn answer(&mut self, who: u32, name: ConnName, ask: Ask) -> Result<Note, BoardFault>
         requires who { who < self.old.book.passes }
-        requires allowed { allowed self.old.book.state (event.Answer name ask) ≡ true }
-        ensures ok { OnOk result (self.new.book ≡ recorded who (event.Answer name ask) self.old.book) }
-        ensures note { IfOk result (λ note. IsNoteOf self.old.book.state name ask note) }
+        requires allowed { is_halted self.old.book.state.going ≡ false → allowed self.old.book.state (event.Answer name ask) ≡ true }
+        ensures ok { OnOk result (IsAdded who (event.Answer name ask) self.old self.new) }
+        ensures note { IfOk result (λ note. IsDecided self.old.book.state name ask note) }
         ensures date { IfOk result (λ note. note.date < 253402300800) }
+        ensures why { IfErr result (λ fault. IsRefusedFor fault self.old.book) }
         ensures err { OnErr result (self.new ≡ self.old) }
     {
         self.book.show();
@@ -297,11 +253,12 @@ impl<L: Link> Board<L> {
     }
 
     /// The connection ended. Takes no memory.
-    pub(crate) fn close(&mut self, who: u32, ended: Ended<L>)
+    pub fn close(&mut self, who: u32, ended: Ended<L>)
         requires who { who < self.old.book.passes }
         requires allowed { allowed self.old.book.state (event.Close ended.name ended.cause ended.tail) ≡ true }
-        ensures is { self.new.book ≡ recorded who (event.Close ended.name ended.cause ended.tail) self.old.book }
-        ensures ended { self.new.ended ≡ self.old.ended ++ ended ∷ [] }
+        requires fits { IsClosing self.old.book.state ended.name ended.cause ended.tail ended }
+        requires answered { IsEnded ended }
+        ensures { self.new ≡ record (added who (event.Close ended.name ended.cause ended.tail) self.old) { ended = self.old.ended ++ ended ∷ [] } }
     {
         let _ = self
             .book
@@ -313,43 +270,58 @@ impl<L: Link> Board<L> {
     }
 
     /// Something may have come for the slot.
-    pub(crate) fn ready(&mut self, who: u32, slot: u32) -> Result<(), NoMemory>
+    pub fn ready(&mut self, who: u32, slot: u32) -> Result<(), BoardFault>
         requires who { who < self.old.book.passes }
-        requires allowed { allowed self.old.book.state (event.Ready slot) ≡ true }
-        ensures ok { OnOk result (self.new.book ≡ recorded who (event.Ready slot) self.old.book) }
+        requires allowed { is_halted self.old.book.state.going ≡ false → allowed self.old.book.state (event.Ready slot) ≡ true }
+        ensures ok { OnOk result (IsAdded who (event.Ready slot) self.old self.new) }
+        ensures why { IfErr result (λ fault. IsRefusedFor fault self.old.book) }
         ensures err { OnErr result (self.new ≡ self.old) }
     {
         self.book.record(who, Event::Ready(slot))?;
         Ok(())
     }
 
-    /// The child starts.
-    pub(crate) fn start_child(&mut self, who: u32, child: u32) -> Result<(), NoMemory>
+    /// Time passes, to the moment.
+    pub fn tick(&mut self, who: u32, moment: Moment) -> Result<(), BoardFault>
         requires who { who < self.old.book.passes }
-        requires allowed { allowed self.old.book.state (event.StartChild child) ≡ true }
-        ensures ok { OnOk result (self.new.book ≡ recorded who (event.StartChild child) self.old.book) }
+        requires allowed { is_halted self.old.book.state.going ≡ false → allowed self.old.book.state (event.Tick moment) ≡ true }
+        ensures ok { OnOk result (IsAdded who (event.Tick moment) self.old self.new) }
+        ensures why { IfErr result (λ fault. IsRefusedFor fault self.old.book) }
+        ensures err { OnErr result (self.new ≡ self.old) }
+    {
+        self.book.record(who, Event::Tick(moment))?;
+        Ok(())
+    }
+
+    /// The child starts. Takes the room that letting go of it needs.
+    pub fn start_child(&mut self, who: u32, child: u32) -> Result<(), BoardFault>
+        requires who { who < self.old.book.passes }
+        requires allowed { is_halted self.old.book.state.going ≡ false → allowed self.old.book.state (event.StartChild child) ≡ true }
+        ensures ok { OnOk result (IsAdded who (event.StartChild child) self.old self.new) }
+        ensures why { IfErr result (λ fault. IsRefusedFor fault self.old.book) }
         ensures err { OnErr result (self.new ≡ self.old) }
     {
         self.book.record(who, Event::StartChild(child))?;
         Ok(())
     }
 
-    /// The server stops. Takes no memory.
-    pub(crate) fn halt(&mut self, who: u32, why: Why)
+    /// The server stops: for a full history only where it is full. Takes no memory.
+    pub fn halt(&mut self, who: u32, why: Why)
         requires who { who < self.old.book.passes }
         requires allowed { allowed self.old.book.state (event.Command (Stop why)) ≡ true }
-        ensures is { self.new.book ≡ recorded who (event.Command (Stop why)) self.old.book }
+        requires full { IsStoppable why self.old.book }
+        ensures { self.new ≡ added who (event.Command (Stop why)) self.old }
     {
         let _ = self
             .book
             .record_sure(who, Event::Command(Commanded::Stop(why)));
     }
 
-    /// The child is gone. Takes no memory.
-    pub(crate) fn retire(&mut self, who: u32, child: u32)
+    /// The child is let go of. Takes no memory.
+    pub fn retire(&mut self, who: u32, child: u32)
         requires who { who < self.old.book.passes }
         requires allowed { allowed self.old.book.state (event.Retire child) ≡ true }
-        ensures is { self.new.book ≡ recorded who (event.Retire child) self.old.book }
+        ensures { self.new ≡ added who (event.Retire child) self.old }
     {
         let _ = self.book.record_sure(who, Event::Retire(child));
     }

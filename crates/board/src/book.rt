@@ -1,16 +1,23 @@
 //! The history that a board keeps, and the state after it.
-ghost use Rattle.std.specs.Prelude.{◌≡◌, ◌<◌, ◌≤◌, ◌^◌, true, [], ◌∷◌, ◌++◌, length, vec_len, vec_capacity, IfOk, OnOk, OnErr};
-ghost use Rattle.conn_machine.specs.States.{opening};
+ghost use Rattle.std.specs.Prelude.{◌≡◌, ◌<◌, ◌≤◌, ◌^◌, true, false, [], ◌∷◌, ◌++◌, length, nat_le, vec_len, vec_capacity, if◌then◌else◌, IfOk, IfErr, OnOk, OnErr};
+ghost use Rattle.conn_machine.specs.Children.{is_in_bounds};
+ghost use Rattle.conn_machine.specs.States.{is_halted, opening};
 ghost use Rattle.conn_machine.specs.Table.{allowed, reply};
-ghost use Rattle.conn_machine.specs.Runs.{IsHistory, after};
+ghost use Rattle.conn_machine.specs.Runs.{IsHistory, after, asks_page, load, full_load};
+ghost use Rattle.conn_machine.specs.Sound.{IsSound};
 ghost use Rattle.board.specs.Book.{AreNext, IsSized, numbered, recorded};
+ghost use Rattle.board.specs.Faults.{IsRecorded, IsRefusedFor};
 ghost use Rattle.board.specs.Room.{is_sure};
 
+use crate::faults::BoardFault;
 use conn_machine::{Entry, Event, Reply, State, step};
 use mpm_base::{NoMemory, Shape};
 use std::alloc::Global;
 use std::marker::Model;
 use std::snapshot::Snapshot;
+
+/// The load at which a history takes no more than what must follow it.
+const FULL_LOAD: u64 = 4_063_232;
 
 /// A history of the machine, the state before it, which only contracts see, and the state after it.
 #[derive(Drop)]
@@ -20,6 +27,7 @@ pub struct Book {
     history: Vec<Entry>,
     state: State,
     ordinals: Vec<u64>,
+    pages: u64,
 }
 
 impl Model for Book {
@@ -30,7 +38,7 @@ impl Model for Book {
 
     ghost view = { λ b. record { base = b.base.value; history = b.history.items; state = b.state; passes = length b.ordinals.items } };
 
-    ghost invariant = { λ b. IsKept b.base.value b.history.items b.state b.ordinals.items (vec_capacity b.history) };
+    ghost invariant = { λ b. IsKept b.base.value b.history.items b.state b.ordinals.items b.pages (vec_capacity b.history) };
 }
 
 impl Book {
@@ -44,6 +52,7 @@ impl Book {
     ) -> Result<Book, NoMemory>
         requires slots { slots ≤ 8192 }
         requires children { children ≤ 32 }
+        requires shape { is_in_bounds shape ≡ true }
         ensures base { IfOk result (λ book. book.base ≡ opening slots children shape) }
         ensures history { IfOk result (λ book. book.history ≡ []) }
         ensures state { IfOk result (λ book. book.state ≡ opening slots children shape) }
@@ -62,6 +71,7 @@ impl Book {
             history,
             state,
             ordinals,
+            pages: 0,
         })
     }
 
@@ -83,26 +93,45 @@ impl Book {
     pub fn show(&self)
         ensures history { IsHistory self.now.base self.now.history }
         ensures state { after self.now.base self.now.history ≡ self.now.state }
+        ensures opened { IsSound self.now.base }
+        ensures sound { IsSound self.now.state }
         ensures sized { IsSized self.now.state }
     {
         let _ = &self.history;
     }
 
-    /// Records an event of the pass, and takes the room for what must follow it. Where memory lacks nothing changes.
-    pub fn record(&mut self, who: u32, event: Event) -> Result<Reply, NoMemory>
+    /// Whether the history takes no more than what must follow it.
+    pub fn is_full(&self) -> bool
+        ensures { result ≡ nat_le full_load (load self.now.history) }
+    {
+        let entries = self.history.len() as u64;
+        entries.saturating_add(self.pages.saturating_mul(64)) >= FULL_LOAD
+    }
+
+    /// Records an event of the pass, and takes the room for what must follow it. Where it is refused nothing changes.
+    pub fn record(&mut self, who: u32, event: Event) -> Result<Reply, BoardFault>
         requires who { who < self.old.passes }
-        requires allowed { allowed self.old.state event ≡ true }
-        ensures ok { OnOk result (self.new ≡ recorded who event self.old) }
+        requires allowed { is_halted self.old.state.going ≡ false → allowed self.old.state event ≡ true }
+        ensures ok { OnOk result (IsRecorded who event self.old self.new) }
         ensures reply { IfOk result (λ answer. answer ≡ reply self.old.state event) }
+        ensures why { IfErr result (λ fault. IsRefusedFor fault self.old) }
         ensures err { OnErr result (self.new ≡ self.old) }
     {
-        let room = 4 * self.state.rows.len() + self.state.children.len() + 2;
-        match self.history.reserve(room) {
-            Ok(()) => (),
-            Err(_) => return Err(NoMemory),
+        if self.state.going.is_halted() {
+            return Err(BoardFault::Halted);
         }
-        let reply = step(self.alloc, &mut self.state, &event)?;
+        if self.is_full() {
+            return Err(BoardFault::Full);
+        }
+        let room = 4 * self.state.rows.len() + self.state.children.len() + 2;
+        if self.history.reserve(room).is_err() {
+            return Err(BoardFault::NoMemory);
+        }
+        let Ok(reply) = step(self.alloc, &mut self.state, &event) else {
+            return Err(BoardFault::NoMemory);
+        };
         append(&mut self.history, &mut self.ordinals, who, event, reply);
+        self.pages += pages_in(&event);
         Ok(reply)
     }
 
@@ -143,5 +172,15 @@ fn append(history: &mut Vec<Entry>, ordinals: &mut Vec<u64>, who: u32, event: Ev
     match history.push(entry) {
         Ok(()) => (),
         Err(_) => unreachable!(),
+    }
+}
+
+/// How many pages the event's entry keeps: 1 for a response that is the status page, else 0.
+fn pages_in(event: &Event) -> u64
+    ensures { result ≡ (if asks_page event.now then 1 else 0) }
+{
+    match event {
+        Event::Answer(_, ask) if ask.page => 1,
+        _ => 0,
     }
 }

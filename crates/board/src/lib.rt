@@ -1,0 +1,19 @@
+//! The board: the table of connections, with one call for each event of the machine.
+//!
+//! Each call records one entry of the pass that makes it, and takes state, reply and history on by the machine's step; all
+//! else stays, and a call that is refused changes nothing. The board has the connection of each row that waits, and the
+//! connections that ended, in the order of their closes; that these agree with the history is `Agrees` in
+//! `specs/Board.antt`, and holds of every board. How a connection fits its row stands in `specs/Fits.antt`, what is kept of
+//! the history in `specs/Book.antt` and `specs/Room.antt`, why a call is refused in `specs/Faults.antt`, and what the tests
+//! look for in `specs/Finds.antt`.
+#![tactic(auto)]
+
+mod board;
+mod book;
+mod faults;
+mod finds;
+#[cfg(test)]
+mod tests;
+
+pub use board::{Board, Taken};
+pub use faults::{AcceptFault, BoardFault};
