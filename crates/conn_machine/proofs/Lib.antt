@@ -1,7 +1,10 @@
+pub mod AllowedLemmas
 pub mod ChildLemmas
 pub mod FairLemmas
 pub mod ListLemmas
 pub mod PickLemmas
+pub mod QueueLaw
 pub mod RunLemmas
 pub mod SizeLemmas
 pub mod SoundLemmas
+pub mod WeightLemmas
