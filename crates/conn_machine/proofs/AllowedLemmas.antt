@@ -5,7 +5,6 @@ use Rattle.std.specs.Option.{option_map_or}
 use Rattle.mpm_base.specs.declared.conn.ConnName.{ConnName}
 use Rattle.mpm_base.specs.declared.conn.Kind.{Kind}
 use Rattle.mpm_base.specs.declared.conn.Cause.{Cause}
-use Rattle.mpm_base.specs.declared.conn.Cause.TheVariants as cause
 use Rattle.mpm_base.specs.declared.conn.Tail.{Tail}
 use Rattle.conn_machine.specs.declared.row.Row.{Row}
 use Rattle.conn_machine.specs.declared.state.State.{State}
@@ -17,27 +16,33 @@ use Rattle.conn_machine.specs.Table.{is_vacant_at, may_accept, may_wait, may_par
 abbrev pub Passes : (Row → Bool) → List Row → ℕ → Type 0
 Passes test rows slot = (r : Row) × (slice_get rows slot ≡ Some r) × (test r ≡ true)
 
+-- an optional row that passes a test is there
 passes_in : (test : Row → Bool) (o : Option Row) → option_map_or test o false ≡ true → (r : Row) × (o ≡ Some r) × (test r ≡ true)
 passes_in test None passes = absurd (cc)
 passes_in test (Some r) passes = (r, refl, passes)
 
+-- the row of a slot that passes a test
 pub passes-row : (test : Row → Bool) (rows : List Row) (slot : ℕ) → row_passes test rows slot ≡ true → Passes test rows slot
 passes-row test rows slot passes = passes_in test (slice_get rows slot) passes
 
+-- a row that must be named and passes a test does
 lives_if : (test : Row → Bool) (x : Row) (named : Bool) → option_map_or test (cond named (Some x) None) false ≡ true
     → (r : Row) × (Some x ≡ Some r) × (test r ≡ true)
 lives_if test x true lives = (x, refl, lives)
 lives_if test x false lives = absurd (cc)
 
+-- the same of an optional row
 lives_in : (test named : Row → Bool) (o : Option Row) → option_map_or test (row_where named o) false ≡ true
     → (r : Row) × (o ≡ Some r) × (test r ≡ true)
 lives_in test named None lives = absurd (cc)
 lives_in test named (Some r) lives = lives_if test r (named r) lives
 
+-- the row of a live connection that passes a test
 pub lives-row : (test : Row → Bool) (rows : List Row) (name : ConnName) → lives_and test rows name ≡ true
     → Passes test rows name.slot
 lives-row test rows name lives = lives_in test (is_named name) (slice_get rows name.slot) lives
 
+-- what is denied is false
 not_true : (b : Bool) → not b ≡ true → b ≡ false
 not_true true is = absurd (cc)
 not_true false is = refl

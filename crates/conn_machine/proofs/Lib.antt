@@ -1,6 +1,8 @@
 pub mod AllowedLemmas
+pub mod ChanceLemmas
 pub mod ChildLemmas
 pub mod FairLemmas
+pub mod HoldLaw
 pub mod ListLemmas
 pub mod PickLemmas
 pub mod QueueLaw

@@ -98,22 +98,26 @@ lowered s slot r change b at same less =
 
 -- ## The events
 
+-- Accept adds none
 accepts : (s : State) (slot : ℕ) → may_accept s slot ≡ true → waiting (after_accept s slot) ≤ waiting s
 accepts s slot may =
     let (r, at, vacant) = accept-row s slot may in
     omega (arith, cleared s slot r (taken_row s) at)
 
+-- Park adds none
 parks : (s : State) (name : ConnName) (kind : Kind) → may_park s name kind ≡ true → waiting (after_park s name kind) ≤ waiting s
 parks s name kind may =
     let (r, at, waits_so) = (park-row s name kind may).1 in
     omega (arith, kept s name.slot r (parked_row s kind) at refl)
 
+-- Hold adds none
 holds : (s : State) (name : ConnName) → may_hold s name ≡ true → waiting (after_hold s name) ≤ waiting s
 holds s name may =
     let (r, at, held) = hold-row s name may in
     lowered s name.slot r held_row (signal_after_hold s name.slot) at refl
     (λ set. (and_parts (is_signalled s name.slot) (not (row_passes is_lingering s.rows name.slot)) set).0)
 
+-- Queue takes one
 queues : (s : State) (name : ConnName) → may_queue s name ≡ true → 1 + waiting (after_queue s name) ≤ waiting s
 queues s name may =
     let (came, row) = queue-row s name may in
@@ -121,28 +125,33 @@ queues s name may =
     let stays = (and_parts (is_parked r.place) (not (is_lingering r)) fits).1 in
     omega (arith, waits_by-set (is_lingering r) (is_signalled s name.slot) stays came, cleared s name.slot r queued_row at)
 
+-- Start adds none
 starts : (s : State) (name : ConnName) → may_start s name ≡ true → waiting (after_start s name) ≤ waiting s
 starts s name may =
     let (r, at, queued) = start-row s name may in
     omega (arith, kept s name.slot r (served_row s) at refl)
 
+-- Answer adds none
 answers : (s : State) (name : ConnName) (ask : Ask) → may_answer s name ≡ true → waiting (after_answer s name ask) ≤ waiting s
 answers s name ask may =
     let (r, at, works) = answer-row s name may in
     omega (arith, kept s name.slot r (answered_row s ask) at refl)
 
+-- Linger adds none
 lingers : (s : State) (name : ConnName) (why : Cause) → may_linger s name why ≡ true
     → waiting (after_linger s name why) ≤ waiting s
 lingers s name why may =
     let (r, at, fits) = linger-row s name why may in
     hushed s name.slot r (lingering_row s why) true at refl
 
+-- Close adds none
 closes : (s : State) (name : ConnName) (why : Cause) (how : Tail) → may_close s name why how ≡ true
     → waiting (after_close s name) ≤ waiting s
 closes s name why how may =
     let (r, at, there) = close-row s name why how may in
     omega (arith, cleared s name.slot r closed_row at)
 
+-- Command adds none
 commands : (s : State) (c : Commanded) → waiting (after_command s c) ≤ waiting s
 commands s (Graceful shape) = omega arith
 commands s (Refused reason) = omega arith
@@ -172,8 +181,9 @@ pub queues_paid : (s : State) (history : List Entry) → Run s history
     → count_events is_queue history ≤ count_events is_ready history + waiting s
 queues_paid s [] run = omega arith
 queues_paid s (e ∷ history) run =
-    omega
-    (arith, steps s e.event run.0, queues_paid (next s e.event) history run.2, count-cons is_queue e history, count-cons is_ready e history)
+    let here = steps s e.event run.0 in
+    let rest = queues_paid (next s e.event) history run.2 in
+    omega (arith, here, rest, count-cons is_queue e history, count-cons is_ready e history)
 
 -- in a run from the opening state as many at most as came
 pub queues_are_earned : (slots children : ℕ) (shape : Shape) (history : List Entry) → Run (opening slots children shape) history

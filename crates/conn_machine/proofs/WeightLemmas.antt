@@ -7,6 +7,7 @@ use Rattle.conn_machine.specs.declared.event.Entry.{Entry}
 use Rattle.conn_machine.specs.Events.{count_events}
 use Rattle.conn_machine.specs.Lists.{update}
 
+-- the sum, by recursion on both lists
 abbrev pub weight : (Row → Bool → ℕ) → List Row → List Bool → ℕ
 weight f [] signals = 0
 weight f (r ∷ rows) [] = f r false + weight f rows []
