@@ -1,11 +1,15 @@
 pub mod AcceptLemmas
+pub mod AllowedLemmas
 pub mod CellLemmas
+pub mod ChanceLemmas
 pub mod ChildLemmas
 pub mod ChildSound
 pub mod FairLemmas
+pub mod HoldLaw
 pub mod LawLemmas
 pub mod ListLemmas
 pub mod PickLemmas
+pub mod QueueLaw
 pub mod RowLemmas
 pub mod RowSound
 pub mod RunLemmas
@@ -14,3 +18,4 @@ pub mod SizeLemmas
 pub mod SoundLemmas
 pub mod UpdateLemmas
 pub mod WaitLemmas
+pub mod WeightLemmas
