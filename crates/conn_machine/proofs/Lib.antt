@@ -1,3 +1,4 @@
+pub mod CellLaw
 pub mod ChildLemmas
 pub mod FairLemmas
 pub mod ListLemmas
