@@ -1,7 +1,10 @@
 pub mod CellLaw
+pub mod ChangeLaw
 pub mod ChildLemmas
 pub mod FairLemmas
 pub mod ListLemmas
+pub mod NameLaw
+pub mod NoteLaw
 pub mod PickLemmas
 pub mod RunLemmas
 pub mod SizeLemmas
