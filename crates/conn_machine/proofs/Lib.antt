@@ -5,6 +5,7 @@ pub mod FairLemmas
 pub mod ListLemmas
 pub mod NameLaw
 pub mod NoteLaw
+pub mod OwnerLaw
 pub mod PickLemmas
 pub mod RunLemmas
 pub mod SizeLemmas
