@@ -7,4 +7,5 @@ pub mod PickLemmas
 pub mod RunLemmas
 pub mod SizeLemmas
 pub mod SoundLemmas
+pub mod SoundRuns
 pub mod UpdateLemmas
