@@ -21,6 +21,7 @@ pub mod RunLemmas
 pub mod ServeLemmas
 pub mod SizeLemmas
 pub mod SoundLemmas
+pub mod SoundRuns
 pub mod UpdateLemmas
 pub mod WaitLemmas
 pub mod WeightLemmas

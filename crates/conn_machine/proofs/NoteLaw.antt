@@ -1,6 +1,7 @@
--- The responses of a live connection only grow, and stay once the last was decided.
+-- The responses of a live connection only grow, and none comes after the last.
 use Rattle.std.proofs.Common.{◌≡◌, ◌⊎◌, inl, inr, Bool, true, false, ◌==◌, List, [], ◌∷◌, ◌++◌, Option, Some, None, slice_get, refl, sym, ap, ◌∙◌, subst, append_assoc, append-nil, arith}
-use Rattle.std.specs.Prelude.{if◌then◌else◌}
+use Rattle.std.specs.Prelude.{fold, if◌then◌else◌}
+use Rattle.std.proofs.lemmas.Grind.{fold-append}
 use Rattle.std.proofs.lemmas.Bool.{and_parts, eqb-true}
 use Rattle.mpm_base.specs.declared.conn.ConnName.{ConnName}
 use Rattle.mpm_base.specs.declared.note.Note.{Note}
@@ -11,8 +12,9 @@ use Rattle.conn_machine.specs.declared.state.State.{State}
 use Rattle.conn_machine.specs.Rows.{is_live, is_named, row_where, live_row}
 use Rattle.conn_machine.specs.Table.{allowed, next}
 use Rattle.conn_machine.specs.Runs.{Run, after}
-use Rattle.conn_machine.specs.Sound.{IsSound, says_last}
-use Rattle.conn_machine.specs.Laws.{OnlyGrows}
+use Rattle.mpm_base.specs.Notes.{says_last}
+use Rattle.conn_machine.specs.Sound.{IsSound}
+use Rattle.conn_machine.specs.Laws.{MayFollow, OnlyGrows}
 use Rattle.conn_machine.proofs.ChangeLaw.{Change, stays, goes_on, answered, taken, closed, spent, is_made}
 use Rattle.conn_machine.proofs.NameLaw.{IsPast, past_stays, past_named, vacant_live}
 use Rattle.conn_machine.proofs.SoundLemmas.{keeps_sound}
@@ -29,21 +31,26 @@ IsGrownIn name old rows = (r : Row) → slice_get rows name.slot ≡ Some r → 
 
 -- responses are themselves and no more
 grows_none : (notes : List Note) → OnlyGrows notes notes
-grows_none notes = record { more = []; grown = sym (append-nil notes); ended = λ last. refl }
+grows_none notes = record { more = []; grown = sym (append-nil notes); follows = tt }
 
--- where there is no last response, the old ones grew by none after a last one
-grown_open : (old now : List Note) → OnlyGrows old now → says_last now ≡ false → says_last old ≡ true → ⊥
-grown_open old now grows undecided last =
-    let same : now ≡ old = grows.grown ∙ ap (λ (notes : List Note). old ++ notes) (grows.ended last) ∙ append-nil old in
-    cc (ap says_last same)
+-- one more note may follow those that may, where the last of them isn't the last response
+follows_more : (last : Bool) (more : List Note) (note : Note) → MayFollow last more
+    → fold (λ (before : Bool) (n : Note). n.last) last more ≡ false → MayFollow last (more ++ note ∷ [])
+follows_more true [] note follows undecided = absurd (cc)
+follows_more false [] note follows undecided = tt
+follows_more true (n ∷ more) note follows undecided = absurd follows
+follows_more false (n ∷ more) note follows undecided = follows_more n.last more note follows undecided
 
 -- responses that have no last one may grow by one
 grows_more : (old now : List Note) (note : Note) → OnlyGrows old now → says_last now ≡ false → OnlyGrows old (now ++ note ∷ [])
-grows_more old now note grows undecided = record {
-  more = grows.more ++ note ∷ [];
-  grown = ap (λ (notes : List Note). notes ++ note ∷ []) grows.grown ∙ append_assoc old grows.more (note ∷ []);
-  ended = λ last. absurd (grown_open old now grows undecided last);
-}
+grows_more old now note grows undecided =
+    let open : says_last (old ++ grows.more) ≡ false = subst (λ (notes : List Note). says_last notes ≡ false) grows.grown undecided in
+    record {
+      more = grows.more ++ note ∷ [];
+      grown = ap (λ (notes : List Note). notes ++ note ∷ []) grows.grown ∙ append_assoc old grows.more (note ∷ []);
+      follows = follows_more (says_last old) grows.more note grows.follows
+      (sym (fold-append (λ (before : Bool) (n : Note). n.last) false old grows.more) ∙ open);
+    }
 
 -- a change of a row that is the name's keeps it so, or it goes past the name's life
 grown_by : (name : ConnName) (old : List Note) (r r' : Row) → Change r r' → r.last ≡ says_last r.notes → IsGrown name old r

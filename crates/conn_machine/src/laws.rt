@@ -1,6 +1,6 @@
 //! Laws of the machine: what holds of every state, and of every run, that the event table allows. Each is the contract
 //! of a function that does nothing.
-ghost use Rattle.std.specs.Prelude.{◌≡◌, ◌<◌, ◌↔◌, ℕ, true, false, List, [], ◌∷◌, ◌++◌, None, Some, slice_get};
+ghost use Rattle.std.specs.Prelude.{◌≡◌, ◌<◌, ◌↔◌, ℕ, true, false, List, ◌∷◌, ◌++◌, None, Some, slice_get};
 ghost use Rattle.std.specs.List.{list_any};
 ghost use Rattle.mpm_base.specs.declared.conn.ConnName.{ConnName};
 ghost use Rattle.mpm_base.specs.declared.conn.Cause.{Cause};
