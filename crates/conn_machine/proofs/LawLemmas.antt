@@ -1,7 +1,8 @@
 -- What the laws of the machine say of one entry of a run: a child that is let go of, a connection that is taken.
-use Rattle.std.proofs.Common.{◌≡◌, ◌<◌, ◌≤◌, ◌==◌, ℕ, ◌+◌, ◌*◌, true, false, not, ◌&&◌, nat_lt, List, [], ◌∷◌, ◌++◌, Option, Some, None, is_some, unwrap_or, refl, ap, le_trans, arith}
+use Rattle.std.proofs.Common.{◌≡◌, ◌<◌, ◌≤◌, ◌==◌, ℕ, ◌+◌, ◌*◌, Bool, true, false, not, ◌&&◌, nat_lt, List, [], ◌∷◌, ◌++◌, Option, Some, None, is_some, slice_get, unwrap_or, refl, ap, ◌∙◌, le_trans, arith}
 use Rattle.std.specs.List.{list_any}
-use Rattle.std.proofs.lemmas.Bool.{and_parts, not-true, eqb-true}
+use Rattle.std.specs.Option.{option_map_or}
+use Rattle.std.proofs.lemmas.Bool.{and_parts, eq-eqb, eqb-true, not-true}
 use Rattle.mpm_base.specs.declared.shape.Shape.{Shape}
 use Rattle.mpm_base.specs.declared.conn.ConnName.{ConnName}
 use Rattle.conn_machine.specs.declared.event.Commanded.{Commanded}
@@ -10,14 +11,17 @@ use Rattle.conn_machine.specs.declared.event.Event.{Event}
 use Rattle.conn_machine.specs.declared.event.Event.TheVariants as event
 use Rattle.conn_machine.specs.declared.event.Reply.TheVariants.{Took}
 use Rattle.conn_machine.specs.declared.event.Entry.{Entry}
+use Rattle.conn_machine.specs.declared.row.Row.{Row}
 use Rattle.conn_machine.specs.declared.state.State.{State}
-use Rattle.conn_machine.specs.Rows.{is_live_in, open_count}
+use Rattle.conn_machine.specs.Lists.{update}
+use Rattle.conn_machine.specs.Rows.{is_live_in, is_named, is_vacant, open_count, row_where}
 use Rattle.conn_machine.specs.Children.{child_at, is_running, is_stopping}
 use Rattle.conn_machine.specs.States.{is_serving, pick_child}
-use Rattle.conn_machine.specs.Table.{allowed, next, reply, is_vacant_at, life_at, picked_child, taken_reply, child_passes, may_accept, may_retire, after_command}
+use Rattle.conn_machine.specs.Table.{allowed, next, reply, is_vacant_at, life_at, picked_child, taken_row, taken_reply, child_passes, may_accept, may_retire, after_command}
 use Rattle.conn_machine.specs.Runs.{after, Run}
 use Rattle.conn_machine.specs.Laws.{idle_in, IsChosen, IsTakenFor}
 use Rattle.conn_machine.proofs.PickLemmas.{pick_is_chosen}
+use Rattle.conn_machine.proofs.UpdateLemmas.{get_changed}
 
 -- ---- an entry of a run
 
@@ -62,29 +66,54 @@ chosen-newest s k chosen =
     (nat_lt (100 * open_count s.rows k) (100 * c.shape.threads + c.shape.factor * idle_in s k)) chosen.admits in
     eqb-true c.generation s.newest (and_parts (is_running c.phase) (c.generation == s.newest) parts.0).1
 
--- where there is a child that takes connections, it is the chosen one
-taken_by : (s : State) (slot : ℕ) (choice : Option ℕ) → pick_child s ≡ choice → is_some choice ≡ true
-    → IsTakenFor s (taken_reply s slot)
-taken_by s slot None is some = absurd (cc)
-taken_by s slot (Some k) is some =
+-- a slot whose row passes a test has a row
+row_there : (test : Row → Bool) (o : Option Row) → option_map_or test o false ≡ true → (r : Row) × (o ≡ Some r)
+row_there test None passes = absurd (cc)
+row_there test (Some r) passes = (r, refl)
+
+-- a row that is found, and has the name, is the row of that name
+found_named : (name : ConnName) (o : Option Row) (r : Row) → o ≡ Some r → is_named name r ≡ true → row_where (is_named name) o ≡ Some r
+found_named name o r at named = rw (at, named) refl
+
+-- the row that is taken is live, with the life that the row of the slot had
+taken-named : (s : State) (slot : ℕ) (r : Row) → slice_get s.rows slot ≡ Some r
+    → is_named (record { slot = slot; life = life_at s.rows slot }) (taken_row s r) ≡ true
+taken-named s slot r at = rw at (eq-eqb r.life r.life refl)
+
+-- where there is a child that takes connections, the connection is taken for it
+taken_by : (s : State) (slot : ℕ) (r : Row) (choice : Option ℕ) → slice_get s.rows slot ≡ Some r → pick_child s ≡ choice
+    → is_some choice ≡ true → IsTakenFor s slot (taken_reply s slot)
+taken_by s slot r None at is some = absurd (cc)
+taken_by s slot r (Some k) at is some =
     let chosen = pick_is_chosen s k is in
     let name : ConnName = record { slot = slot; life = life_at s.rows slot } in
     let child : picked_child s ≡ k = ap (λ (choice : Option ℕ). unwrap_or choice 0) is in
+    let newest : (child_at s.children (picked_child s)).generation ≡ s.newest =
+    ap (λ (n : ℕ). (child_at s.children n).generation) child ∙ chosen-newest s k chosen in
     record {
       name = name;
       child = k;
+      row = taken_row s r;
       replied = rw child (ap (Took name k) (chosen-newest s k chosen));
+      in_slot = refl;
       chosen = chosen;
+      found =
+          found_named name (slice_get (update s.rows slot (taken_row s)) slot) (taken_row s r)
+          (get_changed s.rows slot r (taken_row s) at) (taken-named s slot r at);
+      of_child = child;
+      of_generation = newest;
     }
 
 -- a connection is taken for the chosen child
 pub taken-chosen : (s : State) (before rest : List Entry) (e : Entry) (slot : ℕ) → Run s (before ++ e ∷ rest)
-    → e.event ≡ event.Accept slot → IsTakenFor (after s before) e.reply
+    → e.event ≡ event.Accept slot → IsTakenFor (after s before) slot e.reply
 taken-chosen s before rest e slot run is =
     let st = after s before in
     let may : may_accept st slot ≡ true = run-allowed s before rest e (event.Accept slot) run is in
-    let some = and_parts (is_serving st.going && is_vacant_at st slot) (is_some (pick_child st)) may in
-    rw (run-replied s before rest e (event.Accept slot) run is) (taken_by st slot (pick_child st) refl some.1)
+    let parts = and_parts (is_serving st.going && is_vacant_at st slot) (is_some (pick_child st)) may in
+    let vacant = (and_parts (is_serving st.going) (is_vacant_at st slot) parts.0).1 in
+    let there = row_there (λ r. is_vacant r.place) (slice_get st.rows slot) vacant in
+    rw (run-replied s before rest e (event.Accept slot) run is) (taken_by st slot there.0 (pick_child st) there.1 refl parts.1)
 
 -- ---- the newest generation
 
@@ -126,12 +155,12 @@ taken-newest s before rest e slot name child generation run is replied =
     cc
 
 -- after a graceful restart it is of a newer one than was the newest before
-pub taken-newer : (s : State) (before between : List Entry) (restart taking : Entry) (shape : Shape) (slot : ℕ) (name : ConnName)
-    (child generation : ℕ) → Run s (before ++ restart ∷ between ++ taking ∷ []) → restart.event ≡ event.Command (Graceful shape)
+pub taken-newer : (s : State) (before between rest : List Entry) (restart taking : Entry) (shape : Shape) (slot : ℕ) (name : ConnName)
+    (child generation : ℕ) → Run s (before ++ restart ∷ between ++ taking ∷ rest) → restart.event ≡ event.Command (Graceful shape)
     → taking.event ≡ event.Accept slot → taking.reply ≡ Took name child generation → (after s before).newest < generation
-taken-newer s before between restart taking shape slot name child generation run restarts takes replied =
+taken-newer s before between rest restart taking shape slot name child generation run restarts takes replied =
     let st = after s before in
-    let own = taken-newest s (before ++ restart ∷ between) [] taking slot name child generation run takes replied in
+    let own = taken-newest s (before ++ restart ∷ between) rest taking slot name child generation run takes replied in
     let there = ap (λ (t : State). t.newest) (after-append s before (restart ∷ between)) in
     let grown = newest-after (next st restart.event) between in
     let more : (next st restart.event).newest ≡ st.newest + 1 = ap (λ (e : Event). (next st e).newest) restarts in

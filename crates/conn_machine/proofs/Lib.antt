@@ -1,13 +1,18 @@
 pub mod AcceptLemmas
 pub mod AllowedLemmas
+pub mod CellLaw
 pub mod CellLemmas
 pub mod ChanceLemmas
+pub mod ChangeLaw
 pub mod ChildLemmas
 pub mod ChildSound
 pub mod FairLemmas
 pub mod HoldLaw
 pub mod LawLemmas
 pub mod ListLemmas
+pub mod NameLaw
+pub mod NoteLaw
+pub mod OwnerLaw
 pub mod PickLemmas
 pub mod QueueLaw
 pub mod RowLemmas
@@ -16,6 +21,7 @@ pub mod RunLemmas
 pub mod ServeLemmas
 pub mod SizeLemmas
 pub mod SoundLemmas
+pub mod SoundRuns
 pub mod UpdateLemmas
 pub mod WaitLemmas
 pub mod WeightLemmas

@@ -26,6 +26,15 @@ get_update (z ∷ xs) (suc i) zero x y change is got = inr got
 get_update (z ∷ xs) (suc i) (suc j) x y change is got =
     updated_further z xs i j (change x) y (get_update xs i j x y change is got)
 
+-- the changed item stands in its place
+pub get_changed : {X : Type 0} (xs : List X) (i : ℕ) (x : X) (change : X → X) → slice_get xs i ≡ Some x
+    → slice_get (update xs i change) i ≡ Some (change x)
+get_changed [] i x change is = absurd (cc)
+get_changed (z ∷ xs) zero x change is =
+    let e : z ≡ x = cc in
+    ap (λ y. Some (change y)) e
+get_changed (z ∷ xs) (suc i) x change is = get_changed xs i x change is
+
 -- a count of one more item
 count_cons : {X : Type 0} (p : X → Bool) (x : X) (xs : List X) → count_by p (x ∷ xs) ≡ cond (p x) 1 0 + count_by p xs
 count_cons p x xs = sum_by-cons (λ y. cond (p y) 1 0) x xs

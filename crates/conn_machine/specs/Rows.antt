@@ -5,6 +5,8 @@ use Rattle.std.specs.List.{list_any, range_with_len}
 use Rattle.mpm_base.specs.declared.conn.ConnName.{ConnName}
 use Rattle.mpm_base.specs.declared.conn.Kind.{Kind}
 use Rattle.mpm_base.specs.declared.conn.Kind.TheVariants.{Reading, KeepAlive, Writing, Linger, ShortLinger}
+use Rattle.conn_machine.specs.declared.row.Owner.{Owner}
+use Rattle.conn_machine.specs.declared.row.Owner.TheVariants as owner
 use Rattle.conn_machine.specs.declared.row.Phase.{Phase}
 use Rattle.conn_machine.specs.declared.row.Place.{Place}
 use Rattle.conn_machine.specs.declared.row.Place.TheVariants.{Vacant, Spent, Held, Parked, Queued, Working}
@@ -109,6 +111,19 @@ is_live r = not (is_unused r.place)
 -- its service ended, and it is being closed
 abbrev pub is_lingering : Row → Bool
 is_lingering r = is_some r.cause
+
+-- who has what is at a place: a queue or a worker of its child, a queue of the listener's, the listener, or nobody
+abbrev pub owner_in : ℕ → Place → Option Owner
+owner_in k Vacant = None
+owner_in k Spent = None
+owner_in k Held = Some owner.Listener
+owner_in k (Parked kind) = Some (owner.TimeoutQueue kind)
+owner_in k Queued = Some (owner.DescriptorQueue k)
+owner_in k (Working cell phase) = Some (owner.Worker k cell)
+
+-- who has the connection
+abbrev pub owner_of : Row → Option Owner
+owner_of r = owner_in r.child r.place
 
 -- there is a response
 abbrev pub has_note : Row → Bool

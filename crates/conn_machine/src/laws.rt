@@ -1,6 +1,6 @@
 //! Laws of the machine: what holds of every state, and of every run, that the event table allows. Each is the contract
 //! of a function that does nothing.
-ghost use Rattle.std.specs.Prelude.{◌≡◌, ◌<◌, ℕ, true, false, List, [], ◌∷◌, ◌++◌, Some, slice_get};
+ghost use Rattle.std.specs.Prelude.{◌≡◌, ◌<◌, ◌↔◌, ℕ, true, false, List, ◌∷◌, ◌++◌, None, Some, slice_get};
 ghost use Rattle.std.specs.List.{list_any};
 ghost use Rattle.mpm_base.specs.declared.conn.ConnName.{ConnName};
 ghost use Rattle.mpm_base.specs.declared.conn.Cause.{Cause};
@@ -15,7 +15,7 @@ ghost use Rattle.conn_machine.specs.declared.event.Commanded.TheVariants.{Gracef
 ghost use Rattle.conn_machine.specs.declared.event.Reply.TheVariants.{Took};
 ghost use Rattle.conn_machine.specs.declared.event.Entry.{Entry};
 ghost use Rattle.conn_machine.specs.declared.state.State.{State};
-ghost use Rattle.conn_machine.specs.Rows.{is_live_in, live_row};
+ghost use Rattle.conn_machine.specs.Rows.{is_live, is_live_in, live_row, owner_of};
 ghost use Rattle.conn_machine.specs.Children.{is_in_bounds};
 ghost use Rattle.conn_machine.specs.States.{opening};
 ghost use Rattle.conn_machine.specs.Table.{allowed, next};
@@ -45,6 +45,11 @@ pub fn closed_names_stay_closed()
 pub fn live_connections_share_nothing()
     ensures slots { (rows : List Row) (name other : ConnName) (r r' : Row) → live_row rows name ≡ Some r → live_row rows other ≡ Some r' → name.slot ≡ other.slot → name ≡ other }
     ensures cells { (s : State) (slot other cell : ℕ) (r r' : Row) (phase phase' : Phase) → IsSound s → slice_get s.rows slot ≡ Some r → slice_get s.rows other ≡ Some r' → r.place ≡ Working cell phase → r'.place ≡ Working cell phase' → r.child ≡ r'.child → slot ≡ other }
+{}
+
+/// A connection has an owner exactly while it is live: one queue, one worker or the listener.
+pub fn live_connections_have_one_owner()
+    ensures { (r : Row) → (owner_of r ≡ None) ↔ (is_live r ≡ false) }
 {}
 
 /// A connection that is taken after a graceful restart is of the generation that it made, or of a newer one.

@@ -23,7 +23,7 @@ pub use child::{Child, ChildPhase, Children};
 pub use conditions::{is_in_bounds, may};
 pub use event::{Commanded, Entry, Event, Refusal, Reply, Why};
 pub use kept::Kept;
-pub use row::{Phase, Place, Row};
+pub use row::{Owner, Phase, Place, Row};
 pub use rows::Rows;
 pub use state::{Going, Signals, State};
 pub use stepping::step;

@@ -34,6 +34,19 @@ pub enum Place {
     Working(u32, Phase),
 }
 
+/// Who has a connection.
+#[derive(Clone, Copy, Debug, PartialEq, Eq)]
+pub enum Owner {
+    /// The timeout queue of the kind.
+    TimeoutQueue(Kind),
+    /// The descriptor queue of the child.
+    DescriptorQueue(u32),
+    /// The worker of that cell of the child: the child, and the cell.
+    Worker(u32, u32),
+    /// The listener.
+    Listener,
+}
+
 impl Place {
     /// Whether the slot is free for a connection.
     pub fn is_vacant(self) -> bool
@@ -166,6 +179,19 @@ impl Row {
         ensures { result ≡ rows.is_live self.now }
     {
         !self.place.is_unused()
+    }
+
+    /// Who has it, while it is live.
+    pub fn owner(&self) -> Option<Owner>
+        ensures { result ≡ rows.owner_of self.now }
+    {
+        match self.place {
+            Place::Vacant | Place::Spent => None,
+            Place::Held => Some(Owner::Listener),
+            Place::Parked(kind) => Some(Owner::TimeoutQueue(kind)),
+            Place::Queued => Some(Owner::DescriptorQueue(self.child)),
+            Place::Working(cell, _) => Some(Owner::Worker(self.child, cell)),
+        }
     }
 
     /// Whether its service ended, and it is being closed.

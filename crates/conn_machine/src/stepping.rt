@@ -15,6 +15,7 @@ use std::alloc::Global;
 /// Does what the event table says of the event, and gives its reply. Only a noted response takes memory;
 /// where it lacks the state stays as it was. The state has at most 8,192 rows and 32 children, and as many
 /// signals as rows.
+#[tactic(auto, using(crate::proofs::SoundRuns::sound_step))]
 pub fn step(alloc: Global, state: &mut State, event: &Event) -> Result<Reply, NoMemory>
     requires allowed { table.allowed state.old event.now ≡ true }
     requires few_rows { length state.old.rows ≤ 8192 }

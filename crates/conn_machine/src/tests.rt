@@ -1,7 +1,7 @@
 //! The life of one connection, event by event, and what the table refuses on the way.
 ghost use Rattle.std.specs.Prelude.{◌≡◌, ◌≤◌, length};
 
-use crate::{ChildPhase, Commanded, Event, Reply, State, Why, may, step};
+use crate::{ChildPhase, Commanded, Event, Owner, Reply, State, Why, may, step};
 use mpm_base::{Ask, Cause, ConnName, Kind, NoMemory, Shape, Tail};
 use std::alloc::Global;
 use std::process::Abort;
@@ -71,6 +71,8 @@ fn a_connection_lives_and_its_child_retires(rt: HostRuntime) -> Result<(), Fail>
     does(&rt, alloc, &mut state, Event::Ready(0), Reply::Done)?;
     does(&rt, alloc, &mut state, Event::Queue(FIRST), Reply::Done)?;
     does(&rt, alloc, &mut state, Event::Start(FIRST), Reply::Cell(0))?;
+    let owner = state.rows.get(0).and_then(|row| row.owner());
+    assert_eq!(rt; owner, Some(Owner::Worker(0, 0)));
     let answer = Event::Answer(FIRST, PAGE_FOUND);
     does(&rt, alloc, &mut state, answer, Reply::Noted(false))?;
     let close = Event::Close(FIRST, Cause::ClientDone, Tail::Direct);
