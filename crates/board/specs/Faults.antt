@@ -1,8 +1,6 @@
 -- Why a call of the board is refused, and what it records.
-use Rattle.std.specs.Prelude.{◌≡◌, ℕ, ◌<◌, ◌≤◌, true, false, Option, None, Some, is_some}
+use Rattle.std.specs.Prelude.{◌≡◌, ℕ, ◌<◌, ◌≤◌, true, false, None, is_some}
 use Rattle.conn_machine.specs.declared.event.Event.{Event}
-use Rattle.conn_machine.specs.declared.state.State.{State}
-use Rattle.conn_machine.specs.Rows.{is_vacant}
 use Rattle.conn_machine.specs.States.{is_halted, pick_child}
 use Rattle.conn_machine.specs.Table.{is_vacant_at}
 use Rattle.conn_machine.specs.Runs.{load, full_load}
