@@ -1,1 +1,4 @@
+pub mod ConnLemmas
+pub mod ExchangeLemmas
+pub mod ItemLemmas
 pub mod StreamLemmas
