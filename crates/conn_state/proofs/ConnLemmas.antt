@@ -52,7 +52,7 @@ streams-sent notes pending sent left rest t s front = record {
 }
 
 -- the next item is answered
-streams-answered : (notes : List Note) (rest : List ℕ) (t : LinkTold) (item : Item) (behind : List ℕ) (note : Note) (response : List ℕ)
+pub streams-answered : (notes : List Note) (rest : List ℕ) (t : LinkTold) (item : Item) (behind : List ℕ) (note : Note) (response : List ℕ)
     → Streams notes [] rest t → says_last notes ≡ false → Begins rest item behind → IsNoteFor (ask_of item) note → IsResponse item note response
     → Streams (notes ++ note ∷ []) (first_part item ++ response) behind t
 streams-answered notes rest t item behind note response s goes_on begins noted is_response = record {
@@ -63,7 +63,7 @@ streams-answered notes rest t item behind note response s goes_on begins noted i
 }
 
 -- it breaks off
-pub broke_off : (notes : List Note) (pending rest : List ℕ) (t : LinkTold) → Streams notes pending rest t → BrokeOff notes t
+broke_off : (notes : List Note) (pending rest : List ℕ) (t : LinkTold) → Streams notes pending rest t → BrokeOff notes t
 broke_off notes pending rest t s = record {
   open_link = s.open_link;
   items = s.items;
@@ -73,6 +73,16 @@ broke_off notes pending rest t s = record {
   are_replies = s.replies;
   front = (pending, refl);
 }
+
+-- whether it goes on or broke off, it may break off
+pub broke_while : (usable : Bool) (notes : List Note) (pending rest : List ℕ) (t : LinkTold) → StreamsWhile usable notes pending rest t → BrokeOff notes t
+broke_while true notes pending rest t s = broke_off notes pending rest t s
+broke_while false notes pending rest t s = s
+
+pub told-broken : (usable : Bool) (told : Option LinkTold) (notes : List Note) (pending rest : List ℕ) → IfSome told (StreamsWhile usable notes pending rest)
+    → IfSome told (BrokeOff notes)
+told-broken usable None notes pending rest s = tt
+told-broken usable (Some t) notes pending rest s = broke_while usable notes pending rest t s
 
 -- ## Reading
 
@@ -120,7 +130,7 @@ gone-read read.LinkFailed e = absurd (cc)
 gone-read read.NoMemory e = absurd (cc)
 
 -- the reply stream of a connection that is usable
-usable-streams : (c : SeenConn) → IsConn c → is_usable c.turn ≡ true → IfSome c.told (Streams c.notes c.pending c.rest)
+pub usable-streams : (c : SeenConn) → IsConn c → is_usable c.turn ≡ true → IfSome c.told (Streams c.notes c.pending c.rest)
 usable-streams c is usable = subst (λ b. IfSome c.told (StreamsWhile b c.notes c.pending c.rest)) usable is.streams
 
 -- a connection holds after a turn of reading

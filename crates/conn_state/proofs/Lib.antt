@@ -1,3 +1,4 @@
+pub mod AnswerLemmas
 pub mod ConnLemmas
 pub mod ExchangeLemmas
 pub mod ItemLemmas
