@@ -6,13 +6,7 @@
 //! turn leaves in `specs/Turns.antt`, and what an ended connection shows in `specs/Answered.antt`. The site is one file.
 #![tactic(auto)]
 
-mod conn;
-mod ended;
 mod response;
-#[cfg(test)]
-mod tests;
 mod turn;
 
-pub use conn::Conn;
-pub use ended::Ended;
 pub use turn::{LastTurn, ReadTurn, WriteTurn};
