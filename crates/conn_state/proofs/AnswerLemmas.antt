@@ -98,7 +98,7 @@ module _ (c seen : SeenConn) (size : ℕ) (note : Note) (response : List ℕ) (h
   held-answered =
       let streams = subst (λ xs. IfSome c.told (Streams c.notes xs c.rest)) ready-here.none_pending (usable-streams c held.conn ready-here.usable) in
       let answered = told-answered c.told c.notes c.rest ready-here.item (drop size c.rest) note response streams ready-here.goes_on ready-here.begins
-          ready-here.noted response-here in
+      ready-here.noted response-here in
       record {
         conn = record {
           turn_fits = some-response ready-here.item note response response-here;

@@ -28,7 +28,7 @@ rises-after false old mid new first later = omega (arith, first, later)
 -- bytes before the half-close, received in two steps
 before-twice : (open_still : Bool) (before first second : List ℕ)
     → (if open_still then (if open_still then before ++ first else before) ++ second else (if open_still then before ++ first else before))
-      ≡ (if open_still then before ++ (first ++ second) else before)
+    ≡ (if open_still then before ++ (first ++ second) else before)
 before-twice true before first second = append_assoc before first second
 before-twice false before first second = refl
 
