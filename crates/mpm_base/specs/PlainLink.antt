@@ -22,13 +22,13 @@ abbrev pub new_link : ℕ → List ℕ → Bool → SeenLink
 new_link number coming ended =
     record { told = fresh_link number coming; counts = no_link_counts; ends = ended }
 
--- what a read into so much room answers where no byte is left
+-- what a read answers where no byte comes
 abbrev pub answer_at_end : Bool → Got
 answer_at_end true = got.End
 answer_at_end false = got.NotReady
 
--- what a read into so much room answers: as many of the bytes that are left as fit, and only where none is left the end,
--- or that there is none at this moment
+-- what a read into so much room answers: as many of the bytes that come as fit, and only where none comes the end, or that
+-- there is none at this moment
 abbrev pub read_answer : List ℕ → Bool → ℕ → Got
 read_answer [] ended room = answer_at_end ended
 read_answer (byte ∷ bytes) ended room = got.Got (min (length (byte ∷ bytes)) room)
@@ -47,19 +47,14 @@ count_read got.End counts = record counts { ends = next_count counts.ends }
 count_read got.NotReady counts = record counts { late_reads = next_count counts.late_reads }
 count_read got.Failed counts = record counts { faults = next_count counts.faults }
 
--- the buffer after a read that answered this, where these bytes were left: what it gave, at the front
+-- the buffer after a read that answered this, where these bytes came: what it gave, at the front
 abbrev pub filled : Got → List ℕ → List ℕ → List ℕ
-filled answer left buffer = take (got_count answer) left ++ drop (got_count answer) buffer
+filled answer coming buffer = take (got_count answer) coming ++ drop (got_count answer) buffer
 
--- the link after a read that answered this and left this in the buffer
-abbrev pub link_after_read : Got → List ℕ → SeenLink → SeenLink
-link_after_read answer buffer link =
-    record {
-      told = after_read answer buffer link.told;
-      counts = count_read answer link.counts;
-      left = drop (got_count answer) link.left;
-      ends = link.ends;
-    }
+-- the link after a read that answered this
+abbrev pub link_after_read : Got → SeenLink → SeenLink
+link_after_read answer link =
+    record link { told = after_read answer link.told; counts = count_read answer link.counts }
 
 -- a write takes the whole piece, or finds no room for want of memory
 abbrev pub TakesWhole : Sent → ℕ → Type 0

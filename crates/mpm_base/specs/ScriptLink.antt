@@ -1,20 +1,19 @@
 -- A link in memory some of whose calls fail: what contracts see of it, and what each call leaves of it.
-use Rattle.std.specs.Prelude.{◌≡◌, ℕ, Bool, true, false, List, drop, if◌then◌else◌, ⊤}
+use Rattle.std.specs.Prelude.{◌≡◌, ℕ, Bool, true, false, List, if◌then◌else◌, ⊤}
 use Rattle.mpm_base.specs.Count.{next_count}
 use Rattle.mpm_base.specs.Link.{LinkTold, LinkCounts, fresh_link, after_read, after_write}
 use Rattle.mpm_base.specs.Calls.{is_listed}
-use Rattle.mpm_base.specs.PlainLink.{no_link_counts, read_answer, got_count, count_read, count_write}
+use Rattle.mpm_base.specs.PlainLink.{no_link_counts, read_answer, count_read, count_write}
 use Rattle.mpm_base.specs.declared.link.Got.{Got}
 use Rattle.mpm_base.specs.declared.link.Got.TheVariants as got
 use Rattle.mpm_base.specs.declared.link.Sent.{Sent}
 use Rattle.mpm_base.specs.declared.link.Sent.TheVariants as sent
 
--- what the link tells and counts, the bytes of its client that no read gave yet, whether the client sends no more behind
--- them, how many reads and writes were called, whatever they answered, and which of them are to fail
+-- what the link tells and counts, whether the client sends no more behind the bytes that come, how many reads and writes
+-- were called, whatever they answered, and which of them are to fail
 pub record SeenScriptLink : Type 0 where
   pub told : LinkTold
   pub counts : LinkCounts
-  pub left : List ℕ
   pub ends : Bool
   pub reads : ℕ
   pub writes : ℕ
@@ -26,9 +25,8 @@ pub record SeenScriptLink : Type 0 where
 abbrev pub new_script_link : ℕ → List ℕ → Bool → List ℕ → List ℕ → SeenScriptLink
 new_script_link number coming ended bad_reads bad_writes =
     record {
-      told = fresh_link number;
+      told = fresh_link number coming;
       counts = no_link_counts;
-      left = coming;
       ends = ended;
       reads = 0;
       writes = 0;
@@ -46,15 +44,14 @@ write_is_listed link = is_listed link.fail_writes (next_count link.writes)
 -- what a read into so much room answers: Failed where it is to fail, and else what a link without failures does
 abbrev pub script_read_answer : SeenScriptLink → ℕ → Got
 script_read_answer link room =
-    if read_is_listed link then got.Failed else read_answer link.left link.ends room
+    if read_is_listed link then got.Failed else read_answer link.told.coming link.ends room
 
--- the link after a read that answered this and left this in the buffer
-abbrev pub script_link_after_read : Got → List ℕ → SeenScriptLink → SeenScriptLink
-script_link_after_read answer buffer link =
+-- the link after a read that answered this
+abbrev pub script_link_after_read : Got → SeenScriptLink → SeenScriptLink
+script_link_after_read answer link =
     record link {
-      told = after_read answer buffer link.told;
+      told = after_read answer link.told;
       counts = count_read answer link.counts;
-      left = drop (got_count answer) link.left;
       reads = next_count link.reads;
     }
 

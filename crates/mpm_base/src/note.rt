@@ -1,5 +1,6 @@
 //! What the table notes of a response when it is decided, and what a status page shows.
 ghost use Rattle.std.specs.Prelude.{◌≡◌, ◌==◌, [], ◌∷◌, ◌++◌, ◌<◌, ◌^◌, length, OnOk, OnErr, slice_get, option_map};
+ghost use Rattle.mpm_base.specs.Notes.{says_last};
 
 use crate::memory::NoMemory;
 use crate::octets::Octets;
@@ -98,6 +99,16 @@ impl Notes {
         ensures { result ≡ (length self.now == 0) }
     {
         self.items.is_empty()
+    }
+
+    /// Whether the last note says that it is the last response; false where there is none.
+    pub fn says_last(&self) -> bool
+        ensures { result ≡ says_last self.now }
+    {
+        match self.items.as_slice().last() {
+            Some(note) => note.last,
+            None => false,
+        }
     }
 
     /// The notes, in order.

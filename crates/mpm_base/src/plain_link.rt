@@ -36,6 +36,7 @@ impl Model for PlainLink {
       told = record {
         received = take l.given l.coming;
         before_shut = take l.given_before_shut l.coming;
+        coming = drop l.given l.coming;
         sent = l.taken;
         shuts = l.half_closed;
         closes = l.closed;
@@ -47,7 +48,6 @@ impl Model for PlainLink {
         late_writes = l.not_ready_writes;
         ends = l.end_reads;
       };
-      left = drop l.given l.coming;
       ends = l.ended;
     } };
 
@@ -76,7 +76,7 @@ impl PlainLink {
 
     /// The bytes of the client that no read gave yet.
     pub fn left(&self) -> &[u8]
-        ensures { result.now ≡ self.now.left }
+        ensures { result.now ≡ self.now.told.coming }
     {
         &self.coming.as_slice()[self.given..]
     }
@@ -125,13 +125,10 @@ impl PlainLink {
         0
     }
 
-    /// Notes that so many of the bytes that are left were given.
+    /// Notes that so many of the bytes that come were given.
     fn give(&mut self, count: usize)
-        requires { count ≤ length self.old.left }
-        ensures { self.new ≡ record self.old {
-          told = with_received (take count self.old.left) self.old.told;
-          left = drop count self.old.left;
-        } }
+        requires { count ≤ length self.old.told.coming }
+        ensures { self.new ≡ record self.old { told = with_received count self.old.told } }
     {
         prove!(count <= self.coming.len() - self.given);
         self.given += count;
@@ -160,9 +157,9 @@ impl Link for PlainLink {
     fn read(&mut self, buffer: &mut [u8]) -> Got
         ensures link { Reads (Some self.old.told) (Some self.new.told)
             self.old.counts self.new.counts result buffer.new }
-        ensures answer { result ≡ read_answer self.old.left self.old.ends (length buffer.old) }
-        ensures buffer { buffer.new ≡ filled result self.old.left buffer.old }
-        ensures state { self.new ≡ link_after_read result buffer.new self.old }
+        ensures answer { result ≡ read_answer self.old.told.coming self.old.ends (length buffer.old) }
+        ensures buffer { buffer.new ≡ filled result self.old.told.coming buffer.old }
+        ensures state { self.new ≡ link_after_read result self.old }
     {
         let left = self.left();
         if left.is_empty() {

@@ -32,7 +32,6 @@ impl Model for ScriptLink {
     ghost view = { λ l. record {
       told = l.inner.told;
       counts = record l.inner.counts { faults = l.failures; late_writes = 0 };
-      left = l.inner.left;
       ends = l.inner.ends;
       reads = l.read_calls;
       writes = l.write_calls;
@@ -66,7 +65,7 @@ impl ScriptLink {
 
     /// The bytes of the client that no read gave yet.
     pub fn left(&self) -> &[u8]
-        ensures { result.now ≡ self.now.left }
+        ensures { result.now ≡ self.now.told.coming }
     {
         self.inner.left()
     }
@@ -124,8 +123,8 @@ impl Link for ScriptLink {
         ensures link { Reads (Some self.old.told) (Some self.new.told)
             self.old.counts self.new.counts result buffer.new }
         ensures answer { result ≡ script_read_answer self.old (length buffer.old) }
-        ensures buffer { buffer.new ≡ filled result self.old.left buffer.old }
-        ensures state { self.new ≡ script_link_after_read result buffer.new self.old }
+        ensures buffer { buffer.new ≡ filled result self.old.told.coming buffer.old }
+        ensures state { self.new ≡ script_link_after_read result self.old }
     {
         self.read_calls = self.read_calls.saturating_add(1);
         if self.bad_reads.has(self.read_calls) {

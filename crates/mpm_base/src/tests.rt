@@ -5,6 +5,7 @@ use crate::link::{Got, Link, Sent};
 use crate::mem_sink::{MemSink, PlainSink};
 use crate::mem_store::MemStore;
 use crate::memory::NoMemory;
+use crate::note::{Note, Notes};
 use crate::octets::Octets;
 use crate::plain_link::PlainLink;
 use crate::plain_store::PlainStore;
@@ -113,10 +114,10 @@ fn reads_are_cut_by_the_buffer(rt: HostRuntime) -> Result<(), Fail> {
         (1, Got::Got(1)),
         (3, Got::Got(3)),
         (0, Got::Got(0)),
-        (8, Got::Got(1)),
-        (8, Got::End),
-        (0, Got::End),
     ];
+    reads(&rt, &mut link, &wanted, &mut came)?;
+    assert_eq!(rt; link.left(), b"/".as_slice());
+    let wanted = [(8, Got::Got(1)), (8, Got::End), (0, Got::End)];
     reads(&rt, &mut link, &wanted, &mut came)?;
     assert_eq!(rt; came.as_slice(), b"GET /".as_slice());
     assert_eq!(rt; link.received(), b"GET /".as_slice());
@@ -139,6 +140,7 @@ fn listed_reads_fail_and_lose_no_byte(rt: HostRuntime) -> Result<(), Fail> {
         (2, Got::NotReady),
     ];
     reads(&rt, &mut link, &wanted, &mut came)?;
+    assert_eq!(rt; link.left(), b"".as_slice());
     assert_eq!(rt; came.as_slice(), b"abc".as_slice());
     assert_eq!(rt; link.faults(), 2);
     Ok(())
@@ -176,6 +178,23 @@ fn a_link_counts_how_often_it_ended(rt: HostRuntime) {
     assert_eq!(rt; link.sent(), b"HTTP/1.1 200 OK".as_slice());
     assert_eq!(rt; link.shuts(), 2);
     assert_eq!(rt; link.closes(), 2);
+}
+
+#[test]
+fn the_last_note_says_whether_it_is_the_last(rt: HostRuntime) -> Result<(), Fail> {
+    let mut notes = Notes::make(rt.alloc());
+    assert!(rt; !notes.says_last());
+    for last in [true, false, true] {
+        notes.add(Note {
+            date: 1,
+            asked_close: !last,
+            last,
+            code: 200,
+            page: None,
+        })?;
+        assert_eq!(rt; notes.says_last(), last);
+    }
+    Ok(())
 }
 
 #[test]
