@@ -1,2 +1,7 @@
+pub mod BoardLemmas
 pub mod BookLemmas
+pub mod ClosedLemmas
+pub mod EventLemmas
+pub mod HandLemmas
 pub mod RoomLemmas
+pub mod SlotLemmas
