@@ -1,17 +1,16 @@
 -- The next item of a connection is answered.
-use Rattle.std.proofs.Common.{◌≡◌, ◌==◌, ℕ, ◌<◌, Bool, true, false, List, [], ◌∷◌, ◌++◌, drop, length, Option, Some, None, IfSome, refl, sym, ap, subst, ◌∙◌, inl, inr, arith}
+use Rattle.std.proofs.Common.{◌≡◌, ℕ, ◌<◌, true, false, List, [], ◌∷◌, ◌++◌, drop, length, Option, Some, None, IfSome, refl, sym, ap, subst, ◌∙◌, inl, inr, arith}
 use Rattle.httpdate.specs.Date.{date_text}
 use Rattle.mpm_base.specs.Link.{LinkTold}
 use Rattle.mpm_base.specs.Notes.{says_last}
-use Rattle.mpm_base.specs.declared.conn.Ask.{Ask}
 use Rattle.mpm_base.specs.declared.note.Note.{Note}
 use Rattle.http_read.specs.declared.request.Request.{Request}
 use Rattle.conn_state.specs.declared.turn.LastTurn.{LastTurn}
 use Rattle.conn_state.specs.declared.turn.LastTurn.TheVariants as turn
 use Rattle.conn_state.specs.Items.{Item, Begins, ask_of}
 use Rattle.conn_state.specs.Response.{IsResponse, response_at}
-use Rattle.conn_state.specs.Replies.{IsNoteFor, continue_response, first_part}
-use Rattle.conn_state.specs.Conn.{SeenConn, is_usable, Streams, StreamsWhile, TurnFits, IsConn}
+use Rattle.conn_state.specs.Replies.{IsNoteFor, first_part}
+use Rattle.conn_state.specs.Conn.{SeenConn, is_usable, Streams, TurnFits}
 use Rattle.conn_state.specs.Turns.{IsNoteOf, Answers}
 use Rattle.conn_state.specs.Held.{IsSizeOf, IsHeld}
 use Rattle.conn_state.proofs.ConnLemmas.{usable-streams, told-broken, streams-answered}

@@ -1,5 +1,5 @@
 -- A connection that ends was answered.
-use Rattle.std.proofs.Common.{◌≡◌, ◌≢◌, ℕ, ◌<◌, Bool, true, false, List, [], ◌++◌, Option, Some, None, option_map, IfSome, refl, sym, ap, subst, ◌∙◌}
+use Rattle.std.proofs.Common.{◌≡◌, ◌≢◌, ℕ, List, [], ◌++◌, Option, Some, None, option_map, IfSome, sym, ap, subst, ◌∙◌}
 use Rattle.std.proofs.lemmas.List.{append-nil}
 use Rattle.mpm_base.specs.Count.{next_count}
 use Rattle.mpm_base.specs.Link.{LinkTold, after_close}
@@ -12,7 +12,7 @@ use Rattle.conn_state.specs.declared.turn.LastTurn.{LastTurn}
 use Rattle.conn_state.specs.declared.turn.LastTurn.TheVariants as turn
 use Rattle.conn_state.specs.Items.{Item, SpellsNone}
 use Rattle.conn_state.specs.Replies.{AreReplies}
-use Rattle.conn_state.specs.Conn.{SeenConn, is_usable, IsFrontOf, Streams, BrokeOff, StreamsWhile, TurnFits, IsWaiting, IsConn}
+use Rattle.conn_state.specs.Conn.{SeenConn, is_usable, IsFrontOf, Streams, BrokeOff, TurnFits, IsWaiting, IsConn}
 use Rattle.conn_state.specs.Answered.{IsShown, SentFor, IsAnswered}
 use Rattle.conn_state.proofs.StreamLemmas.{interim-none}
 use Rattle.conn_state.proofs.ConnLemmas.{usable-streams, told-broken}

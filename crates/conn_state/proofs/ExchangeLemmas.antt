@@ -1,5 +1,5 @@
 -- Several reads of a link, or writes to it, are one.
-use Rattle.std.proofs.Common.{◌≡◌, ◌==◌, ℕ, ◌+◌, ◌<◌, ◌≤◌, Bool, true, false, List, [], ◌∷◌, ◌++◌, take, drop, length, Option, Some, None, option_map, IfSome, if◌then◌else◌, refl, sym, ap, subst, ◌∙◌, arith, append_assoc, length-append}
+use Rattle.std.proofs.Common.{◌≡◌, ◌==◌, ℕ, ◌+◌, ◌≤◌, Bool, true, false, List, [], ◌++◌, take, drop, length, Option, Some, None, option_map, IfSome, if◌then◌else◌, refl, sym, ap, subst, ◌∙◌, arith, append_assoc, length-append}
 use Rattle.std.proofs.Math.Seq.{take-add}
 use Rattle.std.proofs.lemmas.List.{drop-drop, append-nil, take-append-drop, take-append-le, length-take-le}
 use Rattle.mpm_base.specs.Count.{NeverFalls, RisesWhere, RisesExactlyWhere}
@@ -10,9 +10,8 @@ use Rattle.mpm_base.specs.RootRequest.{BeginsRequest, IsStarted}
 use Rattle.mpm_base.specs.declared.conn.Ask.{Ask}
 use Rattle.conn_state.specs.declared.turn.ReadTurn.{ReadTurn}
 use Rattle.conn_state.specs.declared.turn.ReadTurn.TheVariants as read
-use Rattle.conn_state.specs.declared.turn.WriteTurn.{WriteTurn}
 use Rattle.conn_state.specs.Items.{IsAskedIn, SpellsNone}
-use Rattle.conn_state.specs.Turns.{KeepsRead, is_more, is_gone, read_failed, is_not_ready, write_failed, with_sent}
+use Rattle.conn_state.specs.Turns.{KeepsRead, is_more, is_gone, read_failed, with_sent}
 use Rattle.conn_state.specs.Exchange.{HasRead, TakesIn, IsSame, HasSent}
 use Rattle.conn_state.proofs.ItemLemmas.{asked-none}
 

@@ -1,10 +1,10 @@
 -- The first item of the bytes, and its size.
-use Rattle.std.proofs.Common.{◌≡◌, ℕ, ◌≤◌, List, ◌++◌, length, drop, refl, ap, inl, inr, arith, length-append}
+use Rattle.std.proofs.Common.{◌≡◌, ℕ, List, length, drop, refl, ap, inl, inr, arith, length-append}
 use Rattle.mpm_base.specs.RootRequest.{BeginsRequest, IsStarted, request_of}
 use Rattle.mpm_base.specs.declared.conn.Ask.{Ask}
 use Rattle.http_read.specs.declared.request.Request.{Request}
 use Rattle.http_read.specs.Head.{BeginsWith, IsNoFront}
-use Rattle.conn_state.specs.Items.{Item, Begins, BeginsRequestWith, IsAskedIn, SpellsNone, request_ask, refusal_ask}
+use Rattle.conn_state.specs.Items.{Item, Begins, IsAskedIn, SpellsNone, request_ask, refusal_ask}
 use Rattle.conn_state.specs.Held.{HasSize}
 
 -- a whole request has its size
