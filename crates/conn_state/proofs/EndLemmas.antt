@@ -60,12 +60,14 @@ answered-done notes rest t s none all = record {
   received = λ e. all;
 }
 
+-- the same of a link that may tell
 told-front : (why : Cause) (notes : List Note) (told : Option LinkTold) → why ≢ cause.ClientDone
     → ((t : LinkTold) (items : List Item) (rest replies : List ℕ) → IsFrontOf (replies ++ []) t.sent → SentFor why items notes rest replies [] (after_close t))
     → IfSome told (BrokeOff notes) → IfSome (option_map after_close told) (IsAnswered why tail.Direct notes)
 told-front why notes None other enough b = tt
 told-front why notes (Some t) other enough b = answered-front why notes t other (enough t) b
 
+-- the same of a link that may tell
 told-done : (notes : List Note) (rest : List ℕ) (told : Option LinkTold) → IfSome told (Streams notes [] rest) → SpellsNone rest
     → IfSome told (λ t. t.coming ≡ []) → IfSome (option_map after_close told) (IsAnswered cause.ClientDone tail.Direct notes)
 told-done notes rest None s none all = tt

@@ -46,6 +46,7 @@ received-twice a b t =
       rank = t.rank;
     }
 
+-- the same of a link that may tell
 told-received_twice : (a b : ℕ) (told : Option LinkTold) → option_map (with_received b) (option_map (with_received a) told) ≡ option_map (with_received (a + b)) told
 told-received_twice a b None = refl
 told-received_twice a b (Some t) = ap Some (received-twice a b t)
@@ -71,14 +72,17 @@ received-none t = λ i. record {
   rank = t.rank;
 }
   where
+    -- no byte came before the half-close
     before-none : (open_still : Bool) (before : List ℕ) → before ≡ (if open_still then before ++ [] else before)
     before-none true before = sym (append-nil before)
     before-none false before = refl
 
+-- the same of a link that may tell
 told-received_none : (told : Option LinkTold) → told ≡ option_map (with_received 0) told
 told-received_none None = refl
 told-received_none (Some t) = ap Some (received-none t)
 
+-- no byte comes next
 gives-none : (told : Option LinkTold) → IfSome told (λ t. [] ≡ take (length {A = ℕ} []) t.coming)
 gives-none None = tt
 gives-none (Some t) = refl
@@ -97,12 +101,14 @@ has_read-none told counts bytes = record {
 }
 
 module _ (told told1 told2 : Option LinkTold) (counts counts1 counts2 : LinkCounts) (bytes bytes1 bytes2 : List ℕ) where
+  -- two receipts are one
   told-joined : (a b : List ℕ) → told1 ≡ option_map (with_received (length a)) told → told2 ≡ option_map (with_received (length b)) told1
       → told2 ≡ option_map (with_received (length (a ++ b))) told
   told-joined a b first second =
       second ∙ ap (λ o. option_map (with_received (length b)) o) first ∙ told-received_twice (length a) (length b) told
       ∙ ap (λ n. option_map (with_received n) told) (sym (length-append a b))
 
+  -- what both gave comes next
   gives-joined : (a b : List ℕ) → told1 ≡ option_map (with_received (length a)) told → IfSome told (λ t. a ≡ take (length a) t.coming)
       → IfSome told1 (λ t. b ≡ take (length b) t.coming) → IfSome told (λ t. a ++ b ≡ take (length (a ++ b)) t.coming)
   gives-joined a b is first second =
@@ -122,6 +128,7 @@ module _ (told told1 told2 : Option LinkTold) (counts counts1 counts2 : LinkCoun
     ends = later.ends ∙ first.ends;
   }
 
+  -- the bytes of both stand behind those that were there
   keeps-joined : (answer : ReadTurn) (a b : List ℕ) → bytes1 ≡ bytes ++ a → KeepsRead answer b bytes1 bytes2 → KeepsRead answer (a ++ b) bytes bytes2
   keeps-joined (read.Asked ask) a b first later = later ∙ ap (λ xs. xs ++ b) first ∙ append_assoc bytes a b
   keeps-joined read.More a b first later = later ∙ ap (λ xs. xs ++ b) first ∙ append_assoc bytes a b
@@ -182,6 +189,7 @@ sent-twice : (a b : List ℕ) (told : Option LinkTold) → option_map (with_sent
 sent-twice a b None = refl
 sent-twice a b (Some t) = ap (λ xs. Some (record t { sent = xs })) (append_assoc t.sent a b)
 
+-- no byte is sent
 sent-none : (told : Option LinkTold) → told ≡ option_map (with_sent []) told
 sent-none None = refl
 sent-none (Some t) = ap (λ xs. Some (record t { sent = xs })) (sym (append-nil t.sent))
@@ -199,9 +207,11 @@ has_sent-none told counts bytes = record {
 }
 
 module _ (told told1 told2 : Option LinkTold) (counts counts1 counts2 : LinkCounts) (bytes bytes1 bytes2 : List ℕ) where
+  -- two sendings are one
   sent-joined : (a b : List ℕ) → told1 ≡ option_map (with_sent a) told → told2 ≡ option_map (with_sent b) told1 → told2 ≡ option_map (with_sent (a ++ b)) told
   sent-joined a b first second = second ∙ ap (λ o. option_map (with_sent b) o) first ∙ sent-twice a b told
 
+  -- what both sent is a front
   front-joined : (a b : List ℕ) → bytes ≡ a ++ bytes1 → bytes1 ≡ b ++ bytes2 → bytes ≡ (a ++ b) ++ bytes2
   front-joined a b first second = first ∙ ap (λ xs. a ++ xs) second ∙ sym (append_assoc a b bytes2)
 

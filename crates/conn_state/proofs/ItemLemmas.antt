@@ -33,6 +33,7 @@ asked-sized bytes ask size has = record { item = has.item; behind = drop size by
 pub asked-none : ((bytes : List ℕ) → BeginsRequest bytes → ¬ (IsStarted bytes)) → (bytes : List ℕ) (ask : Ask) → IsAskedIn bytes ask → ¬ (SpellsNone bytes)
 asked-none apart bytes ask asked none = begins-none asked.item asked.behind asked.begins
   where
+    -- no item stands there
     begins-none : (item : Item) (behind : List ℕ) → ¬ (Begins bytes item behind)
     begins-none (inl request) behind b =
         apart bytes (record { host = b.begins.host; rest = b.begins.rest; is_host = b.begins.is_host; whole = b.begins.whole }) none
