@@ -15,7 +15,6 @@ use Rattle.conn_machine.proofs.UpdateLemmas.{get_changed}
 use Rattle.conn_state.specs.Conn.{SeenConn}
 use Rattle.conn_state.specs.Answered.{SeenEnded}
 use Rattle.board.specs.Book.{SeenBook}
-use Rattle.board.specs.Faults.{IsOpen}
 use Rattle.board.specs.Board.{SeenBoard, IsHome, AreHome, IsBoard, conn_at}
 
 -- ## One item
@@ -96,9 +95,9 @@ may_inside seen b e is may = subst (λ (v : SeenBoard). allowed v.book.state e �
 
 -- so is one that it may make while the server goes on, where it does
 pub may_while : (seen b : SeenBoard) (e : Event) → seen ≡ b → (is_halted b.book.state.going ≡ false → allowed b.book.state e ≡ true)
-    → IsOpen seen.book → allowed seen.book.state e ≡ true
-may_while seen b e is may was_open =
-    may_inside seen b e is (may (ap (λ (v : SeenBoard). is_halted v.book.state.going) (sym is) ∙ was_open.going))
+    → is_halted seen.book.state.going ≡ false → allowed seen.book.state e ≡ true
+may_while seen b e is may going =
+    may_inside seen b e is (may (ap (λ (v : SeenBoard). is_halted v.book.state.going) (sym is) ∙ going))
 
 -- ## The connections that wait
 

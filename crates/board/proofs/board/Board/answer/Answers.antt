@@ -20,7 +20,7 @@ invariant_of-self-2 g c =
     let room = vec_capacity inside.ended in
     let e = event.Answer c.args.name c.args.ask in
     let ok = c.in_ok-last.ensures.ok in
-    let may = may_while _ c.args.self.now e c.self.view_is c.requires.allowed ok.was_open in
+    let may = may_while _ c.args.self.now e c.self.view_is c.requires.allowed ok.was_open.going in
     rw (ok.new_is)
     (board_on inside.book conns conns ended room room c.args.who e c.self.invariant (λ s. refl)
     (answer-there inside.book.state c.args.name c.args.ask conns (length ended) room may (there_of inside.book conns ended room c.self.invariant)))
@@ -30,7 +30,7 @@ returns-clause-note g c =
     let inside = c.self.inside in
     let e = event.Answer c.args.name c.args.ask in
     let ok = c.in_ok-last.ensures.ok in
-    let may = may_while _ c.args.self.now e c.self.view_is c.requires.allowed ok.was_open in
+    let may = may_while _ c.args.self.now e c.self.view_is c.requires.allowed ok.was_open.going in
     let replied : Noted c.in-Noted.last ≡ Noted (noted_at inside.book.state c.args.name.slot c.args.ask) =
     sym c.in-Noted.is ∙ c.in_ok-last.ensures.reply in
     let last : c.in-Noted.last ≡ noted_at inside.book.state c.args.name.slot c.args.ask = cc in

@@ -17,6 +17,12 @@ index_mut-requires g c =
     let below = live-below inside.book.state.rows inside.conns.items name c.requires.fits.row c.self.invariant.agrees.waiting found in
     search (rules, below)
 
+pub record-requires-clause-allowed : goal.record-requires-clause-allowed
+record-requires-clause-allowed g c going =
+    let inside = c.self.inside in
+    subst (λ (n : ConnName). allowed inside.book.state (event.Park n c.args.kind) ≡ true) (sym c.name-name.ensures)
+    (may_while _ c.args.self.now (event.Park c.args.conn.name c.args.kind) c.self.view_is c.requires.allowed going)
+
 pub invariant_of-self : goal.invariant_of-self
 invariant_of-self g c =
     let inside = c.self.inside in
@@ -29,7 +35,7 @@ invariant_of-self g c =
     let found : live_row inside.book.state.rows name ≡ Some c.requires.fits.row = search rules in
     let may : allowed inside.book.state e ≡ true =
     subst (λ (n : ConnName). allowed inside.book.state (event.Park n c.args.kind) ≡ true) (sym c.name-name.ensures)
-    (may_while _ c.args.self.now (event.Park c.args.conn.name c.args.kind) c.self.view_is c.requires.allowed ok.was_open) in
+    (may_while _ c.args.self.now (event.Park c.args.conn.name c.args.kind) c.self.view_is c.requires.allowed ok.was_open.going) in
     rw (ok.new_is)
     (board_on inside.book conns _ ended room room c.args.who e c.self.invariant (λ s. refl)
     (park-there inside.book.state name c.args.kind conns c.args.conn c.requires.fits.row (length ended) room may

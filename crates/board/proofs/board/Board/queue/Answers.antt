@@ -12,7 +12,7 @@ invariant_of-self-2 g c =
     let ended = inside.ended.items in
     let room = vec_capacity inside.ended in
     let ok = c.in_ok-record.ensures.ok in
-    let may = may_while _ c.args.self.now (event.Queue c.args.name) c.self.view_is c.requires.allowed ok.was_open in
+    let may = may_while _ c.args.self.now (event.Queue c.args.name) c.self.view_is c.requires.allowed ok.was_open.going in
     rw (ok.new_is)
     (board_on inside.book conns conns ended room room c.args.who (event.Queue c.args.name) c.self.invariant (λ s. refl)
     (queue-there inside.book.state c.args.name conns (length ended) room c.show.ensures.sound may
