@@ -125,6 +125,17 @@ fn a_connection_is_taken_where_a_child_has_room(rt: HostRuntime) -> Result<(), F
 }
 
 #[test]
+fn the_count_of_accepted_connections_stays_at_its_greatest(rt: HostRuntime) -> Result<(), Fail> {
+    let alloc = rt.alloc();
+    let mut state = after(&rt, alloc, 2, SHAPE, &[BEGIN])?;
+    state.accepted = u64::MAX;
+    does(&rt, alloc, &mut state, TAKE)?;
+    assert_eq!(rt; state.accepted, u64::MAX);
+    assert_eq!(rt; row_at(&rt, &state, 0).arrival, u64::MAX);
+    Ok(())
+}
+
+#[test]
 fn a_child_is_full_by_its_open_connections(rt: HostRuntime) -> Result<(), Fail> {
     let alloc = rt.alloc();
     let third = Event::Accept(2);

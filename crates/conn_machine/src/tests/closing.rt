@@ -98,7 +98,7 @@ fn a_connection_in_closing_is_closed_for_its_cause(rt: HostRuntime) -> Result<()
         ("drained", &[HOLD], drained, true),
         ("drained, not held", &[], drained, false),
         (
-            "drained, held by a worker no more",
+            "drained, and waiting again",
             &[HOLD, Event::Park(FIRST, Kind::Linger)],
             drained,
             false,

@@ -5,6 +5,7 @@ use crate::laws;
 fn the_laws_do_nothing() {
     laws::events_keep_states_sound();
     laws::queues_and_holds_are_earned();
+    laws::accepted_connections_are_closed_or_live();
     laws::closed_names_stay_closed();
     laws::live_connections_share_nothing();
     laws::live_connections_have_one_owner();
