@@ -1,0 +1,16 @@
+//! The laws, each of which is called once.
+use crate::laws;
+
+#[test]
+fn the_laws_do_nothing() {
+    laws::events_keep_states_sound();
+    laws::queues_and_holds_are_earned();
+    laws::accepted_connections_are_closed_or_live();
+    laws::closed_names_stay_closed();
+    laws::live_connections_share_nothing();
+    laws::live_connections_have_one_owner();
+    laws::replaced_generations_take_nothing();
+    laws::retired_children_are_drained();
+    laws::connections_go_to_the_chosen_child();
+    laws::responses_only_grow();
+}
