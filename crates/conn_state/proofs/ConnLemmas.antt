@@ -1,7 +1,7 @@
 -- The reply stream of a connection goes on over its turns.
 use Rattle.std.proofs.Common.{◌≡◌, ℕ, ◌<◌, Bool, true, false, List, [], ◌∷◌, ◌++◌, take, length, Option, Some, None, option_map, IfSome, refl, sym, ap, subst, ◌∙◌, arith, append_assoc}
 use Rattle.std.proofs.lemmas.List.{append-nil}
-use Rattle.mpm_base.specs.Count.{Rises}
+use Rattle.mpm_base.specs.Count.{Rises, RisesExactlyWhere}
 use Rattle.mpm_base.specs.Link.{LinkTold, LinkCounts, with_received}
 use Rattle.mpm_base.specs.Notes.{says_last}
 use Rattle.mpm_base.specs.declared.conn.Ask.{Ask}
@@ -16,7 +16,7 @@ use Rattle.conn_state.specs.Items.{Item, Begins, IsAskedIn, ask_of}
 use Rattle.conn_state.specs.Response.{IsResponse}
 use Rattle.conn_state.specs.Replies.{IsFitting, AreReplies, IsNoteFor, first_part}
 use Rattle.conn_state.specs.Conn.{SeenConn, is_usable, IsOpenLink, Streams, BrokeOff, StreamsWhile, TurnFits, IsConn}
-use Rattle.conn_state.specs.Turns.{after_reading, KeepsRead, AsksNothing, after_writing, with_sent}
+use Rattle.conn_state.specs.Turns.{after_reading, is_gone, KeepsRead, AsksNothing, after_writing, with_sent}
 use Rattle.conn_state.specs.Held.{IsSizeOf, IsHeld}
 use Rattle.conn_state.specs.Exchange.{TakesIn, IsSame, SendsOn}
 use Rattle.conn_state.proofs.StreamLemmas.{fitting-more, fitting-snoc, replies-snoc}
@@ -131,6 +131,11 @@ gone-read read.Gone e = refl
 gone-read read.LinkFailed e = absurd (cc)
 gone-read read.NoMemory e = absurd (cc)
 
+-- such a turn was given the end by the link
+ends-read : (answer : ReadTurn) (n n' : ℕ) → RisesExactlyWhere (is_gone answer) n n' → answer ≡ read.Gone → 0 < n'
+ends-read read.Gone n n' rises e = rises-some n n' rises
+ends-read other n n' rises e = absurd (cc)
+
 -- the reply stream of a connection that is usable
 pub usable-streams : (c : SeenConn) → IsConn c → is_usable c.turn ≡ true → IfSome c.told (Streams c.notes c.pending c.rest)
 usable-streams c is usable = subst (λ b. IfSome c.told (StreamsWhile b c.notes c.pending c.rest)) usable is.streams
@@ -149,7 +154,10 @@ held-read c seen size size' told' counts' rest' answer turn' held is usable sent
     (record {
       conn = record {
         turn_fits = fits-read answer c told' counts' rest' sent' goes_on' takes;
-        ended = λ e. takes.none_comes (gone-read answer e);
+        ended = λ e. record {
+          found = ends-read answer c.counts.ends counts'.ends takes.ends (gone-read answer e);
+          all_came = takes.none_comes (gone-read answer e);
+        };
         streams = subst (λ o. IfSome o (StreamsWhile (is_usable (after_reading answer)) c.notes c.pending rest')) (sym takes.told_is) streams;
       };
       size_is = sized;

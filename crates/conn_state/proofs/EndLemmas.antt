@@ -1,8 +1,8 @@
 -- A connection that ends was answered.
-use Rattle.std.proofs.Common.{◌≡◌, ◌≢◌, ℕ, List, [], ◌++◌, Option, Some, None, option_map, IfSome, sym, ap, subst, ◌∙◌}
+use Rattle.std.proofs.Common.{◌≡◌, ◌≢◌, ◌<◌, ℕ, false, List, [], ◌++◌, Option, Some, None, option_map, IfSome, sym, ap, subst, ◌∙◌, arith}
 use Rattle.std.proofs.lemmas.List.{append-nil}
 use Rattle.mpm_base.specs.Count.{next_count}
-use Rattle.mpm_base.specs.Link.{LinkTold, after_close}
+use Rattle.mpm_base.specs.Link.{LinkTold, LinkCounts, OnlyFaults, after_close}
 use Rattle.mpm_base.specs.declared.conn.Cause.{Cause}
 use Rattle.mpm_base.specs.declared.conn.Cause.TheVariants as cause
 use Rattle.mpm_base.specs.declared.conn.Tail.{Tail}
@@ -13,7 +13,7 @@ use Rattle.conn_state.specs.declared.turn.LastTurn.TheVariants as turn
 use Rattle.conn_state.specs.Items.{Item, SpellsNone}
 use Rattle.conn_state.specs.Replies.{AreReplies}
 use Rattle.conn_state.specs.Conn.{SeenConn, is_usable, IsFrontOf, Streams, BrokeOff, TurnFits, IsWaiting, IsConn}
-use Rattle.conn_state.specs.Answered.{IsShown, SentFor, IsAnswered}
+use Rattle.conn_state.specs.Answered.{SeenEnded, IsShown, SentFor, IsAnswered, IsLicensed, IsEnded}
 use Rattle.conn_state.proofs.StreamLemmas.{interim-none}
 use Rattle.conn_state.proofs.ConnLemmas.{usable-streams, told-broken}
 
@@ -82,7 +82,7 @@ end-done : (c : SeenConn) → IsConn c → c.turn ≡ turn.Gone → IfSome (opti
 end-done c is gone =
     let waits : IsWaiting c = subst (λ (u : LastTurn). TurnFits u c) gone is.turn_fits in
     let streams = subst (λ xs. IfSome c.told (Streams c.notes xs c.rest)) waits.none_pending (usable-streams c is (ap is_usable gone)) in
-    told-done c.notes c.rest c.told streams waits.none_whole (is.ended gone)
+    told-done c.notes c.rest c.told streams waits.none_whole (is.ended gone).all_came
 
 -- a connection that may be ended so was answered
 end-shown : (why : Cause) (how : Tail) (c : SeenConn) → IsConn c → IsShown why how c → IfSome (option_map after_close c.told) (IsAnswered why how c.notes)
@@ -95,9 +95,24 @@ end-shown cause.NoMemory tail.Direct c is shown =
     told-front cause.NoMemory c.notes c.told (λ e. absurd (cc)) (λ t items rest replies f. f) (conn-broken c is)
 end-shown other how c is shown = absurd shown
 
--- the same of what the closed link tells
-pub ended-shown : (why : Cause) (how : Tail) (c seen : SeenConn) (told' : Option LinkTold) → IsConn c → c ≡ seen → IsShown why how seen
-    → told' ≡ option_map after_close c.told → IfSome told' (IsAnswered why how c.notes)
-ended-shown why how c seen told' is same shown closed =
-    subst (λ o. IfSome o (IsAnswered why how c.notes)) (sym closed)
-    (end-shown why how c is (subst (λ (x : SeenConn). IsShown why how x) (sym same) shown))
+-- the counts of the closed link show it
+licensed-shown : (why : Cause) (how : Tail) (c : SeenConn) (counts' : LinkCounts) → IsConn c → IsShown why how c → OnlyFaults false c.counts counts'
+    → IsLicensed why counts'
+licensed-shown cause.ClientDone tail.Direct c counts' is shown only = subst (λ n. 0 < n) (sym only.ends) (is.ended shown).found
+licensed-shown cause.LinkFailed tail.Direct c counts' is shown only =
+    let never_falls = only.faults in
+    omega (arith, shown, never_falls)
+licensed-shown cause.Stopped tail.Direct c counts' is shown only = tt
+licensed-shown cause.NoMemory tail.Direct c counts' is shown only = tt
+licensed-shown other how c counts' is shown only = absurd shown
+
+-- the same of what the closed link tells and counts
+pub ended-shown : (c seen : SeenConn) (e : SeenEnded) → IsConn c → c ≡ seen → IsShown e.cause e.tail seen
+    → e.told ≡ option_map after_close c.told → OnlyFaults false c.counts e.counts → e.notes ≡ c.notes → IsEnded e
+ended-shown c seen e is same shown closed only notes =
+    let shown' : IsShown e.cause e.tail c = subst (λ (x : SeenConn). IsShown e.cause e.tail x) (sym same) shown in
+    record {
+      licensed = licensed-shown e.cause e.tail c e.counts is shown' only;
+      answered = subst (λ ns. IfSome e.told (IsAnswered e.cause e.tail ns)) (sym notes)
+          (subst (λ o. IfSome o (IsAnswered e.cause e.tail c.notes)) (sym closed) (end-shown e.cause e.tail c is shown'));
+    }

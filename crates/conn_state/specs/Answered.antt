@@ -75,9 +75,16 @@ pub record IsAnswered (why : Cause) (how : Tail) (notes : List Note) (t : LinkTo
   pub sent : SentFor why items notes rest replies interim t
   pub received : why ≡ cause.ClientDone → t.coming ≡ []
 
+-- what the counts of the link show for the cause, whether it tells or not: a read found the end, or a call failed
+abbrev pub IsLicensed : Cause → LinkCounts → Type 0
+IsLicensed cause.ClientDone counts = 0 < counts.ends
+IsLicensed cause.LinkFailed counts = 0 < counts.faults
+IsLicensed other counts = ⊤
+
 -- what holds of every connection that ended
-abbrev pub IsEnded : SeenEnded → Type 0
-IsEnded e = IfSome e.told (IsAnswered e.cause e.tail e.notes)
+pub record IsEnded (e : SeenEnded) : Type 0 where
+  pub licensed : IsLicensed e.cause e.counts
+  pub answered : IfSome e.told (IsAnswered e.cause e.tail e.notes)
 
 -- the connection ended so: its link was closed, and it has the notes that it had
 pub record EndsAs (c : SeenConn) (why : Cause) (how : Tail) (e : SeenEnded) : Type 0 where

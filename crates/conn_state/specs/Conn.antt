@@ -101,10 +101,15 @@ TurnFits turn.NotReady c = 0 < length c.pending
 TurnFits turn.LinkFailed c = 0 < c.counts.faults
 TurnFits turn.NoMemory c = ⊤
 
--- what holds of every connection; where the client sends no more, all that it sent was received
+-- the client sends no more: a read of the link found the end, and all that comes was received
+pub record IsDone (c : SeenConn) : Type 0 where
+  pub found : 0 < c.counts.ends
+  pub all_came : IfSome c.told (λ t. t.coming ≡ [])
+
+-- what holds of every connection
 pub record IsConn (c : SeenConn) : Type 0 where
   pub turn_fits : TurnFits c.turn c
-  pub ended : c.turn ≡ turn.Gone → IfSome c.told (λ t. t.coming ≡ [])
+  pub ended : c.turn ≡ turn.Gone → IsDone c
   pub streams : IfSome c.told (StreamsWhile (is_usable c.turn) c.notes c.pending c.rest)
 
 -- ## A new connection
