@@ -41,6 +41,7 @@ next_by ordinals history e p false other before within below =
     rw (entries_of-other p history e other)
     (get_or-set_other ordinals e.pass p (length (entries_of e.pass history) + 1) 0 differs ∙ before p below)
 
+-- so the numbers stay known where an entry takes the next of its pass
 pub next_more : (ordinals : List ℕ) (history : List Entry) (e : Entry) → AreNext ordinals history → e.pass < length ordinals
     → AreNext (set ordinals e.pass (length (entries_of e.pass history) + 1)) (history ++ e ∷ [])
 next_more ordinals history e before within p below =

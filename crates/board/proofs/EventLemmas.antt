@@ -40,21 +40,23 @@ pub queued-home : (p : Place) → is_queued p ≡ true → is_home p ≡ true
 queued-home Queued at = refl
 queued-home p at = absurd (cc)
 
--- no row of another place is
+-- a vacant row isn't at home
 vacant-away : (p : Place) → is_vacant p ≡ true → is_home p ≡ false
 vacant-away Vacant at = refl
 vacant-away p at = absurd (cc)
 
+-- nor is one that is served
 working-away : (p : Place) → is_working p ≡ true → is_home p ≡ false
 working-away (Working cell phase) at = refl
 working-away p at = absurd (cc)
 
+-- nor one that is held or served
 in_hand-away : (p : Place) → (is_held p || is_working p) ≡ true → is_home p ≡ false
 in_hand-away Held at = refl
 in_hand-away (Working cell phase) at = refl
 in_hand-away p at = absurd (cc)
 
--- the phase of a worker changes neither
+-- the phase of a worker changes neither whether a row is at home
 in_phase-home : (next : Phase) (p : Place) → is_home (in_phase next p) ≡ is_home p
 in_phase-home next Vacant = refl
 in_phase-home next Spent = refl
@@ -63,6 +65,7 @@ in_phase-home next (Parked kind) = refl
 in_phase-home next Queued = refl
 in_phase-home next (Working cell phase) = refl
 
+-- nor whether a connection is there
 in_phase-unused : (next : Phase) (p : Place) → is_unused (in_phase next p) ≡ is_unused p
 in_phase-unused next Vacant = refl
 in_phase-unused next Spent = refl
@@ -71,6 +74,7 @@ in_phase-unused next (Parked kind) = refl
 in_phase-unused next Queued = refl
 in_phase-unused next (Working cell phase) = refl
 
+-- a closed row, whether its slot is spent or vacant, is nobody's home and not live
 closed_by : (r : Row) (spent : Bool) → (r.life == greatest_life) ≡ spent → (is_home (closed_row r).place ≡ false) × (is_live (closed_row r) ≡ false)
 closed_by r true at = rw at (refl, refl)
 closed_by r false at = rw at (refl, refl)
@@ -90,6 +94,7 @@ here_away (Parked kind) r c here away = absurd (cc)
 here_away Queued r c here away = absurd (cc)
 here_away (Working cell phase) r c here away = here
 
+-- so a slot whose row isn't at home has no connection
 homeless : (slot : ℕ) (r : Row) (c : Option SeenConn) → IsHome slot r c → is_home r.place ≡ false → c ≡ None
 homeless slot r None home away = refl
 homeless slot r (Some c) home away = absurd (here_away r.place r c home.here away)
@@ -132,10 +137,12 @@ there_away rows conns slot r change ended room are at away away' space =
 abbrev weight : Bool → ℕ
 weight b = cond b 1 0
 
+-- one, where it passes
 weight-true : (b : Bool) → b ≡ true → weight b ≡ 1
 weight-true true e = refl
 weight-true false e = absurd (cc)
 
+-- nothing, where it doesn't
 weight-false : (b : Bool) → b ≡ false → weight b ≡ 0
 weight-false true e = absurd (cc)
 weight-false false e = refl
@@ -283,16 +290,19 @@ close-room s name why how conns ended room may there =
 
 -- ## The opening state
 
+-- each item of a list of one item is that item
 get-replicate : {X : Type 0} (n i : ℕ) (x y : X) → slice_get (replicate n x) i ≡ Some y → x ≡ y
 get-replicate zero i x y at = absurd (cc)
 get-replicate (suc n) zero x y at = cc
 get-replicate (suc n) (suc i) x y at = get-replicate n i x y at
 
+-- so is what is read of it, past its end too
 get_or-alike : {X : Type 0} (n i : ℕ) (x : X) → get_or (replicate n x) i x ≡ x
 get_or-alike zero i x = refl
 get_or-alike (suc n) zero x = refl
 get_or-alike (suc n) (suc i) x = get_or-alike n i x
 
+-- no unused row is live
 none-live : (n : ℕ) → count_by is_live (replicate n unused_row) ≡ 0
 none-live zero = refl
 none-live (suc n) = omega (arith, sum_by-cons (λ (r : Row). cond (is_live r) 1 0) unused_row (replicate n unused_row), none-live n)

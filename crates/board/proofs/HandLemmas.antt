@@ -104,6 +104,7 @@ start-given s name conns may are =
 
 -- ## A live connection
 
+-- the row of a live connection stands below the length
 slot_of-live : (rows : List Row) (name : ConnName) (r : Row) (o : Option Row) → slice_get rows name.slot ≡ o
     → row_where (is_named name) o ≡ Some r → name.slot < length rows
 slot_of-live rows name r None at found = absurd (cc)

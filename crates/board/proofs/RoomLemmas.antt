@@ -1,34 +1,28 @@
--- What a history must still find room for: it is bounded by the rows and children, an event adds at most three entries
--- to it, and an event that can't be refused takes its own entry out of it.
+-- What a history must still find room for: it is bounded by the rows and children, and an event that can't be refused
+-- takes its own entry out of it.
 use Rattle.std.proofs.Common.{◌≡◌, ℕ, zero, suc, ◌+◌, ◌*◌, ◌≤◌, Bool, true, false, not, ◌&&◌, ◌||◌, List, [], ◌∷◌, length, Option, None, Some, slice_get, refl, arith}
 use Rattle.std.specs.Prelude.{sum_by, if◌then◌else◌, ◌==◌}
 use Rattle.std.specs.Option.{option_map_or}
 use Rattle.std.proofs.lemmas.Bool.{and_parts}
 use Rattle.std.proofs.lemmas.List.Sums.{sum_by-cons}
 use Rattle.mpm_base.specs.declared.conn.ConnName.{ConnName}
-use Rattle.mpm_base.specs.declared.conn.Kind.{Kind}
-use Rattle.mpm_base.specs.declared.conn.Kind.TheVariants.{Reading}
 use Rattle.mpm_base.specs.declared.conn.Cause.{Cause}
 use Rattle.mpm_base.specs.declared.conn.Cause.TheVariants as cause
-use Rattle.mpm_base.specs.declared.conn.Ask.{Ask}
-use Rattle.mpm_base.specs.declared.shape.Shape.{Shape}
-use Rattle.conn_machine.specs.declared.row.Phase.{Phase}
-use Rattle.conn_machine.specs.declared.row.Phase.TheVariants as phase
 use Rattle.conn_machine.specs.declared.row.Place.{Place}
 use Rattle.conn_machine.specs.declared.row.Place.TheVariants.{Vacant, Spent, Held, Parked, Queued, Working}
 use Rattle.conn_machine.specs.declared.row.Row.{Row}
 use Rattle.conn_machine.specs.declared.child.ChildPhase.{ChildPhase}
 use Rattle.conn_machine.specs.declared.child.ChildPhase.TheVariants.{Running, Stopping}
 use Rattle.conn_machine.specs.declared.child.Child.{Child}
-use Rattle.conn_machine.specs.declared.event.Commanded.TheVariants.{Graceful, Refused, GracefulStop, Stop}
+use Rattle.conn_machine.specs.declared.event.Commanded.TheVariants.{Stop}
 use Rattle.conn_machine.specs.declared.event.Event.{Event}
 use Rattle.conn_machine.specs.declared.event.Event.TheVariants as event
 use Rattle.conn_machine.specs.declared.state.State.{State}
 use Rattle.conn_machine.specs.Lists.{update}
-use Rattle.conn_machine.specs.Rows.{is_held, is_parked, is_queued, is_working, in_phase, is_vacant, is_lingering, is_named, row_where, lives_and}
-use Rattle.conn_machine.specs.Children.{is_empty, is_running, is_stopping, stopped_child, all_stopped, started_child, retired_child}
+use Rattle.conn_machine.specs.Rows.{is_held, is_parked, is_queued, is_working, is_lingering, is_named, row_where, lives_and}
+use Rattle.conn_machine.specs.Children.{is_empty, is_running, is_stopping, stopped_child, all_stopped, retired_child}
 use Rattle.conn_machine.specs.States.{is_halted, is_signalled}
-use Rattle.conn_machine.specs.Table.{allowed, next, taken_row, may_wait, parked_row, may_be_held, held_row, may_be_queued, queued_row, served_row, note_for, answered_row, linger_cause_fits, lingering_row, end_fits, closed_row, greatest_life}
+use Rattle.conn_machine.specs.Table.{allowed, next, may_be_held, held_row, served_row, linger_cause_fits, lingering_row, end_fits, closed_row, greatest_life}
 use Rattle.board.specs.Room.{place_owes, row_owes, child_owes, owed, is_sure}
 
 -- ## Sums
@@ -58,6 +52,7 @@ passes-if : (test : Row → Bool) (r : Row) (named : Bool)
 passes-if test r true passes = passes
 passes-if test r false passes = absurd (cc)
 
+-- so does the row of a slot
 passes-where : (test : Row → Bool) (name : ConnName) (o : Option Row)
     → option_map_or test (row_where (is_named name) o) false ≡ true → option_map_or test o false ≡ true
 passes-where test name None passes = passes
@@ -88,17 +83,10 @@ parked-owes (Parked kind) true is = refl
 parked-owes (Parked kind) false is = refl
 parked-owes p lingers is = absurd (cc)
 
+-- one that waits for a worker owes four
 queued-owes : (p : Place) (lingers : Bool) → is_queued p ≡ true → place_owes p lingers ≡ 4
 queued-owes Queued lingers is = refl
 queued-owes p lingers is = absurd (cc)
-
-in_phase-owes : (phase : Phase) (p : Place) (lingers : Bool) → place_owes (in_phase phase p) lingers ≡ place_owes p lingers
-in_phase-owes phase Vacant lingers = refl
-in_phase-owes phase Spent lingers = refl
-in_phase-owes phase Held lingers = refl
-in_phase-owes phase (Parked kind) lingers = refl
-in_phase-owes phase Queued lingers = refl
-in_phase-owes phase (Working cell phase') lingers = refl
 
 -- a connection that is held or served owes its closing at least
 taken-owes : (p : Place) (lingers : Bool) → (is_held p || is_working p) ≡ true → 1 ≤ place_owes p lingers
@@ -114,39 +102,22 @@ open-owes Held false is taken = refl
 open-owes (Working cell phase) false is taken = refl
 open-owes p false is taken = absurd (cc)
 
--- what each event leaves of what its row owes
-accept-owes : (s : State) (r : Row) → row_owes (taken_row s r) + 0 ≤ row_owes r + 3
-accept-owes s r = omega arith
-
+-- a connection that is held owes one entry less
 hold-owes : (s : State) (signalled : Bool) (r : Row) → may_be_held s signalled r ≡ true
     → row_owes (held_row r) + 1 ≤ row_owes r + 0
 hold-owes s signalled r may = omega (arith, parked-owes r.place (is_lingering r) (and_parts _ _ may).0)
 
+-- so does one that a worker begins to serve
 start-owes : (s : State) (r : Row) → is_queued r.place ≡ true → row_owes (served_row s r) + 1 ≤ row_owes r + 0
 start-owes s r may = omega (arith, queued-owes r.place (is_lingering r) may)
 
+-- and one that is closed
 close-owes : (r : Row) (spent : Bool) → (is_held r.place || is_working r.place) ≡ true
     → row_owes (if spent then record r { place = Spent; notes = [] } else record r { life = r.life + 1; place = Vacant; notes = [] }) + 1 ≤ row_owes r + 0
 close-owes r true may = omega (arith, taken-owes r.place (is_lingering r) may)
 close-owes r false may = omega (arith, taken-owes r.place (is_lingering r) may)
 
-queue-owes : (s : State) (r : Row) → may_be_queued s r ≡ true → row_owes (queued_row r) + 0 ≤ row_owes r + 3
-queue-owes s r may =
-    omega (arith, parked-owes r.place (is_lingering r) (and_parts _ _ (and_parts _ _ may).0).0, taken-owes Held (is_lingering r) refl)
-
-answer-owes : (s : State) (ask : Ask) (r : Row) → row_owes (answered_row s ask r) + 0 ≤ row_owes r + 3
-answer-owes s ask r =
-    omega (arith, in_phase-owes (if (note_for s ask r).last then phase.Close else phase.Write) r.place (is_lingering r))
-
--- what may wait, or linger, is held or served. At no other place does a test of any kind or cause pass: naming one of
--- them splits the rest
-wait-taken : (moment : ℕ) (kind : Kind) (r : Row) (p : Place) → may_wait moment kind (record r { place = p }) ≡ true
-    → (is_held p || is_working p) ≡ true
-wait-taken moment kind r Held may = refl
-wait-taken moment kind r (Working cell phase) may = refl
-wait-taken moment Reading r p may = absurd (cc)
-wait-taken moment kind r p may = absurd (cc)
-
+-- what may linger is held or served. At no other place does the test of any cause pass: naming one of them splits the rest
 linger-taken : (s : State) (why : Cause) (signalled : Bool) (r : Row) (p : Place)
     → linger_cause_fits s why signalled (record r { place = p }) ≡ true → (is_held p || is_working p) ≡ true
 linger-taken s why signalled r Held fits = refl
@@ -154,11 +125,7 @@ linger-taken s why signalled r (Working cell phase) fits = refl
 linger-taken s cause.ClientDone signalled r p fits = absurd (cc)
 linger-taken s why signalled r p fits = absurd (cc)
 
-park-owes : (s : State) (kind : Kind) (r : Row) → may_wait s.moment kind r ≡ true
-    → row_owes (parked_row s kind r) + 0 ≤ row_owes r + 3
-park-owes s kind r may =
-    omega (arith, place-most (Parked kind) (is_lingering r), taken-owes r.place (is_lingering r) (wait-taken s.moment kind r r.place may))
-
+-- and one that begins to linger
 linger-owes : (s : State) (why : Cause) (signalled : Bool) (r : Row)
     → (not (is_lingering r) && linger_cause_fits s why signalled r) ≡ true
     → row_owes (lingering_row s why r) + 1 ≤ row_owes r + 0
@@ -168,6 +135,7 @@ linger-owes s why signalled r may =
 
 -- ## Children, and the server
 
+-- a test counts one at most
 one-most : (none : Bool) → (if none then 0 else 1) ≤ 1
 one-most true = omega arith
 one-most false = omega arith
@@ -177,32 +145,35 @@ going-owes : (halted : Bool) → not halted ≡ true → 1 ≤ (if halted then 0
 going-owes true is = absurd (cc)
 going-owes false is = omega arith
 
+-- a child that runs isn't gone
 running-is_empty : (phase : ChildPhase) → is_running phase ≡ true → is_empty phase ≡ false
 running-is_empty Running is = refl
 running-is_empty phase is = absurd (cc)
 
+-- nor is one that stops
 stopping-is_empty : (phase : ChildPhase) → is_stopping phase ≡ true → is_empty phase ≡ false
 stopping-is_empty Stopping is = refl
 stopping-is_empty phase is = absurd (cc)
 
+-- a child that stops owes what it did
 stop-owes : (c : Child) (running : Bool) → is_running c.phase ≡ running
     → child_owes (if running then record c { phase = Stopping } else c) ≡ child_owes c
 stop-owes c true is = rw (running-is_empty c.phase is) refl
 stop-owes c false is = refl
 
+-- so do all children
 all_stopped-owes : (children : List Child) → sum_by child_owes (all_stopped children) ≡ sum_by child_owes children
 all_stopped-owes [] = refl
 all_stopped-owes (c ∷ children) =
     omega (arith, all_stopped-owes children, stop-owes c (is_running c.phase) refl, sum_by-cons child_owes (stopped_child c) (all_stopped children), sum_by-cons child_owes c children)
 
+-- a child that is let go of owes nothing more
 retire-owes : (c : Child) → is_stopping c.phase ≡ true → child_owes (retired_child c) + 1 ≤ child_owes c + 0
 retire-owes c is = rw (stopping-is_empty c.phase is) (omega arith)
 
-start_child-owes : (generation : ℕ) (shape : Shape) (c : Child) → child_owes (started_child generation shape c) + 0 ≤ child_owes c + 3
-start_child-owes generation shape c = omega arith
-
 -- ## The state
 
+-- four entries for each row, one for each child, and one for the stop
 pub owed-bound : (s : State) → owed s ≤ 4 * length s.rows + length s.children + 1
 owed-bound s =
     omega (
@@ -212,6 +183,7 @@ owed-bound s =
       one-most (is_halted s.going),
     )
 
+-- an event that can't be refused takes its own entry out of what is owed
 pub owed-sure : (s : State) (e : Event) → allowed s e ≡ true → is_sure e ≡ true → owed (next s e) + 1 ≤ owed s
 owed-sure s (event.Hold name) may sure =
     let signalled = is_signalled s name.slot in
@@ -236,38 +208,3 @@ owed-sure s (event.Command (Stop why)) may sure =
 owed-sure s (event.Retire k) may sure =
     omega (arith, sum_by-update child_owes retired_child (λ c. is_stopping c.phase) 1 0 retire-owes s.children k (and_parts _ _ may).0)
 owed-sure s e may sure = absurd (cc)
-
-pub owed-next : (s : State) (e : Event) → allowed s e ≡ true → owed (next s e) ≤ owed s + 3
-owed-next s (event.Accept slot) may =
-    omega (
-      arith,
-      sum_by-update row_owes (taken_row s) (λ r. is_vacant r.place) 0 3 (λ r vacant. accept-owes s r) s.rows slot
-          (and_parts _ _ (and_parts _ _ may).0).1,
-    )
-owed-next s (event.Park name kind) may =
-    omega (arith, rows-change (parked_row s kind) (may_wait s.moment kind) 0 3 (park-owes s kind) s.rows name (and_parts _ _ may).1)
-owed-next s (event.Hold name) may = omega (arith, owed-sure s (event.Hold name) may refl)
-owed-next s (event.Queue name) may =
-    omega (arith, rows-change queued_row (may_be_queued s) 0 3 (queue-owes s) s.rows name (and_parts _ _ may).1)
-owed-next s (event.Start name) may = omega (arith, owed-sure s (event.Start name) may refl)
-owed-next s (event.Answer name ask) may =
-    omega (
-      arith,
-      rows-change (answered_row s ask) (λ r. is_working r.place && not r.last) 0 3 (λ r fits. answer-owes s ask r)
-          s.rows name (and_parts _ _ may).1,
-    )
-owed-next s (event.Linger name why) may = omega (arith, owed-sure s (event.Linger name why) may refl)
-owed-next s (event.Close name why how) may = omega (arith, owed-sure s (event.Close name why how) may refl)
-owed-next s (event.Ready slot) may = omega arith
-owed-next s (event.Tick m) may = omega arith
-owed-next s (event.StartChild k) may =
-    omega (
-      arith,
-      sum_by-update child_owes (started_child s.newest s.shape) (λ c. is_empty c.phase) 0 3
-          (λ c empty. start_child-owes s.newest s.shape c) s.children k (and_parts _ _ (and_parts _ _ may).0).1,
-    )
-owed-next s (event.Command (Graceful shape)) may = omega (arith, all_stopped-owes s.children)
-owed-next s (event.Command (Refused reason)) may = omega arith
-owed-next s (event.Command (GracefulStop until)) may = omega (arith, all_stopped-owes s.children)
-owed-next s (event.Command (Stop why)) may = omega (arith, owed-sure s (event.Command (Stop why)) may refl)
-owed-next s (event.Retire k) may = omega (arith, owed-sure s (event.Retire k) may refl)

@@ -22,6 +22,7 @@ picked-serving s (Some k) sound picked some =
     let runs = (and_parts (is_running c.phase) (c.generation == s.newest) parts.0).0 in
     (sound.running k runs).serving
 
+-- what isn't none is some
 picked-some : (o : Option ℕ) → is_none o ≡ false → is_some o ≡ true
 picked-some None some = absurd (cc)
 picked-some (Some k) some = refl
