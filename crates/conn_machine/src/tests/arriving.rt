@@ -125,6 +125,24 @@ fn a_connection_is_taken_where_a_child_has_room(rt: HostRuntime) -> Result<(), F
 }
 
 #[test]
+fn a_connection_goes_to_the_child_with_most_idle_workers(rt: HostRuntime) -> Result<(), Fail> {
+    let alloc = rt.alloc();
+    let cases: [(&str, &[Event], u32); 4] = [
+        ("a tie", &[], 0),
+        ("a waiting connection", &[TAKE, READ], 0),
+        ("a queued connection", &[TAKE, READ, READY, QUEUE], 1),
+        ("a served connection", &[TAKE, READ, READY, QUEUE, SERVE], 1),
+    ];
+    for (name, events, child) in cases {
+        let mut state = after(&rt, alloc, 2, SHAPE, &[BEGIN, NEXT])?;
+        plays(&rt, alloc, &mut state, events)?;
+        let reply = does(&rt, alloc, &mut state, TAKE_SECOND)?;
+        assert_eq!(rt; reply, Reply::Took(SECOND, child, 0), "{name}");
+    }
+    Ok(())
+}
+
+#[test]
 fn the_count_of_accepted_connections_stays_at_its_greatest(rt: HostRuntime) -> Result<(), Fail> {
     let alloc = rt.alloc();
     let mut state = after(&rt, alloc, 2, SHAPE, &[BEGIN])?;
