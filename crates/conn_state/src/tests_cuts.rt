@@ -1,5 +1,5 @@
 //! Connections over links that give and take in pieces, and whose calls fail.
-ghost use Rattle.std.specs.Prelude.{◌≡◌, ℕ, true, false, [], IfSome, IfOk, OnOk};
+ghost use Rattle.std.specs.Prelude.{◌≡◌, true, false, [], IfSome, IfOk};
 ghost use Rattle.mpm_base.specs.Notes.{says_last};
 ghost use Rattle.conn_state.specs.Conn.{IsFresh, is_usable};
 
