@@ -44,12 +44,12 @@ follows_more false (n ∷ more) note follows undecided = follows_more n.last mor
 -- responses that have no last one may grow by one
 grows_more : (old now : List Note) (note : Note) → OnlyGrows old now → says_last now ≡ false → OnlyGrows old (now ++ note ∷ [])
 grows_more old now note grows undecided =
-    let open : says_last (old ++ grows.more) ≡ false = subst (λ (notes : List Note). says_last notes ≡ false) grows.grown undecided in
+    let undone : says_last (old ++ grows.more) ≡ false = subst (λ (notes : List Note). says_last notes ≡ false) grows.grown undecided in
     record {
       more = grows.more ++ note ∷ [];
       grown = ap (λ (notes : List Note). notes ++ note ∷ []) grows.grown ∙ append_assoc old grows.more (note ∷ []);
       follows = follows_more (says_last old) grows.more note grows.follows
-      (sym (fold-append (λ (before : Bool) (n : Note). n.last) false old grows.more) ∙ open);
+      (sym (fold-append (λ (before : Bool) (n : Note). n.last) false old grows.more) ∙ undone);
     }
 
 -- a change of a row that is the name's keeps it so, or it goes past the name's life
