@@ -45,7 +45,7 @@ pub record IsOpenLink (t : LinkTold) : Type 0 where
 
 -- what was sent and what is pending are the replies to the first requests that were received, and the rest is left
 pub record Streams (notes : List Note) (pending rest : List ℕ) (t : LinkTold) : Type 0 where
-  pub open : IsOpenLink t
+  pub open_link : IsOpenLink t
   pub items : List Item
   pub fitting : IsFitting notes t.received items rest
   pub replies : AreReplies items notes (t.sent ++ pending)
@@ -56,7 +56,7 @@ IsFrontOf whole front = (more : List ℕ) × (whole ≡ front ++ more)
 
 -- what was sent is a front of the replies to the first requests that were received
 pub record BrokeOff (notes : List Note) (t : LinkTold) : Type 0 where
-  pub open : IsOpenLink t
+  pub open_link : IsOpenLink t
   pub items : List Item
   pub left : List ℕ
   pub replies : List ℕ

@@ -1,5 +1,8 @@
 pub mod Answered
 pub mod Conn
+pub mod Exchange
+pub mod Finds
+pub mod Held
 pub mod Items
 pub mod Replies
 pub mod Response

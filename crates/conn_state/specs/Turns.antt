@@ -88,7 +88,7 @@ pub record Answers (note : Note) (old new : SeenConn) : Type 0 where
   pub begins : Begins old.rest item behind
   pub is_response : IsResponse item note response
   pub new_is : new
-    ≡ record old { notes = old.notes ++ note ∷ []; pending = first_part item ++ response; rest = behind; turn = turn.Answered }
+      ≡ record old { notes = old.notes ++ note ∷ []; pending = first_part item ++ response; rest = behind; turn = turn.Answered }
 
 -- ## Writing
 

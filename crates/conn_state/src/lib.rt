@@ -6,8 +6,11 @@
 //! turn leaves in `specs/Turns.antt`, and what an ended connection shows in `specs/Answered.antt`. The site is one file.
 #![tactic(auto)]
 
+mod buffers;
 mod conn;
 mod ended;
+mod exchange;
+mod item;
 mod response;
 #[cfg(test)]
 mod tests;

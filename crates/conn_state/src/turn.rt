@@ -1,4 +1,7 @@
 //! What the turns of a connection answer.
+ghost use Rattle.std.specs.Prelude.{◌≡◌};
+ghost use Rattle.conn_state.specs.Turns.{after_reading, after_writing};
+
 use mpm_base::Ask;
 
 /// What a turn of reading found.
@@ -48,4 +51,32 @@ pub enum LastTurn {
     LinkFailed,
     /// Memory was wanted and not found.
     NoMemory,
+}
+
+impl ReadTurn {
+    /// The last turn, where a turn of reading answered so.
+    pub(crate) fn leaves(self) -> LastTurn
+        ensures { result ≡ after_reading self }
+    {
+        match self {
+            ReadTurn::Asked(ask) => LastTurn::Asked(ask),
+            ReadTurn::More => LastTurn::More,
+            ReadTurn::Gone => LastTurn::Gone,
+            ReadTurn::LinkFailed => LastTurn::LinkFailed,
+            ReadTurn::NoMemory => LastTurn::NoMemory,
+        }
+    }
+}
+
+impl WriteTurn {
+    /// The last turn, where a turn of writing answered so.
+    pub(crate) fn leaves(self) -> LastTurn
+        ensures { result ≡ after_writing self }
+    {
+        match self {
+            WriteTurn::Done => LastTurn::Done,
+            WriteTurn::NotReady => LastTurn::NotReady,
+            WriteTurn::LinkFailed => LastTurn::LinkFailed,
+        }
+    }
 }

@@ -1,0 +1,227 @@
+//! One connection over its link.
+ghost use Rattle.std.specs.Prelude.{◌≡◌, ◌==◌, ◌<◌, true, false, not, [], ◌∷◌, ◌++◌, length, IfSome, IfOk, OnOk, OnErr};
+ghost use Rattle.std.proofs.Common.{inl, inr};
+ghost use Rattle.mpm_base.specs.Notes.{says_last};
+ghost use Rattle.mpm_base.specs.declared.conn.Ask.{Ask};
+ghost use Rattle.http_read.specs.declared.request.Request.{Request};
+ghost use Rattle.conn_state.specs.declared.turn.LastTurn.TheVariants as turn;
+ghost use Rattle.conn_state.specs.Items.{IsAskedIn};
+ghost use Rattle.conn_state.specs.Conn.{IsConn, IsFresh, is_usable, new_conn};
+ghost use Rattle.conn_state.specs.Turns.{ReadsOn, AsksNothing, IsNoteOf, Answers, WritesOn};
+ghost use Rattle.conn_state.specs.Answered.{IsShown, IsEnded, EndsAs};
+ghost use Rattle.conn_state.specs.Response.{IsResponse};
+
+use crate::buffers::{Pending, Received};
+use crate::ended::Ended;
+use crate::exchange::{read_item, send};
+use crate::response::response;
+use crate::turn::{LastTurn, ReadTurn, WriteTurn};
+use mpm_base::{Cause, ConnName, Link, NoMemory, Note, Notes, Octets, Tail};
+use std::alloc::Global;
+use std::marker::Model;
+
+/// A connection over a link.
+#[derive(Drop)]
+pub struct Conn<L: Link> {
+    alloc: Global,
+    name: ConnName,
+    child: u32,
+    generation: u32,
+    link: L,
+    notes: Notes,
+    pending: Pending,
+    rest: Received,
+    turn: LastTurn,
+    // How many bytes the item has that the last turn asked.
+    size: usize,
+}
+
+impl<L: Link> Model for Conn<L> {
+    ghost use Rattle.conn_state.specs.Conn.{SeenConn};
+    ghost use Rattle.conn_state.specs.Held.{IsHeld};
+
+    ghost Value = { SeenConn };
+
+    ghost view = { λ c. record {
+      told = L.told c.link;
+      counts = L.counts c.link;
+      name = c.name;
+      child = c.child;
+      generation = c.generation;
+      notes = c.notes;
+      pending = c.pending;
+      rest = c.rest;
+      turn = c.turn;
+    } };
+
+    ghost invariant = { λ c. IsHeld (record {
+      told = L.told c.link;
+      counts = L.counts c.link;
+      name = c.name;
+      child = c.child;
+      generation = c.generation;
+      notes = c.notes;
+      pending = c.pending;
+      rest = c.rest;
+      turn = c.turn;
+    }) c.size };
+}
+
+impl<L: Link> Conn<L> {
+    /// A connection of that name over a link of which nothing was read, and to which nothing was written. Takes no memory.
+    pub fn new(alloc: Global, name: ConnName, child: u32, generation: u32, link: L) -> Conn<L>
+        requires fresh { IfSome (L.told link) IsFresh }
+        ensures { result ≡ new_conn (L.told link) (L.counts link) name child generation }
+    {
+        Conn {
+            alloc,
+            name,
+            child,
+            generation,
+            link,
+            notes: Notes::make(alloc),
+            pending: Pending::of(Octets::make(alloc)),
+            rest: Received::make(alloc),
+            turn: LastTurn::New,
+            size: 0,
+        }
+    }
+
+    /// Shows what holds of each connection. Does nothing.
+    pub fn show(&self)
+        ensures { IsConn self.now }
+    {
+        let _ = &self.turn;
+    }
+
+    /// Its name.
+    pub fn name(&self) -> ConnName
+        ensures { result ≡ self.now.name }
+    {
+        self.name
+    }
+
+    /// The number of its child.
+    pub fn child(&self) -> u32
+        ensures { result ≡ self.now.child }
+    {
+        self.child
+    }
+
+    /// Whether something is to be sent.
+    pub fn pending(&self) -> bool
+        ensures { result ≡ not (length self.now.pending == 0) }
+    {
+        !self.pending.is_empty()
+    }
+
+    /// Whether each byte that was read is one of an answered request.
+    pub fn rest_empty(&self) -> bool
+        ensures { result ≡ (length self.now.rest == 0) }
+    {
+        self.rest.is_empty()
+    }
+
+    /// Whether there is a response.
+    pub fn noted(&self) -> bool
+        ensures { result ≡ not (length self.now.notes == 0) }
+    {
+        !self.notes.is_empty()
+    }
+
+    /// Whether its last response was decided.
+    pub fn last(&self) -> bool
+        ensures { result ≡ says_last self.now.notes }
+    {
+        self.notes.says_last()
+    }
+
+    /// Reads until a request is whole or refused, or the link gives no more. The link is asked only while there is neither.
+    pub fn read_turn(&mut self) -> ReadTurn
+        requires usable { is_usable self.old.turn ≡ true }
+        requires sent { self.old.pending ≡ [] }
+        requires open { says_last self.old.notes ≡ false }
+        ensures reads { ReadsOn self.old self.new result }
+        ensures still { (ask : Ask) → IsAskedIn self.old.rest ask → AsksNothing self.old self.new }
+    {
+        let reading = read_item(self.alloc, &mut self.link, &mut self.rest);
+        self.turn = reading.turn.leaves();
+        self.size = reading.size;
+        reading.turn
+    }
+
+    /// Takes the note of the response to what the last turn asked. The response becomes pending. Where memory lacks nothing
+    /// but the turn changes, and the connection can only be ended.
+    pub fn answer(&mut self, note: Note) -> Result<(), NoMemory>
+        requires asked { IsNoteOf self.old.turn note }
+        requires date { note.date < 253402300800 }
+        ensures ok { OnOk result (Answers note self.old self.new) }
+        ensures err { OnErr result (self.new ≡ record self.old { turn = turn.NoMemory }) }
+    {
+        match take_note(self.alloc, &mut self.notes, note) {
+            Ok(bytes) => {
+                self.pending = Pending::of(bytes);
+                self.rest.skip(self.size);
+                self.turn = LastTurn::Answered;
+                Ok(())
+            }
+            Err(NoMemory) => {
+                self.turn = LastTurn::NoMemory;
+                Err(NoMemory)
+            }
+        }
+    }
+
+    /// Sends what is pending, until the link has no room. Takes no memory.
+    pub fn write_turn(&mut self) -> WriteTurn
+        requires usable { is_usable self.old.turn ≡ true }
+        ensures { WritesOn self.old self.new result }
+    {
+        let turn = send(&mut self.link, &mut self.pending);
+        self.turn = turn.leaves();
+        turn
+    }
+
+    /// Closes the link. Takes no memory.
+    pub fn end(self, cause: Cause, tail: Tail) -> Ended<L>
+        requires shown { IsShown cause tail self }
+        ensures ends { EndsAs self cause tail result }
+        ensures ended { IsEnded result }
+    {
+        let Conn {
+            alloc: _,
+            name,
+            child,
+            generation,
+            mut link,
+            notes,
+            pending: _,
+            rest: _,
+            turn: _,
+            size: _,
+        } = self;
+        link.close();
+        Ended {
+            name,
+            child,
+            generation,
+            notes,
+            cause,
+            tail,
+            link,
+        }
+    }
+}
+
+/// Makes the response of the note, and puts the note behind the others. Where memory lacks nothing changes.
+fn take_note(alloc: Global, notes: &mut Notes, note: Note) -> Result<Octets, NoMemory>
+    requires { note.date < 253402300800 }
+    ensures ok { OnOk result (notes.new ≡ notes.old ++ note ∷ []) }
+    ensures file { note.code ≡ 200 → IfOk result (λ bytes. (request : Request) → IsResponse (inl request) note bytes) }
+    ensures refusal { ¬ (note.code ≡ 200) → IfOk result (IsResponse (inr note.code) note) }
+    ensures err { OnErr result (notes.new ≡ notes.old) }
+{
+    let bytes = response(alloc, &note)?;
+    notes.add(note)?;
+    Ok(bytes)
+}

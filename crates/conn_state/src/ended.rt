@@ -1,0 +1,39 @@
+//! A connection that ended.
+use mpm_base::{Cause, ConnName, Link, Notes, Tail};
+use std::marker::Model;
+
+/// A connection that ended.
+#[derive(Drop)]
+pub struct Ended<L: Link> {
+    /// Its name.
+    pub name: ConnName,
+    /// The number of its child.
+    pub child: u32,
+    /// The generation of its child.
+    pub generation: u32,
+    /// Its responses.
+    pub notes: Notes,
+    /// Why its service ended.
+    pub cause: Cause,
+    /// How its link was left.
+    pub tail: Tail,
+    /// Its link, which is closed.
+    pub link: L,
+}
+
+impl<L: Link> Model for Ended<L> {
+    ghost use Rattle.conn_state.specs.Answered.{SeenEnded};
+
+    ghost Value = { SeenEnded };
+
+    ghost view = { λ e. record {
+      told = L.told e.link;
+      counts = L.counts e.link;
+      name = e.name;
+      child = e.child;
+      generation = e.generation;
+      notes = e.notes;
+      cause = e.cause;
+      tail = e.tail;
+    } };
+}

@@ -1,0 +1,91 @@
+//! What a connection takes from its link and gives to it.
+ghost use Rattle.std.specs.Prelude.{IfSome};
+ghost use Rattle.mpm_base.specs.declared.conn.Ask.{Ask};
+ghost use Rattle.conn_state.specs.Items.{IsAskedIn, SpellsNone};
+ghost use Rattle.conn_state.specs.Turns.{after_reading};
+ghost use Rattle.conn_state.specs.Held.{IsSizeOf};
+ghost use Rattle.conn_state.specs.Exchange.{ReadsPiece, TakesIn, SendsOn, IsSame};
+
+use crate::buffers::{Pending, Received};
+use crate::item::{Found, find_item};
+use crate::turn::{ReadTurn, WriteTurn};
+use mpm_base::{Got, Link, Sent, one_request};
+use std::alloc::Global;
+
+/// How many bytes a link is asked for, and is offered, at once.
+const PIECE: usize = 4_096;
+
+/// What a turn of reading answers, and the size of the item that it found.
+#[derive(Clone, Copy, Debug, PartialEq, Eq)]
+pub struct Reading {
+    /// The answer.
+    pub turn: ReadTurn,
+    /// How many bytes the item has; 0 where there is none.
+    pub size: usize,
+}
+
+/// Reads until the first item is whole or refused, or the link gives no more. The link is asked only while more bytes have
+/// to come.
+pub fn read_item<L: Link>(alloc: Global, link: &mut L, bytes: &mut Received) -> Reading
+    ensures takes { TakesIn (L.told link.old) (L.told link.new) (L.counts link.old) (L.counts link.new)
+        bytes.old bytes.new result.turn }
+    ensures size { IsSizeOf (after_reading result.turn) bytes.new result.size }
+    ensures still { (ask : Ask) → IsAskedIn bytes.old ask
+        → IsSame (L.told link.old) (L.told link.new) (L.counts link.old) (L.counts link.new) bytes.old bytes.new }
+{
+    one_request();
+    loop {
+        match find_item(alloc, bytes.as_slice()) {
+            Found::Item(ask, size) => {
+                return Reading {
+                    turn: ReadTurn::Asked(ask),
+                    size,
+                };
+            }
+            Found::Nothing => (),
+            Found::NoMemory => {
+                return Reading {
+                    turn: ReadTurn::NoMemory,
+                    size: 0,
+                };
+            }
+        }
+        if let Some(turn) = read_piece(link, bytes) {
+            return Reading { turn, size: 0 };
+        }
+    }
+}
+
+/// Reads what the link has, at most a piece. None where bytes came.
+fn read_piece<L: Link>(link: &mut L, bytes: &mut Received) -> Option<ReadTurn>
+    requires none { SpellsNone bytes.old }
+    ensures piece { ReadsPiece (L.told link.old) (L.told link.new) (L.counts link.old) (L.counts link.new)
+        bytes.old bytes.new result }
+    ensures no_item { IfSome result (λ turn. IsSizeOf (after_reading turn) bytes.new 0) }
+{
+    let mut buffer = [0; PIECE];
+    match link.read(&mut buffer) {
+        Got::Got(count) => match bytes.add(&buffer[..count as usize]) {
+            Ok(()) => None,
+            Err(_) => Some(ReadTurn::NoMemory),
+        },
+        Got::End => Some(ReadTurn::Gone),
+        Got::NotReady => Some(ReadTurn::More),
+        Got::Failed => Some(ReadTurn::LinkFailed),
+    }
+}
+
+/// Sends the bytes, until the link has no room.
+pub fn send<L: Link>(link: &mut L, bytes: &mut Pending) -> WriteTurn
+    ensures { SendsOn (L.told link.old) (L.told link.new) (L.counts link.old) (L.counts link.new)
+        bytes.old bytes.new result }
+{
+    while !bytes.is_empty() {
+        match link.write(bytes.piece(PIECE)) {
+            Sent::Put(count) => bytes.skip(count as usize),
+            Sent::NotReady => return WriteTurn::NotReady,
+            Sent::Failed => return WriteTurn::LinkFailed,
+        }
+    }
+    WriteTurn::Done
+}

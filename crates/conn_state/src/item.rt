@@ -1,0 +1,62 @@
+//! The item at the front of the bytes that a connection holds.
+ghost use Rattle.std.specs.Prelude.{◌≡◌};
+ghost use Rattle.conn_state.specs.Items.{request_ask, refusal_ask};
+ghost use Rattle.conn_state.specs.Finds.{Finds};
+
+use http_read::{HeadAnswer, Limits, Request, next_head};
+use mpm_base::Ask;
+use std::alloc::Global;
+
+/// The limits of a head (LimitRequestLine, LimitRequestFieldSize, LimitRequestFields).
+const LIMITS: Limits = Limits {
+    line: 8_190,
+    field: 8_190,
+    fields: 100,
+};
+
+/// What the bytes say of their first item.
+#[derive(Clone, Copy, Debug, PartialEq, Eq)]
+pub enum Found {
+    /// A whole request, or a refusal: what it asks of the table, and how many bytes it has; a refusal has none.
+    Item(Ask, usize),
+    /// More bytes have to come.
+    Nothing,
+    /// Memory was wanted and not found.
+    NoMemory,
+}
+
+/// What the bytes say of their first item.
+pub fn find_item(alloc: Global, bytes: &[u8]) -> Found
+    ensures { Finds bytes.now result }
+{
+    match next_head(alloc, bytes, &LIMITS) {
+        HeadAnswer::Whole(request, length) => Found::Item(asked_by(&request), length as usize),
+        HeadAnswer::More => Found::Nothing,
+        HeadAnswer::Refused(code) => Found::Item(asked_by_refusal(code), 0),
+        HeadAnswer::NoMemory => Found::NoMemory,
+    }
+}
+
+/// What a request asks: the one file is found.
+fn asked_by(request: &Request) -> Ask
+    ensures { result ≡ request_ask request.now }
+{
+    Ask {
+        asked_close: request.asked_close,
+        refused: false,
+        code: 200,
+        page: false,
+    }
+}
+
+/// What a refusal asks.
+fn asked_by_refusal(code: u16) -> Ask
+    ensures { result ≡ refusal_ask code }
+{
+    Ask {
+        asked_close: false,
+        refused: true,
+        code,
+        page: false,
+    }
+}
