@@ -1,1 +1,6 @@
+pub mod AnswerLemmas
+pub mod ConnLemmas
+pub mod EndLemmas
+pub mod ExchangeLemmas
+pub mod ItemLemmas
 pub mod StreamLemmas

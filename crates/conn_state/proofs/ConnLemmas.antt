@@ -1,0 +1,217 @@
+-- The reply stream of a connection goes on over its turns.
+use Rattle.std.proofs.Common.{◌≡◌, ◌==◌, ℕ, ◌+◌, ◌<◌, Bool, true, false, List, [], ◌∷◌, ◌++◌, take, drop, length, Option, Some, None, option_map, IfSome, if◌then◌else◌, refl, sym, ap, subst, ◌∙◌, arith, append_assoc}
+use Rattle.std.proofs.lemmas.List.{append-nil}
+use Rattle.mpm_base.specs.Count.{Rises}
+use Rattle.mpm_base.specs.Link.{LinkTold, LinkCounts, with_received}
+use Rattle.mpm_base.specs.Notes.{says_last}
+use Rattle.mpm_base.specs.declared.conn.Ask.{Ask}
+use Rattle.mpm_base.specs.declared.note.Note.{Note}
+use Rattle.conn_state.specs.declared.turn.LastTurn.{LastTurn}
+use Rattle.conn_state.specs.declared.turn.LastTurn.TheVariants as turn
+use Rattle.conn_state.specs.declared.turn.ReadTurn.{ReadTurn}
+use Rattle.conn_state.specs.declared.turn.ReadTurn.TheVariants as read
+use Rattle.conn_state.specs.declared.turn.WriteTurn.{WriteTurn}
+use Rattle.conn_state.specs.declared.turn.WriteTurn.TheVariants as write
+use Rattle.conn_state.specs.Items.{Item, Begins, IsAskedIn, ask_of}
+use Rattle.conn_state.specs.Response.{IsResponse}
+use Rattle.conn_state.specs.Replies.{IsFitting, AreReplies, IsNoteFor, first_part}
+use Rattle.conn_state.specs.Conn.{SeenConn, is_usable, IsOpenLink, Streams, BrokeOff, StreamsWhile, TurnFits, IsConn}
+use Rattle.conn_state.specs.Turns.{after_reading, KeepsRead, AsksNothing, after_writing, with_sent}
+use Rattle.conn_state.specs.Held.{IsSizeOf, IsHeld}
+use Rattle.conn_state.specs.Exchange.{TakesIn, IsSame, SendsOn}
+use Rattle.conn_state.proofs.StreamLemmas.{fitting-more, fitting-snoc, replies-snoc}
+
+-- ## The reply stream
+
+-- a link that was neither half-closed nor closed stays so when it gives bytes
+open-received : (n : ℕ) (t : LinkTold) → IsOpenLink t → IsOpenLink (with_received n t)
+open-received n t o = record {
+  shuts = o.shuts;
+  closes = o.closes;
+  before_shut = rw o.shuts (ap (λ xs. xs ++ take n t.coming) o.before_shut);
+}
+
+-- more bytes come
+streams-more : (notes : List Note) (pending rest more : List ℕ) (t : LinkTold) → Streams notes pending rest t → more ≡ take (length more) t.coming
+    → Streams notes pending (rest ++ more) (with_received (length more) t)
+streams-more notes pending rest more t s comes = record {
+  open_link = open-received (length more) t s.open_link;
+  items = s.items;
+  fitting = subst (λ xs. IsFitting notes (t.received ++ xs) s.items (rest ++ more)) comes (fitting-more notes t.received s.items rest more s.fitting);
+  replies = s.replies;
+}
+
+-- a front of what is pending is sent
+streams-sent : (notes : List Note) (pending sent left rest : List ℕ) (t : LinkTold) → Streams notes pending rest t → pending ≡ sent ++ left
+    → Streams notes left rest (with_sent sent t)
+streams-sent notes pending sent left rest t s front = record {
+  open_link = record { shuts = s.open_link.shuts; closes = s.open_link.closes; before_shut = s.open_link.before_shut };
+  items = s.items;
+  fitting = s.fitting;
+  replies = subst (AreReplies s.items notes) (ap (λ xs. t.sent ++ xs) front ∙ sym (append_assoc t.sent sent left)) s.replies;
+}
+
+-- the next item is answered
+pub streams-answered : (notes : List Note) (rest : List ℕ) (t : LinkTold) (item : Item) (behind : List ℕ) (note : Note) (response : List ℕ)
+    → Streams notes [] rest t → says_last notes ≡ false → Begins rest item behind → IsNoteFor (ask_of item) note → IsResponse item note response
+    → Streams (notes ++ note ∷ []) (first_part item ++ response) behind t
+streams-answered notes rest t item behind note response s goes_on begins noted is_response = record {
+  open_link = s.open_link;
+  items = s.items ++ item ∷ [];
+  fitting = fitting-snoc notes t.received s.items rest item behind note s.fitting goes_on begins noted;
+  replies = replies-snoc s.items notes t.sent item note response (subst (AreReplies s.items notes) (append-nil t.sent) s.replies) is_response;
+}
+
+-- it breaks off
+broke_off : (notes : List Note) (pending rest : List ℕ) (t : LinkTold) → Streams notes pending rest t → BrokeOff notes t
+broke_off notes pending rest t s = record {
+  open_link = s.open_link;
+  items = s.items;
+  left = rest;
+  replies = t.sent ++ pending;
+  fitting = s.fitting;
+  are_replies = s.replies;
+  front = (pending, refl);
+}
+
+-- whether it goes on or broke off, it may break off
+pub broke_while : (usable : Bool) (notes : List Note) (pending rest : List ℕ) (t : LinkTold) → StreamsWhile usable notes pending rest t → BrokeOff notes t
+broke_while true notes pending rest t s = broke_off notes pending rest t s
+broke_while false notes pending rest t s = s
+
+pub told-broken : (usable : Bool) (told : Option LinkTold) (notes : List Note) (pending rest : List ℕ) → IfSome told (StreamsWhile usable notes pending rest)
+    → IfSome told (BrokeOff notes)
+told-broken usable None notes pending rest s = tt
+told-broken usable (Some t) notes pending rest s = broke_while usable notes pending rest t s
+
+-- ## Reading
+
+-- a turn of reading keeps it, or breaks it off
+streams-read : (answer : ReadTurn) (notes : List Note) (pending rest rest' got : List ℕ) (t : LinkTold) → Streams notes pending rest t
+    → got ≡ take (length got) t.coming → KeepsRead answer got rest rest'
+    → StreamsWhile (is_usable (after_reading answer)) notes pending rest' (with_received (length got) t)
+streams-read (read.Asked ask) notes pending rest rest' got t s comes keeps =
+    subst (λ xs. Streams notes pending xs (with_received (length got) t)) (sym keeps) (streams-more notes pending rest got t s comes)
+streams-read read.More notes pending rest rest' got t s comes keeps =
+    subst (λ xs. Streams notes pending xs (with_received (length got) t)) (sym keeps) (streams-more notes pending rest got t s comes)
+streams-read read.Gone notes pending rest rest' got t s comes keeps =
+    subst (λ xs. Streams notes pending xs (with_received (length got) t)) (sym keeps) (streams-more notes pending rest got t s comes)
+streams-read read.LinkFailed notes pending rest rest' got t s comes keeps =
+    broke_off notes pending (rest ++ got) (with_received (length got) t) (streams-more notes pending rest got t s comes)
+streams-read read.NoMemory notes pending rest rest' got t s comes keeps =
+    broke_off notes pending (rest ++ got) (with_received (length got) t) (streams-more notes pending rest got t s comes)
+
+told-read : (answer : ReadTurn) (notes : List Note) (pending rest rest' got : List ℕ) (told : Option LinkTold)
+    → IfSome told (Streams notes pending rest) → IfSome told (λ t. got ≡ take (length got) t.coming) → KeepsRead answer got rest rest'
+    → IfSome (option_map (with_received (length got)) told) (StreamsWhile (is_usable (after_reading answer)) notes pending rest')
+told-read answer notes pending rest rest' got None s comes keeps = tt
+told-read answer notes pending rest rest' got (Some t) s comes keeps = streams-read answer notes pending rest rest' got t s comes keeps
+
+-- a count that rose isn't 0
+rises-some : (old new : ℕ) → Rises old new → 0 < new
+rises-some old new rises = grind (arith, rises.0, rises.1)
+
+-- what a turn of reading says holds of what it leaves
+fits-read : (answer : ReadTurn) (c : SeenConn) (told' : Option LinkTold) (counts' : LinkCounts) (rest' : List ℕ)
+    → c.pending ≡ [] → says_last c.notes ≡ false → TakesIn c.told told' c.counts counts' c.rest rest' answer
+    → TurnFits (after_reading answer) (record c { told = told'; counts = counts'; rest = rest'; turn = after_reading answer })
+fits-read (read.Asked ask) c told' counts' rest' sent goes_on takes = record { none_pending = sent; asked = takes.finds; goes_on = goes_on }
+fits-read read.More c told' counts' rest' sent goes_on takes = record { none_pending = sent; none_whole = takes.finds; goes_on = goes_on }
+fits-read read.Gone c told' counts' rest' sent goes_on takes = record { none_pending = sent; none_whole = takes.finds; goes_on = goes_on }
+fits-read read.LinkFailed c told' counts' rest' sent goes_on takes = rises-some c.counts.faults counts'.faults takes.faults
+fits-read read.NoMemory c told' counts' rest' sent goes_on takes = tt
+
+-- only a turn that found the end leaves the connection so
+gone-read : (answer : ReadTurn) → after_reading answer ≡ turn.Gone → answer ≡ read.Gone
+gone-read (read.Asked ask) e = absurd (cc)
+gone-read read.More e = absurd (cc)
+gone-read read.Gone e = refl
+gone-read read.LinkFailed e = absurd (cc)
+gone-read read.NoMemory e = absurd (cc)
+
+-- the reply stream of a connection that is usable
+pub usable-streams : (c : SeenConn) → IsConn c → is_usable c.turn ≡ true → IfSome c.told (Streams c.notes c.pending c.rest)
+usable-streams c is usable = subst (λ b. IfSome c.told (StreamsWhile b c.notes c.pending c.rest)) usable is.streams
+
+-- a connection holds after a turn of reading
+pub held-read : (c seen : SeenConn) (size size' : ℕ) (told' : Option LinkTold) (counts' : LinkCounts) (rest' : List ℕ) (answer : ReadTurn) (turn' : LastTurn)
+    → IsHeld c size → c ≡ seen → is_usable seen.turn ≡ true → seen.pending ≡ [] → says_last seen.notes ≡ false
+    → TakesIn c.told told' c.counts counts' c.rest rest' answer → turn' ≡ after_reading answer → IsSizeOf (after_reading answer) rest' size'
+    → IsHeld (record c { told = told'; counts = counts'; rest = rest'; turn = turn' }) size'
+held-read c seen size size' told' counts' rest' answer turn' held is usable sent goes_on takes turn_is sized =
+    let usable' : is_usable c.turn ≡ true = ap (λ (x : SeenConn). is_usable x.turn) is ∙ usable in
+    let sent' : c.pending ≡ [] = ap (λ (x : SeenConn). x.pending) is ∙ sent in
+    let goes_on' : says_last c.notes ≡ false = ap (λ (x : SeenConn). says_last x.notes) is ∙ goes_on in
+    let streams = told-read answer c.notes c.pending c.rest rest' takes.got c.told (usable-streams c held.conn usable') takes.gives takes.bytes_are in
+    subst (λ (u : LastTurn). IsHeld (record c { told = told'; counts = counts'; rest = rest'; turn = u }) size') (sym turn_is)
+    (record {
+      conn = record {
+        turn_fits = fits-read answer c told' counts' rest' sent' goes_on' takes;
+        ended = λ e. takes.none_comes (gone-read answer e);
+        streams = subst (λ o. IfSome o (StreamsWhile (is_usable (after_reading answer)) c.notes c.pending rest')) (sym takes.told_is) streams;
+      };
+      size_is = sized;
+    })
+
+-- where the next item was there, the link was asked for nothing
+pub asks_nothing-read : (c seen : SeenConn) (told' : Option LinkTold) (counts' : LinkCounts) (rest' : List ℕ) (turn' : LastTurn) → c ≡ seen
+    → ((ask : Ask) → IsAskedIn c.rest ask → IsSame c.told told' c.counts counts' c.rest rest')
+    → (ask : Ask) → IsAskedIn seen.rest ask → AsksNothing seen (record c { told = told'; counts = counts'; rest = rest'; turn = turn' })
+asks_nothing-read c seen told' counts' rest' turn' is still ask asked =
+    let same = still ask (subst (λ (x : SeenConn). IsAskedIn x.rest ask) (sym is) asked) in
+    subst (λ (x : SeenConn). AsksNothing x (record c { told = told'; counts = counts'; rest = rest'; turn = turn' })) is
+    (record { told = same.told_is; counts = same.counts_are; rest = same.bytes_are })
+
+-- ## Writing
+
+-- a turn of writing keeps it, or breaks it off
+streams-written : (answer : WriteTurn) (notes : List Note) (pending sent left rest : List ℕ) (t : LinkTold) → Streams notes pending rest t → pending ≡ sent ++ left
+    → StreamsWhile (is_usable (after_writing answer)) notes left rest (with_sent sent t)
+streams-written write.Done notes pending sent left rest t s front = streams-sent notes pending sent left rest t s front
+streams-written write.NotReady notes pending sent left rest t s front = streams-sent notes pending sent left rest t s front
+streams-written write.LinkFailed notes pending sent left rest t s front =
+    broke_off notes left rest (with_sent sent t) (streams-sent notes pending sent left rest t s front)
+
+told-written : (answer : WriteTurn) (notes : List Note) (pending sent left rest : List ℕ) (told : Option LinkTold)
+    → IfSome told (Streams notes pending rest) → pending ≡ sent ++ left
+    → IfSome (option_map (with_sent sent) told) (StreamsWhile (is_usable (after_writing answer)) notes left rest)
+told-written answer notes pending sent left rest None s front = tt
+told-written answer notes pending sent left rest (Some t) s front = streams-written answer notes pending sent left rest t s front
+
+-- what a turn of writing says holds of what it leaves
+fits-written : (answer : WriteTurn) (c : SeenConn) (told' : Option LinkTold) (counts' : LinkCounts) (left : List ℕ)
+    → SendsOn c.told told' c.counts counts' c.pending left answer
+    → TurnFits (after_writing answer) (record c { told = told'; counts = counts'; pending = left; turn = after_writing answer })
+fits-written write.Done c told' counts' left sends = sends.leaves
+fits-written write.NotReady c told' counts' left sends = sends.leaves
+fits-written write.LinkFailed c told' counts' left sends = rises-some c.counts.faults counts'.faults sends.faults
+
+-- no turn of writing leaves a connection whose client sends no more
+gone-written : (answer : WriteTurn) → after_writing answer ≡ turn.Gone → ⊥
+gone-written write.Done e = absurd (cc)
+gone-written write.NotReady e = absurd (cc)
+gone-written write.LinkFailed e = absurd (cc)
+
+-- no turn of writing asks
+size-written : (answer : WriteTurn) (rest : List ℕ) (size : ℕ) → IsSizeOf (after_writing answer) rest size
+size-written write.Done rest size = tt
+size-written write.NotReady rest size = tt
+size-written write.LinkFailed rest size = tt
+
+-- a connection holds after a turn of writing
+pub held-written : (c seen : SeenConn) (size : ℕ) (told' : Option LinkTold) (counts' : LinkCounts) (left : List ℕ) (answer : WriteTurn) (turn' : LastTurn)
+    → IsHeld c size → c ≡ seen → is_usable seen.turn ≡ true
+    → SendsOn c.told told' c.counts counts' c.pending left answer → turn' ≡ after_writing answer
+    → IsHeld (record c { told = told'; counts = counts'; pending = left; turn = turn' }) size
+held-written c seen size told' counts' left answer turn' held is usable sends turn_is =
+    let usable' : is_usable c.turn ≡ true = ap (λ (x : SeenConn). is_usable x.turn) is ∙ usable in
+    let streams = told-written answer c.notes c.pending sends.sent left c.rest c.told (usable-streams c held.conn usable') sends.front in
+    subst (λ (u : LastTurn). IsHeld (record c { told = told'; counts = counts'; pending = left; turn = u }) size) (sym turn_is)
+    (record {
+      conn = record {
+        turn_fits = fits-written answer c told' counts' left sends;
+        ended = λ e. absurd (gone-written answer e);
+        streams = subst (λ o. IfSome o (StreamsWhile (is_usable (after_writing answer)) c.notes left c.rest)) (sym sends.told_is) streams;
+      };
+      size_is = size-written answer c.rest size;
+    })
