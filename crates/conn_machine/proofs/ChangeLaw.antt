@@ -107,7 +107,7 @@ made_taken s i slot r' may at =
     made_by (taken_row s) s.rows i slot r' (λ r there. taken (met_at (λ x. is_vacant x.place) s.rows i r vacant there) refl) at
 
 -- a place in another phase of its service is used as before
-unused-in_phase : (phase : Phase) (place : Place) → is_unused (in_phase phase place) ≡ is_unused place
+pub unused-in_phase : (phase : Phase) (place : Place) → is_unused (in_phase phase place) ≡ is_unused place
 unused-in_phase phase Vacant = refl
 unused-in_phase phase Spent = refl
 unused-in_phase phase Held = refl

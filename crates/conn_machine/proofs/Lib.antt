@@ -1,4 +1,5 @@
 pub mod AcceptLemmas
+pub mod AcceptedLaw
 pub mod AllowedLemmas
 pub mod CellLaw
 pub mod CellLemmas

@@ -49,7 +49,7 @@ grows_more old now note grows undecided =
       more = grows.more ++ note ∷ [];
       grown = ap (λ (notes : List Note). notes ++ note ∷ []) grows.grown ∙ append_assoc old grows.more (note ∷ []);
       follows = follows_more (says_last old) grows.more note grows.follows
-      (sym (fold-append (λ (before : Bool) (n : Note). n.last) false old grows.more) ∙ undone);
+          (sym (fold-append (λ (before : Bool) (n : Note). n.last) false old grows.more) ∙ undone);
     }
 
 -- a change of a row that is the name's keeps it so, or it goes past the name's life

@@ -36,7 +36,7 @@ get_changed (z ∷ xs) zero x change is =
 get_changed (z ∷ xs) (suc i) x change is = get_changed xs i x change is
 
 -- a count of one more item
-count_cons : {X : Type 0} (p : X → Bool) (x : X) (xs : List X) → count_by p (x ∷ xs) ≡ cond (p x) 1 0 + count_by p xs
+pub count_cons : {X : Type 0} (p : X → Bool) (x : X) (xs : List X) → count_by p (x ∷ xs) ≡ cond (p x) 1 0 + count_by p xs
 count_cons p x xs = sum_by-cons (λ y. cond (p y) 1 0) x xs
 
 -- a test counts one at most

@@ -1,7 +1,8 @@
 //! Laws of the machine: what holds of every state, and of every run, that the event table allows. Each is the contract
 //! of a function that does nothing.
-ghost use Rattle.std.specs.Prelude.{◌≡◌, ◌<◌, ◌↔◌, ℕ, true, false, List, ◌∷◌, ◌++◌, None, Some, slice_get};
+ghost use Rattle.std.specs.Prelude.{◌≡◌, ◌<◌, ◌↔◌, ℕ, ◌+◌, true, false, List, ◌∷◌, ◌++◌, count_by, min, None, Some, slice_get};
 ghost use Rattle.std.specs.List.{list_any};
+ghost use Rattle.mpm_base.specs.Count.{greatest_count};
 ghost use Rattle.mpm_base.specs.declared.conn.ConnName.{ConnName};
 ghost use Rattle.mpm_base.specs.declared.conn.Cause.{Cause};
 ghost use Rattle.mpm_base.specs.declared.conn.Tail.{Tail};
@@ -20,6 +21,7 @@ ghost use Rattle.conn_machine.specs.Children.{is_in_bounds};
 ghost use Rattle.conn_machine.specs.States.{opening};
 ghost use Rattle.conn_machine.specs.Table.{allowed, next};
 ghost use Rattle.conn_machine.specs.Runs.{Run, after};
+ghost use Rattle.conn_machine.specs.Events.{count_events, is_accept, is_close};
 ghost use Rattle.conn_machine.specs.Sound.{IsSound};
 ghost use Rattle.conn_machine.specs.Laws.{IsEarned, IsTakenFor, OnlyGrows, StaysSound, is_alive};
 
@@ -34,6 +36,13 @@ pub fn events_keep_states_sound()
 /// listener at most as often and three times for each connection.
 pub fn queues_and_holds_are_earned()
     ensures { (slots children : ℕ) (shape : Shape) (history : List Entry) → is_in_bounds shape ≡ true → Run (opening slots children shape) history → IsEarned history }
+{}
+
+/// In every run from the opening state each connection that was accepted was closed or is live, and closed at most once.
+/// The state counts those that were accepted, as far as a count goes.
+pub fn accepted_connections_are_closed_or_live()
+    ensures closed_or_live { (slots children : ℕ) (shape : Shape) (history : List Entry) → Run (opening slots children shape) history → count_events is_accept history ≡ count_events is_close history + count_by is_live (after (opening slots children shape) history).rows }
+    ensures accepted { (slots children : ℕ) (shape : Shape) (history : List Entry) → (after (opening slots children shape) history).accepted ≡ min (count_events is_accept history) greatest_count }
 {}
 
 /// A connection that was closed is never live again.
