@@ -1,17 +1,16 @@
 -- The next item of a connection is answered.
-use Rattle.std.proofs.Common.{◌≡◌, ◌==◌, ℕ, ◌<◌, Bool, true, false, List, [], ◌∷◌, ◌++◌, drop, length, Option, Some, None, IfSome, refl, sym, ap, subst, ◌∙◌, inl, inr, arith}
+use Rattle.std.proofs.Common.{◌≡◌, ℕ, ◌<◌, true, false, List, [], ◌∷◌, ◌++◌, drop, length, Option, Some, None, IfSome, refl, sym, ap, subst, ◌∙◌, inl, inr, arith}
 use Rattle.httpdate.specs.Date.{date_text}
 use Rattle.mpm_base.specs.Link.{LinkTold}
 use Rattle.mpm_base.specs.Notes.{says_last}
-use Rattle.mpm_base.specs.declared.conn.Ask.{Ask}
 use Rattle.mpm_base.specs.declared.note.Note.{Note}
 use Rattle.http_read.specs.declared.request.Request.{Request}
 use Rattle.conn_state.specs.declared.turn.LastTurn.{LastTurn}
 use Rattle.conn_state.specs.declared.turn.LastTurn.TheVariants as turn
 use Rattle.conn_state.specs.Items.{Item, Begins, ask_of}
 use Rattle.conn_state.specs.Response.{IsResponse, response_at}
-use Rattle.conn_state.specs.Replies.{IsNoteFor, continue_response, first_part}
-use Rattle.conn_state.specs.Conn.{SeenConn, is_usable, Streams, StreamsWhile, TurnFits, IsConn}
+use Rattle.conn_state.specs.Replies.{IsNoteFor, first_part}
+use Rattle.conn_state.specs.Conn.{SeenConn, is_usable, Streams, TurnFits}
 use Rattle.conn_state.specs.Turns.{IsNoteOf, Answers}
 use Rattle.conn_state.specs.Held.{IsSizeOf, IsHeld}
 use Rattle.conn_state.proofs.ConnLemmas.{usable-streams, told-broken, streams-answered}
@@ -25,6 +24,7 @@ record IsReady (c : SeenConn) (size : ℕ) (note : Note) : Type 0 where
   none_pending : c.pending ≡ []
   goes_on : says_last c.notes ≡ false
 
+-- where the last turn asked, the item is there
 ready : (t : LastTurn) (c : SeenConn) (size : ℕ) (note : Note) → c.turn ≡ t → TurnFits t c → IsSizeOf t c.rest size → IsNoteOf t note → IsReady c size note
 ready (turn.Asked ask) c size note is fits sized noted = record {
   usable = ap is_usable is;
@@ -56,9 +56,11 @@ some-response_at : (date : List ℕ) (item : Item) (note : Note) → 0 < length 
 some-response_at date (inl request) note = omega arith
 some-response_at date (inr code) note = omega arith
 
+-- no response is empty
 some-response : (item : Item) (note : Note) (response : List ℕ) → IsResponse item note response → 0 < length response
 some-response item note response r = subst (λ xs. 0 < length xs) (sym r.is) (some-response_at (date_text r.date) item note)
 
+-- the same of a link that may tell
 told-answered : (told : Option LinkTold) (notes : List Note) (rest : List ℕ) (item : Item) (behind : List ℕ) (note : Note) (response : List ℕ)
     → IfSome told (Streams notes [] rest) → says_last notes ≡ false → Begins rest item behind → IsNoteFor (ask_of item) note → IsResponse item note response
     → IfSome told (Streams (notes ++ note ∷ []) (first_part item ++ response) behind)
@@ -73,12 +75,15 @@ after_answer c note pending behind = record c { notes = c.notes ++ note ∷ []; 
 module _ (c seen : SeenConn) (size : ℕ) (note : Note) (response : List ℕ) (held : IsHeld c size) (is : c ≡ seen) (asked : IsNoteOf seen.turn note)
     (file : note.code ≡ 200 → (request : Request) → IsResponse (inl request) note response)
     (refusal : ¬ (note.code ≡ 200) → IsResponse (inr note.code) note response) where
+  -- the item that was asked
   ready-here : IsReady c size note
   ready-here = ready c.turn c size note refl held.conn.turn_fits held.size_is (subst (λ (x : SeenConn). IsNoteOf x.turn note) (sym is) asked)
 
+  -- the response to it
   response-here : IsResponse ready-here.item note response
   response-here = is_response-of ready-here.item c.rest (drop size c.rest) note response ready-here.begins ready-here.noted file refusal
 
+  -- what is pending for it
   pending-here : first_part ready-here.item ++ response ≡ response
   pending-here = ap (λ xs. xs ++ response) (first_part-none ready-here.item c.rest (drop size c.rest) ready-here.begins)
 

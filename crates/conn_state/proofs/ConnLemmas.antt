@@ -1,5 +1,5 @@
 -- The reply stream of a connection goes on over its turns.
-use Rattle.std.proofs.Common.{◌≡◌, ◌==◌, ℕ, ◌+◌, ◌<◌, Bool, true, false, List, [], ◌∷◌, ◌++◌, take, drop, length, Option, Some, None, option_map, IfSome, if◌then◌else◌, refl, sym, ap, subst, ◌∙◌, arith, append_assoc}
+use Rattle.std.proofs.Common.{◌≡◌, ℕ, ◌<◌, Bool, true, false, List, [], ◌∷◌, ◌++◌, take, length, Option, Some, None, option_map, IfSome, refl, sym, ap, subst, ◌∙◌, arith, append_assoc}
 use Rattle.std.proofs.lemmas.List.{append-nil}
 use Rattle.mpm_base.specs.Count.{Rises}
 use Rattle.mpm_base.specs.Link.{LinkTold, LinkCounts, with_received}
@@ -79,6 +79,7 @@ pub broke_while : (usable : Bool) (notes : List Note) (pending rest : List ℕ) 
 broke_while true notes pending rest t s = broke_off notes pending rest t s
 broke_while false notes pending rest t s = s
 
+-- the same of a link that may tell
 pub told-broken : (usable : Bool) (told : Option LinkTold) (notes : List Note) (pending rest : List ℕ) → IfSome told (StreamsWhile usable notes pending rest)
     → IfSome told (BrokeOff notes)
 told-broken usable None notes pending rest s = tt
@@ -101,6 +102,7 @@ streams-read read.LinkFailed notes pending rest rest' got t s comes keeps =
 streams-read read.NoMemory notes pending rest rest' got t s comes keeps =
     broke_off notes pending (rest ++ got) (with_received (length got) t) (streams-more notes pending rest got t s comes)
 
+-- the same of a link that may tell
 told-read : (answer : ReadTurn) (notes : List Note) (pending rest rest' got : List ℕ) (told : Option LinkTold)
     → IfSome told (Streams notes pending rest) → IfSome told (λ t. got ≡ take (length got) t.coming) → KeepsRead answer got rest rest'
     → IfSome (option_map (with_received (length got)) told) (StreamsWhile (is_usable (after_reading answer)) notes pending rest')
@@ -172,6 +174,7 @@ streams-written write.NotReady notes pending sent left rest t s front = streams-
 streams-written write.LinkFailed notes pending sent left rest t s front =
     broke_off notes left rest (with_sent sent t) (streams-sent notes pending sent left rest t s front)
 
+-- the same of a link that may tell
 told-written : (answer : WriteTurn) (notes : List Note) (pending sent left rest : List ℕ) (told : Option LinkTold)
     → IfSome told (Streams notes pending rest) → pending ≡ sent ++ left
     → IfSome (option_map (with_sent sent) told) (StreamsWhile (is_usable (after_writing answer)) notes left rest)

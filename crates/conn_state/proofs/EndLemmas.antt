@@ -1,5 +1,5 @@
 -- A connection that ends was answered.
-use Rattle.std.proofs.Common.{◌≡◌, ◌≢◌, ℕ, ◌<◌, Bool, true, false, List, [], ◌++◌, Option, Some, None, option_map, IfSome, refl, sym, ap, subst, ◌∙◌}
+use Rattle.std.proofs.Common.{◌≡◌, ◌≢◌, ℕ, List, [], ◌++◌, Option, Some, None, option_map, IfSome, sym, ap, subst, ◌∙◌}
 use Rattle.std.proofs.lemmas.List.{append-nil}
 use Rattle.mpm_base.specs.Count.{next_count}
 use Rattle.mpm_base.specs.Link.{LinkTold, after_close}
@@ -12,7 +12,7 @@ use Rattle.conn_state.specs.declared.turn.LastTurn.{LastTurn}
 use Rattle.conn_state.specs.declared.turn.LastTurn.TheVariants as turn
 use Rattle.conn_state.specs.Items.{Item, SpellsNone}
 use Rattle.conn_state.specs.Replies.{AreReplies}
-use Rattle.conn_state.specs.Conn.{SeenConn, is_usable, IsFrontOf, Streams, BrokeOff, StreamsWhile, TurnFits, IsWaiting, IsConn}
+use Rattle.conn_state.specs.Conn.{SeenConn, is_usable, IsFrontOf, Streams, BrokeOff, TurnFits, IsWaiting, IsConn}
 use Rattle.conn_state.specs.Answered.{IsShown, SentFor, IsAnswered}
 use Rattle.conn_state.proofs.StreamLemmas.{interim-none}
 use Rattle.conn_state.proofs.ConnLemmas.{usable-streams, told-broken}
@@ -60,12 +60,14 @@ answered-done notes rest t s none all = record {
   received = λ e. all;
 }
 
+-- the same of a link that may tell
 told-front : (why : Cause) (notes : List Note) (told : Option LinkTold) → why ≢ cause.ClientDone
     → ((t : LinkTold) (items : List Item) (rest replies : List ℕ) → IsFrontOf (replies ++ []) t.sent → SentFor why items notes rest replies [] (after_close t))
     → IfSome told (BrokeOff notes) → IfSome (option_map after_close told) (IsAnswered why tail.Direct notes)
 told-front why notes None other enough b = tt
 told-front why notes (Some t) other enough b = answered-front why notes t other (enough t) b
 
+-- the same of a link that may tell
 told-done : (notes : List Note) (rest : List ℕ) (told : Option LinkTold) → IfSome told (Streams notes [] rest) → SpellsNone rest
     → IfSome told (λ t. t.coming ≡ []) → IfSome (option_map after_close told) (IsAnswered cause.ClientDone tail.Direct notes)
 told-done notes rest None s none all = tt

@@ -1,5 +1,5 @@
 -- Several reads of a link, or writes to it, are one.
-use Rattle.std.proofs.Common.{◌≡◌, ◌==◌, ℕ, ◌+◌, ◌<◌, ◌≤◌, Bool, true, false, List, [], ◌∷◌, ◌++◌, take, drop, length, Option, Some, None, option_map, IfSome, if◌then◌else◌, refl, sym, ap, subst, ◌∙◌, arith, append_assoc, length-append}
+use Rattle.std.proofs.Common.{◌≡◌, ◌==◌, ℕ, ◌+◌, ◌≤◌, Bool, true, false, List, [], ◌++◌, take, drop, length, Option, Some, None, option_map, IfSome, if◌then◌else◌, refl, sym, ap, subst, ◌∙◌, arith, append_assoc, length-append}
 use Rattle.std.proofs.Math.Seq.{take-add}
 use Rattle.std.proofs.lemmas.List.{drop-drop, append-nil, take-append-drop, take-append-le, length-take-le}
 use Rattle.mpm_base.specs.Count.{NeverFalls, RisesWhere, RisesExactlyWhere}
@@ -10,9 +10,8 @@ use Rattle.mpm_base.specs.RootRequest.{BeginsRequest, IsStarted}
 use Rattle.mpm_base.specs.declared.conn.Ask.{Ask}
 use Rattle.conn_state.specs.declared.turn.ReadTurn.{ReadTurn}
 use Rattle.conn_state.specs.declared.turn.ReadTurn.TheVariants as read
-use Rattle.conn_state.specs.declared.turn.WriteTurn.{WriteTurn}
 use Rattle.conn_state.specs.Items.{IsAskedIn, SpellsNone}
-use Rattle.conn_state.specs.Turns.{KeepsRead, is_more, is_gone, read_failed, is_not_ready, write_failed, with_sent}
+use Rattle.conn_state.specs.Turns.{KeepsRead, is_more, is_gone, read_failed, with_sent}
 use Rattle.conn_state.specs.Exchange.{HasRead, TakesIn, IsSame, HasSent}
 use Rattle.conn_state.proofs.ItemLemmas.{asked-none}
 
@@ -47,6 +46,7 @@ received-twice a b t =
       rank = t.rank;
     }
 
+-- the same of a link that may tell
 told-received_twice : (a b : ℕ) (told : Option LinkTold) → option_map (with_received b) (option_map (with_received a) told) ≡ option_map (with_received (a + b)) told
 told-received_twice a b None = refl
 told-received_twice a b (Some t) = ap Some (received-twice a b t)
@@ -72,14 +72,17 @@ received-none t = λ i. record {
   rank = t.rank;
 }
   where
+    -- no byte came before the half-close
     before-none : (open_still : Bool) (before : List ℕ) → before ≡ (if open_still then before ++ [] else before)
     before-none true before = sym (append-nil before)
     before-none false before = refl
 
+-- the same of a link that may tell
 told-received_none : (told : Option LinkTold) → told ≡ option_map (with_received 0) told
 told-received_none None = refl
 told-received_none (Some t) = ap Some (received-none t)
 
+-- no byte comes next
 gives-none : (told : Option LinkTold) → IfSome told (λ t. [] ≡ take (length {A = ℕ} []) t.coming)
 gives-none None = tt
 gives-none (Some t) = refl
@@ -98,12 +101,14 @@ has_read-none told counts bytes = record {
 }
 
 module _ (told told1 told2 : Option LinkTold) (counts counts1 counts2 : LinkCounts) (bytes bytes1 bytes2 : List ℕ) where
+  -- two receipts are one
   told-joined : (a b : List ℕ) → told1 ≡ option_map (with_received (length a)) told → told2 ≡ option_map (with_received (length b)) told1
       → told2 ≡ option_map (with_received (length (a ++ b))) told
   told-joined a b first second =
       second ∙ ap (λ o. option_map (with_received (length b)) o) first ∙ told-received_twice (length a) (length b) told
       ∙ ap (λ n. option_map (with_received n) told) (sym (length-append a b))
 
+  -- what both gave comes next
   gives-joined : (a b : List ℕ) → told1 ≡ option_map (with_received (length a)) told → IfSome told (λ t. a ≡ take (length a) t.coming)
       → IfSome told1 (λ t. b ≡ take (length b) t.coming) → IfSome told (λ t. a ++ b ≡ take (length (a ++ b)) t.coming)
   gives-joined a b is first second =
@@ -123,6 +128,7 @@ module _ (told told1 told2 : Option LinkTold) (counts counts1 counts2 : LinkCoun
     ends = later.ends ∙ first.ends;
   }
 
+  -- the bytes of both stand behind those that were there
   keeps-joined : (answer : ReadTurn) (a b : List ℕ) → bytes1 ≡ bytes ++ a → KeepsRead answer b bytes1 bytes2 → KeepsRead answer (a ++ b) bytes bytes2
   keeps-joined (read.Asked ask) a b first later = later ∙ ap (λ xs. xs ++ b) first ∙ append_assoc bytes a b
   keeps-joined read.More a b first later = later ∙ ap (λ xs. xs ++ b) first ∙ append_assoc bytes a b
@@ -183,6 +189,7 @@ sent-twice : (a b : List ℕ) (told : Option LinkTold) → option_map (with_sent
 sent-twice a b None = refl
 sent-twice a b (Some t) = ap (λ xs. Some (record t { sent = xs })) (append_assoc t.sent a b)
 
+-- no byte is sent
 sent-none : (told : Option LinkTold) → told ≡ option_map (with_sent []) told
 sent-none None = refl
 sent-none (Some t) = ap (λ xs. Some (record t { sent = xs })) (sym (append-nil t.sent))
@@ -200,9 +207,11 @@ has_sent-none told counts bytes = record {
 }
 
 module _ (told told1 told2 : Option LinkTold) (counts counts1 counts2 : LinkCounts) (bytes bytes1 bytes2 : List ℕ) where
+  -- two sendings are one
   sent-joined : (a b : List ℕ) → told1 ≡ option_map (with_sent a) told → told2 ≡ option_map (with_sent b) told1 → told2 ≡ option_map (with_sent (a ++ b)) told
   sent-joined a b first second = second ∙ ap (λ o. option_map (with_sent b) o) first ∙ sent-twice a b told
 
+  -- what both sent is a front
   front-joined : (a b : List ℕ) → bytes ≡ a ++ bytes1 → bytes1 ≡ b ++ bytes2 → bytes ≡ (a ++ b) ++ bytes2
   front-joined a b first second = first ∙ ap (λ xs. a ++ xs) second ∙ sym (append_assoc a b bytes2)
 

@@ -1,10 +1,10 @@
 -- The first item of the bytes, and its size.
-use Rattle.std.proofs.Common.{◌≡◌, ℕ, ◌≤◌, List, ◌++◌, length, drop, refl, ap, inl, inr, arith, length-append}
+use Rattle.std.proofs.Common.{◌≡◌, ℕ, List, length, drop, refl, ap, inl, inr, arith, length-append}
 use Rattle.mpm_base.specs.RootRequest.{BeginsRequest, IsStarted, request_of}
 use Rattle.mpm_base.specs.declared.conn.Ask.{Ask}
 use Rattle.http_read.specs.declared.request.Request.{Request}
 use Rattle.http_read.specs.Head.{BeginsWith, IsNoFront}
-use Rattle.conn_state.specs.Items.{Item, Begins, BeginsRequestWith, IsAskedIn, SpellsNone, request_ask, refusal_ask}
+use Rattle.conn_state.specs.Items.{Item, Begins, IsAskedIn, SpellsNone, request_ask, refusal_ask}
 use Rattle.conn_state.specs.Held.{HasSize}
 
 -- a whole request has its size
@@ -33,6 +33,7 @@ asked-sized bytes ask size has = record { item = has.item; behind = drop size by
 pub asked-none : ((bytes : List ℕ) → BeginsRequest bytes → ¬ (IsStarted bytes)) → (bytes : List ℕ) (ask : Ask) → IsAskedIn bytes ask → ¬ (SpellsNone bytes)
 asked-none apart bytes ask asked none = begins-none asked.item asked.behind asked.begins
   where
+    -- no item stands there
     begins-none : (item : Item) (behind : List ℕ) → ¬ (Begins bytes item behind)
     begins-none (inl request) behind b =
         apart bytes (record { host = b.begins.host; rest = b.begins.rest; is_host = b.begins.is_host; whole = b.begins.whole }) none

@@ -1,5 +1,5 @@
 -- A connection that ended, and what its link shows of it.
-use Rattle.std.specs.Prelude.{◌≡◌, ◌⊎◌, ℕ, ◌<◌, Bool, true, false, List, [], ◌++◌, Option, IfSome, option_map, if◌then◌else◌, ⊤}
+use Rattle.std.specs.Prelude.{◌≡◌, ◌⊎◌, ℕ, ◌<◌, true, false, List, [], ◌++◌, Option, IfSome, option_map, ⊤}
 use Rattle.mpm_base.specs.Link.{LinkTold, LinkCounts, OnlyFaults, after_close}
 use Rattle.mpm_base.specs.Notes.{says_last}
 use Rattle.mpm_base.specs.declared.conn.ConnName.{ConnName}

@@ -1,5 +1,5 @@
 -- What is seen of a connection, and what holds of it at every turn.
-use Rattle.std.specs.Prelude.{◌≡◌, ◌≢◌, ℕ, ◌<◌, Bool, true, false, List, [], ◌++◌, length, Option, Some, IfSome, ⊤}
+use Rattle.std.specs.Prelude.{◌≡◌, ℕ, ◌<◌, Bool, true, false, List, [], ◌++◌, length, Option, IfSome, ⊤}
 use Rattle.mpm_base.specs.Link.{LinkTold, LinkCounts, fresh_link}
 use Rattle.mpm_base.specs.Notes.{says_last}
 use Rattle.mpm_base.specs.declared.conn.ConnName.{ConnName}
@@ -7,7 +7,7 @@ use Rattle.mpm_base.specs.declared.conn.Ask.{Ask}
 use Rattle.mpm_base.specs.declared.note.Note.{Note}
 use Rattle.conn_state.specs.declared.turn.LastTurn.{LastTurn}
 use Rattle.conn_state.specs.declared.turn.LastTurn.TheVariants as turn
-use Rattle.conn_state.specs.Items.{Item, AreFirst, IsAskedIn, SpellsNone}
+use Rattle.conn_state.specs.Items.{Item, IsAskedIn, SpellsNone}
 use Rattle.conn_state.specs.Replies.{IsFitting, AreReplies}
 
 -- a connection: what its link tells and counts, its name, child and generation, its responses so far, what of them is still

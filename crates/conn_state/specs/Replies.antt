@@ -1,5 +1,5 @@
 -- The reply stream: what is sent for the notes of a connection and the bytes that it received.
-use Rattle.std.specs.Prelude.{◌≡◌, ◌⊎◌, ℕ, Bool, true, false, List, [], ◌∷◌, ◌++◌, ◌||◌, codes, Option, is_some, if◌then◌else◌, ⊤}
+use Rattle.std.specs.Prelude.{◌≡◌, ◌⊎◌, ℕ, true, false, List, [], ◌∷◌, ◌++◌, ◌||◌, codes, is_some, if◌then◌else◌, ⊤}
 use Rattle.std.proofs.Common.{inl, inr}
 use Rattle.mpm_base.specs.declared.conn.Ask.{Ask}
 use Rattle.mpm_base.specs.declared.note.Note.{Note}

@@ -1,11 +1,10 @@
 -- The bytes of a response (RFC 9112, section 4; RFC 9110, sections 6.6.1, 8.3 and 8.6).
-use Rattle.std.specs.Prelude.{◌≡◌, ◌⊎◌, ℕ, Bool, List, [], ◌++◌, length, codes, if◌then◌else◌}
+use Rattle.std.specs.Prelude.{◌≡◌, ℕ, Bool, List, [], ◌++◌, length, codes, if◌then◌else◌}
 use Rattle.std.specs.Fmt.{decimal}
 use Rattle.std.proofs.Common.{inl, inr}
 use Rattle.httpdate.specs.Date.{unix_secs, date_text}
 use Rattle.httpdate.specs.declared.date.HttpDate.{HttpDate}
 use Rattle.mpm_base.specs.declared.note.Note.{Note}
-use Rattle.http_read.specs.declared.request.Request.{Request}
 use Rattle.conn_state.specs.Items.{Item}
 
 -- the one file of the site

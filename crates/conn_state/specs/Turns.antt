@@ -1,8 +1,7 @@
 -- What each turn of a connection leaves of it.
-use Rattle.std.specs.Prelude.{◌≡◌, ℕ, ◌<◌, Bool, true, false, List, [], ◌∷◌, ◌++◌, take, length, Option, option_map, IfSome, ⊤}
+use Rattle.std.specs.Prelude.{◌≡◌, ℕ, ◌<◌, Bool, true, false, List, [], ◌∷◌, ◌++◌, take, length, option_map, IfSome, ⊤}
 use Rattle.mpm_base.specs.Count.{RisesWhere, RisesExactlyWhere}
-use Rattle.mpm_base.specs.Link.{LinkTold, LinkCounts, with_received}
-use Rattle.mpm_base.specs.declared.conn.Ask.{Ask}
+use Rattle.mpm_base.specs.Link.{LinkTold, with_received}
 use Rattle.mpm_base.specs.declared.note.Note.{Note}
 use Rattle.conn_state.specs.declared.turn.LastTurn.{LastTurn}
 use Rattle.conn_state.specs.declared.turn.LastTurn.TheVariants as turn
