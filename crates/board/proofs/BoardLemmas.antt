@@ -1,24 +1,25 @@
--- How the connections of a board agree with its rows, while one row changes.
+-- How the connections of a board stand to its rows, while one row changes.
 use Rattle.std.proofs.Common.{◌≡◌, ◌==◌, ℕ, zero, suc, ◌+◌, ◌<◌, ◌≤◌, Bool, true, false, cond, List, [], ◌∷◌, length, Option, None, Some, slice_get, count_by, sum_by, refl, sym, ap, subst, ◌∙◌, get_or-set_same, get_or-set_other, eqb-true, eq-eqb, arith}
 use Rattle.std.proofs.Math.ListN.{set, length-set}
 use Rattle.std.proofs.lemmas.List.Sums.{sum_by-cons}
 use Rattle.std.proofs.lemmas.Bool.{and_parts}
 use Rattle.mpm_base.specs.declared.conn.ConnName.{ConnName}
 use Rattle.conn_machine.specs.declared.row.Row.{Row}
+use Rattle.conn_machine.specs.declared.event.Event.{Event}
 use Rattle.conn_machine.specs.Lists.{update}
 use Rattle.conn_machine.specs.Rows.{is_live, is_named, live_row, lives_and}
+use Rattle.conn_machine.specs.States.{is_halted}
+use Rattle.conn_machine.specs.Table.{allowed}
 use Rattle.conn_machine.proofs.SizeLemmas.{length-update}
-use Rattle.board.specs.Fits.{SeenConn}
-use Rattle.board.specs.Board.{IsHome, conn_at, Agrees}
+use Rattle.conn_machine.proofs.UpdateLemmas.{get_changed}
+use Rattle.conn_state.specs.Conn.{SeenConn}
+use Rattle.conn_state.specs.Answered.{SeenEnded}
+use Rattle.board.specs.Book.{SeenBook}
+use Rattle.board.specs.Board.{SeenBoard, IsHome, AreHome, IsBoard, conn_at}
 
 -- ## One item
 
-pub get-update_same : {X : Type 0} (xs : List X) (i : ℕ) (x : X) (change : X → X) → slice_get xs i ≡ Some x
-    → slice_get (update xs i change) i ≡ Some (change x)
-get-update_same [] i x change at = absurd (cc)
-get-update_same (y ∷ xs) zero x change at = let e : y ≡ x = cc in ap (λ z. Some (change z)) e
-get-update_same (y ∷ xs) (suc i) x change at = get-update_same xs i x change at
-
+-- the other items stay
 pub get-update_other : {X : Type 0} (xs : List X) (i j : ℕ) (change : X → X) → (j ≡ i → ⊥)
     → slice_get (update xs i change) j ≡ slice_get xs j
 get-update_other [] i j change differs = refl
@@ -27,11 +28,13 @@ get-update_other (y ∷ xs) zero (suc j) change differs = refl
 get-update_other (y ∷ xs) (suc i) zero change differs = refl
 get-update_other (y ∷ xs) (suc i) (suc j) change differs = get-update_other xs i j change (λ e. differs (ap suc e))
 
+-- an item stands below the length
 pub get-below : {X : Type 0} (xs : List X) (i : ℕ) (x : X) → slice_get xs i ≡ Some x → i < length xs
 get-below [] i x at = absurd (cc)
 get-below (y ∷ xs) zero x at = omega arith
 get-below (y ∷ xs) (suc i) x at = let h : i < length xs = get-below xs i x at in omega arith
 
+-- a sum, once one item was changed
 sum-update : {X : Type 0} (w : X → ℕ) (xs : List X) (i : ℕ) (x : X) (change : X → X) → slice_get xs i ≡ Some x
     → sum_by w (update xs i change) + w x ≡ sum_by w xs + w (change x)
 sum-update w [] i x change at = absurd (cc)
@@ -57,6 +60,7 @@ pub record LivesAs (rows : List Row) (name : ConnName) (test : Row → Bool) : T
   pub life : row.life ≡ name.life
   pub passes : test row ≡ true
 
+-- the row of the slot, where it has that name or not
 lives_if : (rows : List Row) (name : ConnName) (test : Row → Bool) (r : Row) (named : Bool) → is_named name r ≡ named
     → slice_get rows name.slot ≡ Some r → lives_and test rows name ≡ true → LivesAs rows name test
 lives_if rows name test r true named at lives = record {
@@ -71,6 +75,7 @@ lives_if rows name test r false named at lives =
     let never : false ≡ true = rw named at (rw at at lives) in
     absurd (cc)
 
+-- the row of the slot, where there is one
 lives_where : (rows : List Row) (name : ConnName) (test : Row → Bool) (o : Option Row) → slice_get rows name.slot ≡ o
     → lives_and test rows name ≡ true → LivesAs rows name test
 lives_where rows name test None at lives =
@@ -78,47 +83,62 @@ lives_where rows name test None at lives =
     absurd (cc)
 lives_where rows name test (Some r) at lives = lives_if rows name test r (is_named name r) refl at lives
 
+-- a connection that lives has a row, which passes
 pub lives_as : (rows : List Row) (name : ConnName) (test : Row → Bool) → lives_and test rows name ≡ true → LivesAs rows name test
 lives_as rows name test lives = lives_where rows name test (slice_get rows name.slot) refl lives
 
--- ## Agreement
+-- ## A call
+
+-- the event that a call may make is allowed inside
+pub may_inside : (seen b : SeenBoard) (e : Event) → seen ≡ b → allowed b.book.state e ≡ true → allowed seen.book.state e ≡ true
+may_inside seen b e is may = subst (λ (v : SeenBoard). allowed v.book.state e ≡ true) (sym is) may
+
+-- so is one that it may make while the server goes on, where it does
+pub may_while : (seen b : SeenBoard) (e : Event) → seen ≡ b → (is_halted b.book.state.going ≡ false → allowed b.book.state e ≡ true)
+    → is_halted seen.book.state.going ≡ false → allowed seen.book.state e ≡ true
+may_while seen b e is may going =
+    may_inside seen b e is (may (ap (λ (v : SeenBoard). is_halted v.book.state.going) (sym is) ∙ going))
+
+-- ## The connections that wait
+
+-- each row that waits has its connection, and each live connection finds room behind so many that ended
+pub record AreThere (rows : List Row) (conns : List (Option SeenConn)) (ended room : ℕ) : Type 0 where
+  pub waiting : AreHome rows conns
+  pub has_room : ended + count_by is_live rows ≤ room
+
+-- a board has its connections so
+pub there_of : (book : SeenBook) (conns : List (Option SeenConn)) (ended : List SeenEnded) (room : ℕ)
+    → IsBoard (record { book = book; conns = conns; ended = ended }) room → AreThere book.state.rows conns (length ended) room
+there_of book conns ended room is = record { waiting = is.agrees.waiting; has_room = is.has_room }
 
 -- the connection of a slot, once that of this slot was set
-homes_by : (rows : List Row) (conns : List (Option SeenConn)) (slot : ℕ) (r : Row) (change : Row → Row) (c : Option SeenConn) (ended room : ℕ)
-    → Agrees rows conns ended room → slice_get rows slot ≡ Some r → IsHome slot (change r) c
+homes_by : (rows : List Row) (conns : List (Option SeenConn)) (slot : ℕ) (r : Row) (change : Row → Row) (c : Option SeenConn)
+    → AreHome rows conns → slice_get rows slot ≡ Some r → IsHome slot (change r) c
     → (j : ℕ) (r' : Row) (same : Bool) → (j == slot) ≡ same → slice_get (update rows slot change) j ≡ Some r'
     → IsHome j r' (conn_at (set conns slot c) j)
-homes_by rows conns slot r change c ended room agrees at home j r' true is_same at' =
+homes_by rows conns slot r change c are at home j r' true is_same at' =
     let e : j ≡ slot = eqb-true j slot is_same in
-    let here : slice_get (update rows slot change) slot ≡ Some (change r) = get-update_same rows slot r change at in
+    let here : slice_get (update rows slot change) slot ≡ Some (change r) = get_changed rows slot r change at in
     let there : slice_get (update rows slot change) slot ≡ Some r' =
     subst (λ (k : ℕ). slice_get (update rows slot change) k ≡ Some r') e at' in
     let row_is : change r ≡ r' = cc in
-    let below : slot < length conns = omega (arith, get-below rows slot r at, agrees.slots) in
+    let below : slot < length conns = omega (arith, get-below rows slot r at, are.slots) in
     subst (λ (k : ℕ). IsHome k r' (conn_at (set conns slot c) k)) (sym e)
     (rw (get_or-set_same conns slot c None below) (subst (λ (x : Row). IsHome slot x c) row_is home))
-homes_by rows conns slot r change c ended room agrees at home j r' false other at' =
+homes_by rows conns slot r change c are at home j r' false other at' =
     let differs : (j ≡ slot → ⊥) = (λ (e : j ≡ slot). let eq : (j == slot) ≡ true = eq-eqb j slot e in cc) in
     let before : slice_get rows j ≡ Some r' = sym (get-update_other rows slot j change differs) ∙ at' in
-    rw (get_or-set_other conns slot j c None differs) (agrees.homes j r' before)
+    rw (get_or-set_other conns slot j c None differs) (are.homes j r' before)
 
 -- one row and the connection of its slot change together
-pub agrees_set : (rows : List Row) (conns : List (Option SeenConn)) (slot : ℕ) (r : Row) (change : Row → Row) (c : Option SeenConn)
-    (ended room ended' room' : ℕ)
-    → Agrees rows conns ended room → slice_get rows slot ≡ Some r → IsHome slot (change r) c
-    → ended' + count_by is_live (update rows slot change) ≤ room'
-    → Agrees (update rows slot change) (set conns slot c) ended' room'
-agrees_set rows conns slot r change c ended room ended' room' agrees at home space = record {
-  slots = length-set conns slot c ∙ agrees.slots ∙ sym (length-update rows slot change);
-  homes = λ j r' at'. homes_by rows conns slot r change c ended room agrees at home j r' (j == slot) refl at';
+pub there_set : (rows : List Row) (conns : List (Option SeenConn)) (slot : ℕ) (r : Row) (change : Row → Row) (c : Option SeenConn) (ended room : ℕ)
+    → AreHome rows conns → slice_get rows slot ≡ Some r → IsHome slot (change r) c
+    → ended + count_by is_live (update rows slot change) ≤ room
+    → AreThere (update rows slot change) (set conns slot c) ended room
+there_set rows conns slot r change c ended room are at home space = record {
+  waiting = record {
+    slots = length-set conns slot c ∙ are.slots ∙ sym (length-update rows slot change);
+    homes = λ j r' at'. homes_by rows conns slot r change c are at home j r' (j == slot) refl at';
+  };
   has_room = space;
-}
-
--- more room is room enough
-pub agrees_more : (rows : List Row) (conns : List (Option SeenConn)) (ended room room' : ℕ)
-    → Agrees rows conns ended room → room ≤ room' → Agrees rows conns ended room'
-agrees_more rows conns ended room room' agrees more = record {
-  slots = agrees.slots;
-  homes = agrees.homes;
-  has_room = omega (arith, agrees.has_room, more);
 }

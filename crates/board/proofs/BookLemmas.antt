@@ -1,17 +1,28 @@
 -- A kept history that goes on by one entry.
-use Rattle.std.proofs.Common.{◌≡◌, ◌==◌, ℕ, ◌+◌, ◌*◌, ◌<◌, ◌≤◌, Bool, true, false, List, [], ◌∷◌, ◌++◌, length, get_or, refl, sym, ap, subst, ◌∙◌, length-append, eqb-true, eq-eqb, arith}
+use Rattle.std.proofs.Common.{◌≡◌, ◌==◌, ℕ, ◌+◌, ◌*◌, ◌<◌, ◌≤◌, Bool, true, false, cond, if◌then◌else◌, List, [], ◌∷◌, ◌++◌, length, get_or, replicate, nat_le, refl, sym, ap, subst, ◌∙◌, length-append, eqb-true, eq-eqb, arith}
 use Rattle.std.proofs.Math.ListN.{set, length-set}
 use Rattle.std.proofs.Common.{get_or-set_same, get_or-set_other}
+use Rattle.std.proofs.lemmas.Bool.{leb-false}
+use Rattle.std.proofs.lemmas.List.{length-replicate, get_or-replicate}
+use Rattle.std.proofs.lemmas.List.Sums.{sum_by-append}
+use Rattle.std.proofs.lemmas.List.Folds.{sum_by-replicate}
+use Rattle.mpm_base.specs.declared.shape.Shape.{Shape}
 use Rattle.conn_machine.specs.declared.event.Event.{Event}
+use Rattle.conn_machine.specs.declared.event.Event.TheVariants as event
 use Rattle.conn_machine.specs.declared.event.Entry.{Entry}
 use Rattle.conn_machine.specs.declared.state.State.{State}
 use Rattle.conn_machine.specs.Table.{allowed, next, reply}
-use Rattle.conn_machine.specs.Runs.{entries_of}
+use Rattle.conn_machine.specs.Runs.{entries_of, asks_page, load, full_load}
+use Rattle.conn_machine.specs.Sound.{IsSound}
+use Rattle.conn_machine.specs.Children.{is_in_bounds, no_child}
+use Rattle.conn_machine.specs.States.{is_halted, opening, unused_row}
+use Rattle.conn_machine.proofs.ChildSound.{sound-opening}
 use Rattle.conn_machine.proofs.RunLemmas.{after-snoc, history-snoc, entries_of-own, entries_of-other}
 use Rattle.conn_machine.proofs.SizeLemmas.{length-rows, length-children, length-signals, moment-within}
-use Rattle.board.specs.Book.{AreNext, IsSized, IsKept, SeenBook, numbered, recorded}
+use Rattle.board.specs.Book.{AreNext, IsSized, IsKept, SeenBook, numbered, recorded, pages_of}
 use Rattle.conn_machine.specs.declared.event.Reply.{Reply}
-use Rattle.board.specs.Room.{owed, is_sure}
+use Rattle.board.specs.Faults.{IsOpen}
+use Rattle.board.specs.Room.{row_owes, child_owes, owed, is_sure}
 use Rattle.board.proofs.RoomLemmas.{owed-bound, owed-sure}
 
 -- the pass of the entry counts one more, and the others stay
@@ -45,48 +56,84 @@ sized_more s e may before = record {
   moment = moment-within s e may before.moment;
 }
 
+-- the pages of a history that goes on by one entry
+pages_more : (history : List Entry) (e : Entry) → pages_of (history ++ e ∷ []) ≡ pages_of history + (if asks_page e.event then 1 else 0)
+pages_more history e = omega (arith, sum_by-append (λ (x : Entry). cond (asks_page x.event) 1 0) history (e ∷ []))
+
+-- an event whose room was taken before keeps no page
+pub sure-pages : (e : Event) → is_sure e ≡ true → asks_page e ≡ false
+sure-pages (event.Answer name ask) sure = absurd (cc)
+sure-pages e sure = refl
+
 -- the history is kept, where the room suffices
-kept_more : (base : State) (history : List Entry) (s : State) (ordinals ordinals' : List ℕ) (room room' : ℕ) (e : Entry)
-    → IsKept base history s ordinals room → allowed s e.event ≡ true → e.reply ≡ reply s e.event
-    → e.ordinal ≡ length (entries_of e.pass history) → AreNext ordinals' (history ++ e ∷ [])
+kept_more : (base : State) (history : List Entry) (s : State) (ordinals ordinals' : List ℕ) (pages room room' : ℕ) (e : Entry)
+    → IsKept base history s ordinals pages room → allowed s e.event ≡ true → e.reply ≡ reply s e.event
+    → e.ordinal ≡ length (entries_of e.pass history) → AreNext ordinals' (history ++ e ∷ []) → IsSound (next s e.event)
     → length (history ++ e ∷ []) + owed (next s e.event) ≤ room'
-    → IsKept base (history ++ e ∷ []) (next s e.event) ordinals' room'
-kept_more base history s ordinals ordinals' room room' e before is_allowed replied ordinal numbers has_room = record {
+    → IsKept base (history ++ e ∷ []) (next s e.event) ordinals' (pages + (if asks_page e.event then 1 else 0)) room'
+kept_more base history s ordinals ordinals' pages room room' e before is_allowed replied ordinal numbers sound has_room = record {
   is_history = history-snoc base history e before.is_history (rw before.state_is is_allowed) (rw before.state_is replied) ordinal;
   state_is = after-snoc base history e ∙ ap (λ (t : State). next t e.event) before.state_is;
+  opened = before.opened;
+  sound = sound;
   numbers = numbers;
+  pages_is = rw before.pages_is (sym (pages_more history e));
   sized = sized_more s e.event is_allowed before.sized;
   has_room = has_room;
 }
 
 -- the same, where memory was found for all that may follow
-pub kept_with_room : (base : State) (history history' : List Entry) (s s' : State) (ordinals ordinals' : List ℕ) (room room' : ℕ) (e : Entry)
-    → IsKept base history s ordinals room → allowed s e.event ≡ true → e.reply ≡ reply s e.event
-    → e.ordinal ≡ length (entries_of e.pass history) → AreNext ordinals' history'
-    → history' ≡ history ++ e ∷ [] → s' ≡ next s e.event
+pub kept_with_room : (base : State) (history history' : List Entry) (s s' : State) (ordinals ordinals' : List ℕ) (pages pages' room room' : ℕ) (e : Entry)
+    → IsKept base history s ordinals pages room → allowed s e.event ≡ true → e.reply ≡ reply s e.event
+    → e.ordinal ≡ length (entries_of e.pass history) → AreNext ordinals' history' → (IsSound s → IsSound s')
+    → history' ≡ history ++ e ∷ [] → s' ≡ next s e.event → pages' ≡ pages + (if asks_page e.event then 1 else 0)
     → length history + (4 * length s.rows + length s.children + 2) ≤ room'
-    → IsKept base history' s' ordinals' room'
-kept_with_room base history history' s s' ordinals ordinals' room room' e before is_allowed replied ordinal numbers history_is state_is space =
+    → IsKept base history' s' ordinals' pages' room'
+kept_with_room base history history' s s' ordinals ordinals' pages pages' room room' e before is_allowed replied ordinal numbers sound history_is state_is pages_is space =
     let len : length (history ++ e ∷ []) ≡ length history + 1 = length-append history (e ∷ []) in
     let owes = owed-bound (next s e.event) in
     let rows = length-rows s e.event in
     let children = length-children s e.event in
-    rw (history_is, state_is)
-    (kept_more base history s ordinals ordinals' room room' e before is_allowed replied ordinal (rw history_is at numbers)
-    (omega (arith, len, owes, rows, children, space)))
+    rw (history_is, state_is, pages_is)
+    (kept_more base history s ordinals ordinals' pages room room' e before is_allowed replied ordinal (rw history_is at numbers)
+    (rw state_is at (sound before.sound)) (omega (arith, len, owes, rows, children, space)))
 
 -- the same, where the room was taken before
-pub kept_sure : (base : State) (history history' : List Entry) (s s' : State) (ordinals ordinals' : List ℕ) (room room' : ℕ) (e : Entry)
-    → IsKept base history s ordinals room → allowed s e.event ≡ true → e.reply ≡ reply s e.event
-    → e.ordinal ≡ length (entries_of e.pass history) → AreNext ordinals' history'
+pub kept_sure : (base : State) (history history' : List Entry) (s s' : State) (ordinals ordinals' : List ℕ) (pages room room' : ℕ) (e : Entry)
+    → IsKept base history s ordinals pages room → allowed s e.event ≡ true → e.reply ≡ reply s e.event
+    → e.ordinal ≡ length (entries_of e.pass history) → AreNext ordinals' history' → (IsSound s → IsSound s')
     → history' ≡ history ++ e ∷ [] → s' ≡ next s e.event → is_sure e.event ≡ true → room ≤ room'
-    → IsKept base history' s' ordinals' room'
-kept_sure base history history' s s' ordinals ordinals' room room' e before is_allowed replied ordinal numbers history_is state_is sure space =
+    → IsKept base history' s' ordinals' pages room'
+kept_sure base history history' s s' ordinals ordinals' pages room room' e before is_allowed replied ordinal numbers sound history_is state_is sure space =
     let len : length (history ++ e ∷ []) ≡ length history + 1 = length-append history (e ∷ []) in
     let owes = owed-sure s e.event is_allowed sure in
+    let none = sure-pages e.event sure in
+    let more = kept_more base history s ordinals ordinals' pages room room' e before is_allowed replied ordinal (rw history_is at numbers)
+    (rw state_is at (sound before.sound)) (omega (arith, len, owes, before.has_room, space)) in
+    let same : pages + (if asks_page e.event then 1 else 0) ≡ pages = rw none (omega arith) in
     rw (history_is, state_is)
-    (kept_more base history s ordinals ordinals' room room' e before is_allowed replied ordinal (rw history_is at numbers)
-    (omega (arith, len, owes, before.has_room, space)))
+    (subst (λ (n : ℕ). IsKept base (history ++ e ∷ []) (next s e.event) ordinals' n room') same more)
+
+-- an empty history is kept, from a sound state that it leaves as it is
+pub kept_first : (slots children passes room : ℕ) (shape : Shape) → slots ≤ 8192 → children ≤ 32 → is_in_bounds shape ≡ true → 1 ≤ room
+    → IsKept (opening slots children shape) [] (opening slots children shape) (replicate passes 0) 0 room
+kept_first slots children passes room shape few_slots few_children bounds space =
+    let sound = sound-opening slots children shape bounds in
+    record {
+      is_history = record { run = tt; order = λ p. refl };
+      state_is = refl;
+      opened = sound;
+      sound = sound;
+      numbers = λ p below. get_or-replicate passes p 0 0 (omega (arith, below, length-replicate {A = ℕ} passes 0));
+      pages_is = refl;
+      sized = record {
+        rows = omega (arith, length-replicate slots unused_row, few_slots);
+        children = omega (arith, length-replicate children no_child, few_children);
+        signals = length-replicate slots false ∙ sym (length-replicate slots unused_row);
+        moment = omega arith;
+      };
+      has_room = omega (arith, sum_by-replicate row_owes slots unused_row, sum_by-replicate child_owes children no_child, space);
+    }
 
 -- what a book shows once the entry was put at its end
 pub recorded_is : (b : SeenBook) (base : State) (history history' : List Entry) (s s' : State) (n n' who : ℕ) (event : Event) (answer : Reply)
@@ -96,3 +143,11 @@ pub recorded_is : (b : SeenBook) (base : State) (history history' : List Entry) 
 recorded_is b base history history' s s' n n' who event answer seen history_is state_is replied passes =
     subst (λ (v : SeenBook). (let shown : SeenBook = record { base = base; history = history'; state = s'; passes = n' } in shown ≡ recorded who event v))
     seen (rw (history_is, state_is, replied, passes) refl)
+
+-- a book that is neither halted nor full can be recorded in
+pub open_if : (b : SeenBook) (s : State) (halted full : Bool) → s ≡ b.state
+    → halted ≡ is_halted s.going → full ≡ nat_le full_load (load b.history) → halted ≡ false → full ≡ false → IsOpen b
+open_if b s halted full state_is halts fills goes has_room = record {
+  going = ap (λ (t : State). is_halted t.going) (sym state_is) ∙ sym halts ∙ goes;
+  light = leb-false full_load (load b.history) (sym fills ∙ has_room);
+}

@@ -1,11 +1,9 @@
--- What each event does to the agreement of connections and rows.
-use Rattle.std.proofs.Common.{◌≡◌, ◌==◌, ℕ, ◌+◌, ◌<◌, ◌≤◌, Bool, true, false, not, ◌&&◌, ◌||◌, cond, if◌then◌else◌, nat_lt, nat_le, is_some, List, length, Option, None, Some, slice_get, get_or, count_by, replicate, zero, suc, eq-eqb, refl, sym, ap, subst, ◌∙◌, arith}
+-- What each event does to the connections that wait, and to the room for those that live.
+use Rattle.std.proofs.Common.{◌≡◌, ◌==◌, ℕ, zero, suc, ◌+◌, ◌<◌, ◌≤◌, Bool, true, false, not, ◌&&◌, ◌||◌, cond, if◌then◌else◌, nat_lt, is_some, List, length, Option, None, Some, slice_get, get_or, count_by, replicate, refl, sym, ap, subst, ◌∙◌, arith}
 use Rattle.std.proofs.Math.ListN.{set}
 use Rattle.std.proofs.lemmas.Bool.{and_parts}
-use Rattle.std.proofs.lemmas.List.{length-replicate}
-use Rattle.std.proofs.lemmas.List.{set-get_or}
+use Rattle.std.proofs.lemmas.List.{length-replicate, set-get_or}
 use Rattle.std.proofs.lemmas.List.Sums.{count_by-le-length, sum_by-cons}
-use Rattle.std.specs.Option.{option_map_or}
 use Rattle.mpm_base.specs.declared.conn.ConnName.{ConnName}
 use Rattle.mpm_base.specs.declared.conn.Kind.{Kind}
 use Rattle.mpm_base.specs.declared.conn.Cause.{Cause}
@@ -19,59 +17,45 @@ use Rattle.conn_machine.specs.declared.row.Row.{Row}
 use Rattle.conn_machine.specs.declared.event.Event.TheVariants as event
 use Rattle.conn_machine.specs.declared.state.State.{State}
 use Rattle.conn_machine.specs.Lists.{update}
-use Rattle.conn_machine.specs.Rows.{is_vacant, is_unused, is_held, is_parked, is_queued, is_working, in_phase, is_live, is_lingering, is_from, carried, lives_and, live_row, is_named, row_where}
-use Rattle.mpm_base.specs.declared.conn.Kind.TheVariants.{KeepAlive}
-use Rattle.conn_machine.specs.Children.{is_stopping}
+use Rattle.conn_machine.specs.Rows.{is_vacant, is_unused, is_held, is_parked, is_queued, is_working, in_phase, is_live, is_lingering, carried, lives_and, live_row}
 use Rattle.conn_machine.specs.States.{is_signalled, is_halted, is_serving, pick_child, child_of, unused_row}
-use Rattle.conn_machine.specs.Table.{allowed, next, is_vacant_at, may_wait, may_be_held, may_be_queued, taken_row, parked_row, held_row, queued_row, served_row, answered_row, closed_row, greatest_life, end_fits, is_last_for, noted_at}
+use Rattle.conn_machine.specs.Table.{allowed, next, is_vacant_at, may_wait, may_be_held, may_be_queued, taken_row, parked_row, held_row, queued_row, served_row, answered_row, closed_row, greatest_life, end_fits, is_last_for}
+use Rattle.conn_machine.specs.Sound.{IsSound, KindFits}
 use Rattle.conn_machine.proofs.SizeLemmas.{length-update}
-use Rattle.board.specs.Fits.{SeenConn, Fits}
-use Rattle.board.specs.Board.{is_home, IsAtHome, IsHome, conn_at, Agrees, IsNoteOf, noted}
-use Rattle.board.proofs.BoardLemmas.{count-update, get-update_same, get-below, LivesAs, lives_as, agrees_set}
+use Rattle.conn_machine.proofs.RowLemmas.{row_of_slot}
+use Rattle.conn_state.specs.Conn.{SeenConn}
+use Rattle.board.specs.Fits.{Fits, IsSettled, IsSettledFrom}
+use Rattle.board.specs.Board.{IsHeldHere, is_home, IsAtHome, IsHome, AreHome, conn_at}
+use Rattle.board.proofs.BoardLemmas.{AreThere, count-update, lives_as, there_set}
 
 -- ## Places
 
+-- a row that waits for something to come is at home
 pub parked-home : (p : Place) → is_parked p ≡ true → is_home p ≡ true
-parked-home Vacant at = absurd (cc)
-parked-home Spent at = absurd (cc)
-parked-home Held at = absurd (cc)
 parked-home (Parked kind) at = refl
-parked-home Queued at = absurd (cc)
-parked-home (Working cell phase) at = absurd (cc)
+parked-home p at = absurd (cc)
 
+-- so is one that waits for a worker
 pub queued-home : (p : Place) → is_queued p ≡ true → is_home p ≡ true
-queued-home Vacant at = absurd (cc)
-queued-home Spent at = absurd (cc)
-queued-home Held at = absurd (cc)
-queued-home (Parked kind) at = absurd (cc)
 queued-home Queued at = refl
-queued-home (Working cell phase) at = absurd (cc)
+queued-home p at = absurd (cc)
 
+-- no row of another place is
 vacant-away : (p : Place) → is_vacant p ≡ true → is_home p ≡ false
 vacant-away Vacant at = refl
-vacant-away Spent at = absurd (cc)
-vacant-away Held at = absurd (cc)
-vacant-away (Parked kind) at = absurd (cc)
-vacant-away Queued at = absurd (cc)
-vacant-away (Working cell phase) at = absurd (cc)
+vacant-away p at = absurd (cc)
 
 working-away : (p : Place) → is_working p ≡ true → is_home p ≡ false
-working-away Vacant at = absurd (cc)
-working-away Spent at = absurd (cc)
-working-away Held at = absurd (cc)
-working-away (Parked kind) at = absurd (cc)
-working-away Queued at = absurd (cc)
 working-away (Working cell phase) at = refl
+working-away p at = absurd (cc)
 
 in_hand-away : (p : Place) → (is_held p || is_working p) ≡ true → is_home p ≡ false
-in_hand-away Vacant at = absurd (cc)
-in_hand-away Spent at = absurd (cc)
 in_hand-away Held at = refl
-in_hand-away (Parked kind) at = absurd (cc)
-in_hand-away Queued at = absurd (cc)
 in_hand-away (Working cell phase) at = refl
+in_hand-away p at = absurd (cc)
 
-pub in_phase-home : (next : Phase) (p : Place) → is_home (in_phase next p) ≡ is_home p
+-- the phase of a worker changes neither
+in_phase-home : (next : Phase) (p : Place) → is_home (in_phase next p) ≡ is_home p
 in_phase-home next Vacant = refl
 in_phase-home next Spent = refl
 in_phase-home next Held = refl
@@ -79,7 +63,7 @@ in_phase-home next (Parked kind) = refl
 in_phase-home next Queued = refl
 in_phase-home next (Working cell phase) = refl
 
-pub in_phase-unused : (next : Phase) (p : Place) → is_unused (in_phase next p) ≡ is_unused p
+in_phase-unused : (next : Phase) (p : Place) → is_unused (in_phase next p) ≡ is_unused p
 in_phase-unused next Vacant = refl
 in_phase-unused next Spent = refl
 in_phase-unused next Held = refl
@@ -95,28 +79,54 @@ closed_by r false at = rw at (refl, refl)
 closed-away : (r : Row) → (is_home (closed_row r).place ≡ false) × (is_live (closed_row r) ≡ false)
 closed-away r = closed_by r (r.life == greatest_life) refl
 
--- a row that isn't at home has no connection in the board
+-- ## The connection of a row
+
+-- the board has no connection of a row that isn't at home
+here_away : (p : Place) (r : Row) (c : SeenConn) → IsHeldHere p r c → is_home p ≡ false → ⊥
+here_away Vacant r c here away = here
+here_away Spent r c here away = here
+here_away Held r c here away = here
+here_away (Parked kind) r c here away = absurd (cc)
+here_away Queued r c here away = absurd (cc)
+here_away (Working cell phase) r c here away = here
+
 homeless : (slot : ℕ) (r : Row) (c : Option SeenConn) → IsHome slot r c → is_home r.place ≡ false → c ≡ None
 homeless slot r None home away = refl
-homeless slot r (Some c) home away = let at : is_home r.place ≡ true = home.home in absurd (cc)
+homeless slot r (Some c) home away = absurd (here_away r.place r c home.here away)
 
 -- one that is has its connection
 at_home : (slot : ℕ) (r : Row) (c : Option SeenConn) → IsHome slot r c → is_home r.place ≡ true → (x : SeenConn) × (c ≡ Some x) × IsAtHome slot r x
 at_home slot r None home at = let away : is_home r.place ≡ false = home in absurd (cc)
 at_home slot r (Some c) home at = (c, refl, home)
 
--- ## The events
+-- the connection of a row that waits is in the board
+pub home-of : (rows : List Row) (conns : List (Option SeenConn)) (slot : ℕ) (r : Row)
+    → AreHome rows conns → slice_get rows slot ≡ Some r → is_home r.place ≡ true
+    → (x : SeenConn) × (conn_at conns slot ≡ Some x) × IsAtHome slot r x
+home-of rows conns slot r are at home = at_home slot r (conn_at conns slot) (are.homes slot r at) home
+
+-- one that waits for something is as what its row waited for
+pub parked-settled : (p : Place) (r : Row) (c : SeenConn) → is_parked p ≡ true → KindFits p r → IsHeldHere p r c → IsSettledFrom r.from c
+parked-settled (Parked kind) r c at fits here = subst (λ (k : Option Kind). IsSettledFrom k c) (sym fits.own) here
+parked-settled p r c at fits here = absurd (cc)
+
+-- so is one that waits for a worker
+pub queued-settled : (p : Place) (r : Row) (c : SeenConn) → is_queued p ≡ true → IsHeldHere p r c → IsSettledFrom r.from c
+queued-settled Queued r c at here = here
+queued-settled p r c at here = absurd (cc)
+
+-- ## Rows that change
 
 -- a row that is not at home changes, and is not at home
-agrees_away : (rows : List Row) (conns : List (Option SeenConn)) (slot : ℕ) (r : Row) (change : Row → Row) (ended room ended' room' : ℕ)
-    → Agrees rows conns ended room → slice_get rows slot ≡ Some r → is_home r.place ≡ false → is_home (change r).place ≡ false
-    → ended' + count_by is_live (update rows slot change) ≤ room'
-    → Agrees (update rows slot change) conns ended' room'
-agrees_away rows conns slot r change ended room ended' room' agrees at away away' space =
-    let none : conn_at conns slot ≡ None = homeless slot r (conn_at conns slot) (agrees.homes slot r at) away in
+there_away : (rows : List Row) (conns : List (Option SeenConn)) (slot : ℕ) (r : Row) (change : Row → Row) (ended room : ℕ)
+    → AreHome rows conns → slice_get rows slot ≡ Some r → is_home r.place ≡ false → is_home (change r).place ≡ false
+    → ended + count_by is_live (update rows slot change) ≤ room
+    → AreThere (update rows slot change) conns ended room
+there_away rows conns slot r change ended room are at away away' space =
+    let none : conn_at conns slot ≡ None = homeless slot r (conn_at conns slot) (are.homes slot r at) away in
     let same : set conns slot None ≡ conns = ap (λ (c : Option SeenConn). set conns slot c) (sym none) ∙ set-get_or conns slot None in
-    subst (λ (cs : List (Option SeenConn)). Agrees (update rows slot change) cs ended' room') same
-    (agrees_set rows conns slot r change None ended room ended' room' agrees at away' space)
+    subst (λ (cs : List (Option SeenConn)). AreThere (update rows slot change) cs ended room) same
+    (there_set rows conns slot r change None ended room are at away' space)
 
 -- what a row counts for
 abbrev weight : Bool → ℕ
@@ -148,246 +158,153 @@ live-less rows slot r change at live dead =
     let none = weight-false (is_live (change r)) dead in
     omega (arith, count, one, none)
 
-slot_row : (test : Row → Bool) (o : Option Row) → option_map_or test o false ≡ true → (r : Row) × (o ≡ Some r) × (test r ≡ true)
-slot_row test None passes = absurd (cc)
-slot_row test (Some r) passes = (r, refl, passes)
+-- ## The events
 
-pub accept-agrees : (s : State) (slot : ℕ) (conns : List (Option SeenConn)) (ended room room' : ℕ)
-    → allowed s (event.Accept slot) ≡ true → Agrees s.rows conns ended room → ended + length s.rows ≤ room'
-    → Agrees (next s (event.Accept slot)).rows conns ended room'
-accept-agrees s slot conns ended room room' may agrees space =
+-- a connection is taken into a vacant slot, once there is room for the end of each
+pub accept-there : (s : State) (slot : ℕ) (conns : List (Option SeenConn)) (ended room room' : ℕ)
+    → allowed s (event.Accept slot) ≡ true → AreThere s.rows conns ended room → ended + length s.rows ≤ room'
+    → AreThere (next s (event.Accept slot)).rows conns ended room'
+accept-there s slot conns ended room room' may there space =
     let both = and_parts (is_serving s.going && is_vacant_at s slot) (is_some (pick_child s)) may in
     let vacant : is_vacant_at s slot ≡ true = (and_parts (is_serving s.going) (is_vacant_at s slot) both.0).1 in
-    let found = slot_row (λ (r : Row). is_vacant r.place) (slice_get s.rows slot) vacant in
+    let found = row_of_slot (λ (r : Row). is_vacant r.place) s.rows slot vacant in
     let few : count_by is_live (update s.rows slot (taken_row s)) ≤ length s.rows =
     omega (arith, count_by-le-length is_live (update s.rows slot (taken_row s)), length-update s.rows slot (taken_row s)) in
-    agrees_away s.rows conns slot found.0 (taken_row s) ended room ended room' agrees found.1 (vacant-away found.0.place found.2) refl
+    there_away s.rows conns slot found.row (taken_row s) ended room' there.waiting found.found (vacant-away found.row.place found.passes) refl
     (omega (arith, few, space))
 
-pub park-agrees : (s : State) (name : ConnName) (kind : Kind) (conns : List (Option SeenConn)) (c : SeenConn) (r : Row) (ended room : ℕ)
-    → allowed s (event.Park name kind) ≡ true → Agrees s.rows conns ended room → live_row s.rows name ≡ Some r → c.name ≡ name → Fits c r
-    → Agrees (next s (event.Park name kind)).rows (set conns name.slot (Some c)) ended room
-park-agrees s name kind conns c r ended room may agrees found name_is fits =
+-- a connection waits, and is as one that waits so
+pub park-there : (s : State) (name : ConnName) (kind : Kind) (conns : List (Option SeenConn)) (c : SeenConn) (r : Row) (ended room : ℕ)
+    → allowed s (event.Park name kind) ≡ true → AreThere s.rows conns ended room → live_row s.rows name ≡ Some r → c.name ≡ name
+    → Fits c r → IsSettled kind c
+    → AreThere (next s (event.Park name kind)).rows (set conns name.slot (Some c)) ended room
+park-there s name kind conns c r ended room may there found name_is fits settled =
     let lives = lives_as s.rows name (may_wait s.moment kind) (and_parts (not (is_halted s.going)) (lives_and (may_wait s.moment kind) s.rows name) may).1 in
-    let same : lives.row ≡ r = cc (lives.found, found) in
+    let same : r ≡ lives.row = cc (lives.found, found) in
     let count = live-same s.rows name.slot lives.row (parked_row s kind) lives.at lives.live refl in
-    let fits' : Fits c lives.row = subst (λ (x : Row). Fits c x) (sym same) fits in
+    let fits' : Fits c lives.row = subst (λ (x : Row). Fits c x) same fits in
     let named : c.name ≡ record { slot = name.slot; life = lives.row.life } = name_is ∙ ap (λ (n : ℕ). record { slot = name.slot; life = n }) (sym lives.life) in
-    agrees_set s.rows conns name.slot lives.row (parked_row s kind) (Some c) ended room ended room agrees lives.at
-    (record { home = refl; name = named; fits = record { child = fits'.child; generation = fits'.generation; notes = fits'.notes } })
-    (omega (arith, count, agrees.has_room))
+    there_set s.rows conns name.slot lives.row (parked_row s kind) (Some c) ended room there.waiting lives.at
+    (record {
+      name = named;
+      fits = record { child = fits'.child; generation = fits'.generation; notes = fits'.notes; rank = fits'.rank };
+      here = settled;
+    })
+    (omega (arith, count, there.has_room))
 
-pub hold-agrees : (s : State) (name : ConnName) (conns : List (Option SeenConn)) (ended room : ℕ)
-    → allowed s (event.Hold name) ≡ true → Agrees s.rows conns ended room
-    → Agrees (next s (event.Hold name)).rows (set conns name.slot None) ended room
-hold-agrees s name conns ended room may agrees =
+-- the listener takes a connection that waits
+pub hold-there : (s : State) (name : ConnName) (conns : List (Option SeenConn)) (ended room : ℕ)
+    → allowed s (event.Hold name) ≡ true → AreThere s.rows conns ended room
+    → AreThere (next s (event.Hold name)).rows (set conns name.slot None) ended room
+hold-there s name conns ended room may there =
     let lives = lives_as s.rows name (may_be_held s (is_signalled s name.slot)) may in
     let count = live-same s.rows name.slot lives.row held_row lives.at lives.live refl in
-    agrees_set s.rows conns name.slot lives.row held_row None ended room ended room agrees lives.at refl
-    (omega (arith, count, agrees.has_room))
+    there_set s.rows conns name.slot lives.row held_row None ended room there.waiting lives.at refl
+    (omega (arith, count, there.has_room))
 
-pub start-agrees : (s : State) (name : ConnName) (conns : List (Option SeenConn)) (ended room : ℕ)
-    → allowed s (event.Start name) ≡ true → Agrees s.rows conns ended room
-    → Agrees (next s (event.Start name)).rows (set conns name.slot None) ended room
-start-agrees s name conns ended room may agrees =
+-- a worker takes a connection that waits for it
+pub start-there : (s : State) (name : ConnName) (conns : List (Option SeenConn)) (ended room : ℕ)
+    → allowed s (event.Start name) ≡ true → AreThere s.rows conns ended room
+    → AreThere (next s (event.Start name)).rows (set conns name.slot None) ended room
+start-there s name conns ended room may there =
     let lives = lives_as s.rows name (λ (r : Row). is_queued r.place) may in
     let count = live-same s.rows name.slot lives.row (served_row s) lives.at lives.live refl in
-    agrees_set s.rows conns name.slot lives.row (served_row s) None ended room ended room agrees lives.at refl
-    (omega (arith, count, agrees.has_room))
+    there_set s.rows conns name.slot lives.row (served_row s) None ended room there.waiting lives.at refl
+    (omega (arith, count, there.has_room))
 
--- a row that waits is handed on, and its connection stays
-pub queue-agrees : (s : State) (name : ConnName) (conns : List (Option SeenConn)) (ended room : ℕ)
-    → allowed s (event.Queue name) ≡ true → Agrees s.rows conns ended room
-    → Agrees (next s (event.Queue name)).rows conns ended room
-queue-agrees s name conns ended room may agrees =
+-- what may be handed to the workers waits for something
+queue-parked : (s : State) (r : Row) → may_be_queued s r ≡ true → is_parked r.place ≡ true
+queue-parked s r may =
+    let parts = and_parts (is_parked r.place && not (is_lingering r)) (nat_lt (carried s.rows r.child) (child_of s r).shape.threads) may in
+    (and_parts (is_parked r.place) (not (is_lingering r)) parts.0).0
+
+-- a connection that waits is handed to the workers of its child, and stays in the board
+pub queue-there : (s : State) (name : ConnName) (conns : List (Option SeenConn)) (ended room : ℕ) → IsSound s
+    → allowed s (event.Queue name) ≡ true → AreThere s.rows conns ended room
+    → AreThere (next s (event.Queue name)).rows conns ended room
+queue-there s name conns ended room sound may there =
     let lives = lives_as s.rows name (may_be_queued s)
     (and_parts (not (is_halted s.going) && is_signalled s name.slot) (lives_and (may_be_queued s) s.rows name) may).1 in
-    let parked : is_parked lives.row.place ≡ true = (and_parts (is_parked lives.row.place) (not (is_lingering lives.row))
-    (and_parts (is_parked lives.row.place && not (is_lingering lives.row))
-    (nat_lt (carried s.rows lives.row.child) (child_of s lives.row).shape.threads) lives.passes).0).0 in
-    let count = live-same s.rows name.slot lives.row queued_row lives.at lives.live refl in
-    let here = at_home name.slot lives.row (conn_at conns name.slot) (agrees.homes name.slot lives.row lives.at) (parked-home lives.row.place parked) in
+    let r = lives.row in
+    let parked = queue-parked s r lives.passes in
+    let count = live-same s.rows name.slot r queued_row lives.at lives.live refl in
+    let here = home-of s.rows conns name.slot r there.waiting lives.at (parked-home r.place parked) in
+    let settled = parked-settled r.place r here.0 parked (sound.kinds name.slot r lives.at lives.live) here.2.here in
     let same : set conns name.slot (Some here.0) ≡ conns =
     ap (λ (c : Option SeenConn). set conns name.slot c) (sym here.1) ∙ set-get_or conns name.slot None in
-    subst (λ (cs : List (Option SeenConn)). Agrees (update s.rows name.slot queued_row) cs ended room) same
-    (agrees_set s.rows conns name.slot lives.row queued_row (Some here.0) ended room ended room agrees lives.at
-    (record { home = refl; name = here.2.name; fits = record { child = here.2.fits.child; generation = here.2.fits.generation; notes = here.2.fits.notes } })
-    (omega (arith, count, agrees.has_room)))
+    let fits = here.2.fits in
+    subst (λ (cs : List (Option SeenConn)). AreThere (update s.rows name.slot queued_row) cs ended room) same
+    (there_set s.rows conns name.slot r queued_row (Some here.0) ended room there.waiting lives.at
+    (record {
+      name = here.2.name;
+      fits = record { child = fits.child; generation = fits.generation; notes = fits.notes; rank = fits.rank };
+      here = settled;
+    })
+    (omega (arith, count, there.has_room)))
 
 -- the phase of the worker that sends the response
-abbrev pub answer_phase : State → Ask → Row → Phase
+abbrev answer_phase : State → Ask → Row → Phase
 answer_phase s ask r = if is_last_for s ask r then phase.Close else phase.Write
 
-pub answer-agrees : (s : State) (name : ConnName) (ask : Ask) (conns : List (Option SeenConn)) (ended room : ℕ)
-    → allowed s (event.Answer name ask) ≡ true → Agrees s.rows conns ended room
-    → Agrees (next s (event.Answer name ask)).rows conns ended room
-answer-agrees s name ask conns ended room may agrees =
+-- a response is decided
+pub answer-there : (s : State) (name : ConnName) (ask : Ask) (conns : List (Option SeenConn)) (ended room : ℕ)
+    → allowed s (event.Answer name ask) ≡ true → AreThere s.rows conns ended room
+    → AreThere (next s (event.Answer name ask)).rows conns ended room
+answer-there s name ask conns ended room may there =
     let lives = lives_as s.rows name (λ (r : Row). is_working r.place && not r.last)
     (and_parts (not (is_halted s.going)) (lives_and (λ (r : Row). is_working r.place && not r.last) s.rows name) may).1 in
-    let working : is_working lives.row.place ≡ true = (and_parts (is_working lives.row.place) (not lives.row.last) lives.passes).0 in
-    let away = working-away lives.row.place working in
-    let count = live-same s.rows name.slot lives.row (answered_row s ask) lives.at lives.live (ap not (in_phase-unused (answer_phase s ask lives.row) lives.row.place) ∙ lives.live) in
-    agrees_away s.rows conns name.slot lives.row (answered_row s ask) ended room ended room agrees lives.at away
-    (in_phase-home (answer_phase s ask lives.row) lives.row.place ∙ away) (omega (arith, count, agrees.has_room))
+    let r = lives.row in
+    let away = working-away r.place (and_parts (is_working r.place) (not r.last) lives.passes).0 in
+    let count = live-same s.rows name.slot r (answered_row s ask) lives.at lives.live
+    (ap not (in_phase-unused (answer_phase s ask r) r.place) ∙ lives.live) in
+    there_away s.rows conns name.slot r (answered_row s ask) ended room there.waiting lives.at away
+    (in_phase-home (answer_phase s ask r) r.place ∙ away) (omega (arith, count, there.has_room))
 
-pub close-agrees : (s : State) (name : ConnName) (why : Cause) (how : Tail) (conns : List (Option SeenConn)) (ended room room' : ℕ)
-    → allowed s (event.Close name why how) ≡ true → Agrees s.rows conns ended room → room ≤ room'
-    → Agrees (next s (event.Close name why how)).rows conns (ended + 1) room'
-close-agrees s name why how conns ended room room' may agrees more =
+-- a connection ends, which takes the room that was left for it
+pub close-there : (s : State) (name : ConnName) (why : Cause) (how : Tail) (conns : List (Option SeenConn)) (ended room room' : ℕ)
+    → allowed s (event.Close name why how) ≡ true → AreThere s.rows conns ended room → room ≤ room'
+    → AreThere (next s (event.Close name why how)).rows conns (ended + 1) room'
+close-there s name why how conns ended room room' may there more =
     let lives = lives_as s.rows name (λ (r : Row). (is_held r.place || is_working r.place) && end_fits s why how r) may in
-    let in_hand : (is_held lives.row.place || is_working lives.row.place) ≡ true =
-    (and_parts (is_held lives.row.place || is_working lives.row.place) (end_fits s why how lives.row) lives.passes).0 in
-    let dead = closed-away lives.row in
-    let count = live-less s.rows name.slot lives.row closed_row lives.at lives.live dead.1 in
-    agrees_away s.rows conns name.slot lives.row closed_row ended room (ended + 1) room' agrees lives.at (in_hand-away lives.row.place in_hand)
-    dead.0 (omega (arith, count, agrees.has_room, more))
+    let r = lives.row in
+    let in_hand = (and_parts (is_held r.place || is_working r.place) (end_fits s why how r) lives.passes).0 in
+    let dead = closed-away r in
+    let count = live-less s.rows name.slot r closed_row lives.at lives.live dead.1 in
+    there_away s.rows conns name.slot r closed_row (ended + 1) room' there.waiting lives.at (in_hand-away r.place in_hand)
+    dead.0 (omega (arith, count, there.has_room, more))
 
 -- before a close there is room for the one that ends
 pub close-room : (s : State) (name : ConnName) (why : Cause) (how : Tail) (conns : List (Option SeenConn)) (ended room : ℕ)
-    → allowed s (event.Close name why how) ≡ true → Agrees s.rows conns ended room → ended < room
-close-room s name why how conns ended room may agrees =
+    → allowed s (event.Close name why how) ≡ true → AreThere s.rows conns ended room → ended < room
+close-room s name why how conns ended room may there =
     let lives = lives_as s.rows name (λ (r : Row). (is_held r.place || is_working r.place) && end_fits s why how r) may in
     let count = live-less s.rows name.slot lives.row closed_row lives.at lives.live (closed-away lives.row).1 in
-    omega (arith, count, agrees.has_room)
+    omega (arith, count, there.has_room)
 
--- a connection that waits is in the board, and is the one of its row
-pub home-of : (rows : List Row) (conns : List (Option SeenConn)) (slot : ℕ) (r : Row) (ended room : ℕ)
-    → Agrees rows conns ended room → slice_get rows slot ≡ Some r → is_home r.place ≡ true
-    → (x : SeenConn) × (conn_at conns slot ≡ Some x) × IsAtHome slot r x
-home-of rows conns slot r ended room agrees at home = at_home slot r (conn_at conns slot) (agrees.homes slot r at) home
+-- ## The opening state
 
--- ## The connection that is handed out
-
--- the row of the name, once it was changed and is still live
-pub live_row-update : (rows : List Row) (name : ConnName) (r : Row) (change : Row → Row) → slice_get rows name.slot ≡ Some r
-    → is_live (change r) ≡ true → (change r).life ≡ name.life → live_row (update rows name.slot change) name ≡ Some (change r)
-live_row-update rows name r change at live life =
-    let named : is_named name (change r) ≡ true = rw (live, eq-eqb (change r).life name.life life) refl in
-    rw (get-update_same rows name.slot r change at) (rw named refl)
-
--- the connection that left the board is the one of its row
-pub record IsHandedOut (rows : List Row) (name : ConnName) (c : SeenConn) : Type 0 where
-  pub name_is : c.name ≡ name
-  pub row : Row
-  pub found : live_row rows c.name ≡ Some row
-  pub fits : Fits c row
-
-handed_out : (rows : List Row) (conns : List (Option SeenConn)) (name : ConnName) (r : Row) (change : Row → Row) (x : SeenConn) (ended room : ℕ)
-    → Agrees rows conns ended room → slice_get rows name.slot ≡ Some r → is_home r.place ≡ true → r.life ≡ name.life
-    → conn_at conns name.slot ≡ Some x → is_live (change r) ≡ true → (change r).life ≡ r.life → Fits x (change r) → IsHandedOut (update rows name.slot change) name x
-handed_out rows conns name r change x ended room agrees at home life has live life' fits =
-    let here = home-of rows conns name.slot r ended room agrees at home in
-    let same : here.0 ≡ x = cc (here.1, has) in
-    let named : x.name ≡ record { slot = name.slot; life = r.life } = ap (λ (c : SeenConn). c.name) (sym same) ∙ here.2.name in
-    let name_is : x.name ≡ name = named ∙ ap (λ (n : ℕ). (let m : ConnName = record { slot = name.slot; life = n } in m)) life in
-    record {
-      name_is = name_is;
-      row = change r;
-      found =
-          subst (λ (n : ConnName). live_row (update rows name.slot change) n ≡ Some (change r)) (sym name_is)
-          (live_row-update rows name r change at live (life' ∙ life));
-      fits = fits;
-    }
-
--- the connection of a row that waits fits it
-home-fits : (rows : List Row) (conns : List (Option SeenConn)) (slot : ℕ) (r : Row) (x : SeenConn) (ended room : ℕ)
-    → Agrees rows conns ended room → slice_get rows slot ≡ Some r → is_home r.place ≡ true → conn_at conns slot ≡ Some x → Fits x r
-home-fits rows conns slot r x ended room agrees at home has =
-    let here = home-of rows conns slot r ended room agrees at home in
-    let same : here.0 ≡ x = cc (here.1, has) in
-    subst (λ (c : SeenConn). Fits c r) same here.2.fits
-
-pub hold-parked : (s : State) (name : ConnName) → allowed s (event.Hold name) ≡ true
-    → (lives : LivesAs s.rows name (may_be_held s (is_signalled s name.slot))) × (is_home lives.row.place ≡ true)
-hold-parked s name may =
-    let lives = lives_as s.rows name (may_be_held s (is_signalled s name.slot)) may in (
-      lives,
-      parked-home lives.row.place (and_parts (is_parked lives.row.place) (nat_le lives.row.deadline s.moment
-          || (is_from KeepAlive lives.row && is_stopping (child_of s lives.row).phase && not (is_signalled s name.slot))
-          || (is_lingering lives.row && is_signalled s name.slot)
-          || is_halted s.going) lives.passes).0,
-    )
-
-pub hold-hands : (s : State) (name : ConnName) (conns : List (Option SeenConn)) (x : SeenConn) (ended room : ℕ)
-    → allowed s (event.Hold name) ≡ true → Agrees s.rows conns ended room → conn_at conns name.slot ≡ Some x
-    → IsHandedOut (next s (event.Hold name)).rows name x
-hold-hands s name conns x ended room may agrees has =
-    let found = hold-parked s name may in
-    let lives = found.0 in
-    let fits = home-fits s.rows conns name.slot lives.row x ended room agrees lives.at found.1 has in
-    handed_out s.rows conns name lives.row held_row x ended room agrees lives.at found.1 lives.life has refl refl
-    (record { child = fits.child; generation = fits.generation; notes = fits.notes })
-
-pub start-hands : (s : State) (name : ConnName) (conns : List (Option SeenConn)) (x : SeenConn) (ended room : ℕ)
-    → allowed s (event.Start name) ≡ true → Agrees s.rows conns ended room → conn_at conns name.slot ≡ Some x
-    → IsHandedOut (next s (event.Start name)).rows name x
-start-hands s name conns x ended room may agrees has =
-    let lives = lives_as s.rows name (λ (r : Row). is_queued r.place) may in
-    let home = queued-home lives.row.place lives.passes in
-    let fits = home-fits s.rows conns name.slot lives.row x ended room agrees lives.at home has in
-    handed_out s.rows conns name lives.row (served_row s) x ended room agrees lives.at home lives.life has refl refl
-    (record { child = fits.child; generation = fits.generation; notes = fits.notes })
-
--- a connection that is to be handed out is there
-pub hold-there : (s : State) (name : ConnName) (conns : List (Option SeenConn)) (ended room : ℕ)
-    → allowed s (event.Hold name) ≡ true → Agrees s.rows conns ended room → (name.slot < length conns) × ((x : SeenConn) × (conn_at conns name.slot ≡ Some x))
-hold-there s name conns ended room may agrees =
-    let found = hold-parked s name may in
-    let here = home-of s.rows conns name.slot found.0.row ended room agrees found.0.at found.1 in
-    (omega (arith, get-below s.rows name.slot found.0.row found.0.at, agrees.slots), (here.0, here.1))
-
-pub start-there : (s : State) (name : ConnName) (conns : List (Option SeenConn)) (ended room : ℕ)
-    → allowed s (event.Start name) ≡ true → Agrees s.rows conns ended room → (name.slot < length conns) × ((x : SeenConn) × (conn_at conns name.slot ≡ Some x))
-start-there s name conns ended room may agrees =
-    let lives = lives_as s.rows name (λ (r : Row). is_queued r.place) may in
-    let here = home-of s.rows conns name.slot lives.row ended room agrees lives.at (queued-home lives.row.place lives.passes) in
-    (omega (arith, get-below s.rows name.slot lives.row lives.at, agrees.slots), (here.0, here.1))
-
--- no slot has a connection at first
 get-replicate : {X : Type 0} (n i : ℕ) (x y : X) → slice_get (replicate n x) i ≡ Some y → x ≡ y
 get-replicate zero i x y at = absurd (cc)
 get-replicate (suc n) zero x y at = cc
 get-replicate (suc n) (suc i) x y at = get-replicate n i x y at
 
-get_or-replicate : {X : Type 0} (n i : ℕ) (x : X) → get_or (replicate n x) i x ≡ x
-get_or-replicate zero i x = refl
-get_or-replicate (suc n) zero x = refl
-get_or-replicate (suc n) (suc i) x = get_or-replicate n i x
+get_or-alike : {X : Type 0} (n i : ℕ) (x : X) → get_or (replicate n x) i x ≡ x
+get_or-alike zero i x = refl
+get_or-alike (suc n) zero x = refl
+get_or-alike (suc n) (suc i) x = get_or-alike n i x
 
 none-live : (n : ℕ) → count_by is_live (replicate n unused_row) ≡ 0
 none-live zero = refl
 none-live (suc n) = omega (arith, sum_by-cons (λ (r : Row). cond (is_live r) 1 0) unused_row (replicate n unused_row), none-live n)
 
-pub opening-agrees : (slots room : ℕ) → Agrees (replicate slots unused_row) (replicate slots None) 0 room
-opening-agrees slots room = record {
-  slots = length-replicate slots None ∙ sym (length-replicate slots unused_row);
-  homes = λ slot r at.
-      let same : unused_row ≡ r = get-replicate slots slot unused_row r at in
-      rw (get_or-replicate {X = Option SeenConn} slots slot None) (subst (λ (x : Row). is_home x.place ≡ false) same refl);
+-- at first no row waits, and no slot has a connection
+pub opening-there : (slots room : ℕ) → AreThere (replicate slots unused_row) (replicate slots None) 0 room
+opening-there slots room = record {
+  waiting = record {
+    slots = length-replicate slots None ∙ sym (length-replicate slots unused_row);
+    homes = λ slot r at.
+        let same : unused_row ≡ r = get-replicate slots slot unused_row r at in
+        rw (get_or-alike {X = Option SeenConn} slots slot None) (subst (λ (x : Row). is_home x.place ≡ false) same refl);
+  };
   has_room = omega (arith, none-live slots);
 }
-
-slot_of-live : (rows : List Row) (name : ConnName) (r : Row) (o : Option Row) → slice_get rows name.slot ≡ o
-    → row_where (is_named name) o ≡ Some r → name.slot < length rows
-slot_of-live rows name r None at found = absurd (cc)
-slot_of-live rows name r (Some x) at found = get-below rows name.slot x at
-
--- a live connection has a slot of the board
-pub park-below : (rows : List Row) (conns : List (Option SeenConn)) (name : ConnName) (r : Row) (ended room : ℕ)
-    → Agrees rows conns ended room → live_row rows name ≡ Some r → name.slot < length conns
-park-below rows conns name r ended room agrees found =
-    omega (arith, slot_of-live rows name r (slice_get rows name.slot) refl found, agrees.slots)
-
--- the note that is answered is that of the row
-pub answer-note : (s : State) (name : ConnName) (ask : Ask) (last : Bool) (moment : ℕ) → allowed s (event.Answer name ask) ≡ true
-    → last ≡ noted_at s name.slot ask → moment ≡ s.moment → IsNoteOf s name ask (noted moment ask last)
-answer-note s name ask last moment may last_is moment_is =
-    let lives = lives_as s.rows name (λ (r : Row). is_working r.place && not r.last)
-    (and_parts (not (is_halted s.going)) (lives_and (λ (r : Row). is_working r.place && not r.last) s.rows name) may).1 in
-    let same : noted_at s name.slot ask ≡ is_last_for s ask lives.row =
-    ap (λ (o : Option Row). option_map_or (is_last_for s ask) o false) lives.at in
-    record {
-      row = lives.row;
-      found = lives.found;
-      note_is = rw (last_is, moment_is, same) refl;
-    }

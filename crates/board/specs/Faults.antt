@@ -2,7 +2,6 @@
 use Rattle.std.specs.Prelude.{◌≡◌, ℕ, ◌<◌, ◌≤◌, true, false, Option, None, Some, is_some}
 use Rattle.conn_machine.specs.declared.event.Event.{Event}
 use Rattle.conn_machine.specs.declared.state.State.{State}
-use Rattle.conn_machine.specs.Rows.{is_vacant}
 use Rattle.conn_machine.specs.States.{is_halted, pick_child}
 use Rattle.conn_machine.specs.Table.{is_vacant_at}
 use Rattle.conn_machine.specs.Runs.{load, full_load}
@@ -37,6 +36,11 @@ pub record IsRecorded (who : ℕ) (event : Event) (old new : SeenBook) : Type 0 
 pub record HasNoChild (b : SeenBook) : Type 0 where
   pub was_open : IsOpen b
   pub none_picked : pick_child b.state ≡ None
+
+-- the slot is vacant, or no slot is
+abbrev pub FindsVacant : State → Option ℕ → Type 0
+FindsVacant s None = (slot : ℕ) → is_vacant_at s slot ≡ false
+FindsVacant s (Some slot) = is_vacant_at s slot ≡ true
 
 -- a child would take one, and no slot is vacant
 pub record HasNoSlot (b : SeenBook) : Type 0 where

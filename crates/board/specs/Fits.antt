@@ -1,5 +1,5 @@
 -- How a connection fits its row, and what holds of one that the board has.
-use Rattle.std.specs.Prelude.{◌≡◌, ◌⊎◌, ℕ, List, [], ◌∷◌, ◌++◌, Option, None, Some, IfSome, ⊤}
+use Rattle.std.specs.Prelude.{◌≡◌, ◌⊎◌, List, [], ◌∷◌, ◌++◌, Option, None, Some, IfSome}
 use Rattle.mpm_base.specs.declared.conn.Kind.{Kind}
 use Rattle.mpm_base.specs.declared.conn.Kind.TheVariants.{Reading, KeepAlive, Writing, Linger, ShortLinger}
 use Rattle.mpm_base.specs.declared.conn.ConnName.{ConnName}
@@ -7,14 +7,12 @@ use Rattle.mpm_base.specs.declared.conn.Cause.{Cause}
 use Rattle.mpm_base.specs.declared.conn.Cause.TheVariants as cause
 use Rattle.mpm_base.specs.declared.conn.Tail.{Tail}
 use Rattle.mpm_base.specs.declared.note.Note.{Note}
-use Rattle.conn_machine.specs.declared.row.Place.{Place}
-use Rattle.conn_machine.specs.declared.row.Place.TheVariants.{Vacant, Spent, Held, Parked, Queued, Working}
 use Rattle.conn_machine.specs.declared.row.Row.{Row}
 use Rattle.conn_machine.specs.declared.state.State.{State}
 use Rattle.conn_machine.specs.Rows.{live_row}
 use Rattle.conn_state.specs.declared.turn.LastTurn.TheVariants as turn
 use Rattle.conn_state.specs.Conn.{SeenConn, IsConn}
-use Rattle.conn_state.specs.Answered.{SeenEnded, IsEnded}
+use Rattle.conn_state.specs.Answered.{SeenEnded}
 
 -- the connection is the one of the row: a link that tells has the row's arrival as its rank
 pub record Fits (c : SeenConn) (r : Row) : Type 0 where

@@ -16,6 +16,7 @@ ghost use Rattle.board.specs.Events.{IsAdded, IsDecided, IsStoppable, IsTaken, a
 ghost use Rattle.board.specs.Faults.{IsNotTakenFor, IsRefusedFor};
 ghost use Rattle.board.specs.Fits.{IsClosing, IsHandedOut, IsOf, IsSettled};
 
+use crate::accept::slot_for_accept;
 use crate::book::Book;
 use crate::faults::{AcceptFault, BoardFault};
 use conn_machine::{Commanded, Entry, Event, Kept, Reply, State, Why};
@@ -145,29 +146,27 @@ impl<L: Link> Board<L> {
         ensures why { IfErr result (λ fault. IsNotTakenFor fault self.old.book) }
         ensures err { OnErr result (self.new ≡ self.old) }
     {
-        let slot = self.slot_for_accept()?;
+        let slot = slot_for_accept(&self.book)?;
         let slots = self.conns.len();
         if self.ended.reserve(slots).is_err() {
             return Err(AcceptFault::NoMemory);
         }
-        match self.book.record(who, Event::Accept(slot)) {
-            Ok(Reply::Took(name, child, generation)) => Ok(Taken {
-                name,
-                child,
-                generation,
-            }),
-            Ok(_) => unreachable!(),
-            Err(fault) => Err(AcceptFault::of(fault)),
-        }
+        let reply = match self.book.record(who, Event::Accept(slot)) {
+            Ok(reply) => reply,
+            Err(fault) => return Err(AcceptFault::of(fault)),
+        };
+        let Reply::Took(name, child, generation) = reply else {
+            unreachable!()
+        };
+        Ok(Taken {
+            name,
+            child,
+            generation,
+        })
     }
 
     /// The connection waits. Where it is refused it comes back.
-    pub fn park(
-        &mut self,
-        who: u32,
-        kind: Kind,
-        conn: Conn<L>,
-    ) -> Result<(), (BoardFault, Conn<L>)>
+    pub fn park(&mut self, who: u32, kind: Kind, conn: Conn<L>) -> Result<(), (BoardFault, Conn<L>)>
         requires who { who < self.old.book.passes }
         requires allowed { is_halted self.old.book.state.going ≡ false → allowed self.old.book.state (event.Park conn.name kind) ≡ true }
         requires fits { IsOf self.old.book.state conn }
@@ -197,6 +196,7 @@ impl<L: Link> Board<L> {
         ensures name { result.name ≡ name }
         ensures handed { IsHandedOut self.new.book.state result }
     {
+        self.book.show();
         let _ = self.book.record_sure(who, Event::Hold(name));
         match self.conns[name.slot as usize].take() {
             Some(conn) => conn,
@@ -212,6 +212,7 @@ impl<L: Link> Board<L> {
         ensures why { IfErr result (λ fault. IsRefusedFor fault self.old.book) }
         ensures err { OnErr result (self.new ≡ self.old) }
     {
+        self.book.show();
         self.book.record(who, Event::Queue(name))?;
         Ok(())
     }
@@ -260,6 +261,7 @@ impl<L: Link> Board<L> {
         requires answered { IsEnded ended }
         ensures { self.new ≡ record (added who (event.Close ended.name ended.cause ended.tail) self.old) { ended = self.old.ended ++ ended ∷ [] } }
     {
+        self.book.show();
         let _ = self
             .book
             .record_sure(who, Event::Close(ended.name, ended.cause, ended.tail));

@@ -1,68 +1,285 @@
 //! The board's tests of its state: none takes memory, and each is exact.
-ghost use Rattle.std.specs.Prelude.{◌≡◌, ◌≤◌, Some, None, length, is_none, is_some};
-ghost use Rattle.conn_machine.specs.Runs.{load, full_load};
-ghost use Rattle.conn_machine.specs.Table.{is_vacant_at};
-ghost use Rattle.board.specs.Faults.{IsNotTakenFor, IsOpen};
-ghost use Rattle.board.specs.Finds.{FindsRetirable, FindsRow, acceptable, is_due, is_late, is_quiet, is_waiting, next_deadline_of, startable, waits_for};
+ghost use Rattle.std.specs.Prelude.{◌≡◌, ◌≤◌, length, filter, find, map};
+ghost use Rattle.std.specs.List.{list_any, range_with_len};
+ghost use Rattle.admission.specs.Admission.{least};
+ghost use Rattle.conn_machine.specs.Children.{is_empty};
+ghost use Rattle.conn_machine.specs.Rows.{is_parked, is_vacant};
+ghost use Rattle.conn_machine.specs.States.{is_overdue};
+ghost use Rattle.conn_machine.specs.Table.{child_passes};
+ghost use Rattle.board.specs.Finds.{FindsRetirable, FindsRow, acceptable, is_due, is_in_hand, is_late, is_quiet, is_waiting, next_deadline_of, startable, waits_for};
 
 use crate::board::Board;
-use crate::faults::AcceptFault;
-use conn_machine::{ChildPhase, Event, Going, Place, Row, may};
+use conn_machine::{Going, Place, Row, State};
 use mpm_base::{ConnName, Kind, Link, Moment};
 
 impl<L: Link> Board<L> {
     /// The child that the next connection goes to, while the server takes connections and a slot is vacant.
     pub fn can_accept(&self) -> Option<u32>
         ensures { result ≡ acceptable self.now.book.state }
-    ;
+    {
+        self.book.show();
+        can_accept(self.book.state())
+    }
 
     /// The lowest child that is gone, while the server takes connections and fewer children run than should.
     pub fn can_start(&self) -> Option<u32>
         ensures { result ≡ startable self.now.book.state }
-    ;
+    {
+        self.book.show();
+        can_start(self.book.state())
+    }
 
     /// A child that may be let go of.
     pub fn can_retire(&self) -> Option<u32>
         ensures { FindsRetirable self.now.book.state result }
-    ;
+    {
+        self.book.show();
+        can_retire(self.book.state())
+    }
 
     /// A connection that waits and is late.
     pub fn overdue(&self) -> Option<ConnName>
         ensures { FindsRow (is_late self.now.book.state) self.now.book.state result }
-    ;
+    {
+        self.book.show();
+        overdue(self.book.state())
+    }
 
     /// A connection that waits for service, for which something may have come and a worker of its child is free.
     pub fn signalled(&self) -> Option<ConnName>
         ensures { FindsRow (is_due self.now.book.state) self.now.book.state result }
-    ;
+    {
+        self.book.show();
+        signalled(self.book.state())
+    }
 
     /// A connection that waits.
     pub fn parked(&self) -> Option<ConnName>
         ensures { FindsRow is_waiting self.now.book.state result }
-    ;
+    {
+        self.book.show();
+        parked(self.book.state())
+    }
 
     /// What the connection of that name waits for, where it lives and waits.
     pub fn kind(&self, name: ConnName) -> Option<Kind>
         ensures { result ≡ waits_for self.now.book.state name }
-    ;
+    {
+        kind(self.book.state(), name)
+    }
 
     /// The least deadline of a connection that waits; the moment at which the server stops counts too.
     pub fn next_deadline(&self) -> Option<Moment>
         ensures { result ≡ next_deadline_of self.now.book.state }
-    ;
+    {
+        next_deadline(self.book.state())
+    }
 
     /// Whether no connection is in hand: queued, served or held.
     pub fn quiet(&self) -> bool
         ensures { result ≡ is_quiet self.now.book.state }
-    ;
+    {
+        quiet(self.book.state())
+    }
 
     /// Whether the server takes connections, ends, or has stopped.
     pub fn going(&self) -> Going
         ensures { result ≡ self.now.book.state.going }
-    ;
+    {
+        self.book.state().going
+    }
 
     /// The present moment.
     pub fn moment(&self) -> Moment
         ensures { result ≡ self.now.book.state.moment }
-    ;
+    {
+        self.book.state().moment
+    }
+}
+
+/// The child that the next connection goes to, while the server takes connections and a slot is vacant.
+fn can_accept(state: &State) -> Option<u32>
+    requires few_rows { length state.now.rows ≤ 8192 }
+    requires few_children { length state.now.children ≤ 32 }
+    ensures { result ≡ acceptable state.now }
+{
+    if state.going.is_serving() && has_vacant(state) {
+        state.pick_child()
+    } else {
+        None
+    }
+}
+
+/// Whether a slot is vacant.
+fn has_vacant(state: &State) -> bool
+    ensures { result ≡ list_any (λ r. is_vacant r.place) state.now.rows }
+{
+    state
+        .rows
+        .as_slice()
+        .iter()
+        .any(|row| row.place.is_vacant())
+}
+
+/// The lowest child that is gone, while the server takes connections and fewer children run than should.
+fn can_start(state: &State) -> Option<u32>
+    requires few_children { length state.now.children ≤ 32 }
+    ensures { result ≡ startable state.now }
+{
+    if state.going.is_serving() && (state.children.running() as u32) < state.shape.target {
+        lowest_gone(state)
+    } else {
+        None
+    }
+}
+
+/// The lowest child that is gone.
+fn lowest_gone(state: &State) -> Option<u32>
+    requires few_children { length state.now.children ≤ 32 }
+    ensures { result ≡ find (child_passes (λ c. is_empty c.phase) state.now) (range_with_len 0 (length state.now.children)) }
+{
+    (0..state.children.len() as u32).find(|child| is_gone(state, *child))
+}
+
+/// Whether there is a child of that number, and it is gone.
+fn is_gone(state: &State, child: u32) -> bool
+    ensures { result ≡ child_passes (λ c. is_empty c.phase) state.now child }
+{
+    match state.children.find(child) {
+        Some(child) => child.phase.is_empty(),
+        None => false,
+    }
+}
+
+/// A child that may be let go of.
+#[tactic(auto, using(crate::proofs::FindLemmas::none_retirable))]
+fn can_retire(state: &State) -> Option<u32>
+    requires few_children { length state.now.children ≤ 32 }
+    ensures { FindsRetirable state.now result }
+{
+    let (number, _) = state.children.as_slice().iter().enumerate().find(|(number, child)| {
+        child.phase.is_stopping() && !state.has_live_in(*number as u32)
+    })?;
+    Some(number as u32)
+}
+
+/// A connection that waits and is late.
+fn overdue(state: &State) -> Option<ConnName>
+    requires few_rows { length state.now.rows ≤ 8192 }
+    ensures { FindsRow (is_late state.now) state.now result }
+{
+    let (slot, row) = state
+        .rows
+        .as_slice()
+        .iter()
+        .enumerate()
+        .find(|(_, row)| is_row_late(state, row))?;
+    Some(ConnName {
+        slot: slot as u32,
+        life: row.life,
+    })
+}
+
+/// Whether the row waits, and its deadline has come.
+fn is_row_late(state: &State, row: &Row) -> bool
+    ensures { result ≡ is_overdue state.now.moment row.now }
+{
+    row.place.is_parked() && row.deadline <= state.moment
+}
+
+/// A connection that waits for service, for which something may have come and a worker of its child is free.
+fn signalled(state: &State) -> Option<ConnName>
+    requires few_rows { length state.now.rows ≤ 8192 }
+    ensures { FindsRow (is_due state.now) state.now result }
+{
+    for (slot, row) in state.rows.as_slice().iter().enumerate() {
+        if is_row_due(state, slot as u32, row) {
+            return Some(ConnName {
+                slot: slot as u32,
+                life: row.life,
+            });
+        }
+    }
+    None
+}
+
+/// Whether something may have come for the row of that slot, which waits for service, and a worker of its child is free.
+fn is_row_due(state: &State, slot: u32, row: &Row) -> bool
+    requires few_rows { length state.now.rows ≤ 8192 }
+    ensures { result ≡ is_due state.now slot row.now }
+{
+    state.signals.get(slot) && state.may_be_queued(row)
+}
+
+/// A connection that waits.
+fn parked(state: &State) -> Option<ConnName>
+    requires few_rows { length state.now.rows ≤ 8192 }
+    ensures { FindsRow is_waiting state.now result }
+{
+    let (slot, row) = state
+        .rows
+        .as_slice()
+        .iter()
+        .enumerate()
+        .find(|(_, row)| row.place.is_parked())?;
+    Some(ConnName {
+        slot: slot as u32,
+        life: row.life,
+    })
+}
+
+/// What the connection of that name waits for, where it lives and waits.
+fn kind(state: &State, name: ConnName) -> Option<Kind>
+    ensures { result ≡ waits_for state.now name }
+{
+    match state.rows.live(name)?.place {
+        Place::Parked(kind) => Some(kind),
+        _ => None,
+    }
+}
+
+/// The least deadline of a connection that waits; the moment at which the server stops counts too.
+#[tactic(auto, using(crate::proofs::FindLemmas::least_push))]
+fn next_deadline(state: &State) -> Option<Moment>
+    ensures { result ≡ next_deadline_of state.now }
+{
+    let least = least_deadline(state);
+    match state.going {
+        Going::Ending(Some(until)) => Some(least.map_or(until, |other| until.min(other))),
+        _ => least,
+    }
+}
+
+/// The least deadline of a connection that waits.
+fn least_deadline(state: &State) -> Option<Moment>
+    ensures { result ≡ least (map (λ r. r.deadline) (filter (λ r. is_parked r.place) state.now.rows)) }
+{
+    state
+        .rows
+        .as_slice()
+        .iter()
+        .filter(|row| row.place.is_parked())
+        .map(|row| row.deadline)
+        .min()
+}
+
+/// Whether no connection is in hand: queued, served or held.
+fn quiet(state: &State) -> bool
+    ensures { result ≡ is_quiet state.now }
+{
+    !has_row_in_hand(state)
+}
+
+/// Whether a connection is in hand.
+fn has_row_in_hand(state: &State) -> bool
+    ensures { result ≡ list_any is_in_hand state.now.rows }
+{
+    state.rows.as_slice().iter().any(|row| is_row_in_hand(row))
+}
+
+/// Whether a worker or the listener has the row, or it waits for a worker.
+fn is_row_in_hand(row: &Row) -> bool
+    ensures { result ≡ is_in_hand row.now }
+{
+    row.place.is_held() || row.place.is_queued() || row.place.is_working()
 }

@@ -8,6 +8,7 @@
 //! look for in `specs/Finds.antt`.
 #![tactic(auto)]
 
+mod accept;
 mod board;
 mod book;
 mod faults;

@@ -1,27 +1,21 @@
-use Rattle.std.proofs.Common.{◌≡◌, ◌+◌, ◌≤◌, true, length, vec_capacity, subst, sym, ap, rules, arith}
-use Rattle.conn_machine.specs.Table.{allowed}
+use Rattle.std.proofs.Common.{◌+◌, ◌≤◌, length, vec_capacity, refl, rules, arith}
 use Rattle.conn_machine.specs.declared.event.Event.TheVariants as event
-use Rattle.board.specs.Board.{SeenBoard}
-use Rattle.board.proofs.BoardLemmas.{agrees_more}
-use Rattle.board.proofs.EventLemmas.{accept-agrees}
+use Rattle.board.proofs.BoardLemmas.{there_of}
+use Rattle.board.proofs.ClosedLemmas.{board_on}
+use Rattle.board.proofs.EventLemmas.{accept-there}
 use Rattle.board.proofs.board.Board.accept.Goals as goal
-
-pub invariant_of-self-in_err-name : goal.invariant_of-self-in_err-name
-invariant_of-self-in_err-name g c =
-    let inside = c.self.inside in
-    let ended : length c.reserve.new.self.items ≡ length inside.ended.items = ap length c.reserve.ensures.items in
-    rw (c.in_err-name.ensures.err, ended)
-    (agrees_more inside.book.state.rows inside.conns.items (length inside.ended.items) (vec_capacity inside.ended)
-    (vec_capacity c.reserve.new.self) c.self.invariant c.reserve.ensures.capacity)
 
 pub invariant_of-self-2 : goal.invariant_of-self-2
 invariant_of-self-2 g c =
     let inside = c.self.inside in
-    let may : allowed inside.book.state (event.Accept c.args.slot) ≡ true =
-    subst (λ (v : SeenBoard). allowed v.book.state (event.Accept c.args.slot) ≡ true) (sym c.self.view_is) c.requires.allowed in
-    let space : length c.reserve.new.self.items + length inside.conns.items ≤ vec_capacity c.reserve.new.self = search rules in
-    let ended : length c.reserve.new.self.items ≡ length inside.ended.items = ap length c.reserve.ensures.items in
-    let slots : length inside.conns.items ≡ length inside.book.state.rows = c.self.invariant.slots in
-    rw (c.in_ok-name.ensures.ok, ended)
-    (accept-agrees inside.book.state c.args.slot inside.conns.items (length inside.ended.items) (vec_capacity inside.ended)
-    (vec_capacity c.reserve.new.self) may c.self.invariant (omega (arith, space, ended, slots)))
+    let conns = inside.conns.items in
+    let ended = inside.ended.items in
+    let room = vec_capacity inside.ended in
+    let room' = vec_capacity c.reserve.new.self in
+    let slot = c.in_ok-slot.slot in
+    let space : length ended + length conns ≤ room' = search rules in
+    let slots = c.self.invariant.agrees.waiting.slots in
+    rw (c.in-Ok.ensures.ok.new_is, c.reserve.ensures.items)
+    (board_on inside.book conns conns ended room room' c.args.who (event.Accept slot) c.self.invariant (λ s. refl)
+    (accept-there inside.book.state slot conns (length ended) room room' c.in_ok-slot.ensures.allowed
+    (there_of inside.book conns ended room c.self.invariant) (omega (arith, space, slots))))

@@ -1,32 +1,39 @@
-use Rattle.std.proofs.Common.{◌≡◌, ◌+◌, ◌<◌, true, length, vec_capacity, subst, sym, rules}
-use Rattle.conn_machine.specs.Table.{allowed}
+use Rattle.std.proofs.Common.{◌≡◌, ◌++◌, ◌∷◌, [], ◌<◌, length, vec_capacity, subst, sym, rules}
 use Rattle.conn_machine.specs.declared.event.Event.TheVariants as event
-use Rattle.board.specs.Fits.{SeenEnded}
-use Rattle.board.specs.Board.{SeenBoard}
-use Rattle.board.proofs.EventLemmas.{close-agrees, close-room}
+use Rattle.conn_state.specs.Answered.{SeenEnded}
+use Rattle.board.specs.Book.{recorded}
+use Rattle.board.specs.Fits.{IsClosing}
+use Rattle.board.specs.Board.{SeenBoard, IsBoard}
+use Rattle.board.proofs.BoardLemmas.{may_inside, there_of}
+use Rattle.board.proofs.ClosedLemmas.{board_closed}
+use Rattle.board.proofs.EventLemmas.{close-there, close-room}
 use Rattle.board.proofs.board.Board.close.Goals as goal
 
 pub unreachable-requires : goal.unreachable-requires
 unreachable-requires g c =
     let inside = c.self.inside in
-    let may : allowed inside.book.state (event.Close c.args.ended.name c.args.ended.cause c.args.ended.tail) ≡ true =
-    subst (λ (v : SeenBoard). allowed v.book.state (event.Close c.args.ended.name c.args.ended.cause c.args.ended.tail) ≡ true)
-    (sym c.self.view_is) c.requires.allowed in
-    let room : length inside.ended.items < vec_capacity inside.ended =
-    close-room inside.book.state c.args.ended.name c.args.ended.cause c.args.ended.tail inside.conns.items (length inside.ended.items)
-    (vec_capacity inside.ended) may c.self.invariant in
+    let ended = inside.ended.items in
+    let e = c.args.ended in
+    let may = may_inside _ c.args.self.now (event.Close e.name e.cause e.tail) c.self.view_is c.requires.allowed in
+    let room : length ended < vec_capacity inside.ended =
+    close-room inside.book.state e.name e.cause e.tail inside.conns.items (length ended) (vec_capacity inside.ended) may
+    (there_of inside.book inside.conns.items ended (vec_capacity inside.ended) c.self.invariant) in
     search rules
 
 pub invariant_of-self : goal.invariant_of-self
 invariant_of-self g c =
     let inside = c.self.inside in
-    let e = c.ended.inside in
-    let may : allowed inside.book.state (event.Close c.args.ended.name c.args.ended.cause c.args.ended.tail) ≡ true =
-    subst (λ (v : SeenBoard). allowed v.book.state (event.Close c.args.ended.name c.args.ended.cause c.args.ended.tail) ≡ true)
-    (sym c.self.view_is) c.requires.allowed in
-    let may' : allowed inside.book.state (event.Close e.name e.cause e.tail) ≡ true =
-    subst (λ (v : SeenEnded). allowed inside.book.state (event.Close v.name v.cause v.tail) ≡ true) (sym c.ended.view_is) may in
-    let more : length c.push.new.self.items ≡ length inside.ended.items + 1 = search rules in
+    let conns = inside.conns.items in
+    let ended = inside.ended.items in
+    let room = vec_capacity inside.ended in
+    let e = c.args.ended in
+    let may = may_inside _ c.args.self.now (event.Close e.name e.cause e.tail) c.self.view_is c.requires.allowed in
+    let closing : IsClosing inside.book.state e.name e.cause e.tail e =
+    subst (λ (v : SeenBoard). IsClosing v.book.state e.name e.cause e.tail e) (sym c.self.view_is) c.requires.fits in
+    let more : c.push.new.self.items ≡ ended ++ e ∷ [] = search rules in
     rw (c.record_sure.ensures.is, more)
-    (close-agrees inside.book.state e.name e.cause e.tail inside.conns.items (length inside.ended.items)
-    (vec_capacity inside.ended) (vec_capacity c.push.new.self) may' c.self.invariant c.push.ensures.capacity)
+    (subst (λ (v : SeenEnded). IsBoard (record { book = recorded c.args.who (event.Close v.name v.cause v.tail) inside.book; conns = conns; ended = ended ++ e ∷ [] }) (vec_capacity c.push.new.self))
+    (sym c.ended.view_is)
+    (board_closed inside.book conns ended e room (vec_capacity c.push.new.self) c.args.who c.self.invariant c.show.ensures.state closing c.requires.answered
+    (close-there inside.book.state e.name e.cause e.tail conns (length ended) room (vec_capacity c.push.new.self) may
+    (there_of inside.book conns ended room c.self.invariant) c.push.ensures.capacity)))

@@ -20,6 +20,6 @@ invariant_of-self c =
     let inside = c.self.inside in
     let may = subst (λ (v : SeenBook). allowed v.state c.args.event ≡ true) (sym c.self.view_is) c.requires.allowed in
     kept_sure inside.base.value inside.history.items c.append.new.history.items inside.state c.step.new.state inside.ordinals.items
-    c.append.new.ordinals.items (vec_capacity inside.history) (vec_capacity c.append.new.history)
+    c.append.new.ordinals.items inside.pages (vec_capacity inside.history) (vec_capacity c.append.new.history)
     (numbered c.args.who c.args.event c.in-Ok.reply inside.history.items) c.self.invariant may c.in-Ok.ensures.reply refl
-    c.append.ensures.numbers c.append.ensures.history c.in-Ok.ensures.state c.requires.sure c.append.ensures.room
+    c.append.ensures.numbers c.step.ensures.sound c.append.ensures.history c.in-Ok.ensures.state c.requires.sure c.append.ensures.room

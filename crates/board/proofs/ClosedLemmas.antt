@@ -1,0 +1,99 @@
+-- The connections that ended, where a history goes on by one entry, and the board that goes on with it.
+use Rattle.std.proofs.Common.{◌≡◌, ℕ, ◌+◌, List, [], ◌∷◌, ◌++◌, length, replicate, Option, None, refl, sym, subst, length-append, arith}
+use Rattle.std.proofs.lemmas.List.{append-nil}
+use Rattle.conn_machine.specs.declared.event.Event.{Event}
+use Rattle.conn_machine.specs.declared.event.Event.TheVariants as event
+use Rattle.conn_machine.specs.declared.event.Entry.{Entry}
+use Rattle.conn_machine.specs.declared.row.Row.{Row}
+use Rattle.conn_machine.specs.declared.state.State.{State}
+use Rattle.conn_machine.specs.States.{unused_row}
+use Rattle.conn_machine.specs.Table.{next}
+use Rattle.conn_machine.specs.Runs.{after}
+use Rattle.conn_state.specs.Conn.{SeenConn}
+use Rattle.conn_state.specs.Answered.{SeenEnded, IsEnded}
+use Rattle.board.specs.Book.{SeenBook, entry_of, recorded}
+use Rattle.board.specs.Fits.{IsClosing}
+use Rattle.board.specs.Board.{AreClosed, AreEnded, Closes, IsBoard}
+use Rattle.board.proofs.BoardLemmas.{AreThere}
+use Rattle.board.proofs.EventLemmas.{opening-there}
+
+-- ## One entry more
+
+-- what an event closes, where others come behind those that came later
+closes_more : (s : State) (e : Event) (P Q : List SeenEnded → Type 0) (last : List SeenEnded)
+    → ((others : List SeenEnded) → P others → Q (others ++ last)) → (ended : List SeenEnded) → Closes s e P ended → Closes s e Q (ended ++ last)
+closes_more s (event.Close name why how) P Q last more [] closes = absurd closes
+closes_more s (event.Close name why how) P Q last more (x ∷ ended) closes = (closes.0, more ended closes.1)
+closes_more s e P Q last more ended closes = more ended closes
+
+-- what the last event closes comes last
+pub closed_more : (s : State) (history : List Entry) (e : Entry) (ended last : List SeenEnded) → AreClosed s history ended
+    → Closes (after s history) e.event (λ others. others ≡ []) last → AreClosed s (history ++ e ∷ []) (ended ++ last)
+closed_more s [] e ended last closed closes =
+    subst (λ (xs : List SeenEnded). AreClosed s (e ∷ []) (xs ++ last)) (sym closed) closes
+closed_more s (x ∷ history) e ended last closed closes =
+    closes_more s x.event (AreClosed (next s x.event) history) (AreClosed (next s x.event) (history ++ e ∷ [])) last
+    (λ others closed'. closed_more (next s x.event) history e others last closed' closes) ended closed
+
+-- each ended connection shows what one shows, where one more does
+ended_more : (ended : List SeenEnded) (x : SeenEnded) → AreEnded ended → IsEnded x → AreEnded (ended ++ x ∷ [])
+ended_more [] x are is = (is, tt)
+ended_more (y ∷ ended) x are is = (are.0, ended_more ended x are.1 is)
+
+-- ## The board
+
+-- a board goes on by an event that closes nothing
+pub board_on : (book : SeenBook) (conns conns' : List (Option SeenConn)) (ended : List SeenEnded) (room room' who : ℕ) (e : Event)
+    → IsBoard (record { book = book; conns = conns; ended = ended }) room → ((s : State) → Closes s e (λ others. others ≡ []) [])
+    → AreThere (next book.state e).rows conns' (length ended) room'
+    → IsBoard (record { book = recorded who e book; conns = conns'; ended = ended }) room'
+board_on book conns conns' ended room room' who e is closes there = record {
+  agrees = record {
+    waiting = there.waiting;
+    closed = subst (AreClosed book.base (book.history ++ entry_of who e book ∷ [])) (append-nil ended)
+        (closed_more book.base book.history (entry_of who e book) ended [] is.agrees.closed (closes (after book.base book.history)));
+    answered = is.agrees.answered;
+  };
+  has_room = there.has_room;
+}
+
+-- a board goes on by an event that closes a connection, which is the last that ended
+pub board_closed : (book : SeenBook) (conns : List (Option SeenConn)) (ended : List SeenEnded) (x : SeenEnded) (room room' who : ℕ)
+    → IsBoard (record { book = book; conns = conns; ended = ended }) room → after book.base book.history ≡ book.state
+    → IsClosing book.state x.name x.cause x.tail x → IsEnded x
+    → AreThere (next book.state (event.Close x.name x.cause x.tail)).rows conns (length ended + 1) room'
+    → IsBoard (record { book = recorded who (event.Close x.name x.cause x.tail) book; conns = conns; ended = ended ++ x ∷ [] }) room'
+board_closed book conns ended x room room' who is state_is closing shown there =
+    let e = event.Close x.name x.cause x.tail in
+    let len : length (ended ++ x ∷ []) ≡ length ended + 1 = length-append ended (x ∷ []) in
+    record {
+      agrees = record {
+        waiting = there.waiting;
+        closed = closed_more book.base book.history (entry_of who e book) ended (x ∷ []) is.agrees.closed
+            (subst (λ (s : State). IsClosing s x.name x.cause x.tail x) (sym state_is) closing, refl);
+        answered = ended_more ended x is.agrees.answered shown;
+      };
+      has_room = omega (arith, len, there.has_room);
+    }
+
+-- a board goes on by an event that changes no row
+pub board_same : (book : SeenBook) (conns : List (Option SeenConn)) (ended : List SeenEnded) (room who : ℕ) (e : Event)
+    → IsBoard (record { book = book; conns = conns; ended = ended }) room → ((s : State) → Closes s e (λ others. others ≡ []) [])
+    → (next book.state e).rows ≡ book.state.rows
+    → IsBoard (record { book = recorded who e book; conns = conns; ended = ended }) room
+board_same book conns ended room who e is closes same =
+    board_on book conns conns ended room room who e is closes
+    (subst (λ (rows : List Row). AreThere rows conns (length ended) room) (sym same)
+    (record { waiting = is.agrees.waiting; has_room = is.has_room }))
+
+-- a board begins without connections, in a state without any
+pub board_first : (book : SeenBook) (conns : List (Option SeenConn)) (ended : List SeenEnded) (slots room : ℕ)
+    → book.history ≡ [] → book.state.rows ≡ replicate slots unused_row → conns ≡ replicate slots None → ended ≡ []
+    → IsBoard (record { book = book; conns = conns; ended = ended }) room
+board_first book conns ended slots room history_is rows_is conns_is ended_is =
+    let there : AreThere book.state.rows conns 0 room = rw (rows_is, conns_is) (opening-there slots room) in
+    rw ended_is
+    (record {
+      agrees = record { waiting = there.waiting; closed = rw history_is refl; answered = tt };
+      has_room = there.has_room;
+    })

@@ -1,0 +1,12 @@
+use Rattle.std.proofs.Common.{refl, vec_capacity}
+use Rattle.conn_machine.specs.declared.event.Commanded.TheVariants.{Stop}
+use Rattle.conn_machine.specs.declared.event.Event.TheVariants as event
+use Rattle.board.proofs.ClosedLemmas.{board_same}
+use Rattle.board.proofs.board.Board.halt.Goals as goal
+
+pub invariant_of-self : goal.invariant_of-self
+invariant_of-self g c =
+    let inside = c.self.inside in
+    rw (c.record_sure.ensures.is)
+    (board_same inside.book inside.conns.items inside.ended.items (vec_capacity inside.ended) c.args.who (event.Command (Stop c.args.why))
+    c.self.invariant (λ s. refl) refl)

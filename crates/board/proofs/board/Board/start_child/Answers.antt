@@ -1,0 +1,11 @@
+use Rattle.std.proofs.Common.{refl, vec_capacity}
+use Rattle.conn_machine.specs.declared.event.Event.TheVariants as event
+use Rattle.board.proofs.ClosedLemmas.{board_same}
+use Rattle.board.proofs.board.Board.start_child.Goals as goal
+
+pub invariant_of-self-2 : goal.invariant_of-self-2
+invariant_of-self-2 g c =
+    let inside = c.self.inside in
+    rw (c.in_ok-record.ensures.ok.new_is)
+    (board_same inside.book inside.conns.items inside.ended.items (vec_capacity inside.ended) c.args.who (event.StartChild c.args.child)
+    c.self.invariant (λ s. refl) refl)

@@ -1,0 +1,11 @@
+use Rattle.std.proofs.Common.{◌≡◌, ◌≤◌, vec_capacity, replicate, rules}
+use Rattle.board.proofs.BookLemmas.{kept_first}
+use Rattle.board.proofs.book.Book.open.Goals as goal
+
+pub invariant_of-result : goal.invariant_of-result
+invariant_of-result c =
+    let space : 1 ≤ vec_capacity c.in-Ok-with_capacity.history = search rules in
+    let ordinals : c.in-Ok.ordinals.items ≡ replicate c.args.passes 0 = search rules in
+    rw (c.of.ensures, c.in_ok-state.ensures, c.in-Ok-with_capacity.ensures.items, ordinals)
+    (kept_first c.args.slots c.args.children c.args.passes (vec_capacity c.in-Ok-with_capacity.history) c.args.shape
+    c.requires.slots c.requires.children c.requires.shape space)

@@ -1,0 +1,45 @@
+//! The slot that the next connection is taken into.
+ghost use Rattle.std.specs.Prelude.{◌≡◌, ◌≤◌, true, length, IfOk, IfErr, OnOk};
+ghost use Rattle.conn_machine.specs.Table.{allowed};
+ghost use Rattle.conn_machine.specs.declared.event.Event.TheVariants as event;
+ghost use Rattle.board.specs.Faults.{FindsVacant, IsNotTakenFor, IsOpen};
+
+use crate::book::Book;
+use crate::faults::AcceptFault;
+use conn_machine::State;
+
+/// A vacant slot for the next connection, where one may be taken. Wants no memory.
+pub(crate) fn slot_for_accept(book: &Book) -> Result<u32, AcceptFault>
+    ensures ok { OnOk result (IsOpen book.now) }
+    ensures allowed { IfOk result (λ slot. allowed book.now.state (event.Accept slot) ≡ true) }
+    ensures why { IfErr result (λ fault. IsNotTakenFor fault book.now) }
+{
+    book.show();
+    let state = book.state();
+    if state.going.is_halted() {
+        return Err(AcceptFault::Halted);
+    }
+    if book.is_full() {
+        return Err(AcceptFault::Full);
+    }
+    if state.pick_child().is_none() {
+        return Err(AcceptFault::NoChild);
+    }
+    match vacant_slot(state) {
+        Some(slot) => Ok(slot),
+        None => Err(AcceptFault::NoSlot),
+    }
+}
+
+/// A vacant slot, where there is one.
+fn vacant_slot(state: &State) -> Option<u32>
+    requires { length state.now.rows ≤ 8192 }
+    ensures { FindsVacant state.now result }
+{
+    let place = state
+        .rows
+        .as_slice()
+        .iter()
+        .position(|row| row.place.is_vacant())?;
+    Some(place as u32)
+}
