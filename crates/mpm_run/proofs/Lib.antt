@@ -7,3 +7,4 @@ pub mod ListenLemmas
 pub mod TakeLemmas
 pub mod ReportLemmas
 pub mod StatusLemmas
+pub mod RunLemmas

@@ -1,7 +1,8 @@
 -- What links tell goes on over the turns of a connection and over the board's events.
-use Rattle.std.proofs.Common.{◌≡◌, ◌⊎◌, inl, inr, ℕ, zero, suc, List, [], ◌∷◌, ◌++◌, take, drop, Option, Some, option_map, slice_set, refl, sym, ap, subst, ◌∙◌, append_assoc}
+use Rattle.std.proofs.Common.{◌≡◌, ◌⊎◌, inl, inr, ℕ, zero, suc, Bool, List, [], ◌∷◌, ◌++◌, take, drop, Option, Some, option_map, slice_set, refl, sym, ap, subst, ◌∙◌, append_assoc}
 use Rattle.std.proofs.lemmas.List.{take-append-drop}
 use Rattle.mpm_base.specs.Link.{LinkTold, with_received, after_close}
+use Rattle.mpm_base.specs.ScriptLink.{SeenScriptLink, new_script_link}
 use Rattle.conn_state.specs.Conn.{SeenConn}
 use Rattle.conn_state.specs.Turns.{with_sent}
 use Rattle.conn_state.specs.Answered.{SeenEnded}
@@ -33,6 +34,15 @@ tells-sent text told told' sent is tells = tells-changed text told told' (with_s
 -- the link is closed
 pub tells-closed : (text : List ℕ) (told told' : Option LinkTold) → told' ≡ option_map after_close told → TellsFrom text told → TellsFrom text told'
 tells-closed text told told' is tells = tells-changed text told told' after_close (λ t. refl) is tells
+
+-- a new link tells from what its client sends
+pub new-tells : (text : List ℕ) (number : ℕ) (ended : Bool) (reads writes : List ℕ) (link : SeenScriptLink) → link ≡ new_script_link number text ended reads writes
+    → TellsFrom text (Some link.told)
+new-tells text number ended reads writes link is = record {
+  t = link.told;
+  told_is = refl;
+  offered = ap (λ (l : SeenScriptLink). l.told.received ++ l.told.coming) is;
+}
 
 -- ## The connections of a board
 

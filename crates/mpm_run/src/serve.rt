@@ -92,12 +92,7 @@ fn turn<L: Link>(board: &mut Board<L>, who: u32, conn: &mut Conn<L>) -> Option<E
 }
 
 /// Decides the response to what was asked, and makes it pending. None where it is to be sent.
-fn answer<L: Link>(
-    board: &mut Board<L>,
-    who: u32,
-    conn: &mut Conn<L>,
-    ask: Ask,
-) -> Option<Exit>
+fn answer<L: Link>(board: &mut Board<L>, who: u32, conn: &mut Conn<L>, ask: Ask) -> Option<Exit>
     requires who { who < board.old.book.passes }
     requires served { IsServed board.old.book.state conn.old }
     requires asked { conn.old.turn ≡ turn.Asked ask }

@@ -12,9 +12,12 @@ close-requires-clause-may g c =
 
 pub loop-name-smaller : goal.loop-name-smaller
 loop-name-smaller g c =
-    omega (arith, c.close.ensures.parked,
-    fewer-parked c.loop-name.board.book.state c.hold-conn.new.self.book.state c.in-Some.name c.in-Some.ensures
-    (ap (λ (b : SeenBoard). b.book.state) c.hold-conn.ensures.is))
+    omega (
+      arith,
+      c.close.ensures.parked,
+      fewer-parked c.loop-name.board.book.state c.hold-conn.new.self.book.state c.in-Some.name c.in-Some.ensures
+          (ap (λ (b : SeenBoard). b.book.state) c.hold-conn.ensures.is),
+    )
 
 pub loop-name-preserved : goal.loop-name-preserved
 loop-name-preserved g c =
