@@ -1,8 +1,10 @@
-pub mod BookLemmas
-pub mod RoomLemmas
-pub mod BoardLemmas
-pub mod EventLemmas
-pub mod ReportLemmas
+pub mod TellLemmas
 pub mod ServeLemmas
-pub mod StatusLemmas
+pub mod AnswerLemmas
+pub mod CloseLemmas
+pub mod StartLemmas
 pub mod ListenLemmas
+pub mod TakeLemmas
+pub mod ReportLemmas
+pub mod StatusLemmas
+pub mod RunLemmas

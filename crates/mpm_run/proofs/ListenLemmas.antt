@@ -1,275 +1,374 @@
--- What the listener may do, and how a run ends.
-use Rattle.std.proofs.Common.{◌≡◌, ◌==◌, ℕ, zero, suc, ◌+◌, ◌<◌, ◌≤◌, Bool, true, false, not, ◌&&◌, ◌||◌, List, [], ◌∷◌, length, Option, Some, None, is_some, slice_get, get_or, nat_lt, refl, sym, ap, subst, ◌∙◌, eqb-true, eq-eqb, arith}
-use Rattle.std.proofs.lemmas.Bool.{and_parts, ltb-true, ltb-false}
+-- What the listener's calls leave of the server.
+use Rattle.std.proofs.Common.{◌≡◌, ◌⊎◌, inl, inr, ◌==◌, ℕ, zero, suc, ◌+◌, ◌<◌, ◌≤◌, Bool, true, false, not, ◌&&◌, ◌||◌, cond, List, [], ◌∷◌, ◌++◌, length, count_by, nat_lt, nat_le, Option, None, Some, slice_get, slice_set, slice_index_or, unwrap_or, is_some, refl, sym, ap, subst, ◌∙◌, arith}
+use Rattle.std.proofs.lemmas.Bool.{and_parts}
+use Rattle.std.proofs.lemmas.Bool.Decides.{nat_tests}
+use Rattle.std.proofs.lemmas.List.Sums.{sum_by-cons}
+use Rattle.std.proofs.lemmas.Option.{unwrap_or-slice_get}
+use Rattle.std.specs.Bool.{OnFalse}
 use Rattle.std.specs.Option.{option_map_or}
-use Rattle.std.specs.List.{list_any}
-use Rattle.mpm_base.specs.Link.{LinkTold, LinkCounts}
+use Rattle.std.specs.List.{list_any, find, range_with_len}
 use Rattle.mpm_base.specs.declared.conn.ConnName.{ConnName}
-use Rattle.mpm_base.specs.declared.conn.Kind.TheVariants.{Reading}
+use Rattle.mpm_base.specs.declared.conn.Kind.{Kind}
+use Rattle.mpm_base.specs.declared.conn.Kind.TheVariants.{Reading, KeepAlive, Writing, Linger, ShortLinger}
 use Rattle.mpm_base.specs.declared.conn.Cause.TheVariants as cause
-use Rattle.mpm_base.specs.declared.conn.Tail.TheVariants as tail
-use Rattle.conn_machine.specs.declared.row.Row.{Row}
+use Rattle.mpm_base.specs.declared.shape.Shape.{Shape}
 use Rattle.conn_machine.specs.declared.child.Child.{Child}
 use Rattle.conn_machine.specs.declared.child.ChildPhase.{ChildPhase}
 use Rattle.conn_machine.specs.declared.child.ChildPhase.TheVariants.{Empty, Running, Stopping}
+use Rattle.conn_machine.specs.declared.row.Place.{Place}
+use Rattle.conn_machine.specs.declared.row.Place.TheVariants.{Vacant, Spent, Held, Parked, Queued, Working}
+use Rattle.conn_machine.specs.declared.row.Row.{Row}
 use Rattle.conn_machine.specs.declared.event.Event.TheVariants as event
-use Rattle.conn_machine.specs.declared.event.Commanded.TheVariants.{Stop}
-use Rattle.conn_machine.specs.declared.event.Why.{Why}
-use Rattle.conn_machine.specs.declared.event.Reply.TheVariants.{Took}
+use Rattle.conn_machine.specs.declared.event.Event.{Event}
 use Rattle.conn_machine.specs.declared.state.Going.{Going}
 use Rattle.conn_machine.specs.declared.state.Going.TheVariants.{Serving, Ending, Halted}
 use Rattle.conn_machine.specs.declared.state.State.{State}
 use Rattle.conn_machine.specs.Lists.{update}
-use Rattle.conn_machine.specs.Rows.{is_vacant, is_held, is_working, is_live, is_live_in, is_lingering, live_row, lives_and}
-use Rattle.conn_machine.specs.Children.{no_child, child_at, is_empty, is_running, is_stopping, stopped_child, all_stopped, retired_child}
-use Rattle.conn_machine.specs.States.{is_serving, is_halted, pick_child}
-use Rattle.conn_machine.specs.Table.{allowed, next, is_vacant_at, may_wait, held_row, taken_row, picked_child, taken_reply, life_at, end_fits, child_passes}
-use Rattle.mpm_run.specs.Conn.{Fits, new_conn}
-use Rattle.mpm_run.specs.Listen.{HasNoLive, HasNoRunning, AllEmpty, EmptyBelow}
-use Rattle.mpm_run.proofs.EventLemmas.{live_row-update, hold-parked}
-use Rattle.mpm_run.proofs.ServeLemmas.{test-at}
+use Rattle.conn_machine.specs.Rows.{is_unused, is_held, is_parked, is_queued, is_working, is_live, is_live_in, is_lingering, live_row, lives_and}
+use Rattle.conn_machine.specs.Children.{no_child, child_at, is_empty, is_running, is_stopping, running_count, is_in_bounds, within, started_child, retired_child}
+use Rattle.conn_machine.specs.States.{is_halted, is_serving, is_signalled}
+use Rattle.conn_machine.specs.Table.{allowed, next, child_passes, may_retire, may_be_held, held_row, signal_after_hold}
+use Rattle.conn_machine.specs.Sound.{IsSound, is_from_linger}
+use Rattle.conn_machine.proofs.RowLemmas.{sound_row, held_kind}
+use Rattle.conn_state.specs.Conn.{SeenConn}
+use Rattle.board.specs.Book.{SeenBook}
+use Rattle.board.specs.Board.{SeenBoard}
+use Rattle.board.specs.Events.{added}
+use Rattle.board.specs.Fits.{IsSettledFrom, IsHandedOut}
+use Rattle.board.specs.Finds.{startable, FindsRow, FindsRetirable, is_waiting, is_in_hand, is_quiet}
+use Rattle.mpm_run.specs.Serve.{IsClosable, Stays, GoesOn, signalled_count, parked_count}
+use Rattle.mpm_run.specs.Tells.{AllTell, TellsFrom}
+use Rattle.mpm_run.specs.Listen.{Keeps, HasNoLive, AllEmpty}
+use Rattle.mpm_run.proofs.ServeLemmas.{alive, test-at, served-row}
+use Rattle.mpm_run.proofs.AnswerLemmas.{live_row-update}
+use Rattle.mpm_run.proofs.CloseLemmas.{count-signal}
+use Rattle.mpm_run.proofs.StartLemmas.{Lives, lives}
+use Rattle.mpm_run.proofs.TellLemmas.{tell-same, tell-set}
 
--- ## A connection that was taken
+-- ## Counts
 
-pub record IsTaken (s : State) (name : ConnName) (child generation : ℕ) : Type 0 where
-  pub row : Row
-  pub found : live_row s.rows name ≡ Some row
-  pub held : is_held row.place ≡ true
-  pub fresh : row.from ≡ None
-  pub serves : is_lingering row ≡ false
-  pub child_is : row.child ≡ child
-  pub generation_is : row.generation ≡ generation
-  pub notes : row.notes ≡ []
-  pub going : is_halted s.going ≡ false
+-- a count of one more item
+count-cons : {X : Type 0} (p : X → Bool) (x : X) (xs : List X) → count_by p (x ∷ xs) ≡ cond (p x) 1 0 + count_by p xs
+count-cons p x xs = sum_by-cons (λ y. cond (p y) 1 0) x xs
 
-slot_row : (test : Row → Bool) (o : Option Row) → option_map_or test o false ≡ true → (r : Row) × (o ≡ Some r) × (test r ≡ true)
-slot_row test None passes = absurd (cc)
-slot_row test (Some r) passes = (r, refl, passes)
+-- one item less passes where the changed one did and doesn't
+pub count-less : {X : Type 0} (p : X → Bool) (xs : List X) (i : ℕ) (x : X) (change : X → X) → slice_get xs i ≡ Some x → p x ≡ true
+    → p (change x) ≡ false → count_by p (update xs i change) < count_by p xs
+count-less p [] i x change at before after = absurd (cc)
+count-less p (z ∷ xs) zero x change at before after =
+    let same : x ≡ z = cc in
+    let before' : p z ≡ true = subst (λ y. p y ≡ true) same before in
+    let after' : p (change z) ≡ false = subst (λ y. p (change y) ≡ false) same after in
+    rw (count-cons p (change z) xs, count-cons p z xs, before', after') (omega arith)
+count-less p (z ∷ xs) (suc i) x change at before after =
+    rw (count-cons p z (update xs i change), count-cons p z xs) (omega (arith, count-less p xs i x change at before after))
 
-serving-going : (g : Going) → is_serving g ≡ true → is_halted g ≡ false
-serving-going Serving at = refl
-serving-going (Ending until) at = absurd (cc)
-serving-going (Halted why) at = absurd (cc)
+-- no more signals are set where one is set only if it was
+signals-kept : (signals : List Bool) (slot : ℕ) (b : Bool) → (b ≡ true → slice_index_or signals slot false ≡ true)
+    → count_by (λ (x : Bool). x) (slice_set signals slot b) ≤ count_by (λ (x : Bool). x) signals
+signals-kept [] slot b was = omega arith
+signals-kept (x ∷ signals) zero true was = rw (count-signal true signals, count-signal x signals, was refl) (omega arith)
+signals-kept (x ∷ signals) zero false was = rw (count-signal false signals, count-signal x signals) (omega arith)
+signals-kept (x ∷ signals) (suc slot) b was =
+    rw (count-signal x (slice_set signals slot b), count-signal x signals) (omega (arith, signals-kept signals slot b was))
 
-taken_of : (s : State) (slot : ℕ) (name : ConnName) (child generation : ℕ) (r : Row) → slice_get s.rows slot ≡ Some r
-    → is_serving s.going ≡ true → (let answer : Rattle.conn_machine.specs.declared.event.Reply.Reply = Took name child generation in answer ≡ taken_reply s slot)
-    → IsTaken (next s (event.Accept slot)) name child generation
-taken_of s slot name child generation r at serving reply_is =
-    let life : life_at s.rows slot ≡ r.life = ap (λ (o : Option Row). option_map_or (λ (x : Row). x.life) o 0) at in
-    let named : name ≡ record { slot = slot; life = life_at s.rows slot } = cc reply_is in
-    let child_is : child ≡ picked_child s = cc reply_is in
-    let generation_is : generation ≡ (child_at s.children (picked_child s)).generation = cc reply_is in
-    let slot_is : name.slot ≡ slot = ap (λ (n : ConnName). n.slot) named in
-    let life_is : name.life ≡ r.life = ap (λ (n : ConnName). n.life) named ∙ life in
-    let at' : slice_get s.rows name.slot ≡ Some r = ap (slice_get s.rows) slot_is ∙ at in
-    let found : live_row (update s.rows name.slot (taken_row s)) name ≡ Some (taken_row s r) =
-    live_row-update s.rows name r (taken_row s) at' refl (sym life_is) in
-    record {
-      row = taken_row s r;
-      found = subst (λ (n : ℕ). live_row (update s.rows n (taken_row s)) name ≡ Some (taken_row s r)) slot_is found;
-      held = refl;
-      fresh = refl;
-      serves = refl;
-      child_is = sym child_is;
-      generation_is = sym generation_is;
-      notes = refl;
-      going = serving-going s.going serving;
-    }
+-- ## The server
 
-pub taken-is : (s s' : State) (slot : ℕ) (name : ConnName) (child generation : ℕ) → allowed s (event.Accept slot) ≡ true
-    → s' ≡ next s (event.Accept slot) → (let answer : Rattle.conn_machine.specs.declared.event.Reply.Reply = Took name child generation in answer ≡ taken_reply s slot)
-    → IsTaken s' name child generation
-taken-is s s' slot name child generation may is reply_is =
-    let both = and_parts (is_serving s.going && is_vacant_at s slot) (is_some (pick_child s)) may in
-    let parts = and_parts (is_serving s.going) (is_vacant_at s slot) both.0 in
-    let found = slot_row (λ (r : Row). is_vacant r.place) (slice_get s.rows slot) parts.1 in
-    rw is (taken_of s slot name child generation found.0 found.1 parts.0 reply_is)
+-- it is still the one that opened, twice
+pub keeps-trans : (a b c : SeenBook) → Keeps a b → Keeps b c → Keeps a c
+keeps-trans a b c first second = record { base = second.base ∙ first.base; passes = second.passes ∙ first.passes }
 
-pub taken-may-park : (s : State) (name : ConnName) (child generation : ℕ) → IsTaken s name child generation
-    → allowed s (event.Park name Reading) ≡ true
-taken-may-park s name child generation taken =
-    let waits = test-at s.rows name taken.row (may_wait s.moment Reading) taken.found ∙ rw (taken.held, taken.fresh) refl in
-    rw (taken.going, waits) refl
-
-pub taken-may-close : (s : State) (name : ConnName) (child generation : ℕ) → IsTaken s name child generation
-    → allowed s (event.Close name cause.NoMemory tail.Direct) ≡ true
-taken-may-close s name child generation taken =
-    test-at s.rows name taken.row (λ (r : Row). (is_held r.place || is_working r.place) && end_fits s cause.NoMemory tail.Direct r) taken.found
-    ∙ rw (taken.held, taken.serves) refl
-
-pub taken-fits : (s : State) (name : ConnName) (child generation : ℕ) (told : Option LinkTold) (counts : LinkCounts)
-    → (taken : IsTaken s name child generation) → Fits (new_conn told counts name child generation) taken.row
-taken-fits s name child generation told counts taken = record {
-  child = sym taken.child_is;
-  generation = sym taken.generation_is;
-  notes = sym taken.notes;
+-- it goes on as before, twice
+pub stays-trans : (a b c : SeenBook) → Stays a b → Stays b c → Stays a c
+stays-trans a b c first second = record {
+  base = second.base ∙ first.base;
+  passes = second.passes ∙ first.passes;
+  accepted = second.accepted ∙ first.accepted;
+  signals = omega (arith, first.signals, second.signals);
+  going = second.going ∙ first.going;
 }
 
--- ## A stop for want of memory
+-- it goes on, or is stopped for a full history, twice
+pub goes-trans : (a b c : SeenBook) → GoesOn a b → GoesOn b c → GoesOn a c
+goes-trans a b c first second = record {
+  base = second.base ∙ first.base;
+  passes = second.passes ∙ first.passes;
+  accepted = second.accepted ∙ first.accepted;
+  signals = omega (arith, first.signals, second.signals);
+  going =
+      elim second.going [
+        | inl same ↦ elim first.going [
+          | inl before ↦ inl (same ∙ before)
+          | inr full ↦ inr (same ∙ full)
+        ]
+        | inr full ↦ inr full
+      ];
+}
 
--- the connection that the listener takes after a stop may be closed
-pub held-stops : (s : State) (name : ConnName) → allowed s (event.Hold name) ≡ true → is_halted s.going ≡ true
-    → lives_and is_lingering s.rows name ≡ false
-    → allowed (next s (event.Hold name)) (event.Close name cause.Stopped tail.Direct) ≡ true
-held-stops s name may halted serves =
-    let lives = (hold-parked s name may).0 in
-    let serving : is_lingering lives.row ≡ false = sym (test-at s.rows name lives.row is_lingering lives.found) ∙ serves in
-    let found = live_row-update s.rows name lives.row held_row lives.at refl lives.life in
-    test-at (next s (event.Hold name)).rows name (held_row lives.row)
-    (λ (r : Row). (is_held r.place || is_working r.place) && end_fits (next s (event.Hold name)) cause.Stopped tail.Direct r) found
-    ∙ rw (serving, halted) refl
+-- the links tell of a board that stayed as it was
+pub tell-still : (text : List ℕ) (b b' : SeenBoard) → b' ≡ b → AllTell text b → AllTell text b'
+tell-still text b b' is tells = subst (AllTell text) (sym is) tells
 
--- ## The end
+-- and of one that recorded an event alone
+pub tell-added : (text : List ℕ) (who : ℕ) (e : Event) (b b' : SeenBoard) → b' ≡ added who e b → AllTell text b → AllTell text b'
+tell-added text who e b b' is tells =
+    tell-same text b b' (record { conns = ap (λ (x : SeenBoard). x.conns) is; ended = ap (λ (x : SeenBoard). x.ended) is }) tells
 
-get-stopped : (children : List Child) (k : ℕ) → child_at (all_stopped children) k ≡ stopped_child (child_at children k)
-get-stopped [] k = refl
-get-stopped (c ∷ children) zero = refl
-get-stopped (c ∷ children) (suc k) = get-stopped children k
+-- ## Starting children
 
-stopped-phase : (c : Child) (runs : Bool) → is_running c.phase ≡ runs → is_running (stopped_child c).phase ≡ false
-stopped-phase c true at = rw at refl
-stopped-phase c false at = rw at at
+-- a search that goes on past an item, or stops there
+found-by : (p : ℕ → Bool) (ks : List ℕ) (x k : ℕ) (b : Bool) → p x ≡ b → (find p ks ≡ Some k → p k ≡ true)
+    → cond b (Some x) (find p ks) ≡ Some k → p k ≡ true
+found-by p ks x k true at further found =
+    let same : x ≡ k = cc in
+    subst (λ (y : ℕ). p y ≡ true) same at
+found-by p ks x k false at further found = further found
 
--- after a stop no child takes connections
-pub stop-runs : (s s' : State) (why : Why) → s' ≡ next s (event.Command (Stop why)) → HasNoRunning s'
-stop-runs s s' why is k =
-    let at : child_at s'.children k ≡ stopped_child (child_at s.children k) =
-    ap (λ (t : State). child_at t.children k) is ∙ get-stopped s.children k in
-    ap (λ (c : Child). is_running c.phase) at ∙ stopped-phase (child_at s.children k) (is_running (child_at s.children k).phase) refl
+-- what a search finds passes
+found-passes : (p : ℕ → Bool) (ks : List ℕ) (k : ℕ) → find p ks ≡ Some k → p k ≡ true
+found-passes p [] k found = absurd (cc)
+found-passes p (x ∷ ks) k found = found-by p ks x k (p x) refl (found-passes p ks k) found
+
+-- what a child has to be, so that it may be started
+record Startable (s : State) (k : ℕ) : Type 0 where
+  pub serving : is_serving s.going ≡ true
+  pub few : nat_lt (running_count s.children) s.shape.target ≡ true
+  pub empty : child_passes (λ c. is_empty c.phase) s k ≡ true
+
+startable-by : (s : State) (k : ℕ) (serving few : Bool) → is_serving s.going ≡ serving → nat_lt (running_count s.children) s.shape.target ≡ few
+    → cond (serving && few) (find (child_passes (λ c. is_empty c.phase) s) (range_with_len 0 (length s.children))) None ≡ Some k → Startable s k
+startable-by s k true true serves less found =
+    record { serving = serves; few = less; empty = found-passes (child_passes (λ c. is_empty c.phase) s) (range_with_len 0 (length s.children)) k found }
+startable-by s k true false serves less found = absurd (cc)
+startable-by s k false few serves less found = absurd (cc)
+
+is-startable : (s : State) (k : ℕ) → startable s ≡ Some k → Startable s k
+is-startable s k found = startable-by s k (is_serving s.going) (nat_lt (running_count s.children) s.shape.target) refl refl found
+
+-- fewer children should run than there may be
+target-within : (shape : Shape) → is_in_bounds shape ≡ true → nat_le shape.target shape.children ≡ true
+target-within shape bounds = (and_parts (nat_le 1 shape.target) (nat_le shape.target shape.children) (and_parts _ (within 1 shape.children shape.target) bounds).1).1
+
+less-within : (n target children : ℕ) → nat_lt n target ≡ true → nat_le target children ≡ true → nat_lt n children ≡ true
+less-within n target children less within = grind (arith, nat_tests)
+
+-- the child may be started
+pub may-start_child : (s : State) (k : ℕ) → IsSound s → startable s ≡ Some k → allowed s (event.StartChild k) ≡ true
+may-start_child s k sound found =
+    let is = is-startable s k found in
+    rw (is.serving, is.empty, less-within (running_count s.children) s.shape.target s.shape.children is.few (target-within s.shape sound.children.newest)) refl
+
+-- the child of the number, which passes the test
+record ChildAt (test : Child → Bool) (children : List Child) (k : ℕ) : Type 0 where
+  pub child : Child
+  pub at : slice_get children k ≡ Some child
+  pub passes : test child ≡ true
+
+child-by : (test : Child → Bool) (children : List Child) (k : ℕ) (o : Option Child) → slice_get children k ≡ o → option_map_or test o false ≡ true
+    → ChildAt test children k
+child-by test children k None at passes = absurd (cc)
+child-by test children k (Some c) at passes = record { child = c; at = at; passes = passes }
+
+-- one child less is gone
+pub fewer-gone : (s s' : State) (k : ℕ) → startable s ≡ Some k → s' ≡ next s (event.StartChild k)
+    → count_by (λ (c : Child). is_empty c.phase) s'.children < count_by (λ (c : Child). is_empty c.phase) s.children
+fewer-gone s s' k found is =
+    let child = child-by (λ (c : Child). is_empty c.phase) s.children k (slice_get s.children k) refl (is-startable s k found).empty in
+    subst (λ (t : State). count_by (λ (c : Child). is_empty c.phase) t.children < count_by (λ (c : Child). is_empty c.phase) s.children) (sym is)
+    (count-less (λ (c : Child). is_empty c.phase) s.children k child.child (started_child s.newest s.shape) child.at child.passes refl)
+
+-- the server goes on after the start of a child
+pub stays-start_child : (who k : ℕ) (a : SeenBook) (b b' : SeenBoard) → Stays a b.book → b' ≡ added who (event.StartChild k) b → Stays a b'.book
+stays-start_child who k a b b' stays is =
+    subst (λ (x : SeenBoard). Stays a x.book) (sym is)
+    (record { base = stays.base; passes = stays.passes; accepted = stays.accepted; signals = stays.signals; going = stays.going })
+
+-- ## Closing what waits
+
+-- the connection that was found waits
+pub waits : (s : State) (name : ConnName) → FindsRow is_waiting s (Some name) → Lives (λ (r : Row). is_parked r.place) s.rows name
+waits s name found = lives (λ (r : Row). is_parked r.place) s.rows name found
+
+or-true : (b : Bool) → (b || true) ≡ true
+or-true true = refl
+or-true false = refl
+
+-- a connection that waits is held once the server has stopped
+pub may-hold : (s : State) (name : ConnName) → FindsRow is_waiting s (Some name) → is_halted s.going ≡ true → allowed s (event.Hold name) ≡ true
+may-hold s name found halted =
+    let live = waits s name found in
+    let passes = test-at s.rows name live.row (may_be_held s (is_signalled s name.slot)) live.found in
+    passes ∙ rw (live.passes, halted) (or-true _)
+
+-- one connection less waits
+pub fewer-parked : (s s' : State) (name : ConnName) → FindsRow is_waiting s (Some name) → s' ≡ next s (event.Hold name) → parked_count s' < parked_count s
+fewer-parked s s' name found is =
+    let live = waits s name found in
+    let lives = alive s.rows name live.row live.found in
+    subst (λ (t : State). parked_count t < parked_count s) (sym is)
+    (count-less (λ (r : Row). is_parked r.place) s.rows name.slot live.row held_row lives.at live.passes refl)
+
+-- the signal that is left was set
+signal-after_hold : (s : State) (slot : ℕ) → signal_after_hold s slot ≡ true → is_signalled s slot ≡ true
+signal-after_hold s slot set = (and_parts (is_signalled s slot) _ set).0
+
+-- the server goes on after a hold
+pub stays-hold : (who : ℕ) (name : ConnName) (a : SeenBook) (b b' : SeenBoard) (conns : List (Option SeenConn)) → Stays a b.book
+    → b' ≡ record (added who (event.Hold name) b) { conns = conns } → Stays a b'.book
+stays-hold who name a b b' conns stays is =
+    let kept = signals-kept b.book.state.signals name.slot (signal_after_hold b.book.state name.slot) (signal-after_hold b.book.state name.slot) in
+    subst (λ (x : SeenBoard). Stays a x.book) (sym is)
+    (record { base = stays.base; passes = stays.passes; accepted = stays.accepted; signals = omega (arith, stays.signals, kept); going = stays.going })
+
+-- a connection that settled didn't linger
+settled-from : (r : Row) (from : Option Kind) (c : SeenConn) → r.from ≡ from → IsSettledFrom from c → is_from_linger r ≡ false
+settled-from r None c is settled = absurd settled
+settled-from r (Some Reading) c is settled = rw is refl
+settled-from r (Some KeepAlive) c is settled = rw is refl
+settled-from r (Some Writing) c is settled = rw is refl
+settled-from r (Some Linger) c is settled = absurd settled.waits
+settled-from r (Some ShortLinger) c is settled = absurd settled.waits
+
+-- a connection that is held may be closed where the server has stopped
+pub closes-held : (s s' : State) (name : ConnName) (c : SeenConn) → FindsRow is_waiting s (Some name) → is_halted s.going ≡ true
+    → s' ≡ next s (event.Hold name) → c.name ≡ name → IsSound s' → IsHandedOut s' c → IsClosable s' cause.Stopped c
+closes-held s s' name c found halted is named sound handed =
+    let live = waits s name found in
+    let here = alive s.rows name live.row live.found in
+    let held : live_row s'.rows name ≡ Some (held_row live.row) = rw is (live_row-update s.rows name live.row held_row here.at (rw here.life refl)) in
+    let same : handed.row ≡ held_row live.row = cc (subst (λ (n : ConnName). live_row s'.rows n ≡ Some handed.row) named handed.found, held) in
+    let at : is_held handed.row.place ≡ true = ap (λ (r : Row). is_held r.place) same in
+    let lingers = held_kind s' handed.row at (served-row s' c.name handed.row sound handed.found) in
+    let stays : is_lingering handed.row ≡ false = sym lingers ∙ settled-from handed.row handed.row.from c refl handed.settled in
+    record {
+      row = handed.row;
+      found = handed.found;
+      in_hand = rw at refl;
+      serves = stays;
+      cause_fits = ap (λ (t : State). is_halted t.going) is ∙ halted;
+      child = handed.fits.child;
+      generation = handed.fits.generation;
+      notes = handed.fits.notes;
+      rank = handed.fits.rank;
+      shown = tt;
+    }
+
+-- the links tell after a connection was taken out
+pub tell-held : (text : List ℕ) (who slot : ℕ) (name : ConnName) (b b' : SeenBoard) → b' ≡ record (added who (event.Hold name) b) { conns = slice_set b.conns slot None }
+    → AllTell text b → AllTell text b'
+tell-held text who slot name b b' is tells =
+    tell-set text b b' slot None (ap (λ (x : SeenBoard). x.conns) is) (ap (λ (x : SeenBoard). x.ended) is) (λ c at. absurd (cc)) tells
+
+-- ## Letting go of children
+
+-- the child that was found stops
+stopping-child : (s : State) (k : ℕ) → may_retire s k ≡ true → ChildAt (λ (c : Child). is_stopping c.phase) s.children k
+stopping-child s k may =
+    child-by (λ (c : Child). is_stopping c.phase) s.children k (slice_get s.children k) refl
+    (and_parts (child_passes (λ c. is_stopping c.phase) s k) (not (list_any (is_live_in k) s.rows)) may).0
+
+-- one child less stops
+pub fewer-stopping : (s s' : State) (k : ℕ) → may_retire s k ≡ true → s' ≡ next s (event.Retire k)
+    → count_by (λ (c : Child). is_stopping c.phase) s'.children < count_by (λ (c : Child). is_stopping c.phase) s.children
+fewer-stopping s s' k may is =
+    let child = stopping-child s k may in
+    subst (λ (t : State). count_by (λ (c : Child). is_stopping c.phase) t.children < count_by (λ (c : Child). is_stopping c.phase) s.children) (sym is)
+    (count-less (λ (c : Child). is_stopping c.phase) s.children k child.child retired_child child.at child.passes refl)
+
+-- the server stays as it was
+pub stays-retire : (who k : ℕ) (a : SeenBook) (b b' : SeenBoard) → Stays a b.book → b' ≡ added who (event.Retire k) b → Stays a b'.book
+stays-retire who k a b b' stays is =
+    subst (λ (x : SeenBoard). Stays a x.book) (sym is)
+    (record { base = stays.base; passes = stays.passes; accepted = stays.accepted; signals = stays.signals; going = stays.going })
+
+and-none : (b : Bool) → ((b && false) || false) ≡ false
+and-none true = refl
+and-none false = refl
+
+-- a row that isn't live is none of a child's
+none-cons : (k : ℕ) (r : Row) (rows : List Row) (live : Bool) → is_live r ≡ live → (list_any is_live rows ≡ false → list_any (is_live_in k) rows ≡ false)
+    → (live || list_any is_live rows) ≡ false → ((r.child == k && live) || list_any (is_live_in k) rows) ≡ false
+none-cons k r rows true is rest none = absurd (cc)
+none-cons k r rows false is rest none = rw (rest none) (and-none (r.child == k))
+
+-- no row is one of a live connection of the child where none is live
+none-live_in : (k : ℕ) (rows : List Row) → list_any is_live rows ≡ false → list_any (is_live_in k) rows ≡ false
+none-live_in k [] none = refl
+none-live_in k (r ∷ rows) none = none-cons k r rows (is_live r) refl (none-live_in k rows) none
+
+-- a child that is neither running nor stopping is gone
+gone-by : (p : ChildPhase) → is_running p ≡ false → is_stopping p ≡ false → is_empty p ≡ true
+gone-by Empty running stopping = refl
+gone-by Running running stopping = absurd (cc)
+gone-by Stopping running stopping = absurd (cc)
+
+-- a server that has stopped takes no connections
+halted-serving : (g : Going) → is_halted g ≡ true → is_serving g ≡ true → ⊥
+halted-serving Serving halted serving = absurd (cc)
+halted-serving (Ending until) halted serving = absurd (cc)
+halted-serving (Halted why) halted serving = absurd (cc)
+
+-- no child runs once the server has stopped
+none-running : (s : State) (k : ℕ) (b : Bool) → IsSound s → is_halted s.going ≡ true → is_running (child_at s.children k).phase ≡ b → b ≡ false
+none-running s k true sound halted running = absurd (halted-serving s.going halted (sound.running k running).serving)
+none-running s k false sound halted running = refl
+
+-- a child that isn't one of the list was never started
+child-stopping : (children : List Child) (k : ℕ) (o : Option Child) → slice_get children k ≡ o → option_map_or (λ (c : Child). is_stopping c.phase) o false ≡ false
+    → is_stopping (child_at children k).phase ≡ false
+child-stopping children k None at passes =
+    ap (λ (c : Child). is_stopping c.phase) (sym (unwrap_or-slice_get children k no_child) ∙ ap (λ (o : Option Child). unwrap_or o no_child) at)
+child-stopping children k (Some c) at passes =
+    ap (λ (c : Child). is_stopping c.phase) (sym (unwrap_or-slice_get children k no_child) ∙ ap (λ (o : Option Child). unwrap_or o no_child) at) ∙ passes
+
+-- what stops a child from being let go of is that it doesn't stop
+not-retired : (stopping live : Bool) → live ≡ false → (stopping && not live) ≡ false → stopping ≡ false
+not-retired true true none may = absurd (cc)
+not-retired true false none may = absurd (cc)
+not-retired false live none may = refl
+
+-- each child is gone where none may be let go of
+pub all-gone : (s : State) → IsSound s → is_halted s.going ≡ true → FindsRetirable s None → HasNoLive s → AllEmpty s
+all-gone s sound halted found live k =
+    let passes = not-retired (child_passes (λ c. is_stopping c.phase) s k) (list_any (is_live_in k) s.rows) (none-live_in k s.rows live) (found k) in
+    gone-by (child_at s.children k).phase (none-running s k (is_running (child_at s.children k).phase) sound halted refl)
+    (child-stopping s.children k (slice_get s.children k) refl passes)
+
+-- ## Nothing more can come
+
+-- a row that is neither in hand nor waits isn't live
+idle-row : (p : Place) → (is_held p || is_queued p || is_working p) ≡ false → is_parked p ≡ false → not (is_unused p) ≡ false
+idle-row Vacant hand parked = refl
+idle-row Spent hand parked = refl
+idle-row Held hand parked = absurd (cc)
+idle-row (Parked kind) hand parked = absurd (cc)
+idle-row Queued hand parked = absurd (cc)
+idle-row (Working cell phase) hand parked = absurd (cc)
 
 or-parts : (a b : Bool) → (a || b) ≡ false → (a ≡ false) × (b ≡ false)
-or-parts true b at = absurd (cc)
-or-parts false b at = (refl, at)
+or-parts false false none = (refl, refl)
+or-parts false true none = absurd (cc)
+or-parts true b none = absurd (cc)
 
-and-false : (a b : Bool) → b ≡ false → (a && b) ≡ false
-and-false true b at = at
-and-false false b at = refl
+-- no row is live where none is in hand and none waits
+idle-rows : (rows : List Row) → list_any is_in_hand rows ≡ false → ((slot : ℕ) (r : Row) → slice_get rows slot ≡ Some r → is_parked r.place ≡ false)
+    → list_any is_live rows ≡ false
+idle-rows [] quiet none = refl
+idle-rows (r ∷ rows) quiet none =
+    let parts = or-parts (is_in_hand r) (list_any is_in_hand rows) quiet in
+    rw (idle-row r.place parts.0 (none 0 r refl), idle-rows rows parts.1 (λ slot x at. none (suc slot) x at)) refl
 
-none-live-in : (rows : List Row) (k : ℕ) → list_any is_live rows ≡ false → list_any (is_live_in k) rows ≡ false
-none-live-in [] k none = refl
-none-live-in (r ∷ rows) k none =
-    let parts = or-parts (is_live r) (list_any is_live rows) none in
-    let rest = none-live-in rows k parts.1 in
-    let here : is_live_in k r ≡ false = and-false (r.child == k) (is_live r) parts.0 in
-    rw (here, rest) refl
+not-true : (b : Bool) → not b ≡ true → b ≡ false
+not-true true at = absurd (cc)
+not-true false at = refl
 
--- a child that doesn't run and may not be retired where no connection is live is gone
-empty-phase : (p : ChildPhase) → is_running p ≡ false → is_stopping p ≡ false → is_empty p ≡ true
-empty-phase Empty running stopping = refl
-empty-phase Running running stopping = absurd (cc)
-empty-phase Stopping running stopping = absurd (cc)
+-- so it is where the board is quiet and found no connection that waits
+none-live : (s : State) (o : Option ConnName) → is_quiet s ≡ true → FindsRow is_waiting s o → is_some o ≡ false → HasNoLive s
+none-live s None quiet found none = idle-rows s.rows (not-true (list_any is_in_hand s.rows) quiet) found
+none-live s (Some name) quiet found none = absurd (cc)
 
-and-right : (a b : Bool) → (a && b) ≡ false → b ≡ true → a ≡ false
-and-right true b at e = absurd (cc)
-and-right false b at e = refl
-
-get-or-some : {X : Type 0} (xs : List X) (k : ℕ) (d x : X) → slice_get xs k ≡ Some x → get_or xs k d ≡ x
-get-or-some [] k d x at = absurd (cc)
-get-or-some (y ∷ xs) zero d x at = cc
-get-or-some (y ∷ xs) (suc k) d x at = get-or-some xs k d x at
-
-get-or-none : {X : Type 0} (xs : List X) (k : ℕ) (d : X) → slice_get xs k ≡ None → get_or xs k d ≡ d
-get-or-none [] k d at = refl
-get-or-none (y ∷ xs) zero d at = absurd (cc)
-get-or-none (y ∷ xs) (suc k) d at = get-or-none xs k d at
-
-stopping-at : (s : State) (k : ℕ) (o : Option Child) → slice_get s.children k ≡ o
-    → child_passes (λ c. is_stopping c.phase) s k ≡ false → is_stopping (child_at s.children k).phase ≡ false
-stopping-at s k None at passes = ap (λ (c : Child). is_stopping c.phase) (get-or-none s.children k no_child at)
-stopping-at s k (Some c) at passes =
-    ap (λ (x : Child). is_stopping x.phase) (get-or-some s.children k no_child c at)
-    ∙ sym (ap (λ (o : Option Child). option_map_or (λ (x : Child). is_stopping x.phase) o false) at) ∙ passes
-
-pub empty-where : (s : State) (k : ℕ) → HasNoLive s → HasNoRunning s → allowed s (event.Retire k) ≡ false
-    → is_empty (child_at s.children k).phase ≡ true
-empty-where s k live running refused =
-    let none : not (list_any (is_live_in k) s.rows) ≡ true = ap not (none-live-in s.rows k live) in
-    let stopping : child_passes (λ (c : Child). is_stopping c.phase) s k ≡ false =
-    and-right (child_passes (λ (c : Child). is_stopping c.phase) s k) (not (list_any (is_live_in k) s.rows)) refused none in
-    empty-phase (child_at s.children k).phase (running k) (stopping-at s k (slice_get s.children k) refl stopping)
-
--- the child of a number, once another or this one was retired
-get-or-update : (children : List Child) (k j : ℕ) (change : Child → Child) → (j ≡ k → ⊥)
-    → child_at (update children k change) j ≡ child_at children j
-get-or-update [] k j change differs = refl
-get-or-update (c ∷ children) zero zero change differs = absurd (differs refl)
-get-or-update (c ∷ children) zero (suc j) change differs = refl
-get-or-update (c ∷ children) (suc k) zero change differs = refl
-get-or-update (c ∷ children) (suc k) (suc j) change differs = get-or-update children k j change (λ e. differs (ap suc e))
-
-retired-at : (children : List Child) (k : ℕ) → is_empty (child_at (update children k retired_child) k).phase ≡ true
-retired-at [] k = refl
-retired-at (c ∷ children) zero = refl
-retired-at (c ∷ children) (suc k) = retired-at children k
-
-retired-by : (s : State) (k j : ℕ) (same : Bool) → (j == k) ≡ same → is_empty (child_at s.children j).phase ≡ true
-    → is_empty (child_at (update s.children k retired_child) j).phase ≡ true
-retired-by s k j true at before =
-    let e : j ≡ k = eqb-true j k at in
-    subst (λ (i : ℕ). is_empty (child_at (update s.children k retired_child) i).phase ≡ true) (sym e) (retired-at s.children k)
-retired-by s k j false at before =
-    let differs : (j ≡ k → ⊥) = (λ (e : j ≡ k). let eq : (j == k) ≡ true = eq-eqb j k e in cc) in
-    ap (λ (c : Child). is_empty c.phase) (get-or-update s.children k j retired_child differs) ∙ before
-
-running-retired : (p : ChildPhase) → is_empty p ≡ true → is_running p ≡ false
-running-retired Empty at = refl
-running-retired Running at = absurd (cc)
-running-retired Stopping at = absurd (cc)
-
-running-by : (s : State) (k j : ℕ) (same : Bool) → (j == k) ≡ same → HasNoRunning s
-    → is_running (child_at (update s.children k retired_child) j).phase ≡ false
-running-by s k j true at running =
-    let e : j ≡ k = eqb-true j k at in
-    running-retired (child_at (update s.children k retired_child) j).phase
-    (subst (λ (i : ℕ). is_empty (child_at (update s.children k retired_child) i).phase ≡ true) (sym e) (retired-at s.children k))
-running-by s k j false at running =
-    let differs : (j ≡ k → ⊥) = (λ (e : j ≡ k). let eq : (j == k) ≡ true = eq-eqb j k e in cc) in
-    ap (λ (c : Child). is_running c.phase) (get-or-update s.children k j retired_child differs) ∙ running j
-
-pub retire-runs : (s s' : State) (k : ℕ) → s' ≡ next s (event.Retire k) → HasNoRunning s → HasNoRunning s'
-retire-runs s s' k is running j =
-    ap (λ (t : State). is_running (child_at t.children j).phase) is ∙ running-by s k j (j == k) refl running
-
-retired-where : (s : State) (k j : ℕ) (same : Bool) → (j == k) ≡ same → EmptyBelow s k → j < k + 1
-    → is_empty (child_at (update s.children k retired_child) j).phase ≡ true
-retired-where s k j true at below less =
-    let e : j ≡ k = eqb-true j k at in
-    subst (λ (i : ℕ). is_empty (child_at (update s.children k retired_child) i).phase ≡ true) (sym e) (retired-at s.children k)
-retired-where s k j false at below less =
-    let differs : (j ≡ k → ⊥) = (λ (e : j ≡ k). let eq : (j == k) ≡ true = eq-eqb j k e in cc) in
-    let under : j < k = omega (arith, less, differs) in
-    retired-by s k j false at (below j under)
-
-pub retire-below : (s s' : State) (k : ℕ) → s' ≡ next s (event.Retire k) → EmptyBelow s k → EmptyBelow s' (k + 1)
-retire-below s s' k is below j less =
-    ap (λ (t : State). is_empty (child_at t.children j).phase) is
-    ∙ retired-where s k j (j == k) refl below less
-
-empty-by : (s : State) (k j : ℕ) (same : Bool) → (j == k) ≡ same → EmptyBelow s k → is_empty (child_at s.children k).phase ≡ true → j < k + 1
-    → is_empty (child_at s.children j).phase ≡ true
-empty-by s k j true at below here less =
-    let e : j ≡ k = eqb-true j k at in
-    subst (λ (i : ℕ). is_empty (child_at s.children i).phase ≡ true) (sym e) here
-empty-by s k j false at below here less =
-    let differs : (j ≡ k → ⊥) = (λ (e : j ≡ k). let eq : (j == k) ≡ true = eq-eqb j k e in cc) in
-    below j (omega (arith, less, differs))
-
-pub empty-more : (s : State) (k : ℕ) → EmptyBelow s k → is_empty (child_at s.children k).phase ≡ true → EmptyBelow s (k + 1)
-empty-more s k below here j less = empty-by s k j (j == k) refl below here less
-
-beyond : (children : List Child) (k : ℕ) → length children ≤ k → child_at children k ≡ no_child
-beyond [] k past = refl
-beyond (c ∷ children) zero past = absurd (omega arith)
-beyond (c ∷ children) (suc k) past = beyond children k (omega arith)
-
-empty-all : (s : State) (k : ℕ) (below : Bool) → nat_lt k (length s.children) ≡ below → EmptyBelow s (length s.children)
-    → is_empty (child_at s.children k).phase ≡ true
-empty-all s k true at empty = empty k (ltb-true k (length s.children) at)
-empty-all s k false at empty = ap (λ (c : Child). is_empty c.phase) (beyond s.children k (ltb-false k (length s.children) at))
-
-pub all-empty : (s : State) → EmptyBelow s (length s.children) → AllEmpty s
-all-empty s empty k = empty-all s k (nat_lt k (length s.children)) refl empty
-
--- the same from what the listener found
-pub retire-refused : (s : State) (k : ℕ) → HasNoLive s → HasNoRunning s → allowed s (event.Retire k) ≡ false → EmptyBelow s k → EmptyBelow s (k + 1)
-retire-refused s k live running refused below = empty-more s k below (empty-where s k live running refused)
+-- the same by whether one was found
+pub none-live-unless : (s : State) (o : Option ConnName) (found : Bool) → is_quiet s ≡ true → FindsRow is_waiting s o → found ≡ is_some o
+    → OnFalse found (HasNoLive s)
+none-live-unless s o true quiet finds is = tt
+none-live-unless s o false quiet finds is = none-live s o quiet finds (sym is)

@@ -1,204 +1,256 @@
 -- What a worker may do with the connection that it serves.
-use Rattle.std.proofs.Common.{◌≡◌, ◌==◌, Bool, true, false, not, ◌&&◌, ◌||◌, List, [], ◌∷◌, ◌++◌, length, nat_lt, Option, Some, slice_get, refl, sym, ap, subst, ◌∙◌, inl, inr}
+use Rattle.std.proofs.Common.{◌≡◌, ◌⊎◌, ◌==◌, ℕ, ◌+◌, ◌<◌, Bool, true, false, not, ◌&&◌, ◌||◌, cond, List, [], ◌∷◌, ◌++◌, length, Option, None, Some, is_none, option_map, IfSome, slice_get, refl, sym, ap, subst, ◌∙◌, inl, inr, arith}
 use Rattle.std.proofs.lemmas.Bool.{and_parts}
+use Rattle.std.proofs.lemmas.Bool.Decides.{nat_tests}
 use Rattle.std.specs.Option.{option_map_or}
+use Rattle.mpm_base.specs.Link.{LinkTold, with_received}
+use Rattle.mpm_base.specs.Count.{Rises}
+use Rattle.mpm_base.specs.Notes.{says_last}
 use Rattle.mpm_base.specs.declared.conn.ConnName.{ConnName}
-use Rattle.mpm_base.specs.declared.conn.Ask.{Ask}
-use Rattle.mpm_base.specs.declared.note.Note.{Note}
 use Rattle.mpm_base.specs.declared.conn.Kind.{Kind}
-use Rattle.mpm_base.specs.declared.conn.Kind.TheVariants.{Reading, KeepAlive, Writing}
+use Rattle.mpm_base.specs.declared.conn.Kind.TheVariants.{Reading, KeepAlive, Writing, Linger, ShortLinger}
 use Rattle.mpm_base.specs.declared.conn.Cause.{Cause}
 use Rattle.mpm_base.specs.declared.conn.Cause.TheVariants as cause
 use Rattle.mpm_base.specs.declared.conn.Tail.TheVariants as tail
+use Rattle.mpm_base.specs.declared.note.Note.{Note}
 use Rattle.conn_machine.specs.declared.row.Place.{Place}
 use Rattle.conn_machine.specs.declared.row.Place.TheVariants.{Vacant, Spent, Held, Parked, Queued, Working}
-use Rattle.conn_machine.specs.declared.row.Phase.{Phase}
 use Rattle.conn_machine.specs.declared.row.Row.{Row}
 use Rattle.conn_machine.specs.declared.event.Event.TheVariants as event
 use Rattle.conn_machine.specs.declared.state.State.{State}
-use Rattle.conn_machine.specs.Rows.{is_held, is_queued, is_working, in_phase, is_lingering, is_parked, is_live, has_note, carried, live_row, lives_and}
-use Rattle.conn_machine.specs.States.{is_halted, is_signalled, child_of}
-use Rattle.conn_machine.specs.Table.{allowed, next, may_wait, may_be_queued, answered_row, queued_row, served_row, note_for, end_fits}
-use Rattle.mpm_run.specs.Conn.{SeenConn, Fits, IsSame, HasNoted}
-use Rattle.mpm_run.specs.Board.{IsNoteOf}
-use Rattle.mpm_run.specs.Serve.{IsServed, IsOpen, MayGiveUp, MayLeave, IsLastExit}
-use Rattle.mpm_run.specs.declared.serve.Exit.{Exit}
-use Rattle.mpm_run.specs.declared.serve.Exit.TheVariants as exit
-use Rattle.mpm_run.proofs.BoardLemmas.{lives_as, get-update_same}
-use Rattle.mpm_run.proofs.EventLemmas.{live_row-update, in_phase-unused, answer_phase}
+use Rattle.conn_machine.specs.Rows.{is_held, is_working, is_live, is_lingering, is_named, has_note, row_where, live_row, lives_and}
+use Rattle.conn_machine.specs.States.{is_halted, child_of}
+use Rattle.conn_machine.specs.Table.{allowed, may_wait, direct_cause_fits}
+use Rattle.conn_machine.specs.Sound.{IsSound}
+use Rattle.conn_machine.proofs.RowLemmas.{IsSoundRow, sound_row, served_by, in_service}
+use Rattle.conn_state.specs.declared.turn.LastTurn.{LastTurn}
+use Rattle.conn_state.specs.declared.turn.LastTurn.TheVariants as turn
+use Rattle.conn_state.specs.declared.turn.WriteTurn.{WriteTurn}
+use Rattle.conn_state.specs.declared.turn.WriteTurn.TheVariants as write
+use Rattle.conn_state.specs.declared.turn.ReadTurn.{ReadTurn}
+use Rattle.conn_state.specs.declared.turn.ReadTurn.TheVariants as read
+use Rattle.conn_state.specs.Conn.{SeenConn, is_usable, TurnFits, IsConn}
+use Rattle.conn_state.specs.Answered.{IsShown}
+use Rattle.conn_state.specs.Turns.{WritesOn, ReadsOn, after_writing, after_reading}
+use Rattle.board.specs.Fits.{Fits, WaitsAs, NotesEnd}
+use Rattle.mpm_run.specs.Serve.{IsInHand, IsServed, IsClosable, KeepsNoted}
+
+-- ## The row of a name
+
+-- the row lives in the slot of the name, with its life
+pub record IsAlive (rows : List Row) (name : ConnName) (row : Row) : Type 0 where
+  pub at : slice_get rows name.slot ≡ Some row
+  pub live : is_live row ≡ true
+  pub life : (row.life == name.life) ≡ true
+
+-- a row that was read and passes the test of the name
+named-alive : (rows : List Row) (name : ConnName) (r row : Row) (b : Bool) → slice_get rows name.slot ≡ Some r → is_named name r ≡ b
+    → cond b (Some r) None ≡ Some row → IsAlive rows name row
+named-alive rows name r row true at named is =
+    let same : r ≡ row = cc in
+    let parts = and_parts (is_live r) (r.life == name.life) named in
+    subst (IsAlive rows name) same (record { at = at; live = parts.0; life = parts.1 })
+named-alive rows name r row false at named is = absurd (cc)
+
+found-alive : (rows : List Row) (name : ConnName) (row : Row) (o : Option Row) → slice_get rows name.slot ≡ o
+    → row_where (is_named name) o ≡ Some row → IsAlive rows name row
+found-alive rows name row None at is = absurd (cc)
+found-alive rows name row (Some r) at is = named-alive rows name r row (is_named name r) at refl is
+
+-- the row of a connection that lives
+pub alive : (rows : List Row) (name : ConnName) (row : Row) → live_row rows name ≡ Some row → IsAlive rows name row
+alive rows name row found = found-alive rows name row (slice_get rows name.slot) refl found
 
 -- a test of a row that is known
 pub test-at : (rows : List Row) (name : ConnName) (row : Row) (test : Row → Bool) → live_row rows name ≡ Some row
     → lives_and test rows name ≡ test row
 test-at rows name row test found = ap (λ (o : Option Row). option_map_or test o false) found
 
-in_hand : (p : Place) → is_working p ≡ true → (is_held p || is_working p) ≡ true
-in_hand Vacant at = absurd (cc)
-in_hand Spent at = absurd (cc)
-in_hand Held at = refl
-in_hand (Parked kind) at = absurd (cc)
-in_hand Queued at = absurd (cc)
-in_hand (Working cell phase) at = refl
+-- ## What a sound state says of a row that is served
 
-in_phase-working : (next : Phase) (p : Place) → is_working (in_phase next p) ≡ is_working p
-in_phase-working next Vacant = refl
-in_phase-working next Spent = refl
-in_phase-working next Held = refl
-in_phase-working next (Parked kind) = refl
-in_phase-working next Queued = refl
-in_phase-working next (Working cell phase) = refl
+-- it is a sound one
+pub served-row : (s : State) (name : ConnName) (row : Row) → IsSound s → live_row s.rows name ≡ Some row → IsSoundRow s row
+served-row s name row sound found =
+    let lives = alive s.rows name row found in
+    sound_row s name.slot row sound lives.at lives.live
 
--- the row that is served is not last
-row-open : (s : State) (c : SeenConn) (served : IsServed s c) → IsOpen s c.name → served.row.last ≡ false
-row-open s c served undecided = sym (test-at s.rows c.name served.row (λ (r : Row). r.last) served.found) ∙ undecided
+-- it doesn't linger
+pub served-stays : (s : State) (name : ConnName) (row : Row) → IsSound s → live_row s.rows name ≡ Some row → is_working row.place ≡ true
+    → is_lingering row ≡ false
+served-stays s name row sound found working =
+    (in_service s row (served_by row.place working) (served-row s name row sound found)).stays
 
-pub served-same : (s : State) (c c' : SeenConn) → IsServed s c → IsSame c c' → IsServed s c'
-served-same s c c' served same = record {
+-- its last note says whether it was the last
+pub row-last : (s : State) (name : ConnName) (row : Row) → IsSound s → live_row s.rows name ≡ Some row → row.last ≡ says_last row.notes
+row-last s name row sound found = (served-row s name row sound found).notes.last
+
+-- a worker has it
+pub working-in_hand : (p : Place) → is_working p ≡ true → (is_held p || is_working p) ≡ true
+working-in_hand Vacant at = absurd (cc)
+working-in_hand Spent at = absurd (cc)
+working-in_hand Held at = refl
+working-in_hand (Parked kind) at = absurd (cc)
+working-in_hand Queued at = absurd (cc)
+working-in_hand (Working cell phase) at = refl
+
+-- a connection that is served is in hand
+pub in-hand : (s : State) (c : SeenConn) → IsSound s → IsServed s c → IsInHand s c
+in-hand s c sound served = record {
   row = served.row;
-  found = subst (λ (n : ConnName). live_row s.rows n ≡ Some served.row) (sym same.name) served.found;
-  working = served.working;
-  serves = served.serves;
-  fits = record {
-    child = same.child ∙ served.fits.child;
-    generation = same.generation ∙ served.fits.generation;
-    notes = same.notes ∙ served.fits.notes;
-  };
-  going = served.going;
+  found = served.found;
+  in_hand = working-in_hand served.row.place served.working;
+  serves = served-stays s c.name served.row sound served.found served.working;
+  fits = served.fits;
 }
 
-pub may-give_up : (s : State) (c : SeenConn) → IsServed s c → MayGiveUp s c.name
-may-give_up s c served =
-    test-at s.rows c.name served.row (λ (r : Row). (is_held r.place || is_working r.place) && end_fits s cause.NoMemory tail.Direct r) served.found
-    ∙ rw (in_hand served.row.place served.working, served.serves) refl
+-- ## Turns
 
-pub may-fail : (s : State) (c : SeenConn) → IsServed s c → allowed s (event.Close c.name cause.LinkFailed tail.Direct) ≡ true
-may-fail s c served =
-    test-at s.rows c.name served.row (λ (r : Row). (is_held r.place || is_working r.place) && end_fits s cause.LinkFailed tail.Direct r) served.found
-    ∙ rw (in_hand served.row.place served.working, served.serves) refl
+-- a change of what the link tells keeps its rank
+rank-map : (change : LinkTold → LinkTold) (told told' : Option LinkTold) (n : ℕ) → ((t : LinkTold) → (change t).rank ≡ t.rank)
+    → told' ≡ option_map change told → IfSome told (λ t. t.rank ≡ n) → IfSome told' (λ t. t.rank ≡ n)
+rank-map change None told' n keeps is rank = subst (λ (o : Option LinkTold). IfSome o (λ t. t.rank ≡ n)) (sym is) tt
+rank-map change (Some t) told' n keeps is rank = subst (λ (o : Option LinkTold). IfSome o (λ u. u.rank ≡ n)) (sym is) (keeps t ∙ rank)
 
-pub may-end : (s : State) (c : SeenConn) → IsServed s c → IsOpen s c.name → allowed s (event.Close c.name cause.ClientDone tail.Direct) ≡ true
-may-end s c served undecided =
-    test-at s.rows c.name served.row (λ (r : Row). (is_held r.place || is_working r.place) && end_fits s cause.ClientDone tail.Direct r) served.found
-    ∙ rw (in_hand served.row.place served.working, served.serves, served.working, row-open s c served undecided) refl
+-- a turn of writing leaves the connection that of its row
+fits-written : (c c' : SeenConn) (answer : WriteTurn) (r : Row) → WritesOn c c' answer → Fits c r → Fits c' r
+fits-written c c' answer r writes fits = record {
+  child = writes.child ∙ fits.child;
+  generation = writes.generation ∙ fits.generation;
+  notes = writes.notes ∙ fits.notes;
+  rank = rank-map _ c.told c'.told r.arrival (λ t. refl) writes.told fits.rank;
+}
 
-pub may-await_room : (s : State) (c : SeenConn) → IsServed s c → allowed s (event.Park c.name Writing) ≡ true
-may-await_room s c served =
-    let waits = test-at s.rows c.name served.row (may_wait s.moment Writing) served.found ∙ served.working in
-    rw (served.going, waits) refl
+-- and so does a turn of reading
+fits-read : (c c' : SeenConn) (answer : ReadTurn) (r : Row) → ReadsOn c c' answer → Fits c r → Fits c' r
+fits-read c c' answer r reads fits = record {
+  child = reads.child ∙ fits.child;
+  generation = reads.generation ∙ fits.generation;
+  notes = reads.notes ∙ fits.notes;
+  rank = rank-map _ c.told c'.told r.arrival (λ t. refl) reads.told fits.rank;
+}
+
+-- the connection that was written on is served on
+pub served-written : (s : State) (c c' : SeenConn) (answer : WriteTurn) → IsServed s c → WritesOn c c' answer
+    → is_usable (after_writing answer) ≡ true → IsServed s c'
+served-written s c c' answer served writes usable = record {
+  row = served.row;
+  found = subst (λ (n : ConnName). live_row s.rows n ≡ Some served.row) (sym writes.name) served.found;
+  working = served.working;
+  fits = fits-written c c' answer served.row writes served.fits;
+  usable = ap is_usable writes.turn ∙ usable;
+}
+
+-- so is the connection that was read on
+pub served-read : (s : State) (c c' : SeenConn) (answer : ReadTurn) → IsServed s c → ReadsOn c c' answer
+    → is_usable (after_reading answer) ≡ true → IsServed s c'
+served-read s c c' answer served reads usable = record {
+  row = served.row;
+  found = subst (λ (n : ConnName). live_row s.rows n ≡ Some served.row) (sym reads.name) served.found;
+  working = served.working;
+  fits = fits-read c c' answer served.row reads served.fits;
+  usable = ap is_usable reads.turn ∙ usable;
+}
+
+-- ## Closes
+
+-- a connection with the notes of its row may be closed for a cause that is shown
+closable : (s : State) (why : Cause) (c : SeenConn) (row : Row) → IsSound s → live_row s.rows c.name ≡ Some row → is_working row.place ≡ true
+    → Fits c row → direct_cause_fits s why row ≡ true → NotesEnd why c.notes row.notes → IsShown why tail.Direct c → IsClosable s why c
+closable s why c row sound found working fits cause_fits notes shown = record {
+  row = row;
+  found = found;
+  in_hand = working-in_hand row.place working;
+  serves = served-stays s c.name row sound found working;
+  cause_fits = cause_fits;
+  child = fits.child;
+  generation = fits.generation;
+  notes = notes;
+  rank = fits.rank;
+  shown = shown;
+}
+
+-- a link that failed in a turn of writing shows it
+rises-some : (old new : ℕ) → Rises old new → 0 < new
+rises-some old new rises = grind (arith, rises.0, rises.1)
+
+-- the direct close for a cause that only the link shows
+pub closes-failed_write : (s : State) (c c' : SeenConn) → IsSound s → IsServed s c → WritesOn c c' write.LinkFailed → IsClosable s cause.LinkFailed c'
+closes-failed_write s c c' sound served writes =
+    let found' = subst (λ (n : ConnName). live_row s.rows n ≡ Some served.row) (sym writes.name) served.found in
+    let fits' = fits-written c c' write.LinkFailed served.row writes served.fits in
+    closable s cause.LinkFailed c' served.row sound found' served.working fits' refl fits'.notes
+    (rises-some c.counts.faults c'.counts.faults writes.faults)
+
+-- a last response was sent whole
+pub closes-sent : (s : State) (c c' : SeenConn) → IsSound s → IsServed s c → WritesOn c c' write.Done → IsClosable s cause.NoMemory c'
+closes-sent s c c' sound served writes =
+    let found' = subst (λ (n : ConnName). live_row s.rows n ≡ Some served.row) (sym writes.name) served.found in
+    let fits' = fits-written c c' write.Done served.row writes served.fits in
+    closable s cause.NoMemory c' served.row sound found' served.working fits' refl (inl fits'.notes) tt
+
+-- a link that failed in a turn of reading
+pub closes-failed_read : (s : State) (c c' : SeenConn) → IsSound s → IsServed s c → ReadsOn c c' read.LinkFailed → IsClosable s cause.LinkFailed c'
+closes-failed_read s c c' sound served reads =
+    let found' = subst (λ (n : ConnName). live_row s.rows n ≡ Some served.row) (sym reads.name) served.found in
+    let fits' = fits-read c c' read.LinkFailed served.row reads served.fits in
+    closable s cause.LinkFailed c' served.row sound found' served.working fits' refl fits'.notes
+    (rises-some c.counts.faults c'.counts.faults reads.faults)
+
+-- memory lacked for what was read
+pub closes-unread : (s : State) (c c' : SeenConn) → IsSound s → IsServed s c → ReadsOn c c' read.NoMemory → IsClosable s cause.NoMemory c'
+closes-unread s c c' sound served reads =
+    let found' = subst (λ (n : ConnName). live_row s.rows n ≡ Some served.row) (sym reads.name) served.found in
+    let fits' = fits-read c c' read.NoMemory served.row reads served.fits in
+    closable s cause.NoMemory c' served.row sound found' served.working fits' refl (inl fits'.notes) tt
+
+-- the row of a connection whose last response wasn't decided
+pub row-open : (s : State) (c : SeenConn) → IsSound s → (served : IsServed s c) → says_last c.notes ≡ false → served.row.last ≡ false
+row-open s c sound served goes_on =
+    row-last s c.name served.row sound served.found ∙ ap says_last (sym served.fits.notes) ∙ goes_on
+
+-- the client sends no more
+pub closes-done : (s : State) (c c' : SeenConn) → IsSound s → IsServed s c → says_last c.notes ≡ false → ReadsOn c c' read.Gone
+    → IsClosable s cause.ClientDone c'
+closes-done s c c' sound served goes_on reads =
+    let found' = subst (λ (n : ConnName). live_row s.rows n ≡ Some served.row) (sym reads.name) served.found in
+    let fits' = fits-read c c' read.Gone served.row reads served.fits in
+    let fits_cause : direct_cause_fits s cause.ClientDone served.row ≡ true = rw (served.working, row-open s c sound served goes_on) refl in
+    closable s cause.ClientDone c' served.row sound found' served.working fits' fits_cause fits'.notes reads.turn
+
+-- ## Parks
+
+-- a connection that waits for a request, or did, goes on
+waits-on : (c : SeenConn) → IsConn c → (c.turn ≡ turn.New) ⊎ (c.turn ≡ turn.More) → says_last c.notes ≡ false
+waits-on c is (inl new) =
+    let untouched = subst (λ (u : LastTurn). TurnFits u c) new is.turn_fits in
+    ap says_last untouched.none_noted
+waits-on c is (inr more) = (subst (λ (u : LastTurn). TurnFits u c) more is.turn_fits).goes_on
 
 or-right : (a b : Bool) → b ≡ true → (a || b) ≡ true
 or-right true b at = refl
 or-right false b at = at
 
-pub may-read_on : (s : State) (c : SeenConn) → IsServed s c → IsOpen s c.name → allowed s (event.Park c.name Reading) ≡ true
-may-read_on s c served undecided =
-    let reads : (is_working served.row.place && not served.row.last) ≡ true = rw (served.working, row-open s c served undecided) refl in
-    let waits = test-at s.rows c.name served.row (may_wait s.moment Reading) served.found ∙ or-right _ _ reads in
-    rw (served.going, waits) refl
+-- a number that isn't 0
+some-number : (n : ℕ) → 0 < n → not (n == 0) ≡ true
+some-number n some = grind (arith, nat_tests)
 
-pub may-keep : (s : State) (c : SeenConn) → IsServed s c → IsOpen s c.name → not (length c.notes == 0) ≡ true
-    → allowed s (event.Park c.name KeepAlive) ≡ true
-may-keep s c served undecided noted =
-    let has : has_note served.row ≡ true = ap (λ (ns : List Note). not (length ns == 0)) (sym served.fits.notes) ∙ noted in
-    let keeps : (is_working served.row.place && not served.row.last && has_note served.row) ≡ true =
-    rw (served.working, row-open s c served undecided, has) refl in
-    let waits = test-at s.rows c.name served.row (may_wait s.moment KeepAlive) served.found ∙ keeps in
-    rw (served.going, waits) refl
+may-wait : (s : State) (kind : Kind) (c : SeenConn) → IsSound s → IsConn c → (served : IsServed s c) → WaitsAs kind c → KeepsNoted kind c
+    → may_wait s.moment kind served.row ≡ true
+may-wait s Reading c sound is served waits noted =
+    let goes_on = waits-on c is waits in
+    or-right (is_held served.row.place && is_none served.row.from) (is_working served.row.place && not served.row.last)
+    (rw (served.working, row-open s c sound served goes_on) refl)
+may-wait s KeepAlive c sound is served waits noted =
+    let goes_on = waits-on c is (inr waits.turn) in
+    let has : has_note served.row ≡ true = ap (λ (ns : List Note). not (length ns == 0)) (sym served.fits.notes) ∙ some-number (length c.notes) noted in
+    rw (served.working, row-open s c sound served goes_on, has) refl
+may-wait s Writing c sound is served waits noted = served.working
+may-wait s Linger c sound is served waits noted = absurd waits
+may-wait s ShortLinger c sound is served waits noted = absurd waits
 
-pub may-answer : (s : State) (c : SeenConn) (ask : Ask) → IsServed s c → IsOpen s c.name → allowed s (event.Answer c.name ask) ≡ true
-may-answer s c ask served undecided =
-    let answers : (is_working served.row.place && not served.row.last) ≡ true = rw (served.working, row-open s c served undecided) refl in
-    let waits = test-at s.rows c.name served.row (λ (r : Row). is_working r.place && not r.last) served.found ∙ answers in
-    rw (served.going, waits) refl
-
--- a connection that is served may be left as a last response leaves it
-pub may-leave_last : (s : State) (c : SeenConn) (left : Exit) → IsServed s c → IsLastExit left → MayLeave s c left
-may-leave_last s c (exit.Park kind) served left =
-    (subst (λ (k : Kind). allowed s (event.Park c.name k) ≡ true) (sym left) (may-await_room s c served), may-give_up s c served, served)
-may-leave_last s c (exit.Close why) served (inl e) =
-    subst (λ (w : Cause). allowed s (event.Close c.name w tail.Direct) ≡ true) (sym e) (may-give_up s c served)
-may-leave_last s c (exit.Close why) served (inr e) =
-    subst (λ (w : Cause). allowed s (event.Close c.name w tail.Direct) ≡ true) (sym e) (may-fail s c served)
-
--- after the answer the row has the note, and is served on
-pub served-answered : (s : State) (c : SeenConn) (ask : Ask) (note : Note) → (served : IsServed s c) → IsNoteOf s c.name ask note
-    → IsServed (next s (event.Answer c.name ask)) (record c { notes = c.notes ++ note ∷ [] })
-served-answered s c ask note served is_note =
-    let lives = lives_as s.rows c.name (λ (r : Row). is_working r.place)
-    (test-at s.rows c.name served.row (λ (r : Row). is_working r.place) served.found ∙ served.working) in
-    let same : lives.row ≡ served.row = cc (lives.found, served.found) in
-    let noted : is_note.row ≡ served.row = cc (is_note.found, served.found) in
-    let at : slice_get s.rows c.name.slot ≡ Some served.row = lives.at ∙ ap Some same in
-    let live : is_live served.row ≡ true = ap is_live (sym same) ∙ lives.live in
-    let life : served.row.life ≡ c.name.life = ap (λ (r : Row). r.life) (sym same) ∙ lives.life in
-    let note_is : note ≡ note_for s ask served.row = is_note.note_is ∙ ap (note_for s ask) noted in
-    record {
-      row = answered_row s ask served.row;
-      found =
-          live_row-update s.rows c.name served.row (answered_row s ask) at
-          (ap not (in_phase-unused (answer_phase s ask served.row) served.row.place) ∙ live) life;
-      working = in_phase-working (answer_phase s ask served.row) served.row.place ∙ served.working;
-      serves = served.serves;
-      fits = record {
-        child = served.fits.child;
-        generation = served.fits.generation;
-        notes = rw (note_is, served.fits.notes) refl;
-      };
-      going = served.going;
-    }
-
--- the same, of a connection that took the note
-pub served-noted : (s : State) (c c' : SeenConn) (ask : Ask) (note : Note) → IsServed s c → IsNoteOf s c.name ask note → HasNoted note c c'
-    → IsServed (next s (event.Answer c.name ask)) c'
-served-noted s c c' ask note served is_note noted =
-    served-same (next s (event.Answer c.name ask)) (record c { notes = c.notes ++ note ∷ [] }) c' (served-answered s c ask note served is_note)
-    (record { name = noted.name; child = noted.child; generation = noted.generation; notes = noted.notes })
-
-not-true : (b : Bool) → not b ≡ true → b ≡ false
-not-true true at = absurd (cc)
-not-true false at = refl
-
--- the connection that was queued and started is served
-pub served-started : (s s1 : State) (c : SeenConn) (name : ConnName) (row : Row) → allowed s (event.Queue name) ≡ true
-    → s1 ≡ next s (event.Queue name) → c.name ≡ name → live_row (next s1 (event.Start name)).rows c.name ≡ Some row → Fits c row
-    → IsServed (next s1 (event.Start name)) c
-served-started s s1 c name row may queued_is name_is found fits =
-    let parts = and_parts (not (is_halted s.going) && is_signalled s name.slot) (lives_and (may_be_queued s) s.rows name) may in
-    let lives = lives_as s.rows name (may_be_queued s) parts.1 in
-    let going : is_halted s.going ≡ false = not-true (is_halted s.going) (and_parts (not (is_halted s.going)) (is_signalled s name.slot) parts.0).0 in
-    let open_parts = and_parts (is_parked lives.row.place && not (is_lingering lives.row))
-    (nat_lt (carried s.rows lives.row.child) (child_of s lives.row).shape.threads) lives.passes in
-    let serves : is_lingering lives.row ≡ false =
-    not-true (is_lingering lives.row) (and_parts (is_parked lives.row.place) (not (is_lingering lives.row)) open_parts.0).1 in
-    let queued : slice_get (next s (event.Queue name)).rows name.slot ≡ Some (queued_row lives.row) =
-    get-update_same s.rows name.slot lives.row queued_row lives.at in
-    let queued1 : slice_get s1.rows name.slot ≡ Some (queued_row lives.row) = rw queued_is queued in
-    let started : live_row (next s1 (event.Start name)).rows name ≡ Some (served_row s1 (queued_row lives.row)) =
-    live_row-update s1.rows name (queued_row lives.row) (served_row s1) queued1 refl lives.life in
-    let here : live_row (next s1 (event.Start name)).rows name ≡ Some row =
-    subst (λ (n : ConnName). live_row (next s1 (event.Start name)).rows n ≡ Some row) name_is found in
-    let same : row ≡ served_row s1 (queued_row lives.row) = cc (started, here) in
-    record {
-      row = row;
-      found = found;
-      working = ap (λ (r : Row). is_working r.place) same;
-      serves = ap is_lingering same ∙ serves;
-      fits = fits;
-      going = ap (λ (t : State). is_halted t.going) queued_is ∙ going;
-    }
-
--- a connection that was queued may be started
-pub may-start : (s s1 : State) (name : ConnName) → allowed s (event.Queue name) ≡ true → s1 ≡ next s (event.Queue name)
-    → allowed s1 (event.Start name) ≡ true
-may-start s s1 name may queued_is =
-    let parts = and_parts (not (is_halted s.going) && is_signalled s name.slot) (lives_and (may_be_queued s) s.rows name) may in
-    let lives = lives_as s.rows name (may_be_queued s) parts.1 in
-    let found : live_row (next s (event.Queue name)).rows name ≡ Some (queued_row lives.row) =
-    live_row-update s.rows name lives.row queued_row lives.at refl lives.life in
-    rw queued_is (test-at (next s (event.Queue name)).rows name (queued_row lives.row) (λ (r : Row). is_queued r.place) found)
-
--- where the connection found no memory for its response, it may be closed for that
-pub may-give_up_noted : (s : State) (c : SeenConn) (ask : Ask) (note : Note) → IsServed s c → IsNoteOf s c.name ask note
-    → MayGiveUp (next s (event.Answer c.name ask)) c.name
-may-give_up_noted s c ask note served is_note =
-    may-give_up (next s (event.Answer c.name ask)) (record c { notes = c.notes ++ note ∷ [] }) (served-answered s c ask note served is_note)
+-- a connection that is served may wait so
+pub may-park : (s : State) (kind : Kind) (c : SeenConn) → IsSound s → IsConn c → IsServed s c → WaitsAs kind c → KeepsNoted kind c
+    → is_halted s.going ≡ false → allowed s (event.Park c.name kind) ≡ true
+may-park s kind c sound is served waits noted going =
+    let passes = test-at s.rows c.name served.row (may_wait s.moment kind) served.found ∙ may-wait s kind c sound is served waits noted in
+    rw (going, passes) refl

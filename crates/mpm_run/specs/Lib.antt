@@ -1,10 +1,7 @@
-pub mod Board
-pub mod Book
-pub mod Conn
 pub mod FirstShape
 pub mod Listen
 pub mod Report
-pub mod Room
 pub mod Serve
 pub mod Statuses
+pub mod Tells
 pub mod Texts

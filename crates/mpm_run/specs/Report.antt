@@ -1,6 +1,6 @@
 -- The report of a run: what it counts, and its text.
 use Rattle.std.specs.Prelude.{◌==◌, ℕ, Bool, true, false, List, [], ◌∷◌, ◌++◌, map, take, codes, slice_index}
-use Rattle.std.specs.List.{count_by, flat_map}
+use Rattle.std.specs.List.{flat_map}
 use Rattle.std.specs.Fmt.{decimal}
 use Rattle.mpm_base.specs.declared.conn.Cause.{Cause}
 use Rattle.mpm_base.specs.declared.conn.Cause.TheVariants as cause
@@ -10,36 +10,17 @@ use Rattle.mpm_base.specs.declared.note.Note.{Note}
 use Rattle.conn_machine.specs.declared.event.Event.{Event}
 use Rattle.conn_machine.specs.declared.event.Event.TheVariants as event
 use Rattle.conn_machine.specs.declared.event.Entry.{Entry}
+use Rattle.conn_machine.specs.Events.{count_events, is_accept, is_answer, is_close, is_start_child}
 use Rattle.conn_machine.specs.Table.{cause_number}
-use Rattle.mpm_run.specs.Conn.{SeenEnded}
+use Rattle.conn_state.specs.Answered.{SeenEnded}
 use Rattle.mpm_run.specs.declared.report.Tally.{Tally}
 
 -- ## What it counts
-
-abbrev pub is_accept : Event → Bool
-is_accept (event.Accept slot) = true
-is_accept other = false
-
-abbrev pub is_answer : Event → Bool
-is_answer (event.Answer name ask) = true
-is_answer other = false
-
-abbrev pub is_start_child : Event → Bool
-is_start_child (event.StartChild child) = true
-is_start_child other = false
-
-abbrev pub is_close : Event → Bool
-is_close (event.Close name why how) = true
-is_close other = false
 
 -- the event closes a connection for the cause
 abbrev pub is_close_for : Cause → Event → Bool
 is_close_for for (event.Close name why how) = cause_number why == cause_number for
 is_close_for for other = false
-
--- how many entries have such an event
-abbrev pub count_events : (Event → Bool) → List Entry → ℕ
-count_events test history = count_by (λ e. test e.event) history
 
 -- the causes, in order
 abbrev pub causes : List Cause

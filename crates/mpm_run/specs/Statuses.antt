@@ -1,14 +1,22 @@
 -- Why a run ends with its status, and what it leaves of the output.
-use Rattle.std.specs.Prelude.{◌≡◌, ℕ, Bool, true, false, ◌⊎◌, List, [], ◌∷◌, ◌++◌, Option, Some, None, option_map, Result, Ok, Err, codes}
+use Rattle.std.specs.Prelude.{◌≡◌, ℕ, Bool, true, false, ◌⊎◌, List, ◌∷◌, [], ◌++◌, Option, Some, None, option_map, Result, Ok, Err, codes}
 use Rattle.mpm_base.specs.Count.{NeverFalls, Rises}
-use Rattle.mpm_base.specs.Script.{IsNotYet, IsSomeScript}
+use Rattle.mpm_base.specs.Script.{IsNotYet, IsScript}
 use Rattle.mpm_base.specs.Store.{ReadsFile, StoreCounts, StoreTold}
 use Rattle.mpm_base.specs.declared.store.StoreFault.{StoreFault}
 use Rattle.mpm_base.specs.declared.store.StoreFault.TheVariants as fault
-use Rattle.mpm_run.specs.Board.{SeenBoard}
+use Rattle.conn_machine.specs.declared.event.Why.TheVariants as why
+use Rattle.conn_machine.specs.declared.state.Going.{Going}
+use Rattle.conn_machine.specs.declared.state.Going.TheVariants.{Serving, Ending, Halted}
+use Rattle.board.specs.Board.{SeenBoard}
+use Rattle.mpm_run.specs.FirstShape.{first_shape}
+use Rattle.mpm_run.specs.Listen.{IsRunFrom, IsWholeRun}
 use Rattle.mpm_run.specs.Report.{report_of}
+use Rattle.mpm_run.specs.Tells.{AllReceive}
 use Rattle.mpm_run.specs.Texts.{script_refused, store_fault, usage}
 use Rattle.mpm_run.specs.declared.texts.ScriptRefusal.TheVariants.{BadLine, NotYet}
+
+-- ## A call
 
 -- the words are the command that plays the script of that name
 abbrev pub IsCommand : List (List ℕ) → List ℕ → Type 0
@@ -48,64 +56,144 @@ store_seen told counts = record { told = told; counts = counts }
 abbrev pub most_script : ℕ
 most_script = 67108864
 
+-- a call of `run`: its words, what the store and the output tell and count before it and after it, and the number it shows
+pub record Call : Type 0 where
+  pub words : List (List ℕ)
+  pub store : StoreSeen
+  pub store' : StoreSeen
+  pub sink : SinkSeen
+  pub sink' : SinkSeen
+  pub shown : Option ℕ
+
+abbrev pub seen_call : List (List ℕ) → Option StoreTold → StoreCounts → Option StoreTold → StoreCounts → Option (List ℕ) → ℕ → Option (List ℕ) → ℕ → Option ℕ → Call
+seen_call words told counts told' counts' written faults written' faults' shown =
+    record {
+      words = words;
+      store = store_seen told counts;
+      store' = store_seen told' counts';
+      sink = sink_seen written faults;
+      sink' = sink_seen written' faults';
+      shown = shown;
+    }
+
 -- the words are the command, and the store was asked once, for the script of that name
-pub record Asks (words : List (List ℕ)) (old new : StoreSeen) (name : List ℕ) (answer : Result (List ℕ) StoreFault) : Type 0 where
-  pub command : IsCommand words name
-  pub read : ReadsFile old.told new.told old.counts new.counts name most_script answer
+pub record Asks (call : Call) (name : List ℕ) (answer : Result (List ℕ) StoreFault) : Type 0 where
+  pub command : IsCommand call.words name
+  pub read : ReadsFile call.store.told call.store'.told call.store.counts call.store'.counts name most_script answer
+
+-- ## Where no run opened
 
 -- the faults of a store that are told as its own: a file that is missing, at place 0, and a call that failed
 abbrev pub IsUnread : StoreFault → Option ℕ → Type 0
 IsUnread e shown = ((e ≡ fault.Missing) × (shown ≡ Some 0)) ⊎ ((e ≡ fault.Failed) × (shown ≡ None))
 
 -- with status 2
-pub record EndsUnknown (words : List (List ℕ)) (store store' : StoreSeen) (sink sink' : SinkSeen) (shown : Option ℕ) : Type 0 where
-  pub unknown : IsNoCommand words
-  pub unasked : store' ≡ store
-  pub shows : shown ≡ None
-  pub text : Writes sink sink' usage
+pub record EndsUnknown (call : Call) : Type 0 where
+  pub unknown : IsNoCommand call.words
+  pub unasked : call.store' ≡ call.store
+  pub shows : call.shown ≡ None
+  pub text : Writes call.sink call.sink' usage
 
 -- with status 3
-pub record EndsUnread (words : List (List ℕ)) (store store' : StoreSeen) (sink sink' : SinkSeen) (shown : Option ℕ) : Type 0 where
+pub record EndsUnread (call : Call) : Type 0 where
   pub name : List ℕ
   pub told : StoreFault
-  pub asks : Asks words store store' name (Err told)
-  pub shows : IsUnread told shown
-  pub text : Writes sink sink' (store_fault name)
+  pub asks : Asks call name (Err told)
+  pub shows : IsUnread told call.shown
+  pub text : Writes call.sink call.sink' (store_fault name)
 
 -- with status 8, for the size
-pub record EndsTooLarge (words : List (List ℕ)) (store store' : StoreSeen) (sink sink' : SinkSeen) (shown : Option ℕ) : Type 0 where
+pub record EndsTooLarge (call : Call) : Type 0 where
   pub name : List ℕ
   pub size : ℕ
-  pub asks : Asks words store store' name (Err (fault.Large size))
-  pub shows : shown ≡ Some 0
-  pub text : Writes sink sink' (script_refused 0 BadLine)
+  pub asks : Asks call name (Err (fault.Large size))
+  pub shows : call.shown ≡ Some 0
+  pub text : Writes call.sink call.sink' (script_refused 0 BadLine)
 
 -- with status 8, for a line
-pub record EndsAtLine (words : List (List ℕ)) (store store' : StoreSeen) (sink sink' : SinkSeen) (shown : Option ℕ) : Type 0 where
+pub record EndsAtLine (call : Call) : Type 0 where
   pub name : List ℕ
   pub bytes : List ℕ
   pub line : ℕ
-  pub asks : Asks words store store' name (Ok bytes)
+  pub asks : Asks call name (Ok bytes)
   pub not_yet : IsNotYet bytes line
-  pub shows : shown ≡ Some line
-  pub text : Writes sink sink' (script_refused line NotYet)
+  pub shows : call.shown ≡ Some line
+  pub text : Writes call.sink call.sink' (script_refused line NotYet)
 
--- with status 0 and 5 a script was read
-pub record Plays (words : List (List ℕ)) (store store' : StoreSeen) (shown : Option ℕ) : Type 0 where
-  pub name : List ℕ
-  pub bytes : List ℕ
-  pub asks : Asks words store store' name (Ok bytes)
-  pub script : IsSomeScript bytes
-  pub shows : shown ≡ None
+-- with status 8
+abbrev pub EndsRefused : Call → Type 0
+EndsRefused call = EndsTooLarge call ⊎ EndsAtLine call
 
--- a script that was read ends with status 0, with 5 where a write failed, or with 6
-abbrev pub HasPlayed : ℕ → ℕ → ℕ → Type 0
-HasPlayed status faults faults' = (status ≡ 0) ⊎ ((status ≡ 5) × Rises faults faults') ⊎ (status ≡ 6)
+-- ## Where a run opened
 
--- the statuses that there are
-abbrev pub IsStatus : ℕ → Type 0
-IsStatus s = (s ≡ 0) ⊎ (s ≡ 2) ⊎ (s ≡ 3) ⊎ (s ≡ 5) ⊎ (s ≡ 6) ⊎ (s ≡ 8)
+-- the report of a board
+abbrev pub board_report : SeenBoard → List ℕ
+board_report b = report_of b.book.history b.book.state.newest b.ended
 
 -- the report of the board was written whole
 abbrev pub Reports : SinkSeen → SinkSeen → SeenBoard → Type 0
-Reports old new b = new.told ≡ option_map (λ written. written ++ report_of b.book.history b.book.state.newest b.ended) old.told
+Reports old new b = new.told ≡ option_map (λ written. written ++ board_report b) old.told
+
+-- what is left of a run of a client that sends the text: each connection that ended received a front of it, and all of it
+-- where the client had done
+pub record HasRun (text : List ℕ) (b : SeenBoard) : Type 0 where
+  pub run : IsRunFrom 64 1 first_shape b
+  pub receive : AllReceive text b.ended
+
+-- a script was read, and what is left is of a run of it
+pub record HasPlayed (call : Call) (b : SeenBoard) : Type 0 where
+  pub name : List ℕ
+  pub bytes : List ℕ
+  pub client : List ℕ
+  pub text : List ℕ
+  pub asks : Asks call name (Ok bytes)
+  pub script : IsScript bytes client text
+  pub shows : call.shown ≡ None
+  pub has_run : HasRun text b
+
+-- how a run that stopped so may end: with 6 wherever memory lacked for its report
+abbrev pub EndsFor : Going → ℕ → Type 0
+EndsFor (Halted why.FrontEnded) status = (status ≡ 0) ⊎ (status ≡ 5) ⊎ (status ≡ 6)
+EndsFor (Halted why.Full) status = (status ≡ 7) ⊎ (status ≡ 6)
+EndsFor (Halted why.NoMemory) status = status ≡ 6
+EndsFor other status = ⊥
+
+-- with status 0: the run is a whole one, and its report was written
+pub record EndsWell (sink sink' : SinkSeen) (b : SeenBoard) : Type 0 where
+  pub whole : IsWholeRun 64 1 first_shape b
+  pub report : Reports sink sink' b
+
+-- with status 5: the run is a whole one, and a write of its report failed
+pub record EndsUnwritten (sink sink' : SinkSeen) (b : SeenBoard) : Type 0 where
+  pub whole : IsWholeRun 64 1 first_shape b
+  pub failed : Rises sink.faults sink'.faults
+
+-- with status 7: the server stopped for a full history
+pub record EndsFull (sink sink' : SinkSeen) (b : SeenBoard) : Type 0 where
+  pub going : b.book.state.going ≡ Halted why.Full
+  pub text : Writes sink sink' (board_report b)
+
+-- the statuses that there are
+abbrev pub IsStatus : ℕ → Type 0
+IsStatus s = (s ≡ 0) ⊎ (s ≡ 2) ⊎ (s ≡ 3) ⊎ (s ≡ 5) ⊎ (s ≡ 6) ⊎ (s ≡ 7) ⊎ (s ≡ 8)
+
+-- ## On the way
+
+-- the status of a run that stopped so, unless its report is not written
+abbrev pub IsStatusOf : Going → ℕ → Type 0
+IsStatusOf (Halted why.FrontEnded) status = status ≡ 0
+IsStatusOf (Halted why.Full) status = status ≡ 7
+IsStatusOf (Halted why.NoMemory) status = status ≡ 6
+IsStatusOf other status = ⊥
+
+-- the statuses before the report
+abbrev pub IsEndStatus : ℕ → Type 0
+IsEndStatus s = (s ≡ 0) ⊎ (s ≡ 6) ⊎ (s ≡ 7)
+
+-- what a report makes of a status: a failed write changes 0 alone, and want of memory each
+abbrev pub ReportsAs : ℕ → ℕ → Type 0
+ReportsAs status status' = (status' ≡ status) ⊎ ((status ≡ 0) × (status' ≡ 5)) ⊎ (status' ≡ 6)
+
+-- the statuses of a script that was read
+abbrev pub IsPlayed : ℕ → Type 0
+IsPlayed s = (s ≡ 0) ⊎ (s ≡ 5) ⊎ (s ≡ 6) ⊎ (s ≡ 7)

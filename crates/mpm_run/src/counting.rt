@@ -1,9 +1,10 @@
 //! What the report of a board says: counts of its history's entries.
 ghost use Rattle.std.specs.Prelude.{◌≡◌, map, IfOk};
+ghost use Rattle.conn_machine.specs.Events as events;
 ghost use Rattle.mpm_run.specs.Report as spec;
 
-use crate::board::Board;
 use crate::report::{Tally, ended_lines, place_of};
+use board::Board;
 use conn_machine::{Entry, Event};
 use mpm_base::{Cause, Link, NoMemory};
 use std::alloc::Global;
@@ -26,7 +27,7 @@ pub fn tally<L: Link>(alloc: Global, board: &Board<L>) -> Result<Tally, NoMemory
 
 /// How many connections were accepted.
 fn count_accepts(history: &[Entry]) -> u64
-    ensures { result ≡ spec.count_events spec.is_accept history.now }
+    ensures { result ≡ events.count_events events.is_accept history.now }
 {
     history
         .iter()
@@ -36,7 +37,7 @@ fn count_accepts(history: &[Entry]) -> u64
 
 /// How many responses were decided.
 fn count_answers(history: &[Entry]) -> u64
-    ensures { result ≡ spec.count_events spec.is_answer history.now }
+    ensures { result ≡ events.count_events events.is_answer history.now }
 {
     history
         .iter()
@@ -46,7 +47,7 @@ fn count_answers(history: &[Entry]) -> u64
 
 /// How often a child was started.
 fn count_starts(history: &[Entry]) -> u64
-    ensures { result ≡ spec.count_events spec.is_start_child history.now }
+    ensures { result ≡ events.count_events events.is_start_child history.now }
 {
     history
         .iter()
@@ -56,7 +57,7 @@ fn count_starts(history: &[Entry]) -> u64
 
 /// How many connections were closed.
 fn count_closes(history: &[Entry]) -> u64
-    ensures { result ≡ spec.count_events spec.is_close history.now }
+    ensures { result ≡ events.count_events events.is_close history.now }
 {
     history
         .iter()
@@ -66,7 +67,7 @@ fn count_closes(history: &[Entry]) -> u64
 
 /// How many connections were closed for each cause, in order.
 fn count_causes(history: &[Entry]) -> [u64; 9]
-    ensures { result ≡ map (λ why. spec.count_events (spec.is_close_for why) history.now) spec.causes }
+    ensures { result ≡ map (λ why. events.count_events (spec.is_close_for why) history.now) spec.causes }
 {
     [
         count_closes_for(history, Cause::ClientDone),
@@ -83,7 +84,7 @@ fn count_causes(history: &[Entry]) -> [u64; 9]
 
 /// How many connections were closed for the cause.
 fn count_closes_for(history: &[Entry], cause: Cause) -> u64
-    ensures { result ≡ spec.count_events (spec.is_close_for cause) history.now }
+    ensures { result ≡ events.count_events (spec.is_close_for cause) history.now }
 {
     history
         .iter()
@@ -93,28 +94,28 @@ fn count_closes_for(history: &[Entry], cause: Cause) -> u64
 
 /// Whether the event takes a connection.
 fn is_accept(event: &Event) -> bool
-    ensures { result ≡ spec.is_accept event.now }
+    ensures { result ≡ events.is_accept event.now }
 {
     matches!(event, Event::Accept(_))
 }
 
 /// Whether the event decides a response.
 fn is_answer(event: &Event) -> bool
-    ensures { result ≡ spec.is_answer event.now }
+    ensures { result ≡ events.is_answer event.now }
 {
     matches!(event, Event::Answer(_, _))
 }
 
 /// Whether the event starts a child.
 fn is_start_child(event: &Event) -> bool
-    ensures { result ≡ spec.is_start_child event.now }
+    ensures { result ≡ events.is_start_child event.now }
 {
     matches!(event, Event::StartChild(_))
 }
 
 /// Whether the event closes a connection.
 fn is_close(event: &Event) -> bool
-    ensures { result ≡ spec.is_close event.now }
+    ensures { result ≡ events.is_close event.now }
 {
     matches!(event, Event::Close(_, _, _))
 }

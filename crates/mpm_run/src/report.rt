@@ -5,7 +5,7 @@ ghost use Rattle.std.specs.List.{flat_map};
 ghost use Rattle.conn_machine.specs.Table.{cause_number};
 ghost use Rattle.mpm_run.specs.Report as spec;
 
-use crate::conn::Ended;
+use conn_state::Ended;
 use mpm_base::{Cause, Link, NoMemory, Note, Octets, Tail};
 use std::alloc::Global;
 

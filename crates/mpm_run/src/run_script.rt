@@ -1,16 +1,20 @@
 //! The top call: from the words of the command line to the report.
-ghost use Rattle.std.specs.Prelude.{◌≡◌, ◌<◌, ◌≤◌, ◌⊎◌, ◌++◌, Some, None, IfOk, IfSome, IfNone, IsSomeAnd, IsNone, is_some, length, take, option_map};
+ghost use Rattle.std.specs.Prelude.{◌≡◌, ◌<◌, ◌≤◌, ℕ, List, Some, None, [], IfOk, IfSome, IfNone, IsSomeAnd, IsNone, is_some, length, take, option_map};
 ghost use Rattle.mpm_base.specs.Count.{NeverFalls, Rises};
-ghost use Rattle.mpm_run.specs.Report.{report_of};
-ghost use Rattle.mpm_run.specs.Statuses.{EndsAtLine, EndsTooLarge, EndsUnknown, EndsUnread, HasPlayed, IsCommand, IsNoCommand, IsStatus, Plays, Reports, Writes, WritesAll, sink_seen, store_seen};
-ghost use Rattle.mpm_run.specs.Listen.{IsRunFrom, IsWholeRun};
+ghost use Rattle.conn_machine.specs.States.{opening};
+ghost use Rattle.conn_machine.specs.declared.state.Going.{Going};
 ghost use Rattle.mpm_run.specs.FirstShape as spec;
+ghost use Rattle.mpm_run.specs.Listen.{HasEnded, HasStopped, IsEnd, IsRunFrom, IsWholeRun};
+ghost use Rattle.mpm_run.specs.Statuses.{EndsFor, EndsFull, EndsRefused, EndsUnknown, EndsUnread, EndsUnwritten, EndsWell, HasPlayed, HasRun, IsCommand, IsEndStatus, IsNoCommand, IsPlayed, IsStatus, IsStatusOf, Reports, ReportsAs, Writes, WritesAll, board_report, seen_call, sink_seen};
+ghost use Rattle.mpm_run.specs.Tells.{AllReceive, EndedTell};
 
-use crate::board::Board;
 use crate::counting::tally;
 use crate::listen::{PASSES, listen};
 use crate::report::report_text;
 use crate::texts::{ScriptRefusal, script_refused_text, store_fault_text, usage_text};
+use board::Board;
+use conn_machine::laws::{accepted_connections_are_closed_or_live, events_keep_states_sound};
+use conn_machine::{Going, Why};
 use mpm_base::{
     Calls, Link, NoMemory, Octets, Put, Script, ScriptFault, ScriptLink, Shape, Sink, Store,
     StoreFault, Words, read_script,
@@ -55,7 +59,8 @@ pub struct Scripted {
 #[derive(Drop)]
 pub struct Outcome {
     /// The status that the process ends with: 0 for a run that came to its end, 2 for words that are no command, 3 for
-    /// a script that can't be read, 5 for an output that failed, 6 for want of memory, 8 for a script that is refused.
+    /// a script that can't be read, 5 for an output that failed, 6 for want of memory, 7 for a full history, 8 for a script
+    /// that is refused.
     pub status: u8,
     /// The line at which the script is refused, from 1, or 0 for its size; 0 where it is missing.
     pub shown: Option<u64>,
@@ -73,22 +78,22 @@ pub fn run<R: Threads + Wait + Sync, D: Store, K: Sink>(
     store: &mut D,
     out: &mut K,
 ) -> Outcome
-    // A run that ended is a whole run of the machine from its opening state.
-    ensures served { result.status ≡ 0 → IsSomeAnd result.scripted (λ s. IsWholeRun 64 1 spec.first_shape s.board.book) }
+    // A run that ended is a whole run of the machine from its opening state, and the output has its report.
+    ensures served { result.status ≡ 0 → IsSomeAnd result.scripted (λ s. EndsWell (sink_seen (K.told out.old) (K.faults out.old)) (sink_seen (K.told out.new) (K.faults out.new)) s.board) }
 
-    // Whatever the status, what is left of a run has a history of the machine.
-    ensures kept { IfSome result.scripted (λ s. IsRunFrom 64 1 spec.first_shape s.board.book) }
+    // Whatever the status, what is left of a run is of one of the script that was read.
+    ensures kept { IfSome result.scripted (λ s. HasPlayed (seen_call words.now (D.told store.old) (D.counts store.old) (D.told store.new) (D.counts store.new) (K.told out.old) (K.faults out.old) (K.told out.new) (K.faults out.new) result.shown) s.board) }
+    ensures stopped { IfSome result.scripted (λ s. EndsFor s.board.book.state.going result.status) }
 
-    // Each status has its cause.
+    // Each other status has its cause.
     ensures known { IsStatus result.status }
-    ensures unknown { result.status ≡ 2 → EndsUnknown words.now (store_seen (D.told store.old) (D.counts store.old)) (store_seen (D.told store.new) (D.counts store.new)) (sink_seen (K.told out.old) (K.faults out.old)) (sink_seen (K.told out.new) (K.faults out.new)) result.shown }
-    ensures unread { result.status ≡ 3 → EndsUnread words.now (store_seen (D.told store.old) (D.counts store.old)) (store_seen (D.told store.new) (D.counts store.new)) (sink_seen (K.told out.old) (K.faults out.old)) (sink_seen (K.told out.new) (K.faults out.new)) result.shown }
-    ensures refused { result.status ≡ 8 → EndsTooLarge words.now (store_seen (D.told store.old) (D.counts store.old)) (store_seen (D.told store.new) (D.counts store.new)) (sink_seen (K.told out.old) (K.faults out.old)) (sink_seen (K.told out.new) (K.faults out.new)) result.shown ⊎ EndsAtLine words.now (store_seen (D.told store.old) (D.counts store.old)) (store_seen (D.told store.new) (D.counts store.new)) (sink_seen (K.told out.old) (K.faults out.old)) (sink_seen (K.told out.new) (K.faults out.new)) result.shown }
-    ensures played { result.status ≡ 0 → Plays words.now (store_seen (D.told store.old) (D.counts store.old)) (store_seen (D.told store.new) (D.counts store.new)) result.shown }
-    ensures unwritten { result.status ≡ 5 → Plays words.now (store_seen (D.told store.old) (D.counts store.old)) (store_seen (D.told store.new) (D.counts store.new)) result.shown × Rises (K.faults out.old) (K.faults out.new) }
+    ensures unknown { result.status ≡ 2 → EndsUnknown (seen_call words.now (D.told store.old) (D.counts store.old) (D.told store.new) (D.counts store.new) (K.told out.old) (K.faults out.old) (K.told out.new) (K.faults out.new) result.shown) }
+    ensures unread { result.status ≡ 3 → EndsUnread (seen_call words.now (D.told store.old) (D.counts store.old) (D.told store.new) (D.counts store.new) (K.told out.old) (K.faults out.old) (K.told out.new) (K.faults out.new) result.shown) }
+    ensures refused { result.status ≡ 8 → EndsRefused (seen_call words.now (D.told store.old) (D.counts store.old) (D.told store.new) (D.counts store.new) (K.told out.old) (K.faults out.old) (K.told out.new) (K.faults out.new) result.shown) }
+    ensures unwritten { result.status ≡ 5 → IsSomeAnd result.scripted (λ s. EndsUnwritten (sink_seen (K.told out.old) (K.faults out.old)) (sink_seen (K.told out.new) (K.faults out.new)) s.board) }
+    ensures full { result.status ≡ 7 → IsSomeAnd result.scripted (λ s. EndsFull (sink_seen (K.told out.old) (K.faults out.old)) (sink_seen (K.told out.new) (K.faults out.new)) s.board) }
 
-    // With status 0 the output has the report of what is left, and a run that did not open for want of memory writes nothing.
-    ensures reported { result.status ≡ 0 → IsSomeAnd result.scripted (λ s. Reports (sink_seen (K.told out.old) (K.faults out.old)) (sink_seen (K.told out.new) (K.faults out.new)) s.board) }
+    // A run that did not open for want of memory writes nothing.
     ensures silent { result.status ≡ 6 → IsNone result.scripted → K.told out.new ≡ K.told out.old }
 {
     let Some(name) = script_name(words) else {
@@ -175,39 +180,51 @@ fn refuse<K: Sink>(out: &mut K, status: u8, shown: Option<u64>, text: &Octets) -
 
 /// Plays the script, and writes the report.
 fn play<R: Wait, K: Sink>(rt: &R, alloc: Global, script: Script, out: &mut K) -> Outcome
-    ensures served { result.status ≡ 0 → IsSomeAnd result.scripted (λ s. IsWholeRun 64 1 spec.first_shape s.board.book) }
-    ensures kept { IfSome result.scripted (λ s. IsRunFrom 64 1 spec.first_shape s.board.book) }
-    ensures played { HasPlayed result.status (K.faults out.old) (K.faults out.new) }
+    ensures kept { IfSome result.scripted (λ s. HasRun script.sent s.board) }
+    ensures stopped { IfSome result.scripted (λ s. EndsFor s.board.book.state.going result.status) }
     ensures shown { result.shown ≡ None }
-    ensures reported { result.status ≡ 0 → IsSomeAnd result.scripted (λ s. Reports (sink_seen (K.told out.old) (K.faults out.old)) (sink_seen (K.told out.new) (K.faults out.new)) s.board) }
+    ensures known { IsPlayed result.status }
+    ensures served { result.status ≡ 0 → IsSomeAnd result.scripted (λ s. EndsWell (sink_seen (K.told out.old) (K.faults out.old)) (sink_seen (K.told out.new) (K.faults out.new)) s.board) }
+    ensures unwritten { result.status ≡ 5 → IsSomeAnd result.scripted (λ s. EndsUnwritten (sink_seen (K.told out.old) (K.faults out.old)) (sink_seen (K.told out.new) (K.faults out.new)) s.board) }
+    ensures full { result.status ≡ 7 → IsSomeAnd result.scripted (λ s. EndsFull (sink_seen (K.told out.old) (K.faults out.old)) (sink_seen (K.told out.new) (K.faults out.new)) s.board) }
     ensures silent { IsNone result.scripted → K.told out.new ≡ K.told out.old }
 {
     let Ok(mut board) = Board::make(alloc, SLOTS, CHILDREN, PASSES, first_shape()) else {
         return no_memory();
     };
-    let calls = Calls::make(alloc);
-    let link = ScriptLink::make(alloc, 0, script.sent, true, calls, Calls::make(alloc));
-    match listen(rt, alloc, &mut board, link) {
-        Ok(()) => {
-            board.show();
-            finish(alloc, board, out, 0)
-        }
-        Err(_) => {
-            board.show();
-            finish(alloc, board, out, 6)
-        }
-    }
+    board.show();
+    let (reads, writes) = (Calls::make(alloc), Calls::make(alloc));
+    let link = ScriptLink::make(alloc, 0, script.sent, true, reads, writes);
+    listen(rt, alloc, &mut board, link);
+    show_run(&board);
+    finish(alloc, board, out)
+}
+
+/// What a board shows of its run: each state on the way was sound; where the one connection was taken and is gone it
+/// ended; and where links tell from a text, those of ended connections received a front of it. Does nothing.
+fn show_run<L: Link>(board: &Board<L>)
+    requires { board.now.book.base ≡ opening 64 1 spec.first_shape }
+    ensures run { IsRunFrom 64 1 spec.first_shape board.now }
+    ensures whole { HasEnded board.now.book.state → IsWholeRun 64 1 spec.first_shape board.now }
+    ensures receive { (text : List ℕ) → EndedTell text board.now.ended → AllReceive text board.now.ended }
+{
+    events_keep_states_sound();
+    accepted_connections_are_closed_or_live();
+    board.show();
 }
 
 /// The end of a run that opened: its report is written.
-fn finish<K: Sink>(alloc: Global, board: Board<ScriptLink>, out: &mut K, status: u8) -> Outcome
-    ensures status { result.status ≡ 0 → status ≡ 0 }
+fn finish<K: Sink>(alloc: Global, board: Board<ScriptLink>, out: &mut K) -> Outcome
+    requires stopped { HasStopped board.book.state }
     ensures scripted { IsSomeAnd result.scripted (λ s. s.board ≡ board) }
-    ensures played { status ≡ 0 ⊎ status ≡ 6 → HasPlayed result.status (K.faults out.old) (K.faults out.new) }
+    ensures stopped { EndsFor board.book.state.going result.status }
     ensures shown { result.shown ≡ None }
-    ensures reported { result.status ≡ 0 → IsSomeAnd result.scripted (λ s. Reports (sink_seen (K.told out.old) (K.faults out.old)) (sink_seen (K.told out.new) (K.faults out.new)) s.board) }
+    ensures known { IsPlayed result.status }
+    ensures reported { result.status ≡ 0 → HasEnded board.book.state × Reports (sink_seen (K.told out.old) (K.faults out.old)) (sink_seen (K.told out.new) (K.faults out.new)) board }
+    ensures unwritten { result.status ≡ 5 → HasEnded board.book.state × Rises (K.faults out.old) (K.faults out.new) }
+    ensures full { result.status ≡ 7 → EndsFull (sink_seen (K.told out.old) (K.faults out.old)) (sink_seen (K.told out.new) (K.faults out.new)) board }
 {
-    let status = report(alloc, &board, out, status);
+    let status = report(alloc, &board, out, status_of(board.going()));
     Outcome {
         status,
         shown: None,
@@ -215,13 +232,28 @@ fn finish<K: Sink>(alloc: Global, board: Board<ScriptLink>, out: &mut K, status:
     }
 }
 
-/// Writes the report of the run. A failed write changes status 0 alone.
-fn report<L: Link, K: Sink>(alloc: Global, board: &Board<L>, out: &mut K, status: u8) -> u8
-    ensures status { result ≡ 0 → status ≡ 0 }
-    ensures played { status ≡ 0 ⊎ status ≡ 6 → HasPlayed result (K.faults out.old) (K.faults out.new) }
-    ensures reported { result ≡ 0 → Reports (sink_seen (K.told out.old) (K.faults out.old)) (sink_seen (K.told out.new) (K.faults out.new)) board.now }
+/// The status of a run that stopped so.
+fn status_of(going: Going) -> u8
+    requires { IsEnd going }
+    ensures { IsStatusOf going result }
 {
-    match board_report(alloc, board) {
+    match going {
+        Going::Halted(Why::FrontEnded) => 0,
+        Going::Halted(Why::Full) => 7,
+        Going::Halted(Why::NoMemory) => 6,
+        _ => unreachable!(),
+    }
+}
+
+/// Writes the report of the run, and answers its status: a failed write changes 0 alone.
+fn report<L: Link, K: Sink>(alloc: Global, board: &Board<L>, out: &mut K, status: u8) -> u8
+    requires status { IsEndStatus status }
+    ensures status { ReportsAs status result }
+    ensures reported { result ≡ 0 → Reports (sink_seen (K.told out.old) (K.faults out.old)) (sink_seen (K.told out.new) (K.faults out.new)) board.now }
+    ensures unwritten { result ≡ 5 → Rises (K.faults out.old) (K.faults out.new) }
+    ensures full { result ≡ 7 → Writes (sink_seen (K.told out.old) (K.faults out.old)) (sink_seen (K.told out.new) (K.faults out.new)) (board_report board.now) }
+{
+    match report_of(alloc, board) {
         Ok(text) if write_all(out, text.as_slice()) => status,
         Ok(_) if status == 0 => 5,
         Ok(_) => status,
@@ -230,8 +262,8 @@ fn report<L: Link, K: Sink>(alloc: Global, board: &Board<L>, out: &mut K, status
 }
 
 /// The report of the board.
-fn board_report<L: Link>(alloc: Global, board: &Board<L>) -> Result<Octets, NoMemory>
-    ensures { IfOk result (λ text. text ≡ report_of board.now.book.history board.now.book.state.newest board.now.ended) }
+fn report_of<L: Link>(alloc: Global, board: &Board<L>) -> Result<Octets, NoMemory>
+    ensures { IfOk result (λ text. text ≡ board_report board.now) }
 {
     let tally = tally(alloc, board)?;
     report_text(alloc, &tally)

@@ -1,129 +1,189 @@
 //! The service of a connection by a worker, from its queue to a park or a close.
-ghost use Rattle.std.specs.Prelude.{◌≡◌, ◌<◌, true, false};
-ghost use Rattle.std.specs.Bool.{OnTrue, OnFalse};
+ghost use Rattle.std.specs.Prelude.{◌≡◌, ◌<◌, ◌≤◌, ℕ, List, true, false, IfSome, IfNone, IfErr, OnOk, OnErr};
+ghost use Rattle.conn_machine.specs.States.{is_halted};
 ghost use Rattle.conn_machine.specs.Table.{allowed};
 ghost use Rattle.conn_machine.specs.declared.event.Event.TheVariants as event;
-ghost use Rattle.mpm_run.specs.Conn.{IsSame};
-ghost use Rattle.mpm_run.specs.Serve.{GoesOn, IsLastExit, IsOpen, IsServed, MayGiveUp, MayLeave};
+ghost use Rattle.board.specs.Faults.{IsRefusedFor};
+ghost use Rattle.board.specs.Fits.{IsSettled};
+ghost use Rattle.conn_state.specs.declared.turn.LastTurn.TheVariants as turn;
+ghost use Rattle.mpm_run.specs.Serve.{GoesOn, IsClosable, IsInHand, IsServed, LeavesGoing, MayLeave, Stays, answers_left, parked_count, signalled_count};
+ghost use Rattle.mpm_run.specs.Tells.{AllTell, HasSame, TellsFrom};
 
-use crate::board::Board;
-use crate::conn::{Conn, ReadTurn, WriteTurn};
+use board::{Board, BoardFault};
+use conn_machine::Why;
+use conn_state::{Conn, ReadTurn, WriteTurn};
 use mpm_base::{Ask, Cause, ConnName, Kind, Link, NoMemory, Tail};
 
 /// How a worker leaves a connection.
-#[derive(Clone, Copy)]
+#[derive(Clone, Copy, Debug, PartialEq, Eq)]
 pub enum Exit {
     /// It waits for this.
     Park(Kind),
     /// It ends for this cause.
     Close(Cause),
+    /// A call of the board was refused.
+    GiveUp(BoardFault),
 }
 
-/// Serves a signalled connection, as the pass `who`. Where memory lacks for its first step it stays where it waits.
-pub fn serve<L: Link>(board: &mut Board<L>, who: u32, name: ConnName) -> Result<(), NoMemory>
+/// Serves a signalled connection, as the pass `who`. Where its queueing is refused nothing changes.
+pub fn serve<L: Link>(board: &mut Board<L>, who: u32, name: ConnName) -> Result<(), BoardFault>
     requires who { who < board.old.book.passes }
-    requires allowed { allowed board.old.book.state (event.Queue name) ≡ true }
-    ensures { GoesOn board.old.book board.new.book }
+    requires allowed { is_halted board.old.book.state.going ≡ false → allowed board.old.book.state (event.Queue name) ≡ true }
+    ensures goes { GoesOn board.old.book board.new.book }
+    ensures fewer { OnOk result (signalled_count board.new.book.state < signalled_count board.old.book.state) }
+    ensures tells { (text : List ℕ) → AllTell text board.old → AllTell text board.new }
+    ensures why { IfErr result (λ fault. IsRefusedFor fault board.old.book) }
+    ensures err { OnErr result (board.new ≡ board.old) }
 {
     board.queue(who, name)?;
     let (_, mut conn) = board.start(who, name);
-    let exit = attend(board, who, &mut conn);
+    let exit = converse(board, who, &mut conn);
     leave(board, who, conn, exit);
     Ok(())
 }
 
-/// Goes on where the connection was left.
-fn attend<L: Link>(board: &mut Board<L>, who: u32, conn: &mut Conn<L>) -> Exit
-    requires who { who < board.old.book.passes }
-    requires served { IsServed board.old.book.state conn.old }
-    ensures goes { GoesOn board.old.book board.new.book }
-    ensures may { MayLeave board.new.book.state conn.new result }
-{
-    if board.is_last(conn.name()) {
-        return send_last(conn);
-    }
-    converse(board, who, conn)
-}
-
-/// Sends what is pending of a last response. Lingering closes are not built yet: once it was sent the connection ends
-/// for want of memory, the one cause that needs no other.
-fn send_last<L: Link>(conn: &mut Conn<L>) -> Exit
-    ensures same { IsSame conn.old conn.new }
-    ensures left { IsLastExit result }
-{
-    match conn.write_turn() {
-        WriteTurn::Done => Exit::Close(Cause::NoMemory),
-        WriteTurn::NotReady => Exit::Park(Kind::Writing),
-        WriteTurn::LinkFailed => Exit::Close(Cause::LinkFailed),
-    }
-}
-
-/// Writes what is pending, reads the next request and answers it, until the link gives no more.
+/// Takes turns with the client, until the connection is to be left.
 fn converse<L: Link>(board: &mut Board<L>, who: u32, conn: &mut Conn<L>) -> Exit
     requires who { who < board.old.book.passes }
     requires served { IsServed board.old.book.state conn.old }
-    requires undecided { IsOpen board.old.book.state conn.old.name }
-    ensures goes { GoesOn board.old.book board.new.book }
-    ensures may { MayLeave board.new.book.state conn.new result }
+    ensures stays { Stays board.old.book board.new.book }
+    ensures same { HasSame board.old board.new }
+    ensures told { (text : List ℕ) → TellsFrom text conn.old.told → TellsFrom text conn.new.told }
+    ensures may { MayLeave board.new.book conn.new result }
 {
-    for _ in 0..u64::MAX {
-        match conn.write_turn() {
-            WriteTurn::Done => (),
-            WriteTurn::NotReady => return Exit::Park(Kind::Writing),
-            WriteTurn::LinkFailed => return Exit::Close(Cause::LinkFailed),
-        }
-        match conn.read_turn() {
-            ReadTurn::Asked(ask) => {
-                if !answer(board, who, conn, ask) {
-                    return Exit::Close(Cause::NoMemory);
-                }
-                if board.is_last(conn.name()) {
-                    return send_last(conn);
-                }
-            }
-            ReadTurn::More if conn.noted() && conn.rest_empty() => {
-                return Exit::Park(Kind::KeepAlive);
-            }
-            ReadTurn::More => return Exit::Park(Kind::Reading),
-            ReadTurn::Gone => return Exit::Close(Cause::ClientDone),
-            ReadTurn::LinkFailed => return Exit::Close(Cause::LinkFailed),
-            ReadTurn::NoMemory => return Exit::Close(Cause::NoMemory),
+    loop {
+        if let Some(exit) = turn(board, who, conn) {
+            return exit;
         }
     }
-    Exit::Close(Cause::NoMemory)
 }
 
-/// Decides the response and makes it pending. False where memory lacked.
-fn answer<L: Link>(board: &mut Board<L>, who: u32, conn: &mut Conn<L>, ask: Ask) -> bool
+/// Sends what is pending; where all was sent, reads on, and answers. None where the response is to be sent.
+///
+/// Lingering closes are not built yet: once a last response was sent the connection ends for want of memory, the one
+/// cause that needs no other.
+fn turn<L: Link>(board: &mut Board<L>, who: u32, conn: &mut Conn<L>) -> Option<Exit>
     requires who { who < board.old.book.passes }
     requires served { IsServed board.old.book.state conn.old }
-    requires undecided { IsOpen board.old.book.state conn.old.name }
-    ensures goes { GoesOn board.old.book board.new.book }
-    ensures name { conn.new.name ≡ conn.old.name }
-    ensures served { OnTrue result (IsServed board.new.book.state conn.new) }
-    ensures refused { OnFalse result (MayGiveUp board.new.book.state conn.new.name) }
+    ensures stays { Stays board.old.book board.new.book }
+    ensures same { HasSame board.old board.new }
+    ensures told { (text : List ℕ) → TellsFrom text conn.old.told → TellsFrom text conn.new.told }
+    ensures may { IfSome result (MayLeave board.new.book conn.new) }
+    ensures served { IfNone result (IsServed board.new.book.state conn.new) }
+    ensures fewer { IfNone result (answers_left board.new.book.state conn.new < answers_left board.old.book.state conn.old) }
 {
-    let Ok(note) = board.answer(who, conn.name(), ask) else {
-        return false;
-    };
-    match conn.answer(note) {
-        Ok(()) => true,
-        Err(_) => false,
+    board.show();
+    match conn.write_turn() {
+        WriteTurn::Done => (),
+        WriteTurn::NotReady => return Some(Exit::Park(Kind::Writing)),
+        WriteTurn::LinkFailed => return Some(Exit::Close(Cause::LinkFailed)),
+    }
+    if conn.last() {
+        return Some(Exit::Close(Cause::NoMemory));
+    }
+    match conn.read_turn() {
+        ReadTurn::Asked(ask) => answer(board, who, conn, ask),
+        ReadTurn::More if conn.noted() && conn.rest_empty() => Some(Exit::Park(Kind::KeepAlive)),
+        ReadTurn::More => Some(Exit::Park(Kind::Reading)),
+        ReadTurn::Gone => Some(Exit::Close(Cause::ClientDone)),
+        ReadTurn::LinkFailed => Some(Exit::Close(Cause::LinkFailed)),
+        ReadTurn::NoMemory => Some(Exit::Close(Cause::NoMemory)),
     }
 }
 
-/// Parks or closes the connection.
+/// Decides the response to what was asked, and makes it pending. None where it is to be sent.
+fn answer<L: Link>(board: &mut Board<L>, who: u32, conn: &mut Conn<L>, ask: Ask) -> Option<Exit>
+    requires who { who < board.old.book.passes }
+    requires served { IsServed board.old.book.state conn.old }
+    requires asked { conn.old.turn ≡ turn.Asked ask }
+    ensures stays { Stays board.old.book board.new.book }
+    ensures same { HasSame board.old board.new }
+    ensures told { conn.new.told ≡ conn.old.told }
+    ensures may { IfSome result (MayLeave board.new.book conn.new) }
+    ensures served { IfNone result (IsServed board.new.book.state conn.new) }
+    ensures fewer { IfNone result (answers_left board.new.book.state conn.new < answers_left board.old.book.state conn.old) }
+{
+    board.show();
+    conn.show();
+    match board.answer(who, conn.name(), ask) {
+        Ok(note) => match conn.answer(note) {
+            Ok(()) => None,
+            Err(NoMemory) => Some(Exit::Close(Cause::NoMemory)),
+        },
+        Err(fault) => Some(Exit::GiveUp(fault)),
+    }
+}
+
+/// Parks, closes or gives up the connection.
 fn leave<L: Link>(board: &mut Board<L>, who: u32, conn: Conn<L>, exit: Exit)
     requires who { who < board.old.book.passes }
-    requires may { MayLeave board.old.book.state conn exit }
-    ensures { GoesOn board.old.book board.new.book }
+    requires may { MayLeave board.old.book conn exit }
+    ensures goes { GoesOn board.old.book board.new.book }
+    ensures tells { (text : List ℕ) → AllTell text board.old → TellsFrom text conn.told → AllTell text board.new }
 {
+    board.show();
+    conn.show();
     match exit {
         Exit::Park(kind) => {
-            if let Err((_, conn)) = board.park(who, kind, conn) {
-                board.close(who, conn.end(Cause::NoMemory, Tail::Direct));
-            }
+            let _ = park(board, who, conn, kind);
         }
-        Exit::Close(cause) => board.close(who, conn.end(cause, Tail::Direct)),
+        Exit::Close(cause) => close(board, who, conn, cause),
+        Exit::GiveUp(fault) => give_up(board, who, conn, fault),
     }
+}
+
+/// The connection waits. Where it is refused the connection is given up.
+pub fn park<L: Link>(
+    board: &mut Board<L>,
+    who: u32,
+    conn: Conn<L>,
+    kind: Kind,
+) -> Result<(), BoardFault>
+    requires who { who < board.old.book.passes }
+    requires allowed { is_halted board.old.book.state.going ≡ false → allowed board.old.book.state (event.Park conn.name kind) ≡ true }
+    requires hand { IsInHand board.old.book.state conn }
+    requires settled { IsSettled kind conn }
+    ensures goes { GoesOn board.old.book board.new.book }
+    ensures ok { OnOk result (board.new.book.state.going ≡ board.old.book.state.going) }
+    ensures err { IfErr result (λ fault. LeavesGoing fault board.old.book.state.going board.new.book.state.going) }
+    ensures tells { (text : List ℕ) → AllTell text board.old → TellsFrom text conn.told → AllTell text board.new }
+{
+    match board.park(who, kind, conn) {
+        Ok(()) => Ok(()),
+        Err((fault, conn)) => {
+            give_up(board, who, conn, fault);
+            Err(fault)
+        }
+    }
+}
+
+/// Ends a connection for which a call of the board was refused: it was stopped, or memory lacks. A full history stops
+/// the server. Takes no memory.
+pub fn give_up<L: Link>(board: &mut Board<L>, who: u32, conn: Conn<L>, fault: BoardFault)
+    requires who { who < board.old.book.passes }
+    requires hand { IsInHand board.old.book.state conn }
+    requires why { IsRefusedFor fault board.old.book }
+    ensures goes { GoesOn board.old.book board.new.book }
+    ensures going { LeavesGoing fault board.old.book.state.going board.new.book.state.going }
+    ensures tells { (text : List ℕ) → AllTell text board.old → TellsFrom text conn.told → AllTell text board.new }
+{
+    match fault {
+        BoardFault::Halted => close(board, who, conn, Cause::Stopped),
+        BoardFault::Full => {
+            board.halt(who, Why::Full);
+            close(board, who, conn, Cause::Stopped);
+        }
+        BoardFault::NoMemory => close(board, who, conn, Cause::NoMemory),
+    }
+}
+
+/// Closes the connection. Takes no memory.
+pub fn close<L: Link>(board: &mut Board<L>, who: u32, conn: Conn<L>, cause: Cause)
+    requires who { who < board.old.book.passes }
+    requires may { IsClosable board.old.book.state cause conn }
+    ensures stays { Stays board.old.book board.new.book }
+    ensures parked { parked_count board.new.book.state ≤ parked_count board.old.book.state }
+    ensures tells { (text : List ℕ) → AllTell text board.old → TellsFrom text conn.told → AllTell text board.new }
+{
+    board.close(who, conn.end(cause, Tail::Direct));
 }

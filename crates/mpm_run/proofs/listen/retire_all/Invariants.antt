@@ -1,15 +1,18 @@
-use Rattle.std.proofs.Common.{◌≡◌, length}
-use Rattle.mpm_run.specs.Listen.{Stays, HasNoLive, HasNoRunning, EmptyBelow}
+use Rattle.std.proofs.Common.{◌≡◌, List, ℕ, count_by}
+use Rattle.conn_machine.specs.Children.{is_stopping}
+use Rattle.mpm_run.specs.Serve.{Stays}
+use Rattle.mpm_run.specs.Tells.{AllTell}
 use Rattle.mpm_run.proofs.listen.retire_all.Given as goal
 
--- the children so far are gone
+-- the server stays stopped, with the rows that it had
 abbrev pub invariant-loop-child : goal.invariant-loop-child
 invariant-loop-child g l =
     record {
       stays : Stays l.fn.board.book l.board.book;
-      taken : l.board.book.state.accepted ≡ l.fn.board.book.state.accepted;
-      live : HasNoLive l.board.book.state;
-      running : HasNoRunning l.board.book.state;
-      below : EmptyBelow l.board.book.state l.child;
-      count : length l.board.book.state.children ≡ l.child-end;
+      rows : l.board.book.state.rows ≡ l.fn.board.book.state.rows;
+      tells : (text : List ℕ) → AllTell text l.fn.board → AllTell text l.board;
     }
+
+-- how many children stop
+abbrev pub decreases-loop-child : goal.decreases-loop-child
+decreases-loop-child g l = count_by (λ c. is_stopping c.phase) l.board.book.state.children

@@ -1,11 +1,16 @@
-use Rattle.std.proofs.Common.{◌≡◌}
-use Rattle.mpm_run.specs.Listen.{Stays}
+use Rattle.std.proofs.Common.{List, ℕ}
+use Rattle.mpm_run.specs.Serve.{GoesOn, signalled_count}
+use Rattle.mpm_run.specs.Tells.{AllTell}
 use Rattle.mpm_run.proofs.listen.serve_all.Given as goal
 
--- the server goes on as before
-abbrev pub invariant-loop-slot : goal.invariant-loop-slot
-invariant-loop-slot g l =
+-- the server goes on, or was stopped for a full history
+abbrev pub invariant-loop-name : goal.invariant-loop-name
+invariant-loop-name g l =
     record {
-      stays : Stays l.fn.board.book l.board.book;
-      taken : l.board.book.state.accepted ≡ l.fn.board.book.state.accepted;
+      goes : GoesOn l.fn.board.book l.board.book;
+      tells : (text : List ℕ) → AllTell text l.fn.board → AllTell text l.board;
     }
+
+-- how many slots are signalled
+abbrev pub decreases-loop-name : goal.decreases-loop-name
+decreases-loop-name g l = signalled_count l.board.book.state

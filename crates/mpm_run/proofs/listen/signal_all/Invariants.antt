@@ -1,11 +1,16 @@
-use Rattle.std.proofs.Common.{◌≡◌}
-use Rattle.mpm_run.specs.Listen.{Stays}
+use Rattle.std.proofs.Common.{◌≡◌, List, ℕ}
+use Rattle.conn_machine.specs.declared.state.Going.TheVariants.{Serving}
+use Rattle.mpm_run.specs.Listen.{Keeps}
+use Rattle.mpm_run.specs.Tells.{AllTell}
 use Rattle.mpm_run.proofs.listen.signal_all.Given as goal
 
--- the server goes on as before
+-- the server goes on as before, with the rows that it had
 abbrev pub invariant-loop-slot : goal.invariant-loop-slot
 invariant-loop-slot g l =
     record {
-      stays : Stays l.fn.board.book l.board.book;
+      keeps : Keeps l.fn.board.book l.board.book;
+      going : l.board.book.state.going ≡ Serving;
       taken : l.board.book.state.accepted ≡ l.fn.board.book.state.accepted;
+      rows : l.board.book.state.rows ≡ l.fn.board.book.state.rows;
+      tells : (text : List ℕ) → AllTell text l.fn.board → AllTell text l.board;
     }

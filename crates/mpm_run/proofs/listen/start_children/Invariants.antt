@@ -1,5 +1,7 @@
-use Rattle.std.proofs.Common.{◌≡◌}
-use Rattle.mpm_run.specs.Listen.{Stays}
+use Rattle.std.proofs.Common.{List, ℕ, count_by}
+use Rattle.conn_machine.specs.Children.{is_empty}
+use Rattle.mpm_run.specs.Serve.{Stays}
+use Rattle.mpm_run.specs.Tells.{AllTell}
 use Rattle.mpm_run.proofs.listen.start_children.Given as goal
 
 -- the server goes on as before
@@ -7,5 +9,9 @@ abbrev pub invariant-loop-child : goal.invariant-loop-child
 invariant-loop-child g l =
     record {
       stays : Stays l.fn.board.book l.board.book;
-      taken : l.board.book.state.accepted ≡ l.fn.board.book.state.accepted;
+      tells : (text : List ℕ) → AllTell text l.fn.board → AllTell text l.board;
     }
+
+-- how many children are gone
+abbrev pub decreases-loop-child : goal.decreases-loop-child
+decreases-loop-child g l = count_by (λ c. is_empty c.phase) l.board.book.state.children

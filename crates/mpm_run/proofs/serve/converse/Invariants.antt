@@ -1,11 +1,18 @@
-use Rattle.mpm_run.specs.Serve.{GoesOn, IsServed, IsOpen}
+use Rattle.std.proofs.Common.{List, ℕ}
+use Rattle.mpm_run.specs.Serve.{IsServed, Stays, answers_left}
+use Rattle.mpm_run.specs.Tells.{HasSame, TellsFrom}
 use Rattle.mpm_run.proofs.serve.converse.Given as goal
 
--- the connection is served on, and its last response isn't decided
-abbrev pub invariant-loop : goal.invariant-loop
-invariant-loop g l =
+-- the connection is served on, and the board has what it had
+abbrev pub invariant-loop-exit : goal.invariant-loop-exit
+invariant-loop-exit g l =
     record {
-      goes : GoesOn l.fn.board.book l.board.book;
       served : IsServed l.board.book.state l.conn;
-      undecided : IsOpen l.board.book.state l.conn.name;
+      stays : Stays l.fn.board.book l.board.book;
+      same : HasSame l.fn.board l.board;
+      told : (text : List ℕ) → TellsFrom text l.fn.conn.told → TellsFrom text l.conn.told;
     }
+
+-- how many more responses the connection may have
+abbrev pub decreases-loop-exit : goal.decreases-loop-exit
+decreases-loop-exit g l = answers_left l.board.book.state l.conn

@@ -1,27 +1,39 @@
-use Rattle.std.proofs.Common.{◌≡◌, Some, subst, sym, ap}
-use Rattle.conn_machine.specs.declared.event.Event.TheVariants as event
-use Rattle.conn_machine.specs.declared.state.State.{State}
-use Rattle.conn_machine.specs.Rows.{live_row}
-use Rattle.conn_machine.specs.Table.{next}
-use Rattle.mpm_run.specs.Book.{SeenBook}
-use Rattle.mpm_run.specs.Serve.{IsServed}
-use Rattle.mpm_run.proofs.ServeLemmas.{may-start, served-started}
+use Rattle.std.proofs.Common.{ap, refl}
+use Rattle.board.specs.Board.{SeenBoard}
+use Rattle.mpm_run.proofs.StartLemmas.{may-start, served-started, queued-stays, started-stays, stays-goes, fewer-served, start-tells}
+use Rattle.mpm_run.proofs.TellLemmas.{tell-same}
 use Rattle.mpm_run.proofs.serve.serve.Goals as goal
 
 pub start-conn-requires-clause-allowed : goal.start-conn-requires-clause-allowed
 start-conn-requires-clause-allowed g c =
-    may-start c.args.board.now.book.state c.queue.new.self.book.state c.args.name c.requires.allowed
-    (ap (λ (b : SeenBook). b.state) c.in_ok-queue.ensures.ok)
+    may-start c.args.board.now.book.state c.queue.new.self.book.state c.args.name (c.requires.allowed c.in_ok-queue.ensures.ok.was_open.going)
+    (ap (λ (b : SeenBoard). b.book.state) c.in_ok-queue.ensures.ok.new_is)
 
-pub attend-exit-requires-clause-served : goal.attend-exit-requires-clause-served
-attend-exit-requires-clause-served g c =
-    let s = c.args.board.now.book.state in
-    let s1 = c.queue.new.self.book.state in
-    let conn = c.start-conn.result.1 in
-    let queued : s1 ≡ next s (event.Queue c.args.name) = ap (λ (b : SeenBook). b.state) c.in_ok-queue.ensures.ok in
-    let started : c.start-conn.new.self.book.state ≡ next s1 (event.Start c.args.name) = ap (λ (b : SeenBook). b.state) c.start-conn.ensures.is in
-    let found : live_row (next s1 (event.Start c.args.name)).rows conn.name ≡ Some c.start-conn.ensures.fits.row =
-    subst (λ (t : State). live_row t.rows conn.name ≡ Some c.start-conn.ensures.fits.row) started c.start-conn.ensures.fits.found in
-    subst (λ (t : State). IsServed t conn) (sym started)
-    (served-started s s1 conn c.args.name c.start-conn.ensures.fits.row c.requires.allowed queued c.start-conn.ensures.name found
-    c.start-conn.ensures.fits.fits)
+pub converse-exit-requires-clause-served : goal.converse-exit-requires-clause-served
+converse-exit-requires-clause-served g c =
+    served-started c.args.board.now.book.state c.queue.new.self.book.state _ c.start-conn.result.1 c.args.name
+    (c.requires.allowed c.in_ok-queue.ensures.ok.was_open.going)
+    (ap (λ (b : SeenBoard). b.book.state) c.in_ok-queue.ensures.ok.new_is) (ap (λ (b : SeenBoard). b.book.state) c.start-conn.ensures.is)
+    c.start-conn.ensures.name c.start-conn.ensures.handed
+
+pub returns-clause-goes : goal.returns-clause-goes
+returns-clause-goes g c =
+    let queued = queued-stays c.args.who c.args.name c.args.board.now c.queue.new.self c.in_ok-queue.ensures.ok.new_is in
+    let started = started-stays c.args.who c.args.name c.queue.new.self c.start-conn.new.self _ c.start-conn.ensures.is in
+    stays-goes c.args.board.now.book c.queue.new.self.book c.leave.new.board.book queued
+    (stays-goes c.queue.new.self.book c.start-conn.new.self.book c.leave.new.board.book started
+    (stays-goes c.start-conn.new.self.book c.converse-exit.new.board.book c.leave.new.board.book c.converse-exit.ensures.stays c.leave.ensures.goes))
+
+pub returns-clause-fewer : goal.returns-clause-fewer
+returns-clause-fewer g c =
+    fewer-served c.args.board.now.book.state c.queue.new.self.book.state _ c.start-conn.new.self.book c.converse-exit.new.board.book
+    c.leave.new.board.book c.args.name (c.requires.allowed c.in_ok-queue.ensures.ok.was_open.going)
+    (ap (λ (b : SeenBoard). b.book.state) c.in_ok-queue.ensures.ok.new_is) (ap (λ (b : SeenBoard). b.book.state) c.start-conn.ensures.is) refl
+    c.converse-exit.ensures.stays c.leave.ensures.goes
+
+pub returns-clause-tells : goal.returns-clause-tells
+returns-clause-tells g c text tells =
+    let here = start-tells text c.args.who c.args.name.slot c.args.name c.args.board.now c.queue.new.self c.start-conn.new.self c.start-conn.result.1
+    c.in_ok-queue.ensures.ok.new_is c.start-conn.ensures.is c.start-conn.ensures.conn tells in
+    c.leave.ensures.tells text (tell-same text c.start-conn.new.self c.converse-exit.new.board c.converse-exit.ensures.same here.others)
+    (c.converse-exit.ensures.told text here.own)

@@ -1,7 +1,7 @@
 use Rattle.std.proofs.Common.{◌≡◌, IfOk, subst}
 use Rattle.mpm_run.specs.Report.{text_of}
 use Rattle.mpm_run.specs.declared.report.Tally.{Tally}
-use Rattle.mpm_run.proofs.run_script.board_report.Goals as goal
+use Rattle.mpm_run.proofs.run_script.report_of.Goals as goal
 
 -- src/run_script.rt:233:1
 pub returns : goal.returns

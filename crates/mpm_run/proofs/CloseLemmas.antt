@@ -1,0 +1,40 @@
+-- What a close leaves of the server.
+use Rattle.std.proofs.Common.{◌≡◌, ◌==◌, ℕ, zero, suc, ◌+◌, ◌≤◌, Bool, true, false, cond, List, [], ◌∷◌, ◌++◌, count_by, Some, slice_get, slice_set, refl, sym, ap, subst, ◌∙◌, arith}
+use Rattle.std.proofs.lemmas.List.Sums.{sum_by-cons}
+use Rattle.mpm_base.specs.declared.conn.ConnName.{ConnName}
+use Rattle.conn_machine.specs.declared.row.Row.{Row}
+use Rattle.conn_machine.specs.declared.state.State.{State}
+use Rattle.conn_machine.specs.Rows.{is_parked, live_row}
+use Rattle.conn_machine.specs.Table.{after_close, closed_row, greatest_life}
+use Rattle.conn_machine.proofs.UpdateLemmas.{count_update_kept}
+use Rattle.mpm_run.specs.Serve.{signalled_count, parked_count}
+use Rattle.mpm_run.proofs.ServeLemmas.{alive}
+
+-- a count of one more signal
+pub count-signal : (x : Bool) (signals : List Bool) → count_by (λ (b : Bool). b) (x ∷ signals) ≡ cond x 1 0 + count_by (λ (b : Bool). b) signals
+count-signal x signals = sum_by-cons (λ (b : Bool). cond b 1 0) x signals
+
+-- no more signals are set where one is cleared
+pub signals-cleared : (signals : List Bool) (slot : ℕ) → count_by (λ (b : Bool). b) (slice_set signals slot false) ≤ count_by (λ (b : Bool). b) signals
+signals-cleared [] slot = omega arith
+signals-cleared (x ∷ signals) zero = rw (count-signal false signals, count-signal x signals) (omega arith)
+signals-cleared (x ∷ signals) (suc slot) =
+    rw (count-signal x (slice_set signals slot false), count-signal x signals) (omega (arith, signals-cleared signals slot))
+
+-- a row that was closed doesn't wait
+closed-not_parked : (r : Row) (spent : Bool) → (r.life == greatest_life) ≡ spent → is_parked (closed_row r).place ≡ false
+closed-not_parked r true at = rw at refl
+closed-not_parked r false at = rw at refl
+
+-- no more connections wait after a close
+parked-closed : (s : State) (name : ConnName) (row : Row) → live_row s.rows name ≡ Some row → parked_count (after_close s name) ≤ parked_count s
+parked-closed s name row found =
+    let lives = alive s.rows name row found in
+    let not_parked = closed-not_parked row (row.life == greatest_life) refl in
+    count_update_kept (λ (r : Row). is_parked r.place) s.rows name.slot row closed_row lives.at (λ passes. absurd (cc))
+
+-- the same of the state after the close
+pub parked-after_close : (s s' : State) (name named : ConnName) (row : Row) → live_row s.rows name ≡ Some row → named ≡ name
+    → s' ≡ after_close s named → parked_count s' ≤ parked_count s
+parked-after_close s s' name named row found same is =
+    subst (λ (t : State). parked_count t ≤ parked_count s) (sym (is ∙ ap (after_close s) same)) (parked-closed s name row found)

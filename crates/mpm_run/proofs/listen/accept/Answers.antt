@@ -1,0 +1,22 @@
+use Rattle.std.proofs.Common.{ap, refl}
+use Rattle.board.specs.Board.{SeenBoard}
+use Rattle.mpm_run.proofs.TakeLemmas.{takes-child, takes-slot, accept-allowed, has-taken}
+use Rattle.mpm_run.proofs.listen.accept.Goals as goal
+
+pub unreachable-requires : goal.unreachable-requires
+unreachable-requires g c =
+    let why = rw c.in-Err-NoChild.field-0-is at c.in-Err-NoChild.ensures.why in
+    takes-child c.args.board.now.book.state _ refl c.requires.acceptable why.none_picked
+
+pub unreachable-requires-in-Err-NoSlot : goal.unreachable-requires-in-Err-NoSlot
+unreachable-requires-in-Err-NoSlot g c =
+    let why = rw c.in-Err-NoSlot.field-0-is at c.in-Err-NoSlot.ensures.why in
+    takes-slot c.args.board.now.book.state _ refl c.requires.acceptable why.none_vacant
+
+pub returns-in-Ok-clause-held : goal.returns-in-Ok-clause-held
+returns-in-Ok-clause-held g c =
+    let t = c.in-Ok.taken in
+    has-taken c.args.board.now.book.state c.accept.new.self.book.state t.name t.child t.generation
+    (accept-allowed 0 t.name.slot c.args.board.now.book c.accept.new.self.book c.show.ensures.state c.show-in-Ok.ensures.history
+    (ap (λ (b : SeenBoard). b.book) c.in-Ok.ensures.ok.new_is))
+    (ap (λ (b : SeenBoard). b.book.state) c.in-Ok.ensures.ok.new_is) c.in-Ok.ensures.taken

@@ -1,0 +1,34 @@
+use Rattle.std.proofs.Common.{ap, ◌∙◌, arith}
+use Rattle.conn_machine.specs.States.{is_halted}
+use Rattle.board.specs.Board.{SeenBoard}
+use Rattle.mpm_run.proofs.ListenLemmas.{stays-trans, stays-hold, may-hold, fewer-parked, closes-held, tell-held}
+use Rattle.mpm_run.proofs.listen.close_all.Goals as goal
+
+pub close-requires-clause-may : goal.close-requires-clause-may
+close-requires-clause-may g c =
+    closes-held c.loop-name.board.book.state c.hold-conn.new.self.book.state c.in-Some.name c.hold-conn.result c.in-Some.ensures
+    (ap is_halted c.loop-name.invariant.stays.going ∙ c.requires.halted) (ap (λ (b : SeenBoard). b.book.state) c.hold-conn.ensures.is)
+    c.hold-conn.ensures.name c.show.ensures.sound c.hold-conn.ensures.handed
+
+pub loop-name-smaller : goal.loop-name-smaller
+loop-name-smaller g c =
+    omega (
+      arith,
+      c.close.ensures.parked,
+      fewer-parked c.loop-name.board.book.state c.hold-conn.new.self.book.state c.in-Some.name c.in-Some.ensures
+          (ap (λ (b : SeenBoard). b.book.state) c.hold-conn.ensures.is),
+    )
+
+pub loop-name-preserved : goal.loop-name-preserved
+loop-name-preserved g c =
+    record {
+      stays =
+          stays-trans c.args.board.now.book c.hold-conn.new.self.book c.close.new.board.book
+          (stays-hold 0 c.in-Some.name c.args.board.now.book c.loop-name.board c.hold-conn.new.self _ c.loop-name.invariant.stays c.hold-conn.ensures.is)
+          c.close.ensures.stays;
+      tells = λ text tells.
+          let before = c.loop-name.invariant.tells text tells in
+          c.close.ensures.tells text
+          (tell-held text 0 c.in-Some.name.slot c.in-Some.name c.loop-name.board c.hold-conn.new.self c.hold-conn.ensures.is before)
+          (before.conns c.in-Some.name.slot c.hold-conn.result c.hold-conn.ensures.conn);
+    }

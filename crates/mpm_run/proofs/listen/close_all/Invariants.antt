@@ -1,0 +1,16 @@
+use Rattle.std.proofs.Common.{List, ℕ}
+use Rattle.mpm_run.specs.Serve.{Stays, parked_count}
+use Rattle.mpm_run.specs.Tells.{AllTell}
+use Rattle.mpm_run.proofs.listen.close_all.Given as goal
+
+-- the server stays stopped
+abbrev pub invariant-loop-name : goal.invariant-loop-name
+invariant-loop-name g l =
+    record {
+      stays : Stays l.fn.board.book l.board.book;
+      tells : (text : List ℕ) → AllTell text l.fn.board → AllTell text l.board;
+    }
+
+-- how many connections wait
+abbrev pub decreases-loop-name : goal.decreases-loop-name
+decreases-loop-name g l = parked_count l.board.book.state

@@ -1,0 +1,25 @@
+use Rattle.std.proofs.Common.{ap, ◌∙◌}
+use Rattle.std.specs.List.{list_any}
+use Rattle.conn_machine.specs.Rows.{is_live}
+use Rattle.conn_machine.specs.States.{is_halted}
+use Rattle.board.specs.Board.{SeenBoard}
+use Rattle.mpm_run.proofs.ListenLemmas.{stays-retire, fewer-stopping, all-gone, tell-added}
+use Rattle.mpm_run.proofs.listen.retire_all.Goals as goal
+
+pub loop-child-smaller : goal.loop-child-smaller
+loop-child-smaller g c =
+    fewer-stopping c.loop-child.board.book.state c.retire.new.self.book.state c.in-Some.child c.in-Some.ensures
+    (ap (λ (b : SeenBoard). b.book.state) c.retire.ensures)
+
+pub loop-child-preserved : goal.loop-child-preserved
+loop-child-preserved g c =
+    record {
+      stays = stays-retire 0 c.in-Some.child c.args.board.now.book c.loop-child.board c.retire.new.self c.loop-child.invariant.stays c.retire.ensures;
+      rows = ap (λ (b : SeenBoard). b.book.state.rows) c.retire.ensures ∙ c.loop-child.invariant.rows;
+      tells = λ text tells. tell-added text 0 _ c.loop-child.board c.retire.new.self c.retire.ensures (c.loop-child.invariant.tells text tells);
+    }
+
+pub returns-clause-empty : goal.returns-clause-empty
+returns-clause-empty g c live =
+    all-gone c.loop-child.board.book.state c.show.ensures.sound (ap is_halted c.loop-child.invariant.stays.going ∙ c.requires.halted) c.in_default.ensures
+    (ap (list_any is_live) c.loop-child.invariant.rows ∙ live)

@@ -1,0 +1,26 @@
+use Rattle.std.proofs.Common.{ap, sym, ◌∙◌}
+use Rattle.board.specs.Board.{SeenBoard}
+use Rattle.mpm_run.proofs.ListenLemmas.{may-start_child, fewer-gone, stays-start_child, tell-still, tell-added}
+use Rattle.mpm_run.proofs.listen.start_children.Goals as goal
+
+pub start_child-requires-clause-allowed : goal.start_child-requires-clause-allowed
+start_child-requires-clause-allowed g c going =
+    may-start_child c.loop-child.board.book.state c.in-Some.child c.show.ensures.sound (sym c.can_start.ensures ∙ c.in-Some.is)
+
+pub loop-child-smaller : goal.loop-child-smaller
+loop-child-smaller g c =
+    fewer-gone c.loop-child.board.book.state c.start_child.new.self.book.state c.in-Some.child (sym c.can_start.ensures ∙ c.in-Some.is)
+    (ap (λ (b : SeenBoard). b.book.state) c.in_ok-start_child.ensures.ok.new_is)
+
+pub loop-child-preserved : goal.loop-child-preserved
+loop-child-preserved g c =
+    record {
+      stays =
+          stays-start_child 0 c.in-Some.child c.args.board.now.book c.loop-child.board c.start_child.new.self c.loop-child.invariant.stays
+          c.in_ok-start_child.ensures.ok.new_is;
+      tells = λ text tells. tell-added text 0 _ c.loop-child.board c.start_child.new.self c.in_ok-start_child.ensures.ok.new_is (c.loop-child.invariant.tells text tells);
+    }
+
+pub returns-in_err-start_child-clause-tells : goal.returns-in_err-start_child-clause-tells
+returns-in_err-start_child-clause-tells g c text tells =
+    tell-still text c.loop-child.board c.start_child.new.self c.in_err-start_child.ensures.err (c.loop-child.invariant.tells text tells)
