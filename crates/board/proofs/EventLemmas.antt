@@ -66,7 +66,7 @@ in_phase-home next Queued = refl
 in_phase-home next (Working cell phase) = refl
 
 -- nor whether a connection is there
-in_phase-unused : (next : Phase) (p : Place) → is_unused (in_phase next p) ≡ is_unused p
+pub in_phase-unused : (next : Phase) (p : Place) → is_unused (in_phase next p) ≡ is_unused p
 in_phase-unused next Vacant = refl
 in_phase-unused next Spent = refl
 in_phase-unused next Held = refl
@@ -250,7 +250,7 @@ queue-there s name conns ended room sound may there =
     (omega (arith, count, there.has_room)))
 
 -- the phase of the worker that sends the response
-abbrev answer_phase : State → Ask → Row → Phase
+abbrev pub answer_phase : State → Ask → Row → Phase
 answer_phase s ask r = if is_last_for s ask r then phase.Close else phase.Write
 
 -- a response is decided

@@ -26,7 +26,7 @@ use Rattle.board.proofs.EventLemmas.{parked-home, queued-home, home-of, parked-s
 -- ## A connection that is handed out
 
 -- the row of the name, once it was changed and is still live
-live_row-update : (rows : List Row) (name : ConnName) (r : Row) (change : Row → Row) → slice_get rows name.slot ≡ Some r
+pub live_row-update : (rows : List Row) (name : ConnName) (r : Row) (change : Row → Row) → slice_get rows name.slot ≡ Some r
     → is_live (change r) ≡ true → (change r).life ≡ name.life → live_row (update rows name.slot change) name ≡ Some (change r)
 live_row-update rows name r change at live life =
     let named : is_named name (change r) ≡ true = rw (live, eq-eqb (change r).life name.life life) refl in

@@ -6,3 +6,4 @@ pub mod FindLemmas
 pub mod HandLemmas
 pub mod RoomLemmas
 pub mod SlotLemmas
+pub mod TestLemmas

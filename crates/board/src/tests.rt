@@ -1,0 +1,287 @@
+//! The calls of a board, what its tests of the state say between them, and what it refuses.
+ghost use Rattle.std.specs.Prelude.{◌≡◌, ◌<◌, ◌≤◌, true, false, [], IfOk, OnOk};
+ghost use Rattle.mpm_base.specs.Notes.{says_last};
+ghost use Rattle.mpm_base.specs.declared.conn.Kind.TheVariants.{Reading};
+ghost use Rattle.mpm_base.specs.declared.conn.Tail.TheVariants.{Direct};
+ghost use Rattle.conn_machine.specs.Table.{allowed};
+ghost use Rattle.conn_state.specs.Answered.{IsShown};
+ghost use Rattle.conn_state.specs.Conn.{IsConn, is_usable};
+ghost use Rattle.conn_state.specs.Turns.{after_reading};
+ghost use Rattle.board.specs.Fits.{IsOf, IsSettled};
+
+mod lives;
+
+use crate::board::Board;
+use crate::faults::{AcceptFault, BoardFault};
+use conn_machine::{Commanded, Event, Going, Why, may};
+use conn_state::{Conn, ReadTurn, WriteTurn};
+use mpm_base::{Ask, Calls, Cause, ConnName, Kind, Moment, Octets, ScriptLink, Shape, Tail};
+use std::alloc::Global;
+use std::process::Abort;
+use std::test::Fail;
+
+const SHAPE: Shape = Shape {
+    threads: 2,
+    factor: 200,
+    read_ms: 60_000,
+    keep_ms: 5_000,
+    keep: true,
+    most: 100,
+    target: 1,
+    children: 2,
+};
+
+const FIRST: ConnName = ConnName { slot: 0, life: 0 };
+
+const REQUEST: &[u8] = b"GET / HTTP/1.1\r\nHost: localhost\r\n\r\n";
+
+const FOUND: Ask = Ask {
+    asked_close: false,
+    refused: false,
+    code: 200,
+    page: false,
+};
+
+/// The event is to be allowed.
+fn allow(rt: &impl Abort, board: &Board<ScriptLink>, next: Event)
+    ensures { allowed board.now.book.state next ≡ true }
+{
+    board.show();
+    assert!(rt; may(board.state(), &next), "{next:?}");
+}
+
+/// No connection is to be taken, for this fault.
+fn refuses(rt: &impl Abort, board: &mut Board<ScriptLink>, fault: AcceptFault)
+    requires who { 0 < board.old.book.passes }
+    ensures { board.new ≡ board.old }
+{
+    assert_eq!(rt; board.can_accept(), None);
+    let Err(found) = board.accept(0) else {
+        panic!(rt; "a connection was taken");
+    };
+    assert_eq!(rt; found, fault);
+}
+
+/// A board of so many slots, whose child 0 runs.
+fn opened(rt: &impl Abort, alloc: Global, slots: u32) -> Result<Board<ScriptLink>, Fail>
+    requires { (1 ≤ slots) × (slots ≤ 8192) }
+    ensures { IfOk result (λ board. board.book.passes ≡ 1) }
+{
+    let mut board = Board::make(alloc, slots, 2, 1, SHAPE)?;
+    refuses(rt, &mut board, AcceptFault::NoChild);
+    assert_eq!(rt; board.can_start(), Some(0));
+    allow(rt, &board, Event::StartChild(0));
+    board.start_child(0, 0)?;
+    assert_eq!(rt; board.can_start(), None);
+    assert_eq!(rt; board.can_accept(), Some(0));
+    assert_eq!(rt; board.next_deadline(), None);
+    Ok(board)
+}
+
+/// The first connection is taken. Its client sends these bytes, and no more where `ends`; the third read fails.
+fn arrives(
+    rt: &impl Abort,
+    alloc: Global,
+    board: &mut Board<ScriptLink>,
+    coming: &[u8],
+    ends: bool,
+) -> Result<Conn<ScriptLink>, Fail>
+    requires who { 0 < board.old.book.passes }
+    ensures passes { OnOk result (board.new.book.passes ≡ board.old.book.passes) }
+    ensures fits { IfOk result (λ conn. IsOf board.new.book.state conn) }
+    ensures settled { IfOk result (λ conn. IsSettled Reading conn) }
+{
+    let taken = board.accept(0)?;
+    assert_eq!(rt; taken.name, FIRST);
+    assert!(rt; !board.quiet());
+    let row = board
+        .state()
+        .rows
+        .live(taken.name)
+        .expect(rt, "the connection lives");
+    assert_eq!(rt; row.child, 0);
+    assert_eq!(rt; row.generation, 0);
+    assert_eq!(rt; row.arrival, 0);
+    assert!(rt; row.notes.is_empty());
+    let mut reads = Calls::make(alloc);
+    reads.add(3)?;
+    let coming = Octets::of(alloc, coming)?;
+    let link = ScriptLink::make(alloc, 0, coming, ends, reads, Calls::make(alloc));
+    let conn = Conn::new(alloc, taken.name, 0, 0, link);
+    conn.show();
+    Ok(conn)
+}
+
+/// The connection waits for this, until then.
+fn waits(
+    rt: &impl Abort,
+    board: &mut Board<ScriptLink>,
+    conn: Conn<ScriptLink>,
+    kind: Kind,
+    until: Moment,
+)
+    requires who { 0 < board.old.book.passes }
+    requires fits { IsOf board.old.book.state conn }
+    requires settled { IsSettled kind conn }
+    ensures { board.new.book.passes ≡ board.old.book.passes }
+{
+    let name = conn.name();
+    allow(rt, board, Event::Park(name, kind));
+    let Ok(()) = board.park(0, kind, conn) else {
+        panic!(rt; "the wait was refused");
+    };
+    assert!(rt; board.quiet());
+    assert_eq!(rt; board.parked(), Some(name));
+    assert_eq!(rt; board.kind(name), Some(kind));
+    assert_eq!(rt; board.signalled(), None);
+    assert_eq!(rt; board.overdue(), None);
+    assert_eq!(rt; board.next_deadline(), Some(until));
+}
+
+/// A worker begins to serve the connection of slot 0, for which something came.
+fn serves(rt: &impl Abort, board: &mut Board<ScriptLink>) -> Result<Conn<ScriptLink>, Fail>
+    requires who { 0 < board.old.book.passes }
+    ensures passes { OnOk result (board.new.book.passes ≡ board.old.book.passes) }
+    ensures fits { IfOk result (λ conn. IsOf board.new.book.state conn) }
+    ensures usable { IfOk result (λ conn. is_usable conn.turn ≡ true) }
+    ensures sent { IfOk result (λ conn. conn.pending ≡ []) }
+    ensures not_last { IfOk result (λ conn. says_last conn.notes ≡ false) }
+{
+    allow(rt, board, Event::Ready(0));
+    board.ready(0, 0)?;
+    assert_eq!(rt; board.signalled(), Some(FIRST));
+    allow(rt, board, Event::Queue(FIRST));
+    board.queue(0, FIRST)?;
+    assert!(rt; !board.quiet());
+    assert_eq!(rt; board.signalled(), None);
+    assert_eq!(rt; board.parked(), None);
+    assert_eq!(rt; board.kind(FIRST), None);
+    allow(rt, board, Event::Start(FIRST));
+    let (cell, conn) = board.start(0, FIRST);
+    assert_eq!(rt; cell, 0);
+    assert_eq!(rt; board.next_deadline(), None);
+    assert!(rt; !conn.pending());
+    assert!(rt; !conn.last());
+    Ok(conn)
+}
+
+/// A turn of reading is to find this.
+fn reads(rt: &impl Abort, board: &Board<ScriptLink>, conn: &mut Conn<ScriptLink>, wanted: ReadTurn)
+    requires fits { IsOf board.now.book.state conn.old }
+    requires usable { is_usable conn.old.turn ≡ true }
+    requires sent { conn.old.pending ≡ [] }
+    requires not_last { says_last conn.old.notes ≡ false }
+    ensures fits { IsOf board.now.book.state conn.new }
+    ensures turn { conn.new.turn ≡ after_reading wanted }
+    ensures shown { IsConn conn.new }
+{
+    let found = conn.read_turn();
+    assert_eq!(rt; found, wanted);
+    conn.show();
+}
+
+/// The next request is answered, and its response sent.
+fn answers(
+    rt: &impl Abort,
+    board: &mut Board<ScriptLink>,
+    conn: &mut Conn<ScriptLink>,
+) -> Result<(), Fail>
+    requires who { 0 < board.old.book.passes }
+    requires fits { IsOf board.old.book.state conn.old }
+    requires usable { is_usable conn.old.turn ≡ true }
+    requires sent { conn.old.pending ≡ [] }
+    requires not_last { says_last conn.old.notes ≡ false }
+    ensures passes { OnOk result (board.new.book.passes ≡ board.old.book.passes) }
+    ensures fits { OnOk result (IsOf board.new.book.state conn.new) }
+    ensures usable { OnOk result (is_usable conn.new.turn ≡ true) }
+    ensures sent { OnOk result (conn.new.pending ≡ []) }
+    ensures not_last { OnOk result (says_last conn.new.notes ≡ false) }
+{
+    reads(rt, board, conn, ReadTurn::Asked(FOUND));
+    let name = conn.name();
+    allow(rt, board, Event::Answer(name, FOUND));
+    let note = board.answer(0, name, FOUND)?;
+    conn.answer(note)?;
+    sends(rt, board, conn);
+    Ok(())
+}
+
+/// What is pending is sent. The response isn't the last.
+fn sends(rt: &impl Abort, board: &Board<ScriptLink>, conn: &mut Conn<ScriptLink>)
+    requires fits { IsOf board.now.book.state conn.old }
+    requires usable { is_usable conn.old.turn ≡ true }
+    ensures fits { IsOf board.now.book.state conn.new }
+    ensures usable { is_usable conn.new.turn ≡ true }
+    ensures sent { conn.new.pending ≡ [] }
+    ensures not_last { says_last conn.new.notes ≡ false }
+{
+    assert!(rt; conn.pending());
+    let turn = conn.write_turn();
+    assert_eq!(rt; turn, WriteTurn::Done);
+    assert!(rt; !conn.last());
+}
+
+/// The connection ends for the cause.
+fn ends(rt: &impl Abort, board: &mut Board<ScriptLink>, conn: Conn<ScriptLink>, cause: Cause)
+    requires who { 0 < board.old.book.passes }
+    requires fits { IsOf board.old.book.state conn }
+    requires shown { IsShown cause Direct conn }
+    ensures { board.new.book.passes ≡ board.old.book.passes }
+{
+    let name = conn.name();
+    allow(rt, board, Event::Close(name, cause, Tail::Direct));
+    board.close(0, conn.end(cause, Tail::Direct));
+    assert!(rt; board.quiet());
+}
+
+/// Time passes.
+fn ticks(rt: &impl Abort, board: &mut Board<ScriptLink>, moment: Moment) -> Result<(), Fail>
+    requires who { 0 < board.old.book.passes }
+    ensures { OnOk result (board.new.book.passes ≡ board.old.book.passes) }
+{
+    allow(rt, board, Event::Tick(moment));
+    board.tick(0, moment)?;
+    assert_eq!(rt; board.moment(), moment);
+    Ok(())
+}
+
+/// The server stops, and refuses what comes then.
+fn stops(rt: &impl Abort, board: &mut Board<ScriptLink>)
+    requires who { 0 < board.old.book.passes }
+    ensures { board.new.book.passes ≡ board.old.book.passes }
+{
+    assert_eq!(rt; board.going(), Going::Serving);
+    assert_eq!(rt; board.can_retire(), None);
+    allow(rt, board, Event::Command(Commanded::Stop(Why::Asked)));
+    board.halt(0, Why::Asked);
+    assert_eq!(rt; board.going(), Going::Halted(Why::Asked));
+    assert_eq!(rt; board.can_start(), None);
+    refuses(rt, board, AcceptFault::Halted);
+    let Err(fault) = board.ready(0, 0) else {
+        panic!(rt; "the signal was taken");
+    };
+    assert_eq!(rt; fault, BoardFault::Halted);
+}
+
+/// Child 0 is let go of. So many entries were made, and the one connection ended for the cause, with so many responses.
+fn retires(
+    rt: &impl Abort,
+    board: &mut Board<ScriptLink>,
+    entries: usize,
+    cause: Cause,
+    notes: usize,
+)
+    requires who { 0 < board.old.book.passes }
+{
+    assert_eq!(rt; board.can_retire(), Some(0));
+    allow(rt, board, Event::Retire(0));
+    board.retire(0, 0);
+    assert_eq!(rt; board.can_retire(), None);
+    assert_eq!(rt; board.history().len(), entries);
+    assert_eq!(rt; board.ended().len(), 1);
+    for ended in board.ended() {
+        assert_eq!(rt; ended.name, FIRST);
+        assert_eq!(rt; ended.cause, cause);
+        assert_eq!(rt; ended.notes.len(), notes);
+    }
+}

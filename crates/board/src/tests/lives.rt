@@ -1,0 +1,85 @@
+//! Lives of connections, from their arrival to their close.
+ghost use Rattle.std.specs.Prelude.{◌≡◌, ◌<◌, true, false, []};
+ghost use Rattle.mpm_base.specs.Notes.{says_last};
+ghost use Rattle.conn_state.specs.Conn.{is_usable};
+ghost use Rattle.board.specs.Fits.{IsOf};
+
+use crate::board::Board;
+use crate::faults::AcceptFault;
+use crate::tests::{
+    FIRST, REQUEST, allow, answers, arrives, ends, opened, reads, refuses, retires, serves, stops,
+    ticks, waits,
+};
+use conn_machine::Event;
+use conn_state::{Conn, ReadTurn};
+use mpm_base::{Cause, Kind, ScriptLink};
+use std::process::Abort;
+use std::test::Fail;
+
+/// The connection waits for a further request, of which nothing is there yet.
+fn keeps(rt: &impl Abort, board: &mut Board<ScriptLink>, mut conn: Conn<ScriptLink>)
+    requires who { 0 < board.old.book.passes }
+    requires fits { IsOf board.old.book.state conn }
+    requires usable { is_usable conn.turn ≡ true }
+    requires sent { conn.pending ≡ [] }
+    requires not_last { says_last conn.notes ≡ false }
+    ensures { board.new.book.passes ≡ board.old.book.passes }
+{
+    reads(rt, board, &mut conn, ReadTurn::More);
+    assert!(rt; conn.rest_empty());
+    waits(rt, board, conn, Kind::KeepAlive, 5_000);
+}
+
+#[test]
+fn a_connection_is_kept_until_its_link_fails(rt: HostRuntime) -> Result<(), Fail> {
+    let alloc = rt.alloc();
+    let mut board = opened(&rt, alloc, 2)?;
+    let conn = arrives(&rt, alloc, &mut board, REQUEST, false)?;
+    waits(&rt, &mut board, conn, Kind::Reading, 60_000);
+    let mut conn = serves(&rt, &mut board)?;
+    answers(&rt, &mut board, &mut conn)?;
+    keeps(&rt, &mut board, conn);
+    let mut conn = serves(&rt, &mut board)?;
+    reads(&rt, &board, &mut conn, ReadTurn::LinkFailed);
+    ends(&rt, &mut board, conn, Cause::LinkFailed);
+    stops(&rt, &mut board);
+    retires(&rt, &mut board, 14, Cause::LinkFailed, 1);
+    Ok(())
+}
+
+#[test]
+fn a_connection_is_served_until_its_client_has_done(rt: HostRuntime) -> Result<(), Fail> {
+    let alloc = rt.alloc();
+    let mut board = opened(&rt, alloc, 2)?;
+    let conn = arrives(&rt, alloc, &mut board, REQUEST, true)?;
+    waits(&rt, &mut board, conn, Kind::Reading, 60_000);
+    let mut conn = serves(&rt, &mut board)?;
+    answers(&rt, &mut board, &mut conn)?;
+    reads(&rt, &board, &mut conn, ReadTurn::Gone);
+    ends(&rt, &mut board, conn, Cause::ClientDone);
+    stops(&rt, &mut board);
+    retires(&rt, &mut board, 10, Cause::ClientDone, 1);
+    Ok(())
+}
+
+#[test]
+fn what_waits_late_is_held_and_closed_after_a_stop(rt: HostRuntime) -> Result<(), Fail> {
+    let alloc = rt.alloc();
+    let mut board = opened(&rt, alloc, 1)?;
+    ticks(&rt, &mut board, 1_000)?;
+    let conn = arrives(&rt, alloc, &mut board, REQUEST, false)?;
+    refuses(&rt, &mut board, AcceptFault::NoSlot);
+    waits(&rt, &mut board, conn, Kind::Reading, 61_000);
+    ticks(&rt, &mut board, 60_999)?;
+    assert_eq!(rt; board.overdue(), None);
+    ticks(&rt, &mut board, 61_000)?;
+    assert_eq!(rt; board.overdue(), Some(FIRST));
+    stops(&rt, &mut board);
+    assert_eq!(rt; board.can_retire(), None);
+    allow(&rt, &board, Event::Hold(FIRST));
+    let conn = board.hold(0, FIRST);
+    assert!(rt; !board.quiet());
+    ends(&rt, &mut board, conn, Cause::Stopped);
+    retires(&rt, &mut board, 10, Cause::Stopped, 0);
+    Ok(())
+}
