@@ -120,7 +120,7 @@ all-came text t offered none = sym (append-nil t.received) ∙ ap (λ (xs : List
 -- a connection that ended received a front of the text, and all of it where the client had done
 receives : (text : List ℕ) (e : SeenEnded) → TellsFrom text e.told → IsEnded e → Receives text e
 receives text e tells ended =
-    let answered : IsAnswered e.cause e.tail e.notes tells.t = subst (λ (o : Option LinkTold). IfSome o (IsAnswered e.cause e.tail e.notes)) tells.told_is ended in
+    let answered : IsAnswered e.cause e.tail e.notes tells.t = subst (λ (o : Option LinkTold). IfSome o (IsAnswered e.cause e.tail e.notes)) tells.told_is ended.answered in
     record {
       t = tells.t;
       told_is = tells.told_is;
