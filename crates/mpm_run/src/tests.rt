@@ -1,7 +1,7 @@
 //! Runs of whole scripts: what they print, record and send, and the statuses of those that are refused.
-use crate::board::Board;
 use crate::run_script::{Outcome, run};
-use conn_machine::{Commanded, Event, Reply, Why};
+use board::Board;
+use conn_machine::{Commanded, Event, Going, Reply, Why};
 use mpm_base::{
     Ask, Calls, Cause, ConnName, Files, Kind, MemSink, MemStore, NoMemory, ScriptLink, Tail, Words,
 };
@@ -12,6 +12,8 @@ use std::test::Fail;
 use std::thread::Threads;
 
 const SCRIPT: &[u8] = b"conn a\nsend a GET / HTTP/1.1\\r\\nHost: localhost\\r\\n\\r\\n\nend a\n";
+
+const REQUEST: &[u8] = b"GET / HTTP/1.1\r\nHost: localhost\r\n\r\n";
 
 const REPLY: &[u8] =
     b"HTTP/1.1 200 OK\r\nDate: Thu, 01 Jan 1970 00:00:00 GMT\r\nContent-Type: text/html\r\nContent-Length: 6\r\n\r\nhello\n";
@@ -121,12 +123,38 @@ fn keeps(rt: &impl Abort, board: &Board<ScriptLink>) {
     }
 }
 
-/// The one connection of the board is to have been sent the reply.
-fn sent(rt: &impl Abort, board: &Board<ScriptLink>) {
+/// The one connection of the board is to have received the request, and to have been sent the reply; its link is to have
+/// been closed once.
+fn served(rt: &impl Abort, board: &Board<ScriptLink>) {
     let ended = board.ended();
     assert_eq!(rt; ended.len(), 1);
+    assert_eq!(rt; REPLY.len(), 106);
     for ended in ended {
+        assert_eq!(rt;
+            (ended.cause, ended.tail),
+            (Cause::ClientDone, Tail::Direct)
+        );
+        assert_eq!(rt; ended.link.received(), REQUEST);
+        assert!(rt; ended.link.left().is_empty());
         assert_eq!(rt; ended.link.sent(), REPLY);
+        assert_eq!(rt; (ended.link.shuts(), ended.link.closes()), (0, 1));
+    }
+}
+
+/// The server is to have stopped as the status says, and each link that was taken to have been closed once.
+fn stopped(rt: &impl Abort, outcome: &Outcome) {
+    let Some(scripted) = &outcome.scripted else {
+        assert_eq!(rt; outcome.status, 6);
+        return;
+    };
+    let going = scripted.board.going();
+    if outcome.status == 0 {
+        assert_eq!(rt; going, Going::Halted(Why::FrontEnded));
+    } else {
+        assert_eq!(rt; outcome.status, 6);
+        assert!(rt; going.is_halted());
+    }
+    for ended in scripted.board.ended() {
         assert_eq!(rt; ended.link.closes(), 1);
     }
 }
@@ -141,7 +169,7 @@ fn the_script_is_served(rt: HostRuntime) -> Result<(), Fail> {
     match &outcome.scripted {
         Some(scripted) => {
             keeps(&rt, &scripted.board);
-            sent(&rt, &scripted.board);
+            served(&rt, &scripted.board);
         }
         None => assert!(rt; false),
     }
@@ -222,5 +250,16 @@ fn an_output_of_single_bytes_gets_the_same(rt: HostRuntime) -> Result<(), Fail> 
     let outcome = plays(&rt, alloc, &["--script", "s"], SCRIPT, &mut out)?;
     assert_eq!(rt; outcome.status, 0);
     assert_eq!(rt; out.bytes(), REPORT);
+    Ok(())
+}
+
+// Tells more with `--fail-alloc N`, for each N: the Nth allocation then fails.
+#[test]
+fn a_run_stops_whatever_memory_it_finds(rt: HostRuntime) -> Result<(), Fail> {
+    let alloc = rt.alloc();
+    let mut out = MemSink::make(alloc, Calls::make(alloc));
+    if let Ok(outcome) = plays(&rt, alloc, &["--script", "s"], SCRIPT, &mut out) {
+        stopped(&rt, &outcome);
+    }
     Ok(())
 }
