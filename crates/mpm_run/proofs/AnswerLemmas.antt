@@ -1,5 +1,5 @@
 -- A response that is decided, and its connection.
-use Rattle.std.proofs.Common.{◌≡◌, ◌==◌, ℕ, zero, suc, ◌+◌, ◌-◌, ◌<◌, Bool, true, false, not, ◌&&◌, ◌||◌, cond, List, [], ◌∷◌, ◌++◌, length, Option, None, Some, is_some, IfSome, slice_get, refl, sym, ap, subst, ◌∙◌, inl, inr, arith, eqb-true}
+use Rattle.std.proofs.Common.{◌≡◌, ℕ, ◌+◌, ◌-◌, ◌<◌, true, false, not, ◌&&◌, List, [], ◌∷◌, ◌++◌, length, Some, slice_get, refl, sym, ap, subst, ◌∙◌, inr, arith}
 use Rattle.std.proofs.lemmas.List.{length_push}
 use Rattle.mpm_base.specs.Notes.{says_last}
 use Rattle.mpm_base.specs.declared.conn.Ask.{Ask}
@@ -13,9 +13,9 @@ use Rattle.conn_machine.specs.declared.row.Row.{Row}
 use Rattle.conn_machine.specs.declared.event.Event.TheVariants as event
 use Rattle.conn_machine.specs.declared.state.State.{State}
 use Rattle.conn_machine.specs.Lists.{update}
-use Rattle.conn_machine.specs.Rows.{is_working, is_live, is_lingering, is_named, in_phase, row_where, live_row}
+use Rattle.conn_machine.specs.Rows.{is_working, is_live, is_named, in_phase, row_where, live_row}
 use Rattle.conn_machine.specs.States.{is_halted, child_of}
-use Rattle.conn_machine.specs.Table.{allowed, next, note_for, is_last_for, answered_row}
+use Rattle.conn_machine.specs.Table.{allowed, next, note_for, answered_row}
 use Rattle.conn_machine.specs.Sound.{IsSound}
 use Rattle.conn_machine.proofs.UpdateLemmas.{get_changed}
 use Rattle.conn_state.specs.declared.turn.LastTurn.{LastTurn}
@@ -23,9 +23,8 @@ use Rattle.conn_state.specs.declared.turn.LastTurn.TheVariants as turn
 use Rattle.conn_state.specs.Conn.{SeenConn, TurnFits, IsConn}
 use Rattle.conn_state.specs.Turns.{Answers}
 use Rattle.board.specs.Events.{IsDecided}
-use Rattle.board.specs.Fits.{Fits}
 use Rattle.mpm_run.specs.Serve.{IsServed, IsClosable, answers_left}
-use Rattle.mpm_run.proofs.ServeLemmas.{IsAlive, alive, test-at, served-row, served-stays, row-open, working-in_hand}
+use Rattle.mpm_run.proofs.ServeLemmas.{alive, test-at, served-row, served-stays, row-open, working-in_hand}
 
 -- the connection was asked for something, and its last response wasn't decided
 pub asked-open : (c : SeenConn) (ask : Ask) → IsConn c → c.turn ≡ turn.Asked ask → says_last c.notes ≡ false

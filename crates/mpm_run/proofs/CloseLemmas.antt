@@ -1,5 +1,5 @@
 -- What a close leaves of the server.
-use Rattle.std.proofs.Common.{◌≡◌, ◌==◌, ℕ, zero, suc, ◌+◌, ◌≤◌, Bool, true, false, cond, List, [], ◌∷◌, ◌++◌, count_by, Some, slice_get, slice_set, refl, sym, ap, subst, ◌∙◌, arith}
+use Rattle.std.proofs.Common.{◌≡◌, ◌==◌, ℕ, zero, suc, ◌+◌, ◌≤◌, Bool, true, false, cond, List, [], ◌∷◌, count_by, Some, slice_set, refl, sym, ap, subst, ◌∙◌, arith}
 use Rattle.std.proofs.lemmas.List.Sums.{sum_by-cons}
 use Rattle.mpm_base.specs.declared.conn.ConnName.{ConnName}
 use Rattle.conn_machine.specs.declared.row.Row.{Row}
@@ -7,7 +7,7 @@ use Rattle.conn_machine.specs.declared.state.State.{State}
 use Rattle.conn_machine.specs.Rows.{is_parked, live_row}
 use Rattle.conn_machine.specs.Table.{after_close, closed_row, greatest_life}
 use Rattle.conn_machine.proofs.UpdateLemmas.{count_update_kept}
-use Rattle.mpm_run.specs.Serve.{signalled_count, parked_count}
+use Rattle.mpm_run.specs.Serve.{parked_count}
 use Rattle.mpm_run.proofs.ServeLemmas.{alive}
 
 -- a count of one more signal

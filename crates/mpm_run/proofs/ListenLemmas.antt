@@ -1,5 +1,5 @@
 -- What the listener's calls leave of the server.
-use Rattle.std.proofs.Common.{◌≡◌, ◌⊎◌, inl, inr, ◌==◌, ℕ, zero, suc, ◌+◌, ◌<◌, ◌≤◌, Bool, true, false, not, ◌&&◌, ◌||◌, cond, List, [], ◌∷◌, ◌++◌, length, count_by, nat_lt, nat_le, Option, None, Some, slice_get, slice_set, slice_index_or, unwrap_or, is_some, refl, sym, ap, subst, ◌∙◌, arith}
+use Rattle.std.proofs.Common.{◌≡◌, inl, inr, ◌==◌, ℕ, zero, suc, ◌+◌, ◌<◌, ◌≤◌, Bool, true, false, not, ◌&&◌, ◌||◌, cond, List, [], ◌∷◌, length, count_by, nat_lt, nat_le, Option, None, Some, slice_get, slice_set, slice_index_or, unwrap_or, is_some, refl, sym, ap, subst, ◌∙◌, arith}
 use Rattle.std.proofs.lemmas.Bool.{and_parts}
 use Rattle.std.proofs.lemmas.Bool.Decides.{nat_tests}
 use Rattle.std.proofs.lemmas.List.Sums.{sum_by-cons}
@@ -24,20 +24,20 @@ use Rattle.conn_machine.specs.declared.state.Going.{Going}
 use Rattle.conn_machine.specs.declared.state.Going.TheVariants.{Serving, Ending, Halted}
 use Rattle.conn_machine.specs.declared.state.State.{State}
 use Rattle.conn_machine.specs.Lists.{update}
-use Rattle.conn_machine.specs.Rows.{is_unused, is_held, is_parked, is_queued, is_working, is_live, is_live_in, is_lingering, live_row, lives_and}
+use Rattle.conn_machine.specs.Rows.{is_unused, is_held, is_parked, is_queued, is_working, is_live, is_live_in, is_lingering, live_row}
 use Rattle.conn_machine.specs.Children.{no_child, child_at, is_empty, is_running, is_stopping, running_count, is_in_bounds, within, started_child, retired_child}
 use Rattle.conn_machine.specs.States.{is_halted, is_serving, is_signalled}
 use Rattle.conn_machine.specs.Table.{allowed, next, child_passes, may_retire, may_be_held, held_row, signal_after_hold}
 use Rattle.conn_machine.specs.Sound.{IsSound, is_from_linger}
-use Rattle.conn_machine.proofs.RowLemmas.{sound_row, held_kind}
+use Rattle.conn_machine.proofs.RowLemmas.{held_kind}
 use Rattle.conn_state.specs.Conn.{SeenConn}
 use Rattle.board.specs.Book.{SeenBook}
 use Rattle.board.specs.Board.{SeenBoard}
 use Rattle.board.specs.Events.{added}
 use Rattle.board.specs.Fits.{IsSettledFrom, IsHandedOut}
 use Rattle.board.specs.Finds.{startable, FindsRow, FindsRetirable, is_waiting, is_in_hand, is_quiet}
-use Rattle.mpm_run.specs.Serve.{IsClosable, Stays, GoesOn, signalled_count, parked_count}
-use Rattle.mpm_run.specs.Tells.{AllTell, TellsFrom}
+use Rattle.mpm_run.specs.Serve.{IsClosable, Stays, GoesOn, parked_count}
+use Rattle.mpm_run.specs.Tells.{AllTell}
 use Rattle.mpm_run.specs.Listen.{Keeps, HasNoLive, AllEmpty}
 use Rattle.mpm_run.proofs.ServeLemmas.{alive, test-at, served-row}
 use Rattle.mpm_run.proofs.AnswerLemmas.{live_row-update}

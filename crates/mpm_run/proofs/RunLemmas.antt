@@ -1,12 +1,11 @@
 -- What a board shows of its run.
-use Rattle.std.proofs.Common.{◌≡◌, ℕ, zero, suc, ◌+◌, ◌<◌, Bool, true, false, ◌||◌, cond, min, List, [], ◌∷◌, ◌++◌, length, replicate, count_by, Option, None, Some, IfSome, slice_get, slice_index_or, refl, sym, ap, subst, ◌∙◌, arith}
+use Rattle.std.proofs.Common.{◌≡◌, ℕ, zero, suc, ◌+◌, ◌<◌, Bool, true, false, ◌||◌, cond, min, List, [], ◌∷◌, ◌++◌, length, replicate, count_by, Option, Some, IfSome, slice_get, refl, sym, ap, subst, ◌∙◌, arith}
 use Rattle.std.proofs.lemmas.List.{append-nil, length-replicate, get_or-replicate}
 use Rattle.std.proofs.lemmas.Option.{slice_get-get_or}
 use Rattle.std.proofs.lemmas.List.Sums.{sum_by-cons}
 use Rattle.std.specs.List.{list_any}
 use Rattle.mpm_base.specs.Count.{greatest_count}
 use Rattle.mpm_base.specs.Link.{LinkTold}
-use Rattle.mpm_base.specs.declared.conn.Cause.TheVariants as cause
 use Rattle.mpm_base.specs.declared.shape.Shape.{Shape}
 use Rattle.conn_machine.specs.declared.row.Row.{Row}
 use Rattle.conn_machine.specs.declared.event.Event.{Event}
@@ -23,8 +22,8 @@ use Rattle.conn_machine.specs.Laws.{StaysSound}
 use Rattle.conn_state.specs.Conn.{SeenConn}
 use Rattle.conn_state.specs.Answered.{SeenEnded, IsAnswered, IsEnded}
 use Rattle.board.specs.Board.{SeenBoard, Agrees, AreHome, IsHome, AreClosed, AreEnded, Closes, conn_at}
-use Rattle.mpm_run.specs.Tells.{TellsFrom, ConnsTell, EndedTell, AllTell, Receives, AllReceive}
-use Rattle.mpm_run.specs.Listen.{HasNoLive, HasEnded, IsRunFrom, IsWholeRun}
+use Rattle.mpm_run.specs.Tells.{TellsFrom, EndedTell, AllTell, Receives, AllReceive}
+use Rattle.mpm_run.specs.Listen.{HasEnded, IsRunFrom, IsWholeRun}
 
 -- ## The history
 

@@ -1,9 +1,9 @@
 -- What a worker may do with the connection that it serves.
-use Rattle.std.proofs.Common.{◌≡◌, ◌⊎◌, ◌==◌, ℕ, ◌+◌, ◌<◌, Bool, true, false, not, ◌&&◌, ◌||◌, cond, List, [], ◌∷◌, ◌++◌, length, Option, None, Some, is_none, option_map, IfSome, slice_get, refl, sym, ap, subst, ◌∙◌, inl, inr, arith}
+use Rattle.std.proofs.Common.{◌≡◌, ◌⊎◌, ◌==◌, ℕ, ◌<◌, Bool, true, false, not, ◌&&◌, ◌||◌, cond, List, length, Option, None, Some, is_none, option_map, IfSome, slice_get, refl, sym, ap, subst, ◌∙◌, inl, inr, arith}
 use Rattle.std.proofs.lemmas.Bool.{and_parts}
 use Rattle.std.proofs.lemmas.Bool.Decides.{nat_tests}
 use Rattle.std.specs.Option.{option_map_or}
-use Rattle.mpm_base.specs.Link.{LinkTold, with_received}
+use Rattle.mpm_base.specs.Link.{LinkTold}
 use Rattle.mpm_base.specs.Count.{Rises}
 use Rattle.mpm_base.specs.Notes.{says_last}
 use Rattle.mpm_base.specs.declared.conn.ConnName.{ConnName}
@@ -19,7 +19,7 @@ use Rattle.conn_machine.specs.declared.row.Row.{Row}
 use Rattle.conn_machine.specs.declared.event.Event.TheVariants as event
 use Rattle.conn_machine.specs.declared.state.State.{State}
 use Rattle.conn_machine.specs.Rows.{is_held, is_working, is_live, is_lingering, is_named, has_note, row_where, live_row, lives_and}
-use Rattle.conn_machine.specs.States.{is_halted, child_of}
+use Rattle.conn_machine.specs.States.{is_halted}
 use Rattle.conn_machine.specs.Table.{allowed, may_wait, direct_cause_fits}
 use Rattle.conn_machine.specs.Sound.{IsSound}
 use Rattle.conn_machine.proofs.RowLemmas.{IsSoundRow, sound_row, served_by, in_service}

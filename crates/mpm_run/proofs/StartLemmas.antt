@@ -1,15 +1,13 @@
 -- A connection that is queued and started.
-use Rattle.std.proofs.Common.{◌≡◌, ◌⊎◌, inl, inr, ◌==◌, ℕ, zero, suc, ◌+◌, ◌<◌, ◌≤◌, Bool, true, false, not, ◌&&◌, cond, List, [], ◌∷◌, count_by, nat_lt, Option, None, Some, slice_get, slice_set, slice_index_or, refl, sym, ap, subst, ◌∙◌, arith}
+use Rattle.std.proofs.Common.{◌≡◌, inl, inr, ℕ, zero, suc, ◌<◌, Bool, true, false, not, ◌&&◌, List, [], ◌∷◌, count_by, Option, None, Some, slice_set, slice_index_or, refl, sym, ap, subst, ◌∙◌, arith}
 use Rattle.std.proofs.lemmas.Bool.{and_parts}
 use Rattle.mpm_base.specs.declared.conn.ConnName.{ConnName}
 use Rattle.mpm_base.specs.declared.conn.Kind.{Kind}
 use Rattle.mpm_base.specs.declared.conn.Kind.TheVariants.{Reading, KeepAlive, Writing, Linger, ShortLinger}
 use Rattle.conn_machine.specs.declared.row.Row.{Row}
 use Rattle.conn_machine.specs.declared.event.Event.TheVariants as event
-use Rattle.conn_machine.specs.declared.event.Why.TheVariants as why
-use Rattle.conn_machine.specs.declared.state.Going.TheVariants.{Halted}
 use Rattle.conn_machine.specs.declared.state.State.{State}
-use Rattle.conn_machine.specs.Rows.{is_queued, is_working, is_named, live_row, lives_and}
+use Rattle.conn_machine.specs.Rows.{is_queued, is_working, live_row, lives_and}
 use Rattle.conn_machine.specs.States.{is_halted, is_signalled}
 use Rattle.conn_machine.specs.Table.{allowed, next, may_be_queued, queued_row, served_row}
 use Rattle.conn_state.specs.Conn.{SeenConn, is_usable}
@@ -19,7 +17,7 @@ use Rattle.board.specs.Events.{added}
 use Rattle.board.specs.Fits.{WaitsAs, IsSettledFrom, IsHandedOut}
 use Rattle.mpm_run.specs.Serve.{IsServed, Stays, GoesOn, signalled_count}
 use Rattle.mpm_run.specs.Tells.{TellsFrom, AllTell}
-use Rattle.mpm_run.proofs.ServeLemmas.{IsAlive, alive, test-at}
+use Rattle.mpm_run.proofs.ServeLemmas.{alive, test-at}
 use Rattle.mpm_run.proofs.AnswerLemmas.{live_row-update}
 use Rattle.mpm_run.proofs.CloseLemmas.{count-signal, signals-cleared}
 use Rattle.mpm_run.proofs.TellLemmas.{tell-same, tell-set}

@@ -1,32 +1,23 @@
 -- A connection that is taken.
-use Rattle.std.proofs.Common.{◌≡◌, ◌==◌, ℕ, zero, suc, Bool, true, false, not, ◌&&◌, ◌||◌, cond, List, [], ◌∷◌, ◌++◌, Option, None, Some, is_some, is_none, IfSome, slice_get, eq-eqb, refl, sym, ap, subst, ◌∙◌}
+use Rattle.std.proofs.Common.{◌≡◌, ℕ, suc, Bool, true, false, ◌&&◌, cond, List, [], ◌∷◌, ◌++◌, Option, None, Some, is_some, slice_get, eq-eqb, refl, sym, ap, subst, ◌∙◌}
 use Rattle.std.proofs.lemmas.Bool.{and_parts}
 use Rattle.std.specs.Option.{option_map_or}
 use Rattle.std.specs.List.{list_any}
-use Rattle.mpm_base.specs.Link.{LinkTold, LinkCounts}
 use Rattle.mpm_base.specs.declared.conn.ConnName.{ConnName}
-use Rattle.mpm_base.specs.declared.conn.Kind.TheVariants.{Reading}
 use Rattle.conn_machine.specs.declared.row.Row.{Row}
 use Rattle.conn_machine.specs.declared.event.Entry.{Entry}
 use Rattle.conn_machine.specs.declared.event.Event.TheVariants as event
-use Rattle.conn_machine.specs.declared.event.Reply.{Reply}
-use Rattle.conn_machine.specs.declared.event.Reply.TheVariants.{Took}
 use Rattle.conn_machine.specs.declared.state.State.{State}
 use Rattle.conn_machine.specs.Lists.{update}
-use Rattle.conn_machine.specs.Rows.{is_vacant, is_held, is_lingering, row_passes, live_row}
+use Rattle.conn_machine.specs.Rows.{is_vacant, row_passes, live_row}
 use Rattle.conn_machine.specs.Children.{child_at}
-use Rattle.conn_machine.specs.States.{is_halted, is_serving, pick_child}
-use Rattle.conn_machine.specs.Table.{allowed, next, is_vacant_at, may_wait, picked_child, taken_row, taken_reply, life_at}
+use Rattle.conn_machine.specs.States.{is_serving, pick_child}
+use Rattle.conn_machine.specs.Table.{allowed, next, is_vacant_at, picked_child, taken_row, life_at}
 use Rattle.conn_machine.specs.Runs.{Run, after, IsHistory}
-use Rattle.conn_state.specs.Conn.{SeenConn, new_conn}
 use Rattle.board.specs.Book.{SeenBook, recorded}
-use Rattle.board.specs.Board.{SeenBoard}
-use Rattle.board.specs.Events.{IsTaken, added}
+use Rattle.board.specs.Events.{IsTaken}
 use Rattle.board.specs.Finds.{acceptable}
-use Rattle.mpm_run.specs.Serve.{IsInHand}
-use Rattle.mpm_run.specs.Tells.{IsArrival}
-use Rattle.mpm_run.specs.Listen.{IsWaitingLink, HasTaken, taken_count}
-use Rattle.mpm_run.proofs.ServeLemmas.{test-at}
+use Rattle.mpm_run.specs.Listen.{HasTaken}
 use Rattle.mpm_run.proofs.AnswerLemmas.{live_row-update}
 
 -- ## Where a connection is taken

@@ -1,13 +1,17 @@
 -- Why a run ends with its status, and what it leaves of the output.
 use Rattle.std.specs.Prelude.{◌≡◌, ℕ, Bool, true, false, ◌⊎◌, List, ◌∷◌, [], ◌++◌, Option, Some, None, option_map, Result, Ok, Err, codes}
+use Rattle.std.specs.List.{list_any}
 use Rattle.mpm_base.specs.Count.{NeverFalls, Rises}
 use Rattle.mpm_base.specs.Script.{IsNotYet, IsScript}
 use Rattle.mpm_base.specs.Store.{ReadsFile, StoreCounts, StoreTold}
+use Rattle.mpm_base.specs.declared.conn.Cause.{Cause}
+use Rattle.mpm_base.specs.declared.conn.Cause.TheVariants as cause
 use Rattle.mpm_base.specs.declared.store.StoreFault.{StoreFault}
 use Rattle.mpm_base.specs.declared.store.StoreFault.TheVariants as fault
 use Rattle.conn_machine.specs.declared.event.Why.TheVariants as why
 use Rattle.conn_machine.specs.declared.state.Going.{Going}
-use Rattle.conn_machine.specs.declared.state.Going.TheVariants.{Serving, Ending, Halted}
+use Rattle.conn_machine.specs.declared.state.Going.TheVariants.{Halted}
+use Rattle.conn_state.specs.Answered.{SeenEnded}
 use Rattle.board.specs.Board.{SeenBoard}
 use Rattle.mpm_run.specs.FirstShape.{first_shape}
 use Rattle.mpm_run.specs.Listen.{IsRunFrom, IsWholeRun}
@@ -158,9 +162,20 @@ EndsFor (Halted why.Full) status = (status ≡ 7) ⊎ (status ≡ 6)
 EndsFor (Halted why.NoMemory) status = status ≡ 6
 EndsFor other status = ⊥
 
--- with status 0: the run is a whole one, and its report was written
+-- the service of a connection that ended for this was cut short by something else than want of memory
+abbrev pub is_cut_by : Cause → Bool
+is_cut_by cause.ClientDone = false
+is_cut_by cause.NoMemory = false
+is_cut_by other = true
+
+abbrev pub is_cut : SeenEnded → Bool
+is_cut e = is_cut_by e.cause
+
+-- with status 0: the run is a whole one, no connection was cut short by anything but want of memory, and its report was
+-- written
 pub record EndsWell (sink sink' : SinkSeen) (b : SeenBoard) : Type 0 where
   pub whole : IsWholeRun 64 1 first_shape b
+  pub none_cut : list_any is_cut b.ended ≡ false
   pub report : Reports sink sink' b
 
 -- with status 5: the run is a whole one, and a write of its report failed
@@ -181,7 +196,7 @@ IsStatus s = (s ≡ 0) ⊎ (s ≡ 2) ⊎ (s ≡ 3) ⊎ (s ≡ 5) ⊎ (s ≡ 6) �
 
 -- the status of a run that stopped so, unless its report is not written
 abbrev pub IsStatusOf : Going → ℕ → Type 0
-IsStatusOf (Halted why.FrontEnded) status = status ≡ 0
+IsStatusOf (Halted why.FrontEnded) status = (status ≡ 0) ⊎ (status ≡ 6)
 IsStatusOf (Halted why.Full) status = status ≡ 7
 IsStatusOf (Halted why.NoMemory) status = status ≡ 6
 IsStatusOf other status = ⊥

@@ -1,11 +1,13 @@
 //! The top call: from the words of the command line to the report.
-ghost use Rattle.std.specs.Prelude.{◌≡◌, ◌<◌, ◌≤◌, ℕ, List, Some, None, [], IfOk, IfSome, IfNone, IsSomeAnd, IsNone, is_some, length, take, option_map};
+ghost use Rattle.std.specs.Prelude.{◌≡◌, ◌<◌, ◌≤◌, ℕ, false, List, Some, None, [], IfOk, IfSome, IfNone, IsSomeAnd, IsNone, is_some, length, take, option_map};
+ghost use Rattle.std.specs.List.{list_any};
 ghost use Rattle.mpm_base.specs.Count.{NeverFalls, Rises};
 ghost use Rattle.conn_machine.specs.States.{opening};
 ghost use Rattle.conn_machine.specs.declared.state.Going.{Going};
 ghost use Rattle.mpm_run.specs.FirstShape as spec;
 ghost use Rattle.mpm_run.specs.Listen.{HasEnded, HasStopped, IsEnd, IsRunFrom, IsWholeRun};
-ghost use Rattle.mpm_run.specs.Statuses.{EndsFor, EndsFull, EndsRefused, EndsUnknown, EndsUnread, EndsUnwritten, EndsWell, HasPlayed, HasRun, IsCommand, IsEndStatus, IsNoCommand, IsPlayed, IsStatus, IsStatusOf, Reports, ReportsAs, Writes, WritesAll, board_report, seen_call, sink_seen};
+ghost use Rattle.mpm_run.specs.Statuses as statuses;
+ghost use Rattle.mpm_run.specs.Statuses.{EndsFor, EndsFull, EndsRefused, EndsUnknown, EndsUnread, EndsUnwritten, EndsWell, HasPlayed, HasRun, IsCommand, IsEndStatus, IsNoCommand, IsPlayed, IsStatus, IsStatusOf, Reports, ReportsAs, Writes, WritesAll, board_report, is_cut, seen_call, sink_seen};
 ghost use Rattle.mpm_run.specs.Tells.{AllReceive, EndedTell};
 
 use crate::counting::tally;
@@ -16,7 +18,7 @@ use board::Board;
 use conn_machine::laws::{accepted_connections_are_closed_or_live, events_keep_states_sound};
 use conn_machine::{Going, Why};
 use mpm_base::{
-    Calls, Link, NoMemory, Octets, Put, Script, ScriptFault, ScriptLink, Shape, Sink, Store,
+    Calls, Cause, Link, NoMemory, Octets, Put, Script, ScriptFault, ScriptLink, Shape, Sink, Store,
     StoreFault, Words, read_script,
 };
 use std::alloc::Global;
@@ -221,10 +223,16 @@ fn finish<K: Sink>(alloc: Global, board: Board<ScriptLink>, out: &mut K) -> Outc
     ensures shown { result.shown ≡ None }
     ensures known { IsPlayed result.status }
     ensures reported { result.status ≡ 0 → HasEnded board.book.state × Reports (sink_seen (K.told out.old) (K.faults out.old)) (sink_seen (K.told out.new) (K.faults out.new)) board }
+    ensures none_cut { result.status ≡ 0 → list_any is_cut board.ended ≡ false }
     ensures unwritten { result.status ≡ 5 → HasEnded board.book.state × Rises (K.faults out.old) (K.faults out.new) }
     ensures full { result.status ≡ 7 → EndsFull (sink_seen (K.told out.old) (K.faults out.old)) (sink_seen (K.told out.new) (K.faults out.new)) board }
 {
-    let status = report(alloc, &board, out, status_of(board.going()));
+    let status = report(
+        alloc,
+        &board,
+        out,
+        status_of(board.going(), has_cut(&board)),
+    );
     Outcome {
         status,
         shown: None,
@@ -232,17 +240,33 @@ fn finish<K: Sink>(alloc: Global, board: Board<ScriptLink>, out: &mut K) -> Outc
     }
 }
 
-/// The status of a run that stopped so.
-fn status_of(going: Going) -> u8
+/// The status of a run that stopped so. No call of a scripted link is to fail yet, so a connection that was cut short by
+/// one wanted memory.
+fn status_of(going: Going, cut: bool) -> u8
     requires { IsEnd going }
-    ensures { IsStatusOf going result }
+    ensures is { IsStatusOf going result }
+    ensures whole { result ≡ 0 → cut ≡ false }
 {
     match going {
-        Going::Halted(Why::FrontEnded) => 0,
+        Going::Halted(Why::FrontEnded) => { if cut { 6 } else { 0 } }
         Going::Halted(Why::Full) => 7,
         Going::Halted(Why::NoMemory) => 6,
         _ => unreachable!(),
     }
+}
+
+/// Whether a connection ended for another cause than that its client was done or that memory lacked.
+fn has_cut<L: Link>(board: &Board<L>) -> bool
+    ensures { result ≡ list_any is_cut board.now.ended }
+{
+    board.ended().iter().any(|ended| is_cut_by(ended.cause))
+}
+
+/// Whether the cause is another one than that the client was done or that memory lacked.
+fn is_cut_by(cause: Cause) -> bool
+    ensures { result ≡ statuses.is_cut_by cause }
+{
+    !matches!(cause, Cause::ClientDone | Cause::NoMemory)
 }
 
 /// Writes the report of the run, and answers its status: a failed write changes 0 alone.

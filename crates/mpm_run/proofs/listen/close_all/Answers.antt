@@ -1,7 +1,7 @@
 use Rattle.std.proofs.Common.{ap, ◌∙◌, arith}
 use Rattle.conn_machine.specs.States.{is_halted}
 use Rattle.board.specs.Board.{SeenBoard}
-use Rattle.mpm_run.proofs.ListenLemmas.{stays-trans, stays-hold, may-hold, fewer-parked, closes-held, tell-held}
+use Rattle.mpm_run.proofs.ListenLemmas.{stays-trans, stays-hold, fewer-parked, closes-held, tell-held}
 use Rattle.mpm_run.proofs.listen.close_all.Goals as goal
 
 pub close-requires-clause-may : goal.close-requires-clause-may

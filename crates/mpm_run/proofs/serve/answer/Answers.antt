@@ -1,5 +1,4 @@
-use Rattle.std.proofs.Common.{sym, ap, ◌∙◌}
-use Rattle.conn_machine.specs.declared.state.State.{State}
+use Rattle.std.proofs.Common.{ap}
 use Rattle.board.specs.Board.{SeenBoard}
 use Rattle.mpm_run.proofs.AnswerLemmas.{asked-open, may-answer, served-answered, closes-unanswered, fewer-answered}
 use Rattle.mpm_run.proofs.serve.answer.Goals as goal

@@ -1,4 +1,4 @@
-use Rattle.std.proofs.Common.{subst, sym, ap}
+use Rattle.std.proofs.Common.{subst, sym}
 use Rattle.conn_state.specs.Conn.{SeenConn}
 use Rattle.board.specs.Board.{SeenBoard}
 use Rattle.mpm_run.specs.Tells.{AllTell, TellsFrom}

@@ -1,6 +1,5 @@
 use Rattle.conn_state.specs.declared.turn.WriteTurn.TheVariants as write
-use Rattle.std.proofs.Common.{refl, ap, ◌∙◌, sym, false}
-use Rattle.mpm_base.specs.Notes.{says_last}
+use Rattle.std.proofs.Common.{refl, ◌∙◌, sym}
 use Rattle.mpm_run.proofs.ServeLemmas.{served-written, closes-failed_write, closes-sent, closes-done, closes-failed_read, closes-unread}
 use Rattle.mpm_run.proofs.serve.turn.Goals as goal
 
