@@ -2,9 +2,13 @@
 use Rattle.std.specs.Prelude.{◌≡◌, ◌⊎◌, ℕ, ◌-◌, ◌<◌, ◌≤◌, ◌||◌, Bool, true, false, length, count_by, Some, IfSome, ⊤}
 use Rattle.mpm_base.specs.declared.conn.Kind.{Kind}
 use Rattle.mpm_base.specs.declared.conn.Kind.TheVariants.{Reading, KeepAlive, Writing, Linger, ShortLinger}
+use Rattle.mpm_base.specs.declared.conn.ConnName.{ConnName}
 use Rattle.mpm_base.specs.declared.conn.Cause.{Cause}
+use Rattle.mpm_base.specs.declared.conn.Cause.TheVariants as cause
 use Rattle.mpm_base.specs.declared.conn.Tail.TheVariants as tail
 use Rattle.conn_machine.specs.declared.row.Row.{Row}
+use Rattle.conn_machine.specs.declared.event.Commanded.TheVariants.{Stop}
+use Rattle.conn_machine.specs.declared.event.Event.TheVariants as event
 use Rattle.conn_machine.specs.declared.event.Why.TheVariants as why
 use Rattle.conn_machine.specs.declared.state.Going.{Going}
 use Rattle.conn_machine.specs.declared.state.Going.TheVariants.{Halted}
@@ -17,7 +21,7 @@ use Rattle.conn_state.specs.Conn.{SeenConn, is_usable}
 use Rattle.conn_state.specs.Answered.{IsShown}
 use Rattle.board.specs.declared.faults.BoardFault.{BoardFault}
 use Rattle.board.specs.declared.faults.BoardFault.TheVariants as fault
-use Rattle.board.specs.Book.{SeenBook}
+use Rattle.board.specs.Book.{SeenBook, recorded}
 use Rattle.board.specs.Faults.{IsRefusedFor}
 use Rattle.board.specs.Fits.{Fits, WaitsAs, NotesEnd}
 use Rattle.mpm_run.specs.declared.serve.Exit.{Exit}
@@ -103,3 +107,10 @@ abbrev pub LeavesGoing : BoardFault → Going → Going → Type 0
 LeavesGoing fault.Halted old new = (is_halted old ≡ true) × (new ≡ old)
 LeavesGoing fault.Full old new = new ≡ Halted why.Full
 LeavesGoing fault.NoMemory old new = (is_halted old ≡ false) × (new ≡ old)
+
+-- the history after a connection was given up for the fault: it was closed, and a full history stopped the server before
+abbrev pub given_up : BoardFault → ℕ → ConnName → SeenBook → SeenBook
+given_up fault.Halted who name b = recorded who (event.Close name cause.Stopped tail.Direct) b
+given_up fault.Full who name b =
+    recorded who (event.Close name cause.Stopped tail.Direct) (recorded who (event.Command (Stop why.Full)) b)
+given_up fault.NoMemory who name b = recorded who (event.Close name cause.NoMemory tail.Direct) b

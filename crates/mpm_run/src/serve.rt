@@ -3,10 +3,12 @@ ghost use Rattle.std.specs.Prelude.{◌≡◌, ◌<◌, ◌≤◌, ℕ, List, tr
 ghost use Rattle.conn_machine.specs.States.{is_halted};
 ghost use Rattle.conn_machine.specs.Table.{allowed};
 ghost use Rattle.conn_machine.specs.declared.event.Event.TheVariants as event;
+ghost use Rattle.mpm_base.specs.declared.conn.Tail.TheVariants.{Direct};
+ghost use Rattle.board.specs.Book.{recorded};
 ghost use Rattle.board.specs.Faults.{IsRefusedFor};
 ghost use Rattle.board.specs.Fits.{IsSettled};
 ghost use Rattle.conn_state.specs.declared.turn.LastTurn.TheVariants as turn;
-ghost use Rattle.mpm_run.specs.Serve.{GoesOn, IsClosable, IsInHand, IsServed, LeavesGoing, MayLeave, Stays, answers_left, parked_count, signalled_count};
+ghost use Rattle.mpm_run.specs.Serve.{GoesOn, IsClosable, IsInHand, IsServed, LeavesGoing, MayLeave, Stays, answers_left, given_up, parked_count, signalled_count};
 ghost use Rattle.mpm_run.specs.Tells.{AllTell, HasSame, TellsFrom};
 
 use board::{Board, BoardFault};
@@ -145,6 +147,7 @@ pub fn park<L: Link>(
     requires settled { IsSettled kind conn }
     ensures goes { GoesOn board.old.book board.new.book }
     ensures ok { OnOk result (board.new.book.state.going ≡ board.old.book.state.going) }
+    ensures parked { OnOk result (board.new.book ≡ recorded who (event.Park conn.name kind) board.old.book) }
     ensures err { IfErr result (λ fault. LeavesGoing fault board.old.book.state.going board.new.book.state.going) }
     ensures tells { (text : List ℕ) → AllTell text board.old → TellsFrom text conn.told → AllTell text board.new }
 {
@@ -163,6 +166,7 @@ pub fn give_up<L: Link>(board: &mut Board<L>, who: u32, conn: Conn<L>, fault: Bo
     requires who { who < board.old.book.passes }
     requires hand { IsInHand board.old.book.state conn }
     requires why { IsRefusedFor fault board.old.book }
+    ensures is { board.new.book ≡ given_up fault who conn.name board.old.book }
     ensures goes { GoesOn board.old.book board.new.book }
     ensures going { LeavesGoing fault board.old.book.state.going board.new.book.state.going }
     ensures tells { (text : List ℕ) → AllTell text board.old → TellsFrom text conn.told → AllTell text board.new }
@@ -181,6 +185,7 @@ pub fn give_up<L: Link>(board: &mut Board<L>, who: u32, conn: Conn<L>, fault: Bo
 pub fn close<L: Link>(board: &mut Board<L>, who: u32, conn: Conn<L>, cause: Cause)
     requires who { who < board.old.book.passes }
     requires may { IsClosable board.old.book.state cause conn }
+    ensures closed { board.new.book ≡ recorded who (event.Close conn.name cause Direct) board.old.book }
     ensures stays { Stays board.old.book board.new.book }
     ensures parked { parked_count board.new.book.state ≤ parked_count board.old.book.state }
     ensures tells { (text : List ℕ) → AllTell text board.old → TellsFrom text conn.told → AllTell text board.new }

@@ -5,6 +5,10 @@ use Rattle.mpm_run.proofs.CloseLemmas.{signals-cleared, parked-after_close}
 use Rattle.mpm_run.proofs.TellLemmas.{tell-ended, tells-closed}
 use Rattle.mpm_run.proofs.serve.close.Goals as goal
 
+pub returns-clause-closed : goal.returns-clause-closed
+returns-clause-closed g c =
+    rw (← c.end.ensures.ends.name, ← c.end.ensures.ends.cause, ← c.end.ensures.ends.tail) (ap (λ (b : SeenBoard). b.book) c.close.ensures)
+
 pub returns-clause-stays : goal.returns-clause-stays
 returns-clause-stays g c =
     subst (λ (b : SeenBoard). Stays c.args.board.now.book b.book) (sym c.close.ensures)
