@@ -1,4 +1,3 @@
-pub mod DecideLemmas
 pub mod EscapeLemmas
 pub mod FileLemmas
 pub mod ListLemmas
@@ -6,4 +5,3 @@ pub mod LookupLemmas
 pub mod NamesLemmas
 pub mod OptionLemmas
 pub mod RootRequestLemmas
-pub mod ScriptLemmas

@@ -1,4 +1,6 @@
+pub mod BuiltLines
 pub mod Calls
+pub mod Clients
 pub mod Count
 pub mod Escapes
 pub mod Files
@@ -10,6 +12,7 @@ pub mod PlainLink
 pub mod PlainStore
 pub mod RootRequest
 pub mod Script
+pub mod ScriptLine
 pub mod ScriptLink
 pub mod Sink
 pub mod Store

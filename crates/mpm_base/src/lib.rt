@@ -9,10 +9,12 @@
 #![tactic(auto)]
 
 mod addr;
+mod built_lines;
 mod calls;
 mod conn;
 mod escapes;
 mod files;
+mod line_reader;
 mod link;
 mod mem_sink;
 mod mem_store;
@@ -23,6 +25,7 @@ mod plain_link;
 mod plain_store;
 mod root_request;
 mod script;
+mod script_line;
 mod script_link;
 mod shape;
 mod sink;
@@ -35,6 +38,7 @@ pub use addr::Addr;
 pub use calls::Calls;
 pub use conn::{Ask, Cause, ConnName, Kind, Moment, Tail};
 pub use files::Files;
+pub use line_reader::one_line;
 pub use link::{Got, Link, Sent};
 pub use mem_sink::{MemSink, PlainSink};
 pub use mem_store::MemStore;
@@ -44,7 +48,8 @@ pub use octets::Octets;
 pub use plain_link::PlainLink;
 pub use plain_store::PlainStore;
 pub use root_request::{host_of, is_started, one_request};
-pub use script::{Script, ScriptFault, read_script};
+pub use script::{Script, ScriptFault, one_answer, read_script};
+pub use script_line::{ClientAct, CommandWord, LinkCall, ScriptLine, SiteLine};
 pub use script_link::ScriptLink;
 pub use shape::Shape;
 pub use sink::{Put, Sink};
