@@ -1,9 +1,11 @@
 pub mod BuiltLines
 pub mod Calls
 pub mod Clients
+pub mod Clock
 pub mod Count
 pub mod Escapes
 pub mod Files
+pub mod Front
 pub mod Link
 pub mod MemSink
 pub mod MemStore
@@ -12,6 +14,7 @@ pub mod PlainLink
 pub mod PlainStore
 pub mod RootRequest
 pub mod Script
+pub mod ScriptFront
 pub mod ScriptLine
 pub mod ScriptLink
 pub mod Sink
