@@ -1,5 +1,4 @@
 //! The front: where connections, signals and time come from.
-ghost use Rattle.std.specs.Prelude.{Option};
 
 use crate::conn::{ConnName, Moment};
 use crate::link::Link;
@@ -33,13 +32,18 @@ pub enum Arrival<L> {
 /// What a front tells of itself (`told`) is there only where the object tells it: the front of a script does, one over
 /// sockets does not. Its counts are there for every front.
 pub trait Front {
+    ghost use Rattle.std.specs.Prelude.{◌≡◌, List, Option};
     ghost use Rattle.mpm_base.specs.Front.{FrontTold, FrontCounts, Waits, Accepts, Watches};
+    ghost use Rattle.mpm_base.specs.declared.script_line.ScriptLine.{ScriptLine as Line};
 
     /// The links that it hands out.
     type L: Link + Send;
 
     /// What has come and what will, what was taken, and what its waits gave.
     ghost told: { Self → Option FrontTold };
+
+    /// The script that it was made of, where it was made of one. No call changes it.
+    ghost script: { Self → Option (List Line) };
 
     /// Counts of failed waits, of failed accepts, and of waits that answered Ended. None ever falls.
     ghost counts: { Self → FrontCounts };
@@ -53,14 +57,17 @@ pub trait Front {
         quiet: bool,
         ready: &mut Ready,
     ) -> Woke
-        ensures { Waits (told self.old) (told self.new) (counts self.old) (counts self.new) result ready.new };
+        ensures waits { Waits (told self.old) (told self.new) (counts self.old) (counts self.new) result ready.new }
+        ensures script { script self.new ≡ script self.old };
 
     /// The link of the next connection that arrived and was not taken yet.
     fn accept(&mut self) -> Arrival<Self::L>
-        ensures { Accepts Self.L.told Self.L.counts (told self.old) (told self.new) (counts self.old) (counts self.new) result };
+        ensures accepts { Accepts Self.L.told Self.L.counts (told self.old) (told self.new) (counts self.old) (counts self.new) result }
+        ensures script { script self.new ≡ script self.old };
 
     /// From now on the slot of that name is given where something comes for the link, which `accept` handed out. False
     /// where the call failed.
     fn watch(&mut self, name: ConnName, link: &mut Self::L) -> bool
-        ensures { Watches (told self.old) (told self.new) (counts self.old) (counts self.new) name (Self.L.told link.old) (Self.L.told link.new) (Self.L.counts link.old) (Self.L.counts link.new) result };
+        ensures watches { Watches (told self.old) (told self.new) (counts self.old) (counts self.new) name (Self.L.told link.old) (Self.L.told link.new) (Self.L.counts link.old) (Self.L.counts link.new) result }
+        ensures script { script self.new ≡ script self.old };
 }

@@ -6,5 +6,3 @@ pub mod StartLemmas
 pub mod ListenLemmas
 pub mod TakeLemmas
 pub mod ReportLemmas
-pub mod StatusLemmas
-pub mod RunLemmas

@@ -10,12 +10,11 @@
 mod counting;
 mod listen;
 mod report;
-mod run_script;
+//mod run_script;
 mod serve;
-#[cfg(test)]
-mod tests;
+
+//mod tests;
 mod texts;
 
 pub use counting::tally;
 pub use report::{Tally, report_text};
-pub use run_script::{Outcome, Scripted, run};
