@@ -3,13 +3,16 @@
 //! A script is a list of lines, each ended by a line feed (`specs/Script.antt`); which text is which line stands in
 //! `specs/ScriptLine.antt`, what a TEXT spells in `specs/Escapes.antt`, and which lines are built so far in
 //! `specs/BuiltLines.antt`.
-ghost use Rattle.std.specs.Prelude.{◌≡◌, ℕ, List, [], ◌∷◌, ◌++◌, length, Result, IfSome, IfNone, OnOk, OnErr};
+ghost use Rattle.std.specs.Prelude.{◌≡◌, ◌≢◌, ℕ, List, [], ◌∷◌, ◌++◌, length, Result, Err, IfSome, IfNone, IfOk, IfErr, MatchOption, OnOk, OnErr};
 ghost use Rattle.std.specs.List.{prefix_len};
-ghost use Rattle.mpm_base.specs.Script.{Begins, IsAnswer, ScriptIs, is_line_byte};
+ghost use Rattle.mpm_base.specs.Script.{Begins, BeginsWith, IsAnswer, IsScript, ScriptIs, is_line_byte};
 ghost use Rattle.mpm_base.specs.declared.script_line.ScriptLine.{ScriptLine as Line};
 ghost use Rattle.mpm_base.specs.declared.script.ScriptFault.{ScriptFault as Fault};
+ghost use Rattle.mpm_base.specs.declared.script.ScriptFault.TheVariants as fault;
 
+use crate::agreement::{add_name, is_backwards, is_repeated, is_unknown, moment_after};
 use crate::built_lines::first_unbuilt;
+use crate::line_reader::{line_of, one_line};
 use crate::memory::NoMemory;
 use crate::script_line::ScriptLine;
 use std::alloc::Global;
@@ -109,10 +112,51 @@ pub fn one_answer()
         → IsAnswer answer → IsAnswer other → answer ≡ other }
 {}
 
-// The lines of the bytes, up to the first that is refused.
-fn read_lines(alloc: Global, bytes: &[u8]) -> Result<Script, ScriptFault> {
-    let _ = bytes;
-    Err(ScriptFault::NoMemory)
+// The lines of the bytes, or why one of them is refused.
+fn read_lines(alloc: Global, bytes: &[u8]) -> Result<Script, ScriptFault>
+    ensures ok { IfOk result (λ script. IsScript bytes.now script) }
+    ensures err { IfErr result (λ fault. ScriptIs bytes.now (Err fault)) }
+    ensures built { (number : ℕ) → result ≢ Err (fault.NotYet number) }
+{
+    one_line();
+    let mut script = Script::make(alloc);
+    let mut names = Vec::new(alloc);
+    let mut moment = 0;
+    let mut rest = bytes;
+    'lines: while !rest.is_empty() {
+        let number = script.lines().len() as u64 + 1;
+        let Some((line, behind)) = next_line(alloc, rest)? else {
+            return Err(ScriptFault::BadLine(number));
+        };
+        if is_repeated(names.as_slice(), &line) {
+            return Err(ScriptFault::BadLine(number));
+        }
+        if is_backwards(moment, &line) {
+            return Err(ScriptFault::MomentBackwards(number));
+        }
+        if is_unknown(names.as_slice(), &line) {
+            return Err(ScriptFault::UnknownName(number));
+        }
+        moment = moment_after(moment, &line);
+        add_name(alloc, &mut names, &line)?;
+        script.add(line)?;
+        rest = behind;
+    }
+    Ok(script)
+}
+
+// The line that the bytes begin with, and the bytes behind it; None where they begin with none.
+fn next_line(alloc: Global, bytes: &[u8]) -> Result<Option<(ScriptLine, &[u8])>, NoMemory>
+    ensures { IfOk result (λ next. MatchOption next ((line : Line) (rest : List ℕ) → ¬ BeginsWith bytes.now line rest)
+        (λ next. BeginsWith bytes.now next.0 next.1.now)) }
+{
+    let Some((text, rest)) = first_line(bytes) else {
+        return Ok(None);
+    };
+    match line_of(alloc, text)? {
+        Some(line) => Ok(Some((line, rest))),
+        None => Ok(None),
+    }
 }
 
 // The bytes before the first line feed, and those behind it.
