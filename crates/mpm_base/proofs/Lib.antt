@@ -1,4 +1,6 @@
 pub mod AgreementLemmas
+pub mod AnswerLemmas
+pub mod BuiltFrontLemmas
 pub mod EscapeLemmas
 pub mod FileLemmas
 pub mod FirstLineLemmas

@@ -110,7 +110,9 @@ pub fn read_script(alloc: Global, bytes: &[u8]) -> Result<Script, ScriptFault>
 pub fn one_answer()
     ensures { (bytes : List ℕ) (answer other : Result (List Line) Fault) → ScriptIs bytes answer → ScriptIs bytes other
         → IsAnswer answer → IsAnswer other → answer ≡ other }
-{}
+{
+    one_line();
+}
 
 // The lines of the bytes, or why one of them is refused.
 fn read_lines(alloc: Global, bytes: &[u8]) -> Result<Script, ScriptFault>
