@@ -1,7 +1,12 @@
+pub mod AgreementLemmas
+pub mod AnswerLemmas
+pub mod BuiltFrontLemmas
 pub mod EscapeLemmas
 pub mod FileLemmas
+pub mod FirstLineLemmas
 pub mod ListLemmas
 pub mod LookupLemmas
 pub mod NamesLemmas
 pub mod OptionLemmas
 pub mod RootRequestLemmas
+pub mod SequenceLemmas

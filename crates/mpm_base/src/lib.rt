@@ -9,6 +9,7 @@
 #![tactic(auto)]
 
 mod addr;
+mod agreement;
 mod built_lines;
 mod calls;
 mod clock;
