@@ -4,4 +4,6 @@ pub mod ListLemmas
 pub mod LookupLemmas
 pub mod NamesLemmas
 pub mod OptionLemmas
+pub mod ProgressLemmas
 pub mod RootRequestLemmas
+pub mod SpotLemmas
