@@ -1,3 +1,4 @@
+pub mod BuiltLemmas
 pub mod EscapeLemmas
 pub mod FileLemmas
 pub mod ListLemmas
