@@ -1,6 +1,7 @@
 pub mod AgreementLemmas
 pub mod AnswerLemmas
 pub mod BuiltFrontLemmas
+pub mod BuiltLemmas
 pub mod EscapeLemmas
 pub mod FileLemmas
 pub mod FirstLineLemmas
@@ -8,5 +9,7 @@ pub mod ListLemmas
 pub mod LookupLemmas
 pub mod NamesLemmas
 pub mod OptionLemmas
+pub mod ProgressLemmas
 pub mod RootRequestLemmas
 pub mod SequenceLemmas
+pub mod SpotLemmas

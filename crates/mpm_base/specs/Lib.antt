@@ -12,6 +12,7 @@ pub mod MemStore
 pub mod Notes
 pub mod PlainLink
 pub mod PlainStore
+pub mod Progress
 pub mod RootRequest
 pub mod Script
 pub mod ScriptFront
