@@ -1,3 +1,4 @@
+pub mod ComingLemmas
 pub mod EscapeLemmas
 pub mod FileLemmas
 pub mod ListLemmas

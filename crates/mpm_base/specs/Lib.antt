@@ -12,6 +12,7 @@ pub mod MemStore
 pub mod Notes
 pub mod PlainLink
 pub mod PlainStore
+pub mod PlayedFront
 pub mod RootRequest
 pub mod Script
 pub mod ScriptFront
