@@ -2,6 +2,7 @@ pub mod AgreementLemmas
 pub mod AnswerLemmas
 pub mod BuiltFrontLemmas
 pub mod BuiltLemmas
+pub mod ComingLemmas
 pub mod EscapeLemmas
 pub mod FileLemmas
 pub mod FirstLineLemmas

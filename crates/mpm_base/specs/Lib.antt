@@ -13,6 +13,7 @@ pub mod Notes
 pub mod PlainLink
 pub mod PlainStore
 pub mod Progress
+pub mod PlayedFront
 pub mod RootRequest
 pub mod Script
 pub mod ScriptFront

@@ -44,7 +44,8 @@ impl Ready {
 
     /// Whether no further slot fits.
     pub fn is_full(&self) -> bool
-        ensures { result ≡ (length self.now == 256) }
+        ensures is { result ≡ (length self.now == 256) }
+        ensures few { length self.now ≤ 256 }
     {
         self.slots.len() == MOST
     }
