@@ -21,7 +21,7 @@ use Rattle.conn_machine.specs.Runs.{after, IsHistory}
 use Rattle.conn_machine.specs.Laws.{StaysSound}
 use Rattle.board.specs.declared.faults.BoardFault.{BoardFault}
 use Rattle.board.specs.declared.faults.BoardFault.TheVariants as fault
-use Rattle.board.specs.Book.{SeenBook}
+use Rattle.board.specs.Book.{SeenBook, StopsWhereFull, TellsFullStop}
 use Rattle.board.specs.Board.{SeenBoard, Agrees}
 use Rattle.board.specs.Faults.{IsFull}
 use Rattle.board.specs.Finds.{is_due, is_quiet, startable}
@@ -152,12 +152,15 @@ HasStopped old new s =
 -- ## A run
 
 -- the history that is kept is one of the machine, from the opening state on, in the order of its passes; each state on its
--- way is sound; and the connections agree with it
+-- way is sound; a stop because the history is full stands only where it is, and is told by the state; and the connections agree
+-- with the history
 pub record IsRunFrom (slots children : ℕ) (shape : Shape) (b : SeenBoard) : Type 0 where
   pub opened : b.book.base ≡ opening slots children shape
   pub is_history : IsHistory (opening slots children shape) b.book.history
   pub state : after (opening slots children shape) b.book.history ≡ b.book.state
   pub stays_sound : StaysSound (opening slots children shape) b.book.history
+  pub stops : StopsWhereFull b.book.history
+  pub full : TellsFullStop b.book.state.going b.book.history
   pub agrees : Agrees b
 
 -- it is a whole one: it stopped because nothing more could come, no connection is live, each child is gone, and each

@@ -10,7 +10,7 @@
 mod counting;
 mod listen;
 mod report;
-//mod run_script;
+mod run_script;
 mod serve;
 
 //mod tests;
@@ -18,3 +18,4 @@ mod texts;
 
 pub use counting::tally;
 pub use report::{Tally, report_text};
+pub use run_script::{Outcome, Scripted, run};

@@ -1,0 +1,243 @@
+-- Why a run ends with its status, and what it leaves of the output.
+use Rattle.std.specs.Prelude.{◌≡◌, ℕ, ◌≤◌, Bool, true, false, ◌⊎◌, List, ◌∷◌, [], ◌++◌, length, Option, Some, None, option_map, Result, Ok, Err, codes}
+use Rattle.std.specs.List.{list_any}
+use Rattle.mpm_base.specs.Count.{NeverFalls, Rises}
+use Rattle.mpm_base.specs.Clients.{clients_of, names_of}
+use Rattle.mpm_base.specs.Script.{ScriptIs}
+use Rattle.mpm_base.specs.ScriptFront.{SeenFront}
+use Rattle.mpm_base.specs.Store.{ReadsFile, StoreCounts, StoreTold}
+use Rattle.mpm_base.specs.declared.conn.Cause.{Cause}
+use Rattle.mpm_base.specs.declared.conn.Cause.TheVariants as cause
+use Rattle.mpm_base.specs.declared.script.ScriptFault.{ScriptFault}
+use Rattle.mpm_base.specs.declared.script.ScriptFault.TheVariants as script
+use Rattle.mpm_base.specs.declared.store.StoreFault.{StoreFault}
+use Rattle.mpm_base.specs.declared.store.StoreFault.TheVariants as fault
+use Rattle.conn_machine.specs.declared.event.Why.TheVariants as why
+use Rattle.conn_machine.specs.declared.state.Going.{Going}
+use Rattle.conn_machine.specs.declared.state.Going.TheVariants.{Halted}
+use Rattle.conn_machine.specs.Runs.{full_load, load}
+use Rattle.conn_state.specs.Answered.{SeenEnded}
+use Rattle.board.specs.Book.{HasFullStop}
+use Rattle.board.specs.Board.{SeenBoard}
+use Rattle.mpm_run.specs.FirstShape.{first_shape}
+use Rattle.mpm_run.specs.Listen.{IsRunFrom, IsWholeRun}
+use Rattle.mpm_run.specs.Report.{report_of}
+use Rattle.mpm_run.specs.Tells.{AllReceive}
+use Rattle.mpm_run.specs.Texts.{script_refused, store_fault, usage}
+use Rattle.mpm_run.specs.declared.texts.ScriptRefusal.{ScriptRefusal}
+use Rattle.mpm_run.specs.declared.texts.ScriptRefusal.TheVariants.{BadLine, MomentBackwards, UnknownName, NotYet}
+
+-- ## A call
+
+-- the words are the command that plays the script of that name
+abbrev pub IsCommand : List (List ℕ) → List ℕ → Type 0
+IsCommand words name = words ≡ codes "--script" ∷ name ∷ []
+
+-- the words are no command
+abbrev pub IsNoCommand : List (List ℕ) → Type 0
+IsNoCommand words = (name : List ℕ) → ¬ IsCommand words name
+
+-- what an output tells, and its count of faults
+pub record SinkSeen : Type 0 where
+  pub told : Option (List ℕ)
+  pub faults : ℕ
+
+abbrev pub sink_seen : Option (List ℕ) → ℕ → SinkSeen
+sink_seen told faults = record { told = told; faults = faults }
+
+-- the text was written whole, unless a write failed; then nothing is said of how much of it was
+pub record Writes (old new : SinkSeen) (text : List ℕ) : Type 0 where
+  pub faults : NeverFalls old.faults new.faults
+  pub whole : (new.told ≡ option_map (λ written. written ++ text) old.told) ⊎ Rises old.faults new.faults
+
+-- all of the text was written, or a write failed
+abbrev pub WritesAll : SinkSeen → SinkSeen → List ℕ → Bool → Type 0
+WritesAll old new text true = new.told ≡ option_map (λ written. written ++ text) old.told
+WritesAll old new text false = Rises old.faults new.faults
+
+-- what a store tells, and its counts
+pub record StoreSeen : Type 0 where
+  pub told : Option StoreTold
+  pub counts : StoreCounts
+
+abbrev pub store_seen : Option StoreTold → StoreCounts → StoreSeen
+store_seen told counts = record { told = told; counts = counts }
+
+-- the greatest size of a script, in bytes
+abbrev pub most_script : ℕ
+most_script = 67108864
+
+-- a call of `run`: its words, what the store and the output tell and count before it and after it, and the number it shows
+pub record Call : Type 0 where
+  pub words : List (List ℕ)
+  pub store : StoreSeen
+  pub store' : StoreSeen
+  pub sink : SinkSeen
+  pub sink' : SinkSeen
+  pub shown : Option ℕ
+
+abbrev pub seen_call : List (List ℕ) → Option StoreTold → StoreCounts → Option StoreTold → StoreCounts → Option (List ℕ) → ℕ → Option (List ℕ) → ℕ → Option ℕ → Call
+seen_call words told counts told' counts' written faults written' faults' shown =
+    record {
+      words = words;
+      store = store_seen told counts;
+      store' = store_seen told' counts';
+      sink = sink_seen written faults;
+      sink' = sink_seen written' faults';
+      shown = shown;
+    }
+
+-- the words are the command, and the store was asked once, for the script of that name
+pub record Asks (call : Call) (name : List ℕ) (answer : Result (List ℕ) StoreFault) : Type 0 where
+  pub command : IsCommand call.words name
+  pub read : ReadsFile call.store.told call.store'.told call.store.counts call.store'.counts name most_script answer
+
+-- ## Where no run opened
+
+-- the faults of a store that are told as its own: a file that is missing, at place 0, and a call that failed
+abbrev pub IsUnread : StoreFault → Option ℕ → Type 0
+IsUnread e shown = ((e ≡ fault.Missing) × (shown ≡ Some 0)) ⊎ ((e ≡ fault.Failed) × (shown ≡ None))
+
+-- with status 2
+pub record EndsUnknown (call : Call) : Type 0 where
+  pub unknown : IsNoCommand call.words
+  pub unasked : call.store' ≡ call.store
+  pub shows : call.shown ≡ None
+  pub text : Writes call.sink call.sink' usage
+
+-- with status 3
+pub record EndsUnread (call : Call) : Type 0 where
+  pub name : List ℕ
+  pub told : StoreFault
+  pub asks : Asks call name (Err told)
+  pub shows : IsUnread told call.shown
+  pub text : Writes call.sink call.sink' (store_fault name)
+
+-- with status 8, for the size
+pub record EndsTooLarge (call : Call) : Type 0 where
+  pub name : List ℕ
+  pub size : ℕ
+  pub asks : Asks call name (Err (fault.Large size))
+  pub shows : call.shown ≡ Some 0
+  pub text : Writes call.sink call.sink' (script_refused 0 BadLine)
+
+-- the fault of a script that is refused so at that line
+abbrev pub fault_at : ScriptRefusal → ℕ → ScriptFault
+fault_at BadLine line = script.BadLine line
+fault_at MomentBackwards line = script.MomentBackwards line
+fault_at UnknownName line = script.UnknownName line
+fault_at NotYet line = script.NotYet line
+
+-- with status 8, for a line
+pub record EndsAtLine (call : Call) : Type 0 where
+  pub name : List ℕ
+  pub bytes : List ℕ
+  pub line : ℕ
+  pub why : ScriptRefusal
+  pub asks : Asks call name (Ok bytes)
+  pub refused : ScriptIs bytes (Err (fault_at why line))
+  pub shows : call.shown ≡ Some line
+  pub text : Writes call.sink call.sink' (script_refused line why)
+
+-- with status 8
+abbrev pub EndsRefused : Call → Type 0
+EndsRefused call = EndsTooLarge call ⊎ EndsAtLine call
+
+-- ## Where a run opened
+
+-- the report of a board
+abbrev pub board_report : SeenBoard → List ℕ
+board_report b = report_of b.book.history b.book.state.newest b.ended
+
+-- the report of the board was written whole
+abbrev pub Reports : SinkSeen → SinkSeen → SeenBoard → Type 0
+Reports old new b = new.told ≡ option_map (λ written. written ++ board_report b) old.told
+
+-- what is left of a run of these clients: each connection that ended received a front of what its client sends, and all of it
+-- where the client had done
+pub record HasRun (clients : List (List ℕ)) (b : SeenBoard) : Type 0 where
+  pub run : IsRunFrom 64 1 first_shape b
+  pub receive : AllReceive clients b.ended
+
+-- a script was read, and what is left is of a run of it: a board, and the front that played the script
+pub record HasPlayed (call : Call) (b : SeenBoard) (f : SeenFront) : Type 0 where
+  pub name : List ℕ
+  pub bytes : List ℕ
+  pub asks : Asks call name (Ok bytes)
+  pub script : ScriptIs bytes (Ok f.script)
+  pub shows : call.shown ≡ None
+  pub has_run : HasRun (clients_of f.script) b
+
+-- how a run that stopped so may end: with 6 wherever memory lacked for its report
+abbrev pub EndsFor : Going → ℕ → Type 0
+EndsFor (Halted why.FrontEnded) status = (status ≡ 0) ⊎ (status ≡ 5) ⊎ (status ≡ 6)
+EndsFor (Halted why.Full) status = (status ≡ 7) ⊎ (status ≡ 6)
+EndsFor (Halted why.NoMemory) status = status ≡ 6
+EndsFor other status = ⊥
+
+-- the service of a connection that ended for this was cut short by something else than want of memory
+abbrev pub is_cut_by : Cause → Bool
+is_cut_by cause.ClientDone = false
+is_cut_by cause.NoMemory = false
+is_cut_by other = true
+
+abbrev pub is_cut : SeenEnded → Bool
+is_cut e = is_cut_by e.cause
+
+-- the script was played to its end: the run is a whole one, all lines have happened, and each connection of the script was
+-- taken
+pub record HasEnd (b : SeenBoard) (f : SeenFront) : Type 0 where
+  pub whole : IsWholeRun 64 1 first_shape b
+  pub happened : f.happened ≡ length f.script
+  pub taken : b.book.state.accepted ≡ length (names_of f.script)
+
+-- with status 0: the script was played to its end, no connection was cut short by anything but want of memory, and the report
+-- was written
+pub record EndsWell (sink sink' : SinkSeen) (b : SeenBoard) (f : SeenFront) : Type 0 where
+  pub end : HasEnd b f
+  pub none_cut : list_any is_cut b.ended ≡ false
+  pub report : Reports sink sink' b
+
+-- with status 5: the script was played to its end, and a write of the report failed
+pub record EndsUnwritten (sink sink' : SinkSeen) (b : SeenBoard) (f : SeenFront) : Type 0 where
+  pub end : HasEnd b f
+  pub failed : Rises sink.faults sink'.faults
+
+-- with status 7: the history has a stop because it is full, at a load that is at its limit
+pub record EndsFull (sink sink' : SinkSeen) (b : SeenBoard) : Type 0 where
+  pub stop : HasFullStop b.book.history
+  pub full : full_load ≤ load stop.before
+  pub text : Writes sink sink' (board_report b)
+
+-- the statuses that there are
+abbrev pub IsStatus : ℕ → Type 0
+IsStatus s = (s ≡ 0) ⊎ (s ≡ 2) ⊎ (s ≡ 3) ⊎ (s ≡ 5) ⊎ (s ≡ 6) ⊎ (s ≡ 7) ⊎ (s ≡ 8)
+
+-- ## On the way
+
+-- the status of a run that stopped so, unless its report is not written
+abbrev pub IsStatusOf : Going → ℕ → Type 0
+IsStatusOf (Halted why.FrontEnded) status = (status ≡ 0) ⊎ (status ≡ 6)
+IsStatusOf (Halted why.Full) status = status ≡ 7
+IsStatusOf (Halted why.NoMemory) status = status ≡ 6
+IsStatusOf other status = ⊥
+
+-- the statuses before the report
+abbrev pub IsEndStatus : ℕ → Type 0
+IsEndStatus s = (s ≡ 0) ⊎ (s ≡ 6) ⊎ (s ≡ 7)
+
+-- what a report makes of a status: a failed write changes 0 alone, and want of memory each
+abbrev pub ReportsAs : ℕ → ℕ → Type 0
+ReportsAs status status' = (status' ≡ status) ⊎ ((status ≡ 0) × (status' ≡ 5)) ⊎ (status' ≡ 6)
+
+-- a script is refused for the fault: its line is shown, and its text was written
+pub record IsRefusalOf (sink sink' : SinkSeen) (e : ScriptFault) (shown : Option ℕ) : Type 0 where
+  pub line : ℕ
+  pub why : ScriptRefusal
+  pub fault_is : e ≡ fault_at why line
+  pub shows : shown ≡ Some line
+  pub text : Writes sink sink' (script_refused line why)
+
+-- the statuses of a script that was read
+abbrev pub IsPlayed : ℕ → Type 0
+IsPlayed s = (s ≡ 0) ⊎ (s ≡ 5) ⊎ (s ≡ 6) ⊎ (s ≡ 7)
