@@ -248,6 +248,8 @@ impl Front for ScriptFront {
 
     ghost told = { λ f. Some f.told };
 
+    ghost script = { λ f. Some f.script };
+
     ghost counts = { λ f. record { faults = 0; accept_faults = 0; ends = f.ends } };
 
     fn wait<R: Wait>(
@@ -257,7 +259,8 @@ impl Front for ScriptFront {
         quiet: bool,
         ready: &mut Ready,
     ) -> Woke
-        ensures front { Waits (Some self.old.told) (Some self.new.told) (counts_of self.old) (counts_of self.new) result ready.new }
+        ensures waits { Waits (Some self.old.told) (Some self.new.told) (counts_of self.old) (counts_of self.new) result ready.new }
+        ensures script { Some self.new.script ≡ Some self.old.script }
         ensures plays { Plays self.old self.new until quiet result ready.new }
     {
         let _ = rt;
@@ -270,7 +273,8 @@ impl Front for ScriptFront {
     }
 
     fn accept(&mut self) -> Arrival<ScriptLink>
-        ensures front { Accepts (λ (l : SeenScriptLink). Some l.told) (λ (l : SeenScriptLink). l.counts) (Some self.old.told) (Some self.new.told) (counts_of self.old) (counts_of self.new) result }
+        ensures script { Some self.new.script ≡ Some self.old.script }
+        ensures accepts { Accepts (λ (l : SeenScriptLink). Some l.told) (λ (l : SeenScriptLink). l.counts) (Some self.old.told) (Some self.new.told) (counts_of self.old) (counts_of self.new) result }
         ensures told { is_handed result ≡ nat_lt self.old.told.accepted self.old.told.arrived }
     {
         if self.accepted == self.arrived {
@@ -294,7 +298,8 @@ impl Front for ScriptFront {
     }
 
     fn watch(&mut self, name: ConnName, link: &mut ScriptLink) -> bool
-        ensures front { Watches (Some self.old.told) (Some self.new.told) (counts_of self.old) (counts_of self.new) name (Some link.old.told) (Some link.new.told) link.old.counts link.new.counts result }
+        ensures script { Some self.new.script ≡ Some self.old.script }
+        ensures watches { Watches (Some self.old.told) (Some self.new.told) (counts_of self.old) (counts_of self.new) name (Some link.old.told) (Some link.new.told) link.old.counts link.new.counts result }
         ensures told { result ≡ true }
     {
         let rank = link.rank() as usize;

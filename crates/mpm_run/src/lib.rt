@@ -12,8 +12,8 @@ mod listen;
 mod report;
 mod run_script;
 mod serve;
-
-//mod tests;
+#[cfg(test)]
+mod tests;
 mod texts;
 
 pub use counting::tally;
