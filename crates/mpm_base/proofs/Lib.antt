@@ -1,5 +1,7 @@
 pub mod EscapeLemmas
 pub mod FileLemmas
+pub mod LineLemmas
+pub mod LineWordLemmas
 pub mod ListLemmas
 pub mod LookupLemmas
 pub mod NamesLemmas

@@ -4,6 +4,7 @@ pub mod Clients
 pub mod Count
 pub mod Escapes
 pub mod Files
+pub mod LineWords
 pub mod Link
 pub mod MemSink
 pub mod MemStore

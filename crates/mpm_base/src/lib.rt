@@ -15,6 +15,7 @@ mod conn;
 mod escapes;
 mod files;
 mod line_reader;
+mod line_words;
 mod link;
 mod mem_sink;
 mod mem_store;
