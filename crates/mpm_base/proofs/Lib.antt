@@ -6,6 +6,8 @@ pub mod ComingLemmas
 pub mod EscapeLemmas
 pub mod FileLemmas
 pub mod FirstLineLemmas
+pub mod LineLemmas
+pub mod LineWordLemmas
 pub mod ListLemmas
 pub mod LookupLemmas
 pub mod NamesLemmas

@@ -6,6 +6,7 @@ pub mod Count
 pub mod Escapes
 pub mod Files
 pub mod Front
+pub mod LineWords
 pub mod Link
 pub mod MemSink
 pub mod MemStore

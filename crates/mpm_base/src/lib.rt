@@ -21,6 +21,7 @@ mod files;
 mod front;
 mod given_log;
 mod line_reader;
+mod line_words;
 mod link;
 mod link_counters;
 mod mem_sink;
