@@ -1,16 +1,16 @@
 -- What bytes are as a script has one answer.
-use Rattle.std.proofs.Common.{◌≡◌, ℕ, suc, ◌<◌, ◌⊎◌, inl, inr, Bool, true, false, List, [], ◌∷◌, ◌++◌, length, Result, Ok, Err, refl, sym, ap, subst, ◌∙◌, arith}
+use Rattle.std.proofs.Common.{◌≡◌, ℕ, suc, inl, inr, Bool, true, List, [], ◌∷◌, ◌++◌, length, Result, Ok, Err, refl, sym, ap, subst, ◌∙◌, arith}
 use Rattle.std.proofs.lemmas.Bool.{false≢true}
 use Rattle.std.proofs.lemmas.List.{append-nil}
 use Rattle.mpm_base.specs.BuiltLines.{AreBuilt, FirstUnbuilt}
-use Rattle.mpm_base.specs.Script.{BeginsWith, AreLines, AllAgree, agrees, is_repeated, is_backwards, is_unknown, IsScript, IsRefusedAt, IsBadLine, BeginsFailing, IsNotYetAt, ScriptIs, IsAnswer}
+use Rattle.mpm_base.specs.Script.{BeginsWith, AreLines, AllAgree, agrees, is_repeated, is_backwards, is_unknown, IsScript, IsRefusedAt, IsBadLine, BeginsFailing, ScriptIs, IsAnswer}
 use Rattle.mpm_base.specs.declared.script_line.ScriptLine.{ScriptLine}
 use Rattle.mpm_base.specs.declared.script_line.ScriptLine.TheVariants as line
 use Rattle.mpm_base.specs.declared.script.ScriptFault.{ScriptFault}
 use Rattle.mpm_base.specs.declared.script.ScriptFault.TheVariants as fault
 use Rattle.mpm_base.proofs.AgreementLemmas.{agrees_at}
 use Rattle.mpm_base.proofs.BuiltFrontLemmas.{no_first_unbuilt, one_place}
-use Rattle.mpm_base.proofs.SequenceLemmas.{OneLine, GoesOn, line_once, line_some, two_sequences}
+use Rattle.mpm_base.proofs.SequenceLemmas.{OneLine, line_once, line_some, two_sequences}
 
 -- ## How far the bytes are good
 

@@ -1,5 +1,5 @@
 -- Which line of a script is the first that isn't built: there is one place at most.
-use Rattle.std.proofs.Common.{◌≡◌, ℕ, ◌⊎◌, inl, inr, List, [], ◌∷◌, ◌++◌, length, refl, sym, ap, subst, ◌∙◌, append_assoc}
+use Rattle.std.proofs.Common.{◌≡◌, ℕ, inl, inr, List, [], ◌∷◌, ◌++◌, length, sym, ap, subst, ◌∙◌, append_assoc}
 use Rattle.std.proofs.lemmas.List.{append-nil}
 use Rattle.mpm_base.specs.BuiltLines.{IsBuilt, AreBuilt, FirstUnbuilt}
 use Rattle.mpm_base.specs.declared.script_line.ScriptLine.{ScriptLine}

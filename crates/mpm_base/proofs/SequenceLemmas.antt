@@ -1,5 +1,5 @@
 -- The lines that bytes begin with: one more, and that bytes have one sequence of them.
-use Rattle.std.proofs.Common.{◌≡◌, ℕ, ◌+◌, ◌<◌, ◌⊎◌, inl, inr, Bool, true, false, List, [], ◌∷◌, ◌++◌, length, refl, sym, ap, subst, ◌∙◌, arith}
+use Rattle.std.proofs.Common.{◌≡◌, ℕ, ◌<◌, ◌⊎◌, inl, inr, List, [], ◌∷◌, ◌++◌, length, refl, sym, ap, subst, ◌∙◌}
 use Rattle.mpm_base.specs.ScriptLine.{IsLine}
 use Rattle.mpm_base.specs.Script.{Begins, BeginsWith, AreLines}
 use Rattle.mpm_base.specs.declared.script_line.ScriptLine.{ScriptLine}

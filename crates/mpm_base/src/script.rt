@@ -118,7 +118,7 @@ pub fn one_answer()
 fn read_lines(alloc: Global, bytes: &[u8]) -> Result<Script, ScriptFault>
     ensures ok { IfOk result (λ script. IsScript bytes.now script) }
     ensures err { IfErr result (λ fault. ScriptIs bytes.now (Err fault)) }
-    ensures built { (number : ℕ) → result ≢ Err (fault.NotYet number) }
+    ensures not_yet { (number : ℕ) → result ≢ Err (fault.NotYet number) }
 {
     one_line();
     let mut script = Script::make(alloc);

@@ -1,7 +1,7 @@
-use Rattle.std.proofs.Common.{◌≡◌, ◌<◌, true, length, List, [], ◌∷◌, ◌++◌, sym, ap, subst, ◌∙◌, arith}
+use Rattle.std.proofs.Common.{◌≡◌, true, length, [], ◌∷◌, ◌++◌, sym, ap, subst, ◌∙◌, arith}
 use Rattle.std.proofs.lemmas.Bool.{eqb-false}
-use Rattle.mpm_base.specs.Clients.{made_by, names_of}
-use Rattle.mpm_base.specs.Script.{AllAgree, AreLines, is_repeated, moment_from}
+use Rattle.mpm_base.specs.Clients.{made_by}
+use Rattle.mpm_base.specs.Script.{is_repeated, moment_from}
 use Rattle.mpm_base.proofs.AgreementLemmas.{agree_push, agrees_if, moment_push, names_push}
 use Rattle.mpm_base.proofs.SequenceLemmas.{line_once, lines_push}
 use Rattle.mpm_base.proofs.script.read_lines.Goals as goal

@@ -1,4 +1,4 @@
-use Rattle.std.proofs.Common.{◌≡◌, List, [], length}
+use Rattle.std.proofs.Common.{◌≡◌, [], length}
 use Rattle.mpm_base.specs.Clients.{names_of}
 use Rattle.mpm_base.specs.Script.{AllAgree, AreLines, moment_from}
 use Rattle.mpm_base.proofs.script.read_lines.Given as goal
