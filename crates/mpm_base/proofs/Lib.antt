@@ -5,4 +5,5 @@ pub mod ListLemmas
 pub mod LookupLemmas
 pub mod NamesLemmas
 pub mod OptionLemmas
+pub mod PlayedLemmas
 pub mod RootRequestLemmas

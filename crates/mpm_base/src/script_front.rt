@@ -8,7 +8,7 @@ ghost use Rattle.mpm_base.specs.ScriptLink.{SeenScriptLink};
 
 use crate::calls::Calls;
 use crate::client_texts::sent_by;
-use crate::coming_lines::{arrivals, earlier, lines_by, lines_now, next_moment};
+use crate::coming_lines::{arrivals, earlier, lines_by, lines_now, next_lines, next_moment};
 use crate::conn::{ConnName, Moment};
 use crate::front::{Arrival, Front, Woke};
 use crate::given_log::GivenLog;
@@ -75,7 +75,7 @@ impl Model for ScriptFront {
       ends = f.ends;
     } };
 
-    ghost invariant = { λ f. ArePlayed f.script f.happened f.arrived f.accepted (map (λ awaited. awaited.text) f.awaited.items) (length f.watched.items) (length f.clients.items) f.ends };
+    ghost invariant = { λ f. ArePlayed f.script f.happened f.arrived f.accepted (map (λ awaited. awaited.text) f.awaited.items) (length f.watched.items) f.ends };
 }
 
 impl ScriptFront {
@@ -146,7 +146,7 @@ impl ScriptFront {
         requires { count ≤ self.old.told.left }
         ensures { self.new ≡ with_lines count self.old }
     {
-        let lines = &self.script.lines()[self.happened..self.happened + count];
+        let lines = next_lines(self.script.lines(), self.happened, count);
         self.arrived += arrivals(lines);
         happen(lines, self.clients.as_mut_slice());
         self.happened += count;
@@ -184,7 +184,7 @@ impl ScriptFront {
         ensures { result ≡ true → HasAllTaken self.now.told }
     {
         self.happened == self.script.lines().len()
-            && self.accepted == self.clients.len()
+            && self.accepted == self.watched.len()
             && are_closed(self.clients.as_slice())
     }
 
@@ -300,7 +300,9 @@ impl Front for ScriptFront {
         let rank = link.rank() as usize;
         if rank < self.watched.len() {
             self.watched[rank] = Some(name);
-            self.clients[rank].watch();
+        }
+        if let Some(client) = self.clients.get_mut(rank) {
+            client.watch();
         }
         true
     }
