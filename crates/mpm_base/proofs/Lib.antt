@@ -1,3 +1,4 @@
+pub mod ClientLemmas
 pub mod ComingLemmas
 pub mod EscapeLemmas
 pub mod FileLemmas

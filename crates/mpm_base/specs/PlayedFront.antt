@@ -4,6 +4,7 @@ use Rattle.mpm_base.specs.Clients.{clients_of, names_of}
 use Rattle.mpm_base.specs.Count.{next_count, RisesExactlyWhere}
 use Rattle.mpm_base.specs.Front.{FrontCounts, Given, is_ended}
 use Rattle.mpm_base.specs.ScriptFront.{SeenFront, lines_by, to_come}
+use Rattle.mpm_base.specs.declared.conn.ConnName.{ConnName}
 use Rattle.mpm_base.specs.declared.front.Woke.{Woke}
 use Rattle.mpm_base.specs.declared.script_line.ScriptLine.{ScriptLine}
 use Rattle.mpm_base.specs.declared.script_line.ScriptLine.TheVariants as line
@@ -41,6 +42,11 @@ pub record ArePlayed (lines : List ScriptLine) (count arrivals taken : ℕ) (tex
   pub texts_are : texts ≡ drop taken (clients_of lines)
   pub names_are : names ≡ length (clients_of lines)
   pub over : 0 < ended → (count ≡ length lines) × (taken ≡ length (clients_of lines))
+
+-- the clients of a script: what those send whose links were not handed out, and under which name each link is watched
+pub record SeenClients : Type 0 where
+  pub waiting : List (List ℕ)
+  pub watched : List (Option ConnName)
 
 -- it has waited
 abbrev pub with_begun : SeenFront → SeenFront
