@@ -7,4 +7,5 @@ pub mod LookupLemmas
 pub mod NamesLemmas
 pub mod OptionLemmas
 pub mod PlayedLemmas
+pub mod PlaysLemmas
 pub mod RootRequestLemmas

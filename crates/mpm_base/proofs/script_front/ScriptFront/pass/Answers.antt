@@ -25,7 +25,7 @@ pub invariant_of-self : goal.invariant_of-self
 invariant_of-self c =
     let s = c.self.inside in
     let at = (goal.at.invariant_of-self c).After-arrivals in
-    played-lines s.script s.happened c.args.count s.arrived c.arrivals.result s.accepted _ s.ends _ c.self.invariant (few at) (more at)
+    rw c.happen.ensures (played-lines s.script s.happened c.args.count s.arrived c.arrivals.result s.accepted _ s.ends _ c.self.invariant (few at) (more at))
 
 pub returns : goal.returns
 returns c =
@@ -33,4 +33,4 @@ returns c =
     let at = (goal.at.returns c).After-arrivals in
     let a = arrived at in
     let b : length s.script - (s.happened + c.args.count) ≡ length s.script - s.happened - c.args.count = omega arith in
-    rw (← c.self.view_is, a, b)
+    rw (← c.self.view_is, c.happen.ensures, a, b)
