@@ -9,3 +9,4 @@ pub mod OptionLemmas
 pub mod PlayedLemmas
 pub mod PlaysLemmas
 pub mod RootRequestLemmas
+pub mod WaitLemmas
