@@ -2,6 +2,7 @@ pub mod AgreementLemmas
 pub mod AnswerLemmas
 pub mod BuiltFrontLemmas
 pub mod BuiltLemmas
+pub mod ClientLemmas
 pub mod ComingLemmas
 pub mod EscapeLemmas
 pub mod FileLemmas
@@ -16,3 +17,7 @@ pub mod ProgressLemmas
 pub mod RootRequestLemmas
 pub mod SequenceLemmas
 pub mod SpotLemmas
+pub mod PlayedLemmas
+pub mod PlaysLemmas
+pub mod RootRequestLemmas
+pub mod WaitLemmas

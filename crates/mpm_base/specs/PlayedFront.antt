@@ -4,6 +4,7 @@ use Rattle.mpm_base.specs.Clients.{clients_of, names_of}
 use Rattle.mpm_base.specs.Count.{next_count, RisesExactlyWhere}
 use Rattle.mpm_base.specs.Front.{FrontCounts, Given, is_ended}
 use Rattle.mpm_base.specs.ScriptFront.{SeenFront, lines_by, to_come}
+use Rattle.mpm_base.specs.declared.conn.ConnName.{ConnName}
 use Rattle.mpm_base.specs.declared.front.Woke.{Woke}
 use Rattle.mpm_base.specs.declared.script_line.ScriptLine.{ScriptLine}
 use Rattle.mpm_base.specs.declared.script_line.ScriptLine.TheVariants as line
@@ -33,15 +34,19 @@ happens_by m (line.Command word) = true
 happens_by m (line.Site site) = true
 
 -- so many of the lines have happened, so many connections have arrived and so many of them were handed out; the texts of
--- the others wait, and there is a place for each connection's name and client; and where a wait answered Ended all was taken
-pub record ArePlayed (lines : List ScriptLine) (count arrivals taken : ℕ) (texts : List (List ℕ)) (names clients ended : ℕ) : Type 0 where
+-- the others wait, and there is a place for the name of each connection; and where a wait answered Ended all was taken
+pub record ArePlayed (lines : List ScriptLine) (count arrivals taken : ℕ) (texts : List (List ℕ)) (names ended : ℕ) : Type 0 where
   pub happened : count ≤ length lines
   pub arrived : arrivals ≡ length (names_of (take count lines))
   pub accepted : taken ≤ arrivals
   pub texts_are : texts ≡ drop taken (clients_of lines)
   pub names_are : names ≡ length (clients_of lines)
-  pub clients_are : clients ≡ length (clients_of lines)
   pub over : 0 < ended → (count ≡ length lines) × (taken ≡ length (clients_of lines))
+
+-- the clients of a script: what those send whose links were not handed out, and under which name each link is watched
+pub record SeenClients : Type 0 where
+  pub waiting : List (List ℕ)
+  pub watched : List (Option ConnName)
 
 -- it has waited
 abbrev pub with_begun : SeenFront → SeenFront

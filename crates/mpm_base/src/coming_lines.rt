@@ -1,11 +1,19 @@
 //! Which lines of a script happen next.
-ghost use Rattle.std.specs.Prelude.{◌≡◌, ◌≤◌, length};
+ghost use Rattle.std.specs.Prelude.{◌≡◌, ◌+◌, ◌≤◌, take, drop, length};
 ghost use Rattle.mpm_base.specs.Clients.{names_of};
 ghost use Rattle.mpm_base.specs.PlayedFront.{happens_by, is_at, is_conn};
 ghost use Rattle.mpm_base.specs.ScriptFront.{earlier, lines_by, lines_now, next_moment};
 
 use crate::conn::Moment;
 use crate::script_line::ScriptLine;
+
+/// So many lines behind the first ones.
+pub(crate) fn next_lines(lines: &[ScriptLine], happened: usize, count: usize) -> &[ScriptLine]
+    requires { happened + count ≤ length lines.now }
+    ensures { result.now ≡ take count (drop happened lines.now) }
+{
+    &lines[happened..happened + count]
+}
 
 /// How many lines stand before the first `at`.
 #[tactic(auto, using(crate::proofs::ComingLemmas::now_more, crate::proofs::ComingLemmas::now_end))]

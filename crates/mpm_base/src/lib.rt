@@ -36,6 +36,7 @@ mod ready;
 mod root_request;
 mod script;
 mod script_client;
+mod script_clients;
 mod script_front;
 mod script_line;
 mod script_link;

@@ -1,11 +1,10 @@
-//! The clients of a script, as its front knows them.
+//! A client of a script, as the front of the script knows it.
 
 use crate::conn::ConnName;
 use crate::octets::Octets;
 use crate::ready::Ready;
 use crate::script_line::{ClientAct, ScriptLine};
 use crate::wire::Wire;
-use std::alloc::Global;
 use std::sync::Arc;
 
 /// A client of a script: its name, what the front shares with its link, and whether a signal is due for it.

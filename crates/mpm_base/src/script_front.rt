@@ -7,30 +7,19 @@ ghost use Rattle.mpm_base.specs.ScriptFront.{IsOfScript, Plays, new_front, to_co
 ghost use Rattle.mpm_base.specs.ScriptLink.{SeenScriptLink};
 
 use crate::calls::Calls;
-use crate::client_texts::sent_by;
-use crate::coming_lines::{arrivals, earlier, lines_by, lines_now, next_moment};
+use crate::coming_lines::{arrivals, earlier, lines_by, lines_now, next_lines, next_moment};
 use crate::conn::{ConnName, Moment};
 use crate::front::{Arrival, Front, Woke};
 use crate::given_log::GivenLog;
 use crate::memory::NoMemory;
-use crate::octets::Octets;
 use crate::ready::Ready;
 use crate::script::Script;
-use crate::script_client::{ScriptClient, are_closed, give, happen};
+use crate::script_clients::ScriptClients;
 use crate::script_line::ScriptLine;
 use crate::script_link::ScriptLink;
-use crate::wire::Wire;
 use std::alloc::Global;
-use std::collections::VecDeque;
 use std::marker::Model;
-use std::sync::{Arc, Wait};
-
-/// A connection whose link was not handed out: what its client sends, and what the front shares with the link.
-#[derive(Drop)]
-pub(crate) struct Awaited {
-    text: Octets,
-    wire: Arc<Wire>,
-}
+use std::sync::Wait;
 
 /// The front that plays a script: connections arrive, send and end as its lines say, and time goes from moment to moment.
 #[derive(Drop)]
@@ -42,16 +31,14 @@ pub struct ScriptFront {
     moment: Moment,
     arrived: usize,
     accepted: usize,
-    awaited: VecDeque<Awaited>,
-    clients: Vec<ScriptClient>,
-    watched: Vec<Option<ConnName>>,
+    clients: ScriptClients,
     // None once memory lacked for what a wait gave.
     given: Option<GivenLog>,
     ends: u64,
 }
 
 impl Model for ScriptFront {
-    ghost use Rattle.std.specs.Prelude.{◌-◌, length, map};
+    ghost use Rattle.std.specs.Prelude.{◌-◌, length};
     ghost use Rattle.mpm_base.specs.ScriptFront.{SeenFront};
 
     ghost Value = { SeenFront };
@@ -67,7 +54,7 @@ impl Model for ScriptFront {
         clients = clients_of f.script;
         arrived = f.arrived;
         accepted = f.accepted;
-        watched = f.watched.items;
+        watched = f.clients.watched;
         left = length f.script - f.happened;
         moment = f.moment;
         given = f.given;
@@ -75,7 +62,7 @@ impl Model for ScriptFront {
       ends = f.ends;
     } };
 
-    ghost invariant = { λ f. ArePlayed f.script f.happened f.arrived f.accepted (map (λ awaited. awaited.text) f.awaited.items) (length f.watched.items) (length f.clients.items) f.ends };
+    ghost invariant = { λ f. ArePlayed f.script f.happened f.arrived f.accepted f.clients.waiting (length f.clients.watched) f.ends };
 }
 
 impl ScriptFront {
@@ -83,19 +70,7 @@ impl ScriptFront {
     pub fn make(alloc: Global, script: Script) -> Result<ScriptFront, NoMemory>
         ensures { IfOk result (λ front. front ≡ new_front script) }
     {
-        let mut awaited = VecDeque::new(alloc);
-        let mut clients = Vec::new(alloc);
-        let mut watched = Vec::new(alloc);
-        for line in script.lines() {
-            if let ScriptLine::Conn(name) = line {
-                let name = name.as_slice();
-                let text = sent_by(alloc, name, script.lines())?;
-                let wire = Arc::new(alloc, Wire::make())?;
-                clients.push(ScriptClient::make(Octets::of(alloc, name)?, Arc::try_clone(&wire)?))?;
-                awaited.push_back(Awaited { text, wire })?;
-                watched.push(None)?;
-            }
-        }
+        let clients = ScriptClients::make(alloc, script.lines())?;
         Ok(ScriptFront {
             alloc,
             script,
@@ -104,9 +79,7 @@ impl ScriptFront {
             moment: 0,
             arrived: 0,
             accepted: 0,
-            awaited,
             clients,
-            watched,
             given: Some(GivenLog::make(alloc)),
             ends: 0,
         })
@@ -146,9 +119,9 @@ impl ScriptFront {
         requires { count ≤ self.old.told.left }
         ensures { self.new ≡ with_lines count self.old }
     {
-        let lines = &self.script.lines()[self.happened..self.happened + count];
+        let lines = next_lines(self.script.lines(), self.happened, count);
         self.arrived += arrivals(lines);
-        happen(lines, self.clients.as_mut_slice());
+        self.clients.happen(lines);
         self.happened += count;
     }
 
@@ -166,7 +139,7 @@ impl ScriptFront {
     fn signal(&mut self, ready: &mut Ready)
         ensures { self.new ≡ self.old }
     {
-        give(self.clients.as_mut_slice(), self.watched.as_slice(), ready);
+        self.clients.give(ready);
     }
 
     /// Goes on to that moment, and never back. What happens by then happens.
@@ -184,8 +157,8 @@ impl ScriptFront {
         ensures { result ≡ true → HasAllTaken self.now.told }
     {
         self.happened == self.script.lines().len()
-            && self.accepted == self.clients.len()
-            && are_closed(self.clients.as_slice())
+            && self.accepted == self.clients.count()
+            && self.clients.are_closed()
     }
 
     /// Counts a wait that answers Ended.
@@ -280,7 +253,7 @@ impl Front for ScriptFront {
         if self.accepted == self.arrived {
             return Arrival::None;
         }
-        match self.awaited.pop_front() {
+        match self.clients.next() {
             Some(next) => {
                 let rank = self.accepted as u64;
                 self.accepted += 1;
@@ -302,11 +275,7 @@ impl Front for ScriptFront {
         ensures watches { Watches (Some self.old.told) (Some self.new.told) (counts_of self.old) (counts_of self.new) name (Some link.old.told) (Some link.new.told) link.old.counts link.new.counts result }
         ensures told { result ≡ true }
     {
-        let rank = link.rank() as usize;
-        if rank < self.watched.len() {
-            self.watched[rank] = Some(name);
-            self.clients[rank].watch();
-        }
+        self.clients.watch(link.rank() as usize, name);
         true
     }
 }
