@@ -13,11 +13,10 @@ pub mod ListLemmas
 pub mod LookupLemmas
 pub mod NamesLemmas
 pub mod OptionLemmas
+pub mod PlayedLemmas
+pub mod PlaysLemmas
 pub mod ProgressLemmas
 pub mod RootRequestLemmas
 pub mod SequenceLemmas
 pub mod SpotLemmas
-pub mod PlayedLemmas
-pub mod PlaysLemmas
-pub mod RootRequestLemmas
 pub mod WaitLemmas
