@@ -8,7 +8,7 @@ ghost use Rattle.board.specs.Book.{recorded};
 ghost use Rattle.board.specs.Faults.{IsRefusedFor};
 ghost use Rattle.board.specs.Fits.{IsSettled};
 ghost use Rattle.conn_state.specs.declared.turn.LastTurn.TheVariants as turn;
-ghost use Rattle.mpm_run.specs.Serve.{GoesOn, IsClosable, IsInHand, IsServed, LeavesGoing, MayLeave, Stays, answers_left, given_up, parked_count, signalled_count};
+ghost use Rattle.mpm_run.specs.Serve.{GoesOn, IsClosable, IsInHand, IsServed, LeavesGoing, MayLeave, OthersStay, Stays, answers_left, given_up, parked_count, signalled_count};
 ghost use Rattle.mpm_run.specs.Tells.{AllTell, HasSame, TellsFrom};
 
 use board::{Board, BoardFault};
@@ -32,6 +32,7 @@ pub fn serve<L: Link>(board: &mut Board<L>, who: u32, name: ConnName) -> Result<
     requires who { who < board.old.book.passes }
     requires allowed { is_halted board.old.book.state.going ≡ false → allowed board.old.book.state (event.Queue name) ≡ true }
     ensures goes { GoesOn board.old.book board.new.book }
+    ensures others { OthersStay who board.old.book board.new.book }
     ensures fewer { OnOk result (signalled_count board.new.book.state < signalled_count board.old.book.state) }
     ensures tells { (clients : List (List ℕ)) → AllTell clients board.old → AllTell clients board.new }
     ensures why { IfErr result (λ fault. IsRefusedFor fault board.old.book) }
@@ -49,6 +50,7 @@ fn converse<L: Link>(board: &mut Board<L>, who: u32, conn: &mut Conn<L>) -> Exit
     requires who { who < board.old.book.passes }
     requires served { IsServed board.old.book.state conn.old }
     ensures stays { Stays board.old.book board.new.book }
+    ensures others { OthersStay who board.old.book board.new.book }
     ensures same { HasSame board.old board.new }
     ensures told { (clients : List (List ℕ)) → TellsFrom clients conn.old.told → TellsFrom clients conn.new.told }
     ensures may { MayLeave board.new.book conn.new result }
@@ -68,6 +70,7 @@ fn turn<L: Link>(board: &mut Board<L>, who: u32, conn: &mut Conn<L>) -> Option<E
     requires who { who < board.old.book.passes }
     requires served { IsServed board.old.book.state conn.old }
     ensures stays { Stays board.old.book board.new.book }
+    ensures others { OthersStay who board.old.book board.new.book }
     ensures same { HasSame board.old board.new }
     ensures told { (clients : List (List ℕ)) → TellsFrom clients conn.old.told → TellsFrom clients conn.new.told }
     ensures may { IfSome result (MayLeave board.new.book conn.new) }
@@ -99,6 +102,7 @@ fn answer<L: Link>(board: &mut Board<L>, who: u32, conn: &mut Conn<L>, ask: Ask)
     requires served { IsServed board.old.book.state conn.old }
     requires asked { conn.old.turn ≡ turn.Asked ask }
     ensures stays { Stays board.old.book board.new.book }
+    ensures others { OthersStay who board.old.book board.new.book }
     ensures same { HasSame board.old board.new }
     ensures told { conn.new.told ≡ conn.old.told }
     ensures may { IfSome result (MayLeave board.new.book conn.new) }
@@ -121,6 +125,7 @@ fn leave<L: Link>(board: &mut Board<L>, who: u32, conn: Conn<L>, exit: Exit)
     requires who { who < board.old.book.passes }
     requires may { MayLeave board.old.book conn exit }
     ensures goes { GoesOn board.old.book board.new.book }
+    ensures others { OthersStay who board.old.book board.new.book }
     ensures tells { (clients : List (List ℕ)) → AllTell clients board.old → TellsFrom clients conn.told → AllTell clients board.new }
 {
     board.show();
@@ -146,6 +151,7 @@ pub fn park<L: Link>(
     requires hand { IsInHand board.old.book.state conn }
     requires settled { IsSettled kind conn }
     ensures goes { GoesOn board.old.book board.new.book }
+    ensures others { OthersStay who board.old.book board.new.book }
     ensures ok { OnOk result (board.new.book.state.going ≡ board.old.book.state.going) }
     ensures parked { OnOk result (board.new.book ≡ recorded who (event.Park conn.name kind) board.old.book) }
     ensures err { IfErr result (λ fault. LeavesGoing fault board.old.book.state.going board.new.book.state.going) }
@@ -168,6 +174,7 @@ pub fn give_up<L: Link>(board: &mut Board<L>, who: u32, conn: Conn<L>, fault: Bo
     requires why { IsRefusedFor fault board.old.book }
     ensures is { board.new.book ≡ given_up fault who conn.name board.old.book }
     ensures goes { GoesOn board.old.book board.new.book }
+    ensures others { OthersStay who board.old.book board.new.book }
     ensures going { LeavesGoing fault board.old.book.state.going board.new.book.state.going }
     ensures tells { (clients : List (List ℕ)) → AllTell clients board.old → TellsFrom clients conn.told → AllTell clients board.new }
 {
@@ -187,6 +194,7 @@ pub fn close<L: Link>(board: &mut Board<L>, who: u32, conn: Conn<L>, cause: Caus
     requires may { IsClosable board.old.book.state cause conn }
     ensures closed { board.new.book ≡ recorded who (event.Close conn.name cause Direct) board.old.book }
     ensures stays { Stays board.old.book board.new.book }
+    ensures others { OthersStay who board.old.book board.new.book }
     ensures parked { parked_count board.new.book.state ≤ parked_count board.old.book.state }
     ensures tells { (clients : List (List ℕ)) → AllTell clients board.old → TellsFrom clients conn.told → AllTell clients board.new }
 {

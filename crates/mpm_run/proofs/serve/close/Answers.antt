@@ -3,6 +3,7 @@ use Rattle.board.specs.Board.{SeenBoard}
 use Rattle.mpm_run.specs.Serve.{Stays}
 use Rattle.mpm_run.proofs.CloseLemmas.{signals-cleared, parked-after_close}
 use Rattle.mpm_run.proofs.TellLemmas.{tell-ended, tells-closed}
+use Rattle.mpm_run.proofs.PassLemmas.{others-recorded}
 use Rattle.mpm_run.proofs.serve.close.Goals as goal
 
 pub returns-clause-closed : goal.returns-clause-closed
@@ -19,6 +20,10 @@ returns-clause-stays g c =
       signals = signals-cleared c.args.board.now.book.state.signals c.end.result.name.slot;
       going = refl;
     })
+
+pub returns-clause-others : goal.returns-clause-others
+returns-clause-others g c =
+    others-recorded c.args.who _ c.args.board.now.book c.close.new.self.book (ap (λ (b : SeenBoard). b.book) c.close.ensures)
 
 pub returns-clause-parked : goal.returns-clause-parked
 returns-clause-parked g c =

@@ -1,8 +1,13 @@
-use Rattle.std.proofs.Common.{subst, sym}
+use Rattle.std.proofs.Common.{subst, sym, ap}
 use Rattle.conn_state.specs.Conn.{SeenConn}
 use Rattle.board.specs.Board.{SeenBoard}
 use Rattle.mpm_run.specs.Tells.{AllTell, TellsFrom}
+use Rattle.mpm_run.proofs.PassLemmas.{others-recorded}
 use Rattle.mpm_run.proofs.serve.park.Goals as goal
+
+pub returns-in-Ok-clause-others : goal.returns-in-Ok-clause-others
+returns-in-Ok-clause-others g c =
+    others-recorded c.args.who _ c.args.board.now.book c.park.new.self.book (ap (λ (b : SeenBoard). b.book) c.in-Ok.ensures.ok.new_is)
 
 pub returns-in-Err-clause-tells : goal.returns-in-Err-clause-tells
 returns-in-Err-clause-tells g c text tells told =

@@ -1,6 +1,7 @@
 use Rattle.std.proofs.Common.{ap, refl}
 use Rattle.board.specs.Board.{SeenBoard}
 use Rattle.mpm_run.proofs.StartLemmas.{may-start, served-started, queued-stays, started-stays, stays-goes, fewer-served, start-tells}
+use Rattle.mpm_run.proofs.PassLemmas.{others-recorded, others-more}
 use Rattle.mpm_run.proofs.TellLemmas.{tell-same}
 use Rattle.mpm_run.proofs.serve.serve.Goals as goal
 
@@ -23,6 +24,15 @@ returns-clause-goes g c =
     stays-goes c.args.board.now.book c.queue.new.self.book c.leave.new.board.book queued
     (stays-goes c.queue.new.self.book c.start-conn.new.self.book c.leave.new.board.book started
     (stays-goes c.start-conn.new.self.book c.converse-exit.new.board.book c.leave.new.board.book c.converse-exit.ensures.stays c.leave.ensures.goes))
+
+pub returns-clause-others : goal.returns-clause-others
+returns-clause-others g c =
+    others-more c.args.who c.args.board.now.book c.queue.new.self.book c.leave.new.board.book
+    (others-recorded c.args.who _ c.args.board.now.book c.queue.new.self.book (ap (λ (b : SeenBoard). b.book) c.in_ok-queue.ensures.ok.new_is))
+    (others-more c.args.who c.queue.new.self.book c.start-conn.new.self.book c.leave.new.board.book
+    (others-recorded c.args.who _ c.queue.new.self.book c.start-conn.new.self.book (ap (λ (b : SeenBoard). b.book) c.start-conn.ensures.is))
+    (others-more c.args.who c.start-conn.new.self.book c.converse-exit.new.board.book c.leave.new.board.book c.converse-exit.ensures.others
+    c.leave.ensures.others))
 
 pub returns-clause-fewer : goal.returns-clause-fewer
 returns-clause-fewer g c =
