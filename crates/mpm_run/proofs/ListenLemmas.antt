@@ -106,13 +106,13 @@ goes-trans a b c first second = record {
 }
 
 -- the links tell of a board that stayed as it was
-pub tell-still : (text : List ℕ) (b b' : SeenBoard) → b' ≡ b → AllTell text b → AllTell text b'
-tell-still text b b' is tells = subst (AllTell text) (sym is) tells
+pub tell-still : (clients : List (List ℕ)) (b b' : SeenBoard) → b' ≡ b → AllTell clients b → AllTell clients b'
+tell-still clients b b' is tells = subst (AllTell clients) (sym is) tells
 
 -- and of one that recorded an event alone
-pub tell-added : (text : List ℕ) (who : ℕ) (e : Event) (b b' : SeenBoard) → b' ≡ added who e b → AllTell text b → AllTell text b'
-tell-added text who e b b' is tells =
-    tell-same text b b' (record { conns = ap (λ (x : SeenBoard). x.conns) is; ended = ap (λ (x : SeenBoard). x.ended) is }) tells
+pub tell-added : (clients : List (List ℕ)) (who : ℕ) (e : Event) (b b' : SeenBoard) → b' ≡ added who e b → AllTell clients b → AllTell clients b'
+tell-added clients who e b b' is tells =
+    tell-same clients b b' (record { conns = ap (λ (x : SeenBoard). x.conns) is; ended = ap (λ (x : SeenBoard). x.ended) is }) tells
 
 -- ## Starting children
 
@@ -254,10 +254,10 @@ closes-held s s' name c found halted is named sound handed =
     }
 
 -- the links tell after a connection was taken out
-pub tell-held : (text : List ℕ) (who slot : ℕ) (name : ConnName) (b b' : SeenBoard) → b' ≡ record (added who (event.Hold name) b) { conns = slice_set b.conns slot None }
-    → AllTell text b → AllTell text b'
-tell-held text who slot name b b' is tells =
-    tell-set text b b' slot None (ap (λ (x : SeenBoard). x.conns) is) (ap (λ (x : SeenBoard). x.ended) is) (λ c at. absurd (cc)) tells
+pub tell-held : (clients : List (List ℕ)) (who slot : ℕ) (name : ConnName) (b b' : SeenBoard) → b' ≡ record (added who (event.Hold name) b) { conns = slice_set b.conns slot None }
+    → AllTell clients b → AllTell clients b'
+tell-held clients who slot name b b' is tells =
+    tell-set clients b b' slot None (ap (λ (x : SeenBoard). x.conns) is) (ap (λ (x : SeenBoard). x.ended) is) (λ c at. absurd (cc)) tells
 
 -- ## Letting go of children
 

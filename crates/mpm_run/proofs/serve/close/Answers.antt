@@ -31,7 +31,7 @@ returns-clause-parked g c =
     c.end.ensures.ends.name (ap (λ (b : SeenBoard). b.book.state) c.close.ensures)
 
 pub returns-clause-tells : goal.returns-clause-tells
-returns-clause-tells g c text tells told =
-    tell-ended text c.args.board.now c.close.new.self c.end.result
+returns-clause-tells g c clients tells told =
+    tell-ended clients c.args.board.now c.close.new.self c.end.result
     (ap (λ (b : SeenBoard). b.conns) c.close.ensures) (ap (λ (b : SeenBoard). b.ended) c.close.ensures)
-    (tells-closed text c.args.conn.told c.end.result.told c.end.ensures.ends.told told) tells
+    (tells-closed clients c.args.conn.told c.end.result.told c.end.ensures.ends.told told) tells

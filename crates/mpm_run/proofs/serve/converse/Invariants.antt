@@ -11,7 +11,7 @@ invariant-loop-exit g l =
       stays : Stays l.fn.board.book l.board.book;
       others : OthersStay l.fn.who l.fn.board.book l.board.book;
       same : HasSame l.fn.board l.board;
-      told : (text : List ℕ) → TellsFrom text l.fn.conn.told → TellsFrom text l.conn.told;
+      told : (clients : List (List ℕ)) → TellsFrom clients l.fn.conn.told → TellsFrom clients l.conn.told;
     }
 
 -- how many more responses the connection may have

@@ -11,7 +11,7 @@ returns-in-Full-clause-others g c =
     c.close-in-Full.ensures.others
 
 pub returns-in-Full-clause-tells : goal.returns-in-Full-clause-tells
-returns-in-Full-clause-tells g c text tells told =
-    c.close-in-Full.ensures.tells text
-    (tell-same text c.args.board.now c.halt.new.self
+returns-in-Full-clause-tells g c clients tells told =
+    c.close-in-Full.ensures.tells clients
+    (tell-same clients c.args.board.now c.halt.new.self
     (record { conns = ap (λ (b : SeenBoard). b.conns) c.halt.ensures; ended = ap (λ (b : SeenBoard). b.ended) c.halt.ensures }) tells) told

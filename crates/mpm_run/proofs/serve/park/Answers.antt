@@ -10,7 +10,7 @@ returns-in-Ok-clause-others g c =
     others-recorded c.args.who _ c.args.board.now.book c.park.new.self.book (ap (λ (b : SeenBoard). b.book) c.in-Ok.ensures.ok.new_is)
 
 pub returns-in-Err-clause-tells : goal.returns-in-Err-clause-tells
-returns-in-Err-clause-tells g c text tells told =
-    c.give_up.ensures.tells text
-    (subst (λ (b : SeenBoard). AllTell text b) (sym c.in-Err.ensures.err) tells)
-    (subst (λ (x : SeenConn). TellsFrom text x.told) (sym c.in-Err.ensures.back) told)
+returns-in-Err-clause-tells g c clients tells told =
+    c.give_up.ensures.tells clients
+    (subst (λ (b : SeenBoard). AllTell clients b) (sym c.in-Err.ensures.err) tells)
+    (subst (λ (x : SeenConn). TellsFrom clients x.told) (sym c.in-Err.ensures.back) told)

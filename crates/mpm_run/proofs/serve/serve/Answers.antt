@@ -42,8 +42,8 @@ returns-clause-fewer g c =
     c.converse-exit.ensures.stays c.leave.ensures.goes
 
 pub returns-clause-tells : goal.returns-clause-tells
-returns-clause-tells g c text tells =
-    let here = start-tells text c.args.who c.args.name.slot c.args.name c.args.board.now c.queue.new.self c.start-conn.new.self c.start-conn.result.1
+returns-clause-tells g c clients tells =
+    let here = start-tells clients c.args.who c.args.name.slot c.args.name c.args.board.now c.queue.new.self c.start-conn.new.self c.start-conn.result.1
     c.in_ok-queue.ensures.ok.new_is c.start-conn.ensures.is c.start-conn.ensures.conn tells in
-    c.leave.ensures.tells text (tell-same text c.start-conn.new.self c.converse-exit.new.board c.converse-exit.ensures.same here.others)
-    (c.converse-exit.ensures.told text here.own)
+    c.leave.ensures.tells clients (tell-same clients c.start-conn.new.self c.converse-exit.new.board c.converse-exit.ensures.same here.others)
+    (c.converse-exit.ensures.told clients here.own)
