@@ -5,5 +5,7 @@ pub mod PassLemmas
 pub mod CloseLemmas
 pub mod StartLemmas
 pub mod ListenLemmas
+pub mod TimeLemmas
+pub mod FrontLemmas
 pub mod TakeLemmas
 pub mod ReportLemmas

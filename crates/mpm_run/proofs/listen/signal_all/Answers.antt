@@ -1,0 +1,15 @@
+use Rattle.std.proofs.Common.{◌∙◌}
+use Rattle.mpm_run.proofs.ListenLemmas.{keeps-trans}
+use Rattle.mpm_run.proofs.listen.signal_all.Goals as goal
+
+pub returns-in_err-signal-clause-tells : goal.returns-in_err-signal-clause-tells
+returns-in_err-signal-clause-tells g c clients tells = c.signal.ensures.tells clients (c.loop-slot.invariant.tells clients tells)
+
+pub loop-slot-preserved : goal.loop-slot-preserved
+loop-slot-preserved g c =
+    record {
+      keeps = keeps-trans c.args.board.now.book c.loop-slot.board.book c.signal.new.board.book c.loop-slot.invariant.keeps c.signal.ensures.keeps;
+      going = c.signal.ensures.going;
+      taken = c.signal.ensures.taken ∙ c.loop-slot.invariant.taken;
+      tells = λ clients tells. c.signal.ensures.tells clients (c.loop-slot.invariant.tells clients tells);
+    }
