@@ -1,9 +1,10 @@
 -- What the calls of a front leave of it, and whether the table is in step with it.
-use Rattle.std.proofs.Common.{◌≡◌, ℕ, ◌<◌, ◌≤◌, Bool, true, false, List, Option, None, Some, option_map, IfSome, refl, sym, ap, subst, ◌∙◌, arith}
+use Rattle.std.proofs.Common.{◌≡◌, ◌⊎◌, inl, inr, ℕ, ◌<◌, ◌≤◌, Bool, true, false, List, Option, None, Some, option_map, IfSome, refl, sym, ap, subst, ◌∙◌, arith}
 use Rattle.mpm_base.specs.Count.{next_count, greatest_count, NeverFalls, Rises, RisesWhere, RisesExactlyWhere}
 use Rattle.mpm_base.specs.Front.{FrontTold, FrontCounts, TellsOn, Waited, Waits, HasAllTaken, IsHandedOut, Accepts, after_accept, is_ended, is_handed, wait_failed}
 use Rattle.mpm_base.specs.Link.{LinkTold, LinkCounts}
 use Rattle.mpm_base.specs.declared.front.Arrival.{Arrival}
+use Rattle.mpm_base.specs.declared.front.Arrival.TheVariants as arrival
 use Rattle.mpm_base.specs.declared.front.Woke.{Woke}
 use Rattle.mpm_base.specs.declared.front.Woke.TheVariants as woke
 use Rattle.mpm_base.specs.declared.script_line.ScriptLine.{ScriptLine}
@@ -95,9 +96,18 @@ step-taken None told' s s' is taken step = subst (λ (o : Option FrontTold). IsI
 step-taken (Some t) told' s s' is taken step = subst (λ (o : Option FrontTold). IsInStep o s') (sym is) (ap next_count step ∙ sym taken)
 
 -- after one that handed none out
-pub step-none : (told told' : Option FrontTold) (s : State) → told' ≡ option_map (after_accept false) told → IsInStep told s → IsInStep told' s
-step-none None told' s is step = subst (λ (o : Option FrontTold). IsInStep o s) (sym is) tt
-step-none (Some t) told' s is step = subst (λ (o : Option FrontTold). IsInStep o s) (sym is) step
+step-same : (told told' : Option FrontTold) (s : State) → told' ≡ option_map (after_accept false) told → IsInStep told s → IsInStep told' s
+step-same None told' s is step = subst (λ (o : Option FrontTold). IsInStep o s) (sym is) tt
+step-same (Some t) told' s is step = subst (λ (o : Option FrontTold). IsInStep o s) (sym is) step
+
+none-handed : {L : Type 0} (answer : Arrival L) → (answer ≡ arrival.None) ⊎ (answer ≡ arrival.Failed) → is_handed answer ≡ false
+none-handed answer (inl none) = ap is_handed none
+none-handed answer (inr failed) = ap is_handed failed
+
+pub step-none : {L : Type 0} (told told' : Option FrontTold) (answer : Arrival L) (s : State) → (answer ≡ arrival.None) ⊎ (answer ≡ arrival.Failed)
+    → told' ≡ option_map (after_accept (is_handed answer)) told → IsInStep told s → IsInStep told' s
+step-none told told' answer s none is step =
+    step-same told told' s (is ∙ ap (λ (handed : Bool). option_map (after_accept handed) told) (none-handed answer none)) step
 
 -- after a wait that answered Ended all was taken
 pub all-taken : (ready : List ℕ) (told told' : Option FrontTold) (s : State) → TellsOn (Waited woke.Ended ready) told told'
