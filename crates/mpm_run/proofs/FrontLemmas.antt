@@ -38,6 +38,9 @@ follows-trans a b c first second = record {
   ends = omega (arith, first.ends, second.ends);
 }
 
+pub follows-same : (a : SeenOutside) → Follows a a
+follows-same a = record { script = refl; clients = λ clients has. has; faults = omega arith; ends = omega arith }
+
 -- its clients stay in a change that keeps them
 clients-mapped : (clients : List (List ℕ)) (told told' : Option FrontTold) (change : FrontTold → FrontTold)
     → ((t : FrontTold) → (change t).clients ≡ t.clients) → told' ≡ option_map change told → HasClients clients told → HasClients clients told'
