@@ -42,6 +42,8 @@ mod sink;
 mod store;
 #[cfg(test)]
 mod tests;
+#[cfg(test)]
+mod tests_front;
 mod wire;
 mod words;
 
