@@ -88,16 +88,20 @@ waits old mid new until quiet answer ready was now taken is plays rest given end
     let rises : RisesExactlyWhere (is_ended answer) old.ends new.ends = rw ends rest.ends in
     let says = plays-answers (λ e. taken (omega (arith, e, never-fell (is_ended answer) old.ends new.ends rises))) plays in
     record {
-      tells = (new.told, refl, record {
-        clients = now.clients ∙ ap clients_of went.script ∙ sym was.clients;
-        arrived = rw (was.arrived, now.arrived, went.script) (arrived-more old.script old.happened new.happened went.happened);
-        accepted = ap (λ (f : SeenFront). f.told.accepted) is ∙ rest.accepted;
-        watched = ap (λ (f : SeenFront). f.told.watched) is ∙ rest.watched;
-        left = omega (arith, was.left, now.left, went.happened, ap length went.script);
-        moment = went.moment_is;
-        answers = says.0;
-        given = rw rest.given at given;
-      });
+      tells = (
+        new.told,
+        refl,
+        record {
+          clients = now.clients ∙ ap clients_of went.script ∙ sym was.clients;
+          arrived = rw (was.arrived, now.arrived, went.script) (arrived-more old.script old.happened new.happened went.happened);
+          accepted = ap (λ (f : SeenFront). f.told.accepted) is ∙ rest.accepted;
+          watched = ap (λ (f : SeenFront). f.told.watched) is ∙ rest.watched;
+          left = omega (arith, was.left, now.left, went.happened, ap length went.script);
+          moment = went.moment_is;
+          answers = says.0;
+          given = rw rest.given at given;
+        },
+      );
       over = λ e. record { none = (ended e).0; still = (new.told, refl, still-given old mid new is (ended e).1) };
       awake = says.1;
       few = few;

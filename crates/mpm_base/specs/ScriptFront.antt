@@ -119,3 +119,10 @@ pub data Plays (old new : SeenFront) (until : Option ℕ) (quiet : Bool) : Woke 
   -- it waits for its links to be taken or closed
   stays : quiet ≡ true → earlier until (next_moment (to_come old)) ≡ None → Moves old new 0 old.told.moment
       → Plays old new until quiet (woke.Woke old.told.moment) []
+
+-- the first two of these come before the others: once it has answered Ended it does nothing else, and neither does the first
+-- wait where lines stand before the first `at`
+pub record TakesFirst (old new : SeenFront) (answer : Woke) (ready : List ℕ) : Type 0 where
+  pub over : 0 < old.ends → answer ≡ woke.Ended
+  pub begins : old.ends ≡ 0 → old.begun ≡ false → 0 < lines_now (to_come old)
+      → (answer ≡ woke.Woke old.told.moment) × (ready ≡ []) × (new.happened ≡ old.happened + lines_now (to_come old))

@@ -1,11 +1,13 @@
 //! What the crates of the server speak of: the names and notes of connections, and the outside.
 //!
-//! The traits `Store`, `Sink` and `Link` say what the machine may rely on of a folder of files, of an
-//! output and of a connection's socket: what was read and written, where the object tells it, and when a
-//! call may fail. Their definitions stand in `specs/`, one file for each trait.
+//! The traits `Store`, `Sink`, `Link`, `Front` and `Clock` say what the machine may rely on of a folder of files, of an
+//! output, of a connection's socket, of the place where connections, signals and time come from, and of a clock: what
+//! was read, written, handed out and answered, where the object tells it, and when a call may fail. Their definitions
+//! stand in `specs/`, one file for each trait.
 //!
-//! `read_script` reads the scripts that play a client's connection, and `host_of` and `is_started` tell the one
-//! form of request that is read so far (`specs/Script.antt`, `specs/RootRequest.antt`).
+//! `read_script` reads the scripts that say what comes and when (`specs/Script.antt`, `specs/ScriptLine.antt`), and
+//! `ScriptFront`, `ScriptLink` and `ScriptClock` play them (`specs/ScriptFront.antt`). `host_of`, `is_started` and
+//! `is_pipelined` tell the one form of request that is read so far (`specs/RootRequest.antt`).
 #![tactic(auto)]
 
 mod addr;
@@ -45,6 +47,8 @@ mod sink;
 mod store;
 #[cfg(test)]
 mod tests;
+#[cfg(test)]
+mod tests_front;
 mod wire;
 mod words;
 

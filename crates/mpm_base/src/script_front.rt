@@ -1,9 +1,9 @@
 //! The front that plays a script.
-ghost use Rattle.std.specs.Prelude.{◌≡◌, ◌<◌, ◌≤◌, max, nat_lt, true, Some, [], IfOk};
+ghost use Rattle.std.specs.Prelude.{◌≡◌, ◌<◌, ◌≤◌, max, nat_lt, true, false, Some, [], IfOk};
 ghost use Rattle.mpm_base.specs.Count.{Rises};
-ghost use Rattle.mpm_base.specs.Front.{Accepts, HasAllTaken, PutsDown, StandsStill, Waits, Watches, is_handed};
+ghost use Rattle.mpm_base.specs.Front.{Accepts, HasAllTaken, PutsDown, StandsStill, Waits, Watches, accept_failed, is_handed};
 ghost use Rattle.mpm_base.specs.PlayedFront.{KeepsRest, counts_of, gone_to, with_begun, with_end, with_given, with_lines};
-ghost use Rattle.mpm_base.specs.ScriptFront.{IsOfScript, Plays, new_front, to_come};
+ghost use Rattle.mpm_base.specs.ScriptFront.{IsOfScript, Plays, TakesFirst, new_front, to_come};
 ghost use Rattle.mpm_base.specs.ScriptLink.{SeenScriptLink};
 
 use crate::calls::Calls;
@@ -66,7 +66,8 @@ impl Model for ScriptFront {
 }
 
 impl ScriptFront {
-    /// The front of the script. No line has happened.
+    /// The front of the script. No line has happened. Lines that aren't built yet do nothing when they happen, and of
+    /// connections of one name the first is meant; a script that was read has neither.
     pub fn make(alloc: Global, script: Script) -> Result<ScriptFront, NoMemory>
         ensures { IfOk result (λ front. front ≡ new_front script) }
     {
@@ -174,6 +175,7 @@ impl ScriptFront {
     fn play(&mut self, until: Option<Moment>, quiet: bool, ready: &mut Ready) -> Woke
         requires { ready.old ≡ [] }
         ensures plays { Plays self.old self.new until quiet result ready.new }
+        ensures first { TakesFirst self.old self.new result ready.new }
         ensures rest { KeepsRest result self.old self.new }
         ensures over { 0 < self.old.ends → ready.new ≡ [] × StandsStill self.old.told self.new.told }
     {
@@ -235,6 +237,7 @@ impl Front for ScriptFront {
         ensures waits { Waits (Some self.old.told) (Some self.new.told) (counts_of self.old) (counts_of self.new) result ready.new }
         ensures script { Some self.new.script ≡ Some self.old.script }
         ensures plays { Plays self.old self.new until quiet result ready.new }
+        ensures first { TakesFirst self.old self.new result ready.new }
     {
         let _ = rt;
         self.show();
@@ -248,7 +251,8 @@ impl Front for ScriptFront {
     fn accept(&mut self) -> Arrival<ScriptLink>
         ensures script { Some self.new.script ≡ Some self.old.script }
         ensures accepts { Accepts (λ (l : SeenScriptLink). Some l.told) (λ (l : SeenScriptLink). l.counts) (Some self.old.told) (Some self.new.told) (counts_of self.old) (counts_of self.new) result }
-        ensures told { is_handed result ≡ nat_lt self.old.told.accepted self.old.told.arrived }
+        ensures some { is_handed result ≡ nat_lt self.old.told.accepted self.old.told.arrived }
+        ensures never { accept_failed result ≡ false }
     {
         if self.accepted == self.arrived {
             return Arrival::None;
@@ -273,7 +277,7 @@ impl Front for ScriptFront {
     fn watch(&mut self, name: ConnName, link: &mut ScriptLink) -> bool
         ensures script { Some self.new.script ≡ Some self.old.script }
         ensures watches { Watches (Some self.old.told) (Some self.new.told) (counts_of self.old) (counts_of self.new) name (Some link.old.told) (Some link.new.told) link.old.counts link.new.counts result }
-        ensures told { result ≡ true }
+        ensures sure { result ≡ true }
     {
         self.clients.watch(link.rank() as usize, name);
         true

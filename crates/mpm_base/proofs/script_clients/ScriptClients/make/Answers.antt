@@ -1,4 +1,4 @@
-use Rattle.std.proofs.Common.{◌≡◌, ℕ, List, [], ◌∷◌, ◌++◌, ap, ◌∙◌}
+use Rattle.std.proofs.Common.{ℕ, List, [], ◌∷◌, ◌++◌, ap, ◌∙◌}
 use Rattle.mpm_base.specs.Clients.{sent_by}
 use Rattle.mpm_base.specs.PlayedFront.{SeenClients}
 use Rattle.mpm_base.specs.ScriptFront.{unwatched}
