@@ -227,6 +227,8 @@ impl Front for ScriptFront {
 
     ghost counts = { λ f. record { faults = 0; accept_faults = 0; ends = f.ends } };
 
+    /// A signal is due for a watched link where bytes, room or the end came for it, until it is given; none is given in the
+    /// wait in which that happened, and none of a link that was closed. The front ends only once each link was closed.
     fn wait<R: Wait>(
         &mut self,
         rt: &R,
@@ -274,6 +276,7 @@ impl Front for ScriptFront {
         }
     }
 
+    /// A signal is due at once where bytes came before, or the end has.
     fn watch(&mut self, name: ConnName, link: &mut ScriptLink) -> bool
         ensures script { Some self.new.script ≡ Some self.old.script }
         ensures watches { Watches (Some self.old.told) (Some self.new.told) (counts_of self.old) (counts_of self.new) name (Some link.old.told) (Some link.new.told) link.old.counts link.new.counts result }

@@ -86,37 +86,36 @@ fn writes(rt: &impl Abort, link: &mut ScriptLink, wanted: &[(&[u8], Sent)]) {
     }
 }
 
-#[test]
-fn a_script_of_two_connections_is_played(rt: HostRuntime) -> Result<(), Fail> {
-    let rows = [
-        Row::Conn(b"a"),
-        Row::Send(b"a", b"GE"),
-        Row::At(0),
-        Row::Send(b"a", b"T "),
-        Row::At(10),
-        Row::Conn(b"b"),
-        Row::Send(b"b", b"x"),
-        Row::Room(b"a", Some(3)),
-        Row::At(10),
-        Row::End(b"b"),
-        Row::Send(b"b", b"late"),
-        Row::At(20),
-        Row::Send(b"a", b"/"),
-        Row::End(b"a"),
-        Row::At(30),
-        Row::Room(b"a", None),
-    ];
-    let mut ready = Ready::make(rt.alloc())?;
-    let mut front = ScriptFront::make(rt.alloc(), script_of(rt.alloc(), &rows)?)?;
+/// Two connections: one sends in three pieces and has room for only some of what is written to it for a while, the other
+/// sends something behind its end.
+const TWO: [Row; 16] = [
+    Row::Conn(b"a"),
+    Row::Send(b"a", b"GE"),
+    Row::At(0),
+    Row::Send(b"a", b"T "),
+    Row::At(10),
+    Row::Conn(b"b"),
+    Row::Send(b"b", b"x"),
+    Row::Room(b"a", Some(3)),
+    Row::At(10),
+    Row::End(b"b"),
+    Row::Send(b"b", b"late"),
+    Row::At(20),
+    Row::Send(b"a", b"/"),
+    Row::End(b"a"),
+    Row::At(30),
+    Row::Room(b"a", None),
+];
+
+/// The lines before the first `at` happen in the first wait. Then no time passes while a connection is served, nor in a
+/// wait that gives a signal, and none goes back.
+fn begins(rt: &(impl Wait + Abort), front: &mut ScriptFront, ready: &mut Ready) -> ScriptLink {
     assert!(rt; matches!(front.accept(), Arrival::None));
-    // The lines before the first `at` happen, and a link tells what came before it was watched.
-    let begins: [Turn; 1] = [(Some(7), true, Woke::Woke(0), &[], 2)];
-    waits(&rt, &mut front, &mut ready, &begins);
-    let mut a = taken(&rt, &mut front, 5);
+    waits(rt, front, ready, &[(Some(7), true, Woke::Woke(0), &[], 2)]);
+    let mut link = taken(rt, front, 5);
     assert!(rt; matches!(front.accept(), Arrival::None));
-    reads(&rt, &mut a, &[Got::Got(2), Got::NotReady]);
-    // No time passes while a connection is served, nor while a signal is due, and none goes back.
-    let on: [Turn; 6] = [
+    reads(rt, &mut link, &[Got::Got(2), Got::NotReady]);
+    let turns: [Turn; 6] = [
         (Some(7), true, Woke::Woke(0), &[5], 2),
         (Some(7), false, Woke::Woke(0), &[], 2),
         (Some(7), true, Woke::Woke(0), &[], 4),
@@ -124,48 +123,74 @@ fn a_script_of_two_connections_is_played(rt: HostRuntime) -> Result<(), Fail> {
         (Some(7), true, Woke::Woke(7), &[], 4),
         (Some(3), true, Woke::Woke(7), &[], 4),
     ];
-    waits(&rt, &mut front, &mut ready, &on);
-    reads(&rt, &mut a, &[Got::Got(2), Got::NotReady]);
-    writes(&rt, &mut a, &[(b"1234", Sent::Put(4))]);
-    // Both groups of one moment happen at once.
-    let ten: [Turn; 2] = [
+    waits(rt, front, ready, &turns);
+    reads(rt, &mut link, &[Got::Got(2), Got::NotReady]);
+    writes(rt, &mut link, &[(b"1234", Sent::Put(4))]);
+    link
+}
+
+/// Both groups of one moment happen at once. The other link is read to its end and closed.
+fn goes_on(
+    rt: &(impl Wait + Abort),
+    front: &mut ScriptFront,
+    ready: &mut Ready,
+    link: &mut ScriptLink,
+) {
+    let turns: [Turn; 2] = [
         (Some(50), true, Woke::Woke(10), &[], 11),
         (None, true, Woke::Woke(10), &[5], 11),
     ];
-    waits(&rt, &mut front, &mut ready, &ten);
+    waits(rt, front, ready, &turns);
     let room: [(&[u8], Sent); 4] = [
         (b"abcd", Sent::Put(3)),
         (b"d", Sent::NotReady),
         (b"", Sent::Put(0)),
         (b"d", Sent::NotReady),
     ];
-    writes(&rt, &mut a, &room);
-    let mut b = taken(&rt, &mut front, 6);
-    reads(&rt, &mut b, &[Got::Got(1), Got::End]);
-    assert_eq!(rt; b.received(), b"x".as_slice());
-    // A signal whose link was closed by now is dropped.
-    b.close();
-    let later: [Turn; 5] = [
+    writes(rt, link, &room);
+    let mut other = taken(rt, front, 6);
+    reads(rt, &mut other, &[Got::Got(1), Got::End]);
+    assert_eq!(rt; other.received(), b"x".as_slice());
+    assert_eq!(rt; other.rank(), 1);
+    other.close();
+}
+
+/// The signal of the link that was closed is dropped, and the front ends only once the other is closed too.
+fn ends(
+    rt: &(impl Wait + Abort),
+    front: &mut ScriptFront,
+    ready: &mut Ready,
+    link: &mut ScriptLink,
+) {
+    let turns: [Turn; 5] = [
         (None, true, Woke::Woke(20), &[], 14),
         (None, true, Woke::Woke(20), &[5], 14),
         (None, true, Woke::Woke(30), &[], 17),
         (None, true, Woke::Woke(30), &[5], 17),
         (None, true, Woke::Woke(30), &[], 17),
     ];
-    waits(&rt, &mut front, &mut ready, &later);
-    reads(&rt, &mut a, &[Got::Got(1), Got::End, Got::End]);
-    writes(&rt, &mut a, &[(b"defgh", Sent::Put(5))]);
-    assert_eq!(rt; a.received(), b"GET /".as_slice());
-    assert_eq!(rt; a.sent(), b"1234abcdefgh".as_slice());
-    assert_eq!(rt; (a.rank(), b.rank(), a.faults()), (0, 1, 0));
-    // It ends only once each link was closed, and then for ever.
-    a.close();
-    let ends: [Turn; 3] = [
+    waits(rt, front, ready, &turns);
+    reads(rt, link, &[Got::Got(1), Got::End, Got::End]);
+    writes(rt, link, &[(b"defgh", Sent::Put(5))]);
+    link.close();
+    let turns: [Turn; 3] = [
         (Some(50), true, Woke::Woke(50), &[], 17),
         (None, true, Woke::Ended, &[], 17),
         (Some(60), false, Woke::Ended, &[], 17),
     ];
-    waits(&rt, &mut front, &mut ready, &ends);
+    waits(rt, front, ready, &turns);
+}
+
+#[test]
+fn a_script_of_two_connections_is_played(rt: HostRuntime) -> Result<(), Fail> {
+    let mut ready = Ready::make(rt.alloc())?;
+    let mut front = ScriptFront::make(rt.alloc(), script_of(rt.alloc(), &TWO)?)?;
+    let mut link = begins(&rt, &mut front, &mut ready);
+    goes_on(&rt, &mut front, &mut ready, &mut link);
+    ends(&rt, &mut front, &mut ready, &mut link);
+    assert_eq!(rt; link.received(), b"GET /".as_slice());
+    assert_eq!(rt; link.sent(), b"1234abcdefgh".as_slice());
+    assert_eq!(rt; (link.rank(), link.faults()), (0, 0));
     assert_eq!(rt; front.script().lines().len(), 17);
     Ok(())
 }
