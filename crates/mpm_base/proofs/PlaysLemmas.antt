@@ -1,5 +1,5 @@
 -- What a wait did, from what its front is then.
-use Rattle.std.proofs.Common.{◌≡◌, ◌==◌, ℕ, ◌+◌, ◌<◌, ◌⊎◌, inl, inr, Bool, true, false, max, List, [], ◌∷◌, length, Option, None, Some, sym, refl, subst, arith}
+use Rattle.std.proofs.Common.{◌≡◌, ◌==◌, ℕ, ◌<◌, ◌⊎◌, inl, inr, Bool, true, false, max, List, [], ◌∷◌, length, Option, None, Some, refl, subst, arith}
 use Rattle.std.proofs.lemmas.Bool.Decides.{nat_tests}
 use Rattle.mpm_base.specs.Front.{HasAllTaken}
 use Rattle.mpm_base.specs.PlayedFront.{gone_to, with_begun, with_end, with_lines}

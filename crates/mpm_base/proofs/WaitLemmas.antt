@@ -1,8 +1,8 @@
 -- A wait of a front that plays a script is one of a front.
-use Rattle.std.proofs.Common.{◌≡◌, ℕ, ◌+◌, ◌-◌, ◌<◌, ◌≤◌, Bool, true, false, max, List, [], length, take, drop, Option, Some, ap, sym, refl, ◌∙◌, arith}
+use Rattle.std.proofs.Common.{◌≡◌, ℕ, ◌+◌, ◌-◌, ◌<◌, ◌≤◌, Bool, true, false, List, [], length, take, Option, Some, ap, sym, refl, ◌∙◌, arith}
 use Rattle.mpm_base.specs.Clients.{clients_of, names_of}
 use Rattle.mpm_base.specs.Count.{RisesExactlyWhere, RisesWhere}
-use Rattle.mpm_base.specs.Front.{FrontTold, Given, GivesOnlyAwake, HasAllTaken, IsAnswerOf, PutsDown, StandsStill, Waits, is_ended, wait_failed}
+use Rattle.mpm_base.specs.Front.{Given, GivesOnlyAwake, HasAllTaken, IsAnswerOf, PutsDown, StandsStill, Waits, is_ended, wait_failed}
 use Rattle.mpm_base.specs.PlayedFront.{KeepsRest, counts_of, with_given}
 use Rattle.mpm_base.specs.ScriptFront.{IsOfScript, Moves, Plays, SeenFront, begins, ends, over, passes, served, signals, stays}
 use Rattle.mpm_base.specs.declared.front.Woke.{Woke}

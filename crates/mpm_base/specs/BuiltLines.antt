@@ -1,5 +1,5 @@
 -- The lines that are built so far. A script with another one is not played yet.
-use Rattle.std.specs.Prelude.{◌≡◌, ℕ, ◌≤◌, Bool, true, false, List, [], ◌∷◌, ◌++◌, length, bytes_eq, Option, None, Some, if◌then◌else◌, ⊤}
+use Rattle.std.specs.Prelude.{◌≡◌, ℕ, ◌≤◌, Bool, true, false, List, [], ◌∷◌, ◌++◌, length, bytes_eq, None, Some, if◌then◌else◌, ⊤}
 use Rattle.std.specs.List.{AllByRecursion, flat_map, list_any}
 use Rattle.mpm_base.specs.Clients.{sent_by}
 use Rattle.mpm_base.specs.RootRequest.{IsHost, IsStarted, request_of}

@@ -1,7 +1,7 @@
 -- The front that plays a script: what contracts see of it, and what its waits do.
 use Rattle.std.specs.Prelude.{◌≡◌, ℕ, suc, ◌+◌, ◌<◌, ◌≤◌, Bool, true, false, max, min, nat_le, if◌then◌else◌, List, [], ◌∷◌, drop, take, length, map, Option, None, Some}
 use Rattle.mpm_base.specs.Clients.{clients_of, names_of}
-use Rattle.mpm_base.specs.Front.{FrontTold, Given, HasAllTaken}
+use Rattle.mpm_base.specs.Front.{FrontTold, HasAllTaken}
 use Rattle.mpm_base.specs.declared.conn.ConnName.{ConnName}
 use Rattle.mpm_base.specs.declared.front.Woke.{Woke}
 use Rattle.mpm_base.specs.declared.front.Woke.TheVariants as woke

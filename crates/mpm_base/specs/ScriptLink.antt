@@ -1,7 +1,7 @@
 -- A link in memory some of whose calls fail: what contracts see of it, and what each call leaves of it.
-use Rattle.std.specs.Prelude.{◌≡◌, ℕ, Bool, true, false, List, [], if◌then◌else◌, ⊤}
+use Rattle.std.specs.Prelude.{◌≡◌, ℕ, Bool, true, false, List, if◌then◌else◌, ⊤}
 use Rattle.mpm_base.specs.Count.{next_count}
-use Rattle.mpm_base.specs.Link.{LinkTold, LinkCounts, fresh_link, after_read, after_write, read_failed, write_failed}
+use Rattle.mpm_base.specs.Link.{LinkTold, LinkCounts, fresh_link, after_read, after_write}
 use Rattle.mpm_base.specs.Calls.{is_listed}
 use Rattle.mpm_base.specs.PlainLink.{no_link_counts, read_answer, count_read, count_write}
 use Rattle.mpm_base.specs.declared.link.Got.{Got}
