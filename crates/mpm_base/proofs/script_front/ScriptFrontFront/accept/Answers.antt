@@ -11,8 +11,8 @@ invariant_of-self c =
     let p = played-accept s.script s.happened s.arrived s.accepted _ s.ends _ _ _ c.self.invariant c.in-Some.ensures.some c.if-self.false in
     rw c.in-Some.ensures.watched p
 
-pub returns-clause-front : goal.returns-clause-front
-returns-clause-front c =
+pub returns-clause-accepts : goal.returns-clause-accepts
+returns-clause-accepts c =
     let s = c.self.inside in
     let next = next-taken s.script s.happened s.arrived s.accepted _ s.ends _ _ _ c.self.invariant c.in-Some.ensures.some in
     let e : next_count s.accepted ≡ s.accepted + 1 = omega arith in
