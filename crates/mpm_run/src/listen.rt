@@ -316,6 +316,7 @@ fn take<L: Link + Send, F: Front<L = L>>(
     ensures step { IsInStep (F.told front.old) board.new.book.state → IsInStep (F.told front.new) board.new.book.state }
     ensures follows { Follows (outside (F.script front.old) (F.told front.old) (F.counts front.old)) (outside (F.script front.new) (F.told front.new) (F.counts front.new)) }
     ensures err { IfErr result (λ fault. MustStop fault board.new.book) }
+    ensures counts { F.counts front.new ≡ F.counts front.old }
     ensures moment { board.new.book.state.moment ≡ board.old.book.state.moment }
     ensures tells { (clients : List (List ℕ)) → AllTell clients board.old → TellsFrom clients (L.told link) → AllTell clients board.new }
 {
