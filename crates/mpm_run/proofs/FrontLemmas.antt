@@ -16,7 +16,7 @@ use Rattle.mpm_run.specs.Tells.{IsArrival, TellsFrom}
 -- ## Counts
 
 -- a count that rose, or may have, didn't fall
-rises-where : (rose : Bool) (old new : ℕ) → RisesWhere rose old new → NeverFalls old new
+pub rises-where : (rose : Bool) (old new : ℕ) → RisesWhere rose old new → NeverFalls old new
 rises-where true old new rises = rises.0
 rises-where false old new rises = rises
 

@@ -8,4 +8,5 @@ pub mod ListenLemmas
 pub mod TimeLemmas
 pub mod FrontLemmas
 pub mod TakeLemmas
+pub mod StepLemmas
 pub mod ReportLemmas

@@ -1,5 +1,5 @@
 -- What the listener keeps, and how a run ends.
-use Rattle.std.specs.Prelude.{◌≡◌, ◌⊎◌, ◌↔◌, ℕ, Bool, true, false, List, [], length, Option, None, Some, IfSome, slice_get}
+use Rattle.std.specs.Prelude.{◌≡◌, ◌⊎◌, ◌↔◌, ℕ, ◌<◌, Bool, true, false, List, [], length, Option, None, Some, IfSome, slice_get, slice_index}
 use Rattle.std.specs.List.{list_any}
 use Rattle.mpm_base.specs.Count.{NeverFalls, Rises}
 use Rattle.mpm_base.specs.Front.{FrontTold, FrontCounts, HasAllTaken}
@@ -12,9 +12,9 @@ use Rattle.conn_machine.specs.declared.event.Why.TheVariants as why
 use Rattle.conn_machine.specs.declared.state.Going.{Going}
 use Rattle.conn_machine.specs.declared.state.Going.TheVariants.{Serving, Halted}
 use Rattle.conn_machine.specs.declared.state.State.{State}
-use Rattle.conn_machine.specs.Rows.{is_held, is_live, is_lingering, live_row}
+use Rattle.conn_machine.specs.Rows.{is_held, is_live, is_lingering, is_parked, live_row}
 use Rattle.conn_machine.specs.Children.{child_at, is_empty}
-use Rattle.conn_machine.specs.States.{is_halted, is_overdue, opening}
+use Rattle.conn_machine.specs.States.{is_halted, is_overdue, is_signalled, opening}
 use Rattle.conn_machine.specs.Table.{may_retire}
 use Rattle.conn_machine.specs.Events.{count_events, is_accept}
 use Rattle.conn_machine.specs.Runs.{after, IsHistory}
@@ -24,7 +24,7 @@ use Rattle.board.specs.declared.faults.BoardFault.TheVariants as fault
 use Rattle.board.specs.Book.{SeenBook, StopsWhereFull, TellsFullStop}
 use Rattle.board.specs.Board.{SeenBoard, Agrees}
 use Rattle.board.specs.Faults.{IsFull}
-use Rattle.board.specs.Finds.{is_due, is_quiet, startable}
+use Rattle.board.specs.Finds.{acceptable, is_due, is_quiet, startable}
 use Rattle.mpm_run.specs.declared.listen.End.{End}
 use Rattle.mpm_run.specs.declared.listen.End.TheVariants as end
 
@@ -130,10 +130,27 @@ EndsAs end.Failed old new s = (s.going ≡ Serving) × Rises old.counts.faults n
 abbrev pub NoneOverdue : State → Type 0
 NoneOverdue s = list_any (is_overdue s.moment) s.rows ≡ false
 
+-- no connection waits
+abbrev pub NoneParked : State → Type 0
+NoneParked s = (slot : ℕ) (r : Row) → slice_get s.rows slot ≡ Some r → is_parked r.place ≡ false
+
+-- no connection has to be served, for which a worker is free
+abbrev pub NoneDue : State → Type 0
+NoneDue s = (slot : ℕ) (r : Row) → slice_get s.rows slot ≡ Some r → is_due s slot r ≡ false
+
+-- each of the slots that the table has is signalled
+abbrev pub AreSignalled : List ℕ → State → Type 0
+AreSignalled slots s = (i : ℕ) → i < length slots → slice_index slots i < length s.rows → is_signalled s (slice_index slots i) ≡ true
+
+-- no further connection is taken: none could be, none of a front that tells has arrived, or an accept of it failed
+abbrev pub TookAll : Option FrontTold → FrontCounts → FrontCounts → State → Type 0
+TookAll told counts counts' s =
+    (acceptable s ≡ None) ⊎ IfSome told (λ t. t.accepted ≡ t.arrived) ⊎ Rises counts.accept_faults counts'.accept_faults
+
 -- the next wait may let time pass: no connection is in hand or has to be served, and no child waits to be started or let go of
 pub record IsAtRest (s : State) : Type 0 where
   pub quiet : is_quiet s ≡ true
-  pub served : (slot : ℕ) (r : Row) → slice_get s.rows slot ≡ Some r → is_due s slot r ≡ false
+  pub served : NoneDue s
   pub kept : (k : ℕ) → may_retire s k ≡ false
   pub started : startable s ≡ None
 

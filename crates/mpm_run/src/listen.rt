@@ -1,15 +1,13 @@
 //! The listener: waits for what comes, takes connections, has them served, and stops the server when nothing more can come.
-ghost use Rattle.std.specs.Prelude.{◌≡◌, ◌⊎◌, ◌<◌, ◌≤◌, ℕ, List, true, false, is_some, length, slice_get, IfOk, IfErr, OnOk};
+ghost use Rattle.std.specs.Prelude.{◌≡◌, ◌⊎◌, ◌<◌, ◌≤◌, ℕ, List, None, true, false, is_some, length, max, min, IfOk, IfErr, OnOk};
 ghost use Rattle.std.specs.Bool.{OnFalse};
 ghost use Rattle.mpm_base.specs.Count.{next_count};
-ghost use Rattle.conn_machine.specs.declared.row.Row.{Row};
-ghost use Rattle.conn_machine.specs.States.{is_halted, is_overdue};
+ghost use Rattle.conn_machine.specs.States.{greatest_moment, is_halted, is_signalled};
 ghost use Rattle.conn_machine.specs.declared.event.Why.TheVariants as why;
 ghost use Rattle.conn_machine.specs.declared.state.Going.TheVariants.{Halted, Serving};
-ghost use Rattle.board.specs.Finds.{acceptable, next_deadline_of};
-ghost use Rattle.mpm_base.specs.Front.{IsHandedOut};
+ghost use Rattle.board.specs.Finds.{acceptable, next_deadline_of, startable};
 ghost use Rattle.mpm_run.specs.Serve.{GoesOn, Stays};
-ghost use Rattle.mpm_run.specs.Listen.{AllEmpty, EndsAs, Follows, HasClients, HasNoLive, HasStopped, HasTaken, IsGoing, IsInStep, IsRestful, Keeps, LinksTell, MustStop, NoneOverdue, outside};
+ghost use Rattle.mpm_run.specs.Listen.{AllEmpty, AreSignalled, EndsAs, Follows, HasClients, HasNoLive, HasStopped, HasTaken, IsGoing, IsInStep, IsRestful, Keeps, LinksTell, MustStop, NoneDue, NoneOverdue, NoneParked, TookAll, outside};
 ghost use Rattle.mpm_run.specs.Tells.{AllTell, HasSame, IsArrival, TellsFrom};
 
 use crate::serve::{close, park, serve};
@@ -87,7 +85,9 @@ pub fn listen<R: Wait, L: Link + Send, F: Front<L = L>, C: Clock>(
     }
 }
 
-/// Starts the children, and takes turns with the front until nothing more can come. Err where the server has to stop before.
+/// Starts the children, and takes turns with the front until nothing more can come, each followed by the service of what is
+/// signalled. What the next wait is told is found before that service, as a worker's service goes on by itself. Err where the
+/// server has to stop before.
 fn play<R: Wait, L: Link + Send, F: Front<L = L>, C: Clock>(
     rt: &R,
     alloc: Global,
@@ -117,13 +117,17 @@ fn play<R: Wait, L: Link + Send, F: Front<L = L>, C: Clock>(
             Woke::Ended => return Ok(End::Ended),
             Woke::Failed => return Ok(End::Failed),
         };
-        rest = turn(rt, alloc, board, front, ready, moment)?;
+        turn(rt, alloc, board, front, ready, moment)?;
+        rest = find_rest(board);
+        serve_all(board)?;
+        if board.going().is_halted() {
+            return Err(BoardFault::Halted);
+        }
     }
     unreachable!()
 }
 
-/// Lets time pass to the moment, signals what something came for, takes what has arrived, and serves what is signalled. What
-/// the next wait is told is found before the service, as a worker's service goes on by itself.
+/// Lets time pass to the moment, signals what something came for, and takes what has arrived.
 fn turn<R: Wait, L: Link + Send, F: Front<L = L>>(
     rt: &R,
     alloc: Global,
@@ -131,7 +135,7 @@ fn turn<R: Wait, L: Link + Send, F: Front<L = L>>(
     front: &mut F,
     ready: &Ready,
     moment: Moment,
-) -> Result<Rest, BoardFault>
+) -> Result<(), BoardFault>
     requires passes { board.old.book.passes ≡ 2 }
     requires serving { board.old.book.state.going ≡ Serving }
     requires step { IsInStep (F.told front.old) board.old.book.state }
@@ -140,18 +144,14 @@ fn turn<R: Wait, L: Link + Send, F: Front<L = L>>(
     ensures step { OnOk result (IsInStep (F.told front.new) board.new.book.state) }
     ensures follows { Follows (outside (F.script front.old) (F.told front.old) (F.counts front.old)) (outside (F.script front.new) (F.told front.new) (F.counts front.new)) }
     ensures err { IfErr result (λ fault. MustStop fault board.new.book) }
+    ensures moment { OnOk result (board.new.book.state.moment ≡ max board.old.book.state.moment (min moment greatest_moment)) }
+    ensures taken { OnOk result (TookAll (F.told front.new) (F.counts front.old) (F.counts front.new) board.new.book.state) }
     ensures tells { (clients : List (List ℕ)) → LinksTell L.told → HasClients clients (F.told front.old) → AllTell clients board.old → AllTell clients board.new }
 {
     pass_time(board, moment)?;
     signal_all(board, ready.slots())?;
     start_children(board)?;
-    take_all(rt, alloc, board, front)?;
-    let rest = find_rest(board);
-    serve_all(board)?;
-    if board.going().is_halted() {
-        return Err(BoardFault::Halted);
-    }
-    Ok(rest)
+    take_all(rt, alloc, board, front)
 }
 
 /// What the next wait is told: until when it may take, and whether nobody serves or has to.
@@ -181,6 +181,7 @@ fn pass_time<L: Link>(board: &mut Board<L>, moment: Moment) -> Result<(), BoardF
     requires serving { board.old.book.state.going ≡ Serving }
     ensures stays { Stays board.old.book board.new.book }
     ensures err { IfErr result (λ fault. MustStop fault board.new.book) }
+    ensures moment { OnOk result (board.new.book.state.moment ≡ max board.old.book.state.moment (min moment greatest_moment)) }
     ensures tells { (clients : List (List ℕ)) → AllTell clients board.old → AllTell clients board.new }
 {
     close_overdue(board);
@@ -217,6 +218,8 @@ fn signal_all<L: Link>(board: &mut Board<L>, slots: &[u32]) -> Result<(), BoardF
     ensures going { board.new.book.state.going ≡ Serving }
     ensures taken { board.new.book.state.accepted ≡ board.old.book.state.accepted }
     ensures err { IfErr result (λ fault. MustStop fault board.new.book) }
+    ensures signalled { OnOk result (AreSignalled slots.now board.new.book.state) }
+    ensures moment { board.new.book.state.moment ≡ board.old.book.state.moment }
     ensures tells { (clients : List (List ℕ)) → AllTell clients board.old → AllTell clients board.new }
 {
     for slot in slots {
@@ -233,6 +236,10 @@ fn signal<L: Link>(board: &mut Board<L>, slot: u32) -> Result<(), BoardFault>
     ensures going { board.new.book.state.going ≡ Serving }
     ensures taken { board.new.book.state.accepted ≡ board.old.book.state.accepted }
     ensures err { IfErr result (λ fault. MustStop fault board.new.book) }
+    ensures signalled { OnOk result (slot < length board.old.book.state.rows → is_signalled board.new.book.state slot ≡ true) }
+    ensures others { (other : ℕ) → is_signalled board.old.book.state other ≡ true → is_signalled board.new.book.state other ≡ true }
+    ensures rows { board.new.book.state.rows ≡ board.old.book.state.rows }
+    ensures moment { board.new.book.state.moment ≡ board.old.book.state.moment }
     ensures tells { (clients : List (List ℕ)) → AllTell clients board.old → AllTell clients board.new }
 {
     board.show();
@@ -248,6 +255,8 @@ fn start_children<L: Link>(board: &mut Board<L>) -> Result<(), BoardFault>
     requires serving { board.old.book.state.going ≡ Serving }
     ensures stays { Stays board.old.book board.new.book }
     ensures err { IfErr result (λ fault. MustStop fault board.new.book) }
+    ensures started { OnOk result (startable board.new.book.state ≡ None) }
+    ensures moment { board.new.book.state.moment ≡ board.old.book.state.moment }
     ensures tells { (clients : List (List ℕ)) → AllTell clients board.old → AllTell clients board.new }
 {
     while let Some(child) = board.can_start() {
@@ -272,6 +281,8 @@ fn take_all<R: Wait, L: Link + Send, F: Front<L = L>>(
     ensures step { OnOk result (IsInStep (F.told front.new) board.new.book.state) }
     ensures follows { Follows (outside (F.script front.old) (F.told front.old) (F.counts front.old)) (outside (F.script front.new) (F.told front.new) (F.counts front.new)) }
     ensures err { IfErr result (λ fault. MustStop fault board.new.book) }
+    ensures taken { OnOk result (TookAll (F.told front.new) (F.counts front.old) (F.counts front.new) board.new.book.state) }
+    ensures moment { board.new.book.state.moment ≡ board.old.book.state.moment }
     ensures tells { (clients : List (List ℕ)) → LinksTell L.told → HasClients clients (F.told front.old) → AllTell clients board.old → AllTell clients board.new }
 {
     for _ in rt.forever() {
@@ -305,6 +316,8 @@ fn take<L: Link + Send, F: Front<L = L>>(
     ensures step { IsInStep (F.told front.old) board.new.book.state → IsInStep (F.told front.new) board.new.book.state }
     ensures follows { Follows (outside (F.script front.old) (F.told front.old) (F.counts front.old)) (outside (F.script front.new) (F.told front.new) (F.counts front.new)) }
     ensures err { IfErr result (λ fault. MustStop fault board.new.book) }
+    ensures counts { F.counts front.new ≡ F.counts front.old }
+    ensures moment { board.new.book.state.moment ≡ board.old.book.state.moment }
     ensures tells { (clients : List (List ℕ)) → AllTell clients board.old → TellsFrom clients (L.told link) → AllTell clients board.new }
 {
     let mut link = link;
@@ -337,6 +350,7 @@ fn accept<L: Link>(board: &mut Board<L>) -> Result<Taken, BoardFault>
     ensures held { IfOk result (λ taken. HasTaken board.new.book.state taken.name taken.child taken.generation board.old.book.state.accepted) }
     ensures same { HasSame board.old board.new }
     ensures err { IfErr result (λ fault. MustStop fault board.new.book) }
+    ensures moment { board.new.book.state.moment ≡ board.old.book.state.moment }
 {
     board.show();
     match board.accept(LISTENER) {
@@ -358,6 +372,7 @@ fn serve_all<L: Link>(board: &mut Board<L>) -> Result<(), BoardFault>
     requires serving { board.old.book.state.going ≡ Serving }
     ensures goes { GoesOn board.old.book board.new.book }
     ensures err { IfErr result (λ fault. MustStop fault board.new.book) }
+    ensures served { OnOk result (NoneDue board.new.book.state) }
     ensures tells { (clients : List (List ℕ)) → AllTell clients board.old → AllTell clients board.new }
 {
     while let Some(name) = board.signalled() {
@@ -389,6 +404,7 @@ fn close_all<L: Link>(board: &mut Board<L>)
     requires passes { board.old.book.passes ≡ 2 }
     requires halted { is_halted board.old.book.state.going ≡ true }
     ensures stays { Stays board.old.book board.new.book }
+    ensures none { NoneParked board.new.book.state }
     ensures tells { (clients : List (List ℕ)) → AllTell clients board.old → AllTell clients board.new }
 {
     while let Some(name) = board.parked() {

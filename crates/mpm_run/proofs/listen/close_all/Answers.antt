@@ -32,3 +32,6 @@ loop-name-preserved g c =
           (tell-held clients 0 c.in-Some.name.slot c.in-Some.name c.loop-name.board c.hold-conn.new.self c.hold-conn.ensures.is before)
           (before.conns c.in-Some.name.slot c.hold-conn.result c.hold-conn.ensures.conn);
     }
+
+pub returns-clause-none : goal.returns-clause-none
+returns-clause-none g c = c.in_default.ensures

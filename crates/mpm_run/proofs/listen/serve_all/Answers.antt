@@ -11,3 +11,6 @@ loop-name-preserved g c =
 pub returns-in_err-serve-clause-tells : goal.returns-in_err-serve-clause-tells
 returns-in_err-serve-clause-tells g c clients tells =
     tell-still clients c.loop-name.board c.serve.new.board c.in_err-serve.ensures.err (c.loop-name.invariant.tells clients tells)
+
+pub returns-clause-served : goal.returns-clause-served
+returns-clause-served g c = c.in_default.ensures

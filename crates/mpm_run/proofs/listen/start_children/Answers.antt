@@ -18,6 +18,7 @@ loop-child-preserved g c =
       stays =
           stays-start_child 0 c.in-Some.child c.args.board.now.book c.loop-child.board c.start_child.new.self c.loop-child.invariant.stays
           c.in_ok-start_child.ensures.ok.new_is;
+      moment = ap (λ (b : SeenBoard). b.book.state.moment) c.in_ok-start_child.ensures.ok.new_is ∙ c.loop-child.invariant.moment;
       tells = λ clients tells. tell-added clients 0 _ c.loop-child.board c.start_child.new.self c.in_ok-start_child.ensures.ok.new_is (c.loop-child.invariant.tells clients tells);
     }
 

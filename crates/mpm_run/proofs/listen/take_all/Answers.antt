@@ -1,5 +1,9 @@
+use Rattle.std.proofs.Common.{subst, sym, ◌∙◌, arith}
+use Rattle.mpm_base.specs.Count.{NeverFalls}
+use Rattle.mpm_base.specs.Front.{FrontCounts}
 use Rattle.mpm_run.proofs.ListenLemmas.{keeps-trans}
-use Rattle.mpm_run.proofs.FrontLemmas.{follows-trans, follows-accept, step-taken, step-none, tells-next}
+use Rattle.mpm_run.proofs.StepLemmas.{took-none}
+use Rattle.mpm_run.proofs.FrontLemmas.{rises-where, follows-trans, follows-accept, step-taken, step-none, tells-next}
 use Rattle.mpm_run.proofs.listen.take_all.Goals as goal
 
 pub loop-preserved : goal.loop-preserved
@@ -15,6 +19,10 @@ loop-preserved g c =
           follows-trans _ _ _ c.loop.invariant.follows
           (follows-trans _ _ _ (follows-accept g.L.Link.told g.L.Link.counts _ _ _ _ _ _ _ c.accept.ensures.script c.accept.ensures.accepts)
           c.take.ensures.follows);
+      accept_faults =
+          subst (λ (n : FrontCounts). NeverFalls (g.F.Front.counts c.args.front.now).accept_faults n.accept_faults) (sym c.take.ensures.counts)
+          (omega (arith, c.loop.invariant.accept_faults, rises-where _ _ _ c.accept.ensures.accepts.accept_faults));
+      moment = c.take.ensures.moment ∙ c.loop.invariant.moment;
       tells = λ clients links has tells.
           let link = links.each c.in-Some-accept.link in
           c.take.ensures.tells clients (c.loop.invariant.tells clients links has tells)
@@ -41,5 +49,9 @@ returns-in-None-accept g c =
           follows-trans _ _ _ c.loop.invariant.follows
           (follows-accept g.L.Link.told g.L.Link.counts _ _ _ _ _ _ _ c.accept.ensures.script c.accept.ensures.accepts);
       err = tt;
+      taken =
+          took-none g.L.Link.told g.L.Link.counts (g.F.Front.told c.loop.front) (g.F.Front.told c.accept.new.self) (g.F.Front.counts c.args.front.now)
+          (g.F.Front.counts c.loop.front) (g.F.Front.counts c.accept.new.self) c.accept.result c.loop.board.book.state c.in-None-accept.is c.loop.invariant.accept_faults c.accept.ensures.accepts;
+      moment = c.loop.invariant.moment;
       tells = c.loop.invariant.tells;
     }

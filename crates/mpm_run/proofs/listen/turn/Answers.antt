@@ -10,25 +10,7 @@ pub returns-in_err-start_children-clause-tells : goal.returns-in_err-start_child
 returns-in_err-start_children-clause-tells g c clients links has tells =
     c.start_children.ensures.tells clients (c.signal_all.ensures.tells clients (c.pass_time.ensures.tells clients tells))
 
-pub returns-in_err-take_all-clause-tells : goal.returns-in_err-take_all-clause-tells
-returns-in_err-take_all-clause-tells g c clients links has tells =
-    c.take_all.ensures.tells clients links has
-    (c.start_children.ensures.tells clients (c.signal_all.ensures.tells clients (c.pass_time.ensures.tells clients tells)))
-
-pub returns-in_err-serve_all-clause-tells : goal.returns-in_err-serve_all-clause-tells
-returns-in_err-serve_all-clause-tells g c clients links has tells =
-    c.serve_all.ensures.tells clients
-    (c.take_all.ensures.tells clients links has
-    (c.start_children.ensures.tells clients (c.signal_all.ensures.tells clients (c.pass_time.ensures.tells clients tells))))
-
-pub returns-then-is_halted-clause-tells : goal.returns-then-is_halted-clause-tells
-returns-then-is_halted-clause-tells g c clients links has tells =
-    c.serve_all.ensures.tells clients
-    (c.take_all.ensures.tells clients links has
-    (c.start_children.ensures.tells clients (c.signal_all.ensures.tells clients (c.pass_time.ensures.tells clients tells))))
-
 pub returns-clause-tells : goal.returns-clause-tells
 returns-clause-tells g c clients links has tells =
-    c.serve_all.ensures.tells clients
-    (c.take_all.ensures.tells clients links has
-    (c.start_children.ensures.tells clients (c.signal_all.ensures.tells clients (c.pass_time.ensures.tells clients tells))))
+    c.take_all.ensures.tells clients links has
+    (c.start_children.ensures.tells clients (c.signal_all.ensures.tells clients (c.pass_time.ensures.tells clients tells)))
