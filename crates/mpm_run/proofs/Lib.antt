@@ -10,3 +10,5 @@ pub mod FrontLemmas
 pub mod TakeLemmas
 pub mod StepLemmas
 pub mod ReportLemmas
+pub mod StatusLemmas
+pub mod RunLemmas

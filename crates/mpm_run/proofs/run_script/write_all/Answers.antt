@@ -1,0 +1,12 @@
+use Rattle.std.proofs.Common.{rules}
+use Rattle.mpm_run.proofs.StatusLemmas.{told_puts}
+use Rattle.mpm_run.proofs.run_script.write_all.Goals as goal
+
+-- src/run_script.rt:234:5
+pub loop-from-preserved : goal.loop-from-preserved
+loop-from-preserved g c =
+    record {
+      from = search rules;
+      told = told_puts c.args.bytes.now c.loop-from.from c.in-Put.count _ _ _ _ _ _ c.loop-from.invariant.told c.write.ensures c.in-Put.is;
+      faults = search rules;
+    }
