@@ -12,3 +12,4 @@ pub mod StepLemmas
 pub mod ReportLemmas
 pub mod StatusLemmas
 pub mod RunLemmas
+pub mod EndLemmas
