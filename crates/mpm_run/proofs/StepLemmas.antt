@@ -7,8 +7,11 @@ use Rattle.mpm_base.specs.Link.{LinkTold, LinkCounts}
 use Rattle.mpm_base.specs.declared.conn.ConnName.{ConnName}
 use Rattle.mpm_base.specs.declared.front.Arrival.{Arrival}
 use Rattle.mpm_base.specs.declared.front.Arrival.TheVariants as arrival
+use Rattle.conn_machine.specs.declared.event.Why.TheVariants as why
+use Rattle.conn_machine.specs.declared.state.Going.{Going}
+use Rattle.conn_machine.specs.declared.state.Going.TheVariants.{Serving, Halted}
 use Rattle.conn_machine.specs.declared.state.State.{State}
-use Rattle.conn_machine.specs.States.{is_signalled}
+use Rattle.conn_machine.specs.States.{is_halted, is_signalled}
 use Rattle.board.specs.declared.faults.BoardFault.{BoardFault}
 use Rattle.board.specs.declared.faults.BoardFault.TheVariants as fault
 use Rattle.board.specs.Book.{SeenBook}
@@ -56,6 +59,15 @@ took-none link_told link_counts told told' first counts counts' answer s (inl no
 took-none link_told link_counts told told' first counts counts' answer s (inr failed) never accepts =
     inr (inr (rises-after first.accept_faults counts.accept_faults counts'.accept_faults never
     (subst (λ (a : Arrival _). RisesWhere (accept_failed a) counts.accept_faults counts'.accept_faults) failed accepts.accept_faults)))
+
+-- ## The service
+
+-- the server takes connections as before, unless the service stopped it
+pub still-serving : (before after : Going) → (after ≡ before) ⊎ (after ≡ Halted why.Full) → before ≡ Serving → is_halted after ≡ false → after ≡ Serving
+still-serving before after (inl same) serving running = same ∙ serving
+still-serving before after (inr full) serving running =
+    let stopped : is_halted after ≡ true = ap is_halted full in
+    absurd (cc (stopped, running))
 
 -- ## The moment
 
