@@ -2,7 +2,6 @@
 use Rattle.std.proofs.Common.{◌≡◌, ◌⊎◌, inl, inr, ℕ, List, length, Option, Some, IfSome, IsSomeAnd, refl, sym, ap, subst, ◌∙◌, arith}
 use Rattle.std.proofs.lemmas.List.{length-map}
 use Rattle.mpm_base.specs.Clients.{clients_of, names_of, sent_by}
-use Rattle.mpm_base.specs.Count.{Rises}
 use Rattle.mpm_base.specs.Front.{FrontTold, HasAllTaken}
 use Rattle.mpm_base.specs.ScriptFront.{SeenFront, IsOfScript, new_front}
 use Rattle.mpm_base.specs.declared.script_line.ScriptLine.{ScriptLine}
@@ -10,26 +9,15 @@ use Rattle.conn_machine.specs.declared.event.Why.TheVariants as why
 use Rattle.conn_machine.specs.declared.state.Going.{Going}
 use Rattle.conn_machine.specs.declared.state.Going.TheVariants.{Halted}
 use Rattle.conn_machine.specs.declared.state.State.{State}
-use Rattle.board.specs.Book.{HasFullStop, StopsWhereFull, TellsFullStop}
+use Rattle.board.specs.Book.{StopsWhereFull, TellsFullStop}
 use Rattle.board.specs.Board.{SeenBoard}
 use Rattle.mpm_run.specs.FirstShape.{first_shape}
-use Rattle.mpm_run.specs.Listen.{AllEmpty, HasNoLive, SeenOutside, HasEnded, HasClients, HasFailed, HasStopped, IsEnd, IsWholeRun}
+use Rattle.mpm_run.specs.Listen.{AllEmpty, HasNoLive, SeenOutside, HasEnded, HasClients, HasStopped, IsEnd, IsWholeRun}
 use Rattle.mpm_run.specs.Statuses.{EndsFull, HasEnd, IsStatusOf, ReportsAs, SinkSeen, Writes, board_report}
 
 -- ## Why the server stopped
 
--- a count that stays at 0 doesn't rise
-none-rises : (old new : ℕ) → old ≡ 0 → new ≡ 0 → Rises old new → ⊥
-none-rises old new none none' rises = omega (arith, none, none', rises.1 (omega (arith, none)))
-
--- no wait of the front failed, so the server stopped for one of the others
-pub stopped-end : (old new : SeenOutside) (s : State) → old.counts.faults ≡ 0 → new.counts.faults ≡ 0 → HasStopped old new s → IsEnd s.going
-stopped-end old new s none none' (inl ended) = inl ended.going
-stopped-end old new s none none' (inr (inl failed)) = absurd (none-rises old.counts.faults new.counts.faults none none' failed.failed)
-stopped-end old new s none none' (inr (inr (inl full))) = inr (inl full)
-stopped-end old new s none none' (inr (inr (inr no_memory))) = inr (inr no_memory)
-
--- where it stopped because nothing more could come
+-- it stopped because nothing more could come
 stopped-ended : (old new : SeenOutside) (s : State) → HasStopped old new s → s.going ≡ Halted why.FrontEnded → HasEnded old new s
 stopped-ended old new s (inl ended) going = ended
 stopped-ended old new s (inr (inl failed)) going = absurd (cc (failed.going, going))
@@ -89,11 +77,7 @@ has-end old new b f stopped going told of_script whole =
 
 -- ## The front
 
--- a front that was made of a script is still of it
-pub still-of : (lines : List ScriptLine) (old new : SeenFront) → old ≡ new_front lines → Some new.script ≡ Some old.script → new.script ≡ lines
-still-of lines old new made same = cc (same) ∙ ap (λ (f : SeenFront). f.script) made
-
--- its clients are those of the script
+-- the clients of a new front are those of its script
 pub has-clients : (lines : List ScriptLine) (f : SeenFront) → f ≡ new_front lines → HasClients (clients_of lines) (Some f.told)
 has-clients lines f made = (f.told, refl, ap (λ (f : SeenFront). f.told.clients) made)
 

@@ -1,12 +1,9 @@
-use Rattle.std.proofs.Common.{◌≡◌, inl, inr, refl}
+use Rattle.std.proofs.Common.{inl, inr, refl}
 use Rattle.mpm_base.specs.Clients.{clients_of}
-use Rattle.mpm_run.specs.Statuses.{EndsFull, EndsUnwritten, EndsWell, HasRun}
+use Rattle.mpm_run.specs.Statuses.{EndsUnwritten, EndsWell, HasRun}
 use Rattle.mpm_run.proofs.RunLemmas.{opening-tells}
-use Rattle.mpm_run.proofs.EndLemmas.{stopped-end, has-end, still-of, has-clients, left-if, left-and}
+use Rattle.mpm_run.proofs.EndLemmas.{has-end, has-clients, left-if, left-and}
 use Rattle.mpm_run.proofs.run_script.play.Goals as goal
-
-pub finish-requires : goal.finish-requires
-finish-requires g c = record { stopped = stopped-end _ _ c.listen.new.board.book.state refl refl c.listen.ensures.stopped }
 
 pub returns-clause-kept : goal.returns-clause-kept
 returns-clause-kept g c =
@@ -15,11 +12,6 @@ returns-clause-kept g c =
     let told = c.listen.ensures.tells clients (record { each = λ link. (link.told, refl) }) (has-clients c.args.script c.in-Ok-Ok.front c.in-Ok-Ok.ensures) tells in
     left-if c.finish.result.scripted _ (λ s. HasRun clients s.board) c.finish.ensures.scripted
     (record { run = c.show_run.ensures.run; receive = c.show_run.ensures.receive clients told.ended })
-
-pub returns-clause-script : goal.returns-clause-script
-returns-clause-script g c =
-    left-if c.finish.result.scripted _ (λ s. s.front.script ≡ c.args.script) c.finish.ensures.scripted
-    (still-of c.args.script c.in-Ok-Ok.front c.listen.new.front c.in-Ok-Ok.ensures c.listen.ensures.follows.script)
 
 pub returns-clause-served : goal.returns-clause-served
 returns-clause-served g c good =
@@ -37,6 +29,3 @@ returns-clause-unwritten g c unwritten =
       end = has-end _ _ c.listen.new.board c.listen.new.front c.listen.ensures.stopped (c.finish.ensures.ended (inr unwritten)) refl c.show-2.ensures.is c.show_run.ensures.whole;
       failed = c.finish.ensures.unwritten unwritten;
     })
-
-pub returns-clause-full : goal.returns-clause-full
-returns-clause-full g c full = left-and c.finish.result.scripted _ (λ s. EndsFull _ _ s.board) c.finish.ensures.scripted (c.finish.ensures.full full)
