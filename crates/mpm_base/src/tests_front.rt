@@ -48,7 +48,7 @@ fn script_of(alloc: Global, rows: &[Row]) -> Result<Script, NoMemory> {
 
 /// A wait: until when, whether no connection is being served, and what is wanted: the answer, the slots, and how many lines
 /// have happened then.
-type Turn = (Option<Moment>, bool, Woke, &'static [u32], usize);
+type Turn<'a> = (Option<Moment>, bool, Woke, &'a [u32], usize);
 
 /// Waits once for each row.
 fn waits(rt: &(impl Wait + Abort), front: &mut ScriptFront, ready: &mut Ready, wanted: &[Turn]) {
