@@ -1,6 +1,6 @@
 -- What the calls of a front leave of it, and whether the table is in step with it.
-use Rattle.std.proofs.Common.{◌≡◌, ◌⊎◌, inl, inr, ℕ, ◌<◌, ◌≤◌, Bool, true, false, List, Option, None, Some, option_map, IfSome, refl, sym, ap, subst, ◌∙◌, arith}
-use Rattle.mpm_base.specs.Count.{next_count, greatest_count, NeverFalls, Rises, RisesWhere, RisesExactlyWhere}
+use Rattle.std.proofs.Common.{◌≡◌, ◌⊎◌, inl, inr, ℕ, Bool, true, false, List, Option, None, Some, option_map, IfSome, refl, sym, ap, subst, ◌∙◌, arith}
+use Rattle.mpm_base.specs.Count.{next_count, NeverFalls, Rises, RisesWhere, RisesExactlyWhere}
 use Rattle.mpm_base.specs.Front.{FrontTold, FrontCounts, TellsOn, Waited, Waits, HasAllTaken, IsHandedOut, Accepts, after_accept, is_ended, is_handed, wait_failed}
 use Rattle.mpm_base.specs.Link.{LinkTold, LinkCounts}
 use Rattle.mpm_base.specs.declared.front.Arrival.{Arrival}
