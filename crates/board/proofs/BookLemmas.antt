@@ -19,11 +19,12 @@ use Rattle.conn_machine.specs.States.{is_halted, opening, unused_row}
 use Rattle.conn_machine.proofs.ChildSound.{sound-opening}
 use Rattle.conn_machine.proofs.RunLemmas.{after-snoc, history-snoc, entries_of-own, entries_of-other}
 use Rattle.conn_machine.proofs.SizeLemmas.{length-rows, length-children, length-signals, moment-within}
-use Rattle.board.specs.Book.{AreNext, IsSized, IsKept, SeenBook, numbered, recorded, pages_of}
+use Rattle.board.specs.Book.{AreNext, IsSized, IsKept, SeenBook, full_stop, numbered, recorded, pages_of}
 use Rattle.conn_machine.specs.declared.event.Reply.{Reply}
 use Rattle.board.specs.Faults.{IsOpen}
 use Rattle.board.specs.Room.{row_owes, child_owes, owed, is_sure}
 use Rattle.board.proofs.RoomLemmas.{owed-bound, owed-sure}
+use Rattle.board.proofs.StopLemmas.{stops_first, stops_more, tells_first, tells_more}
 
 -- the pass of the entry counts one more, and the others stay
 next_by : (ordinals : List ℕ) (history : List Entry) (e : Entry) (p : ℕ) (own : Bool) → (e.pass == p) ≡ own
@@ -70,9 +71,9 @@ sure-pages e sure = refl
 kept_more : (base : State) (history : List Entry) (s : State) (ordinals ordinals' : List ℕ) (pages room room' : ℕ) (e : Entry)
     → IsKept base history s ordinals pages room → allowed s e.event ≡ true → e.reply ≡ reply s e.event
     → e.ordinal ≡ length (entries_of e.pass history) → AreNext ordinals' (history ++ e ∷ []) → IsSound (next s e.event)
-    → length (history ++ e ∷ []) + owed (next s e.event) ≤ room'
+    → length (history ++ e ∷ []) + owed (next s e.event) ≤ room' → (e.event ≡ full_stop → full_load ≤ load history)
     → IsKept base (history ++ e ∷ []) (next s e.event) ordinals' (pages + (if asks_page e.event then 1 else 0)) room'
-kept_more base history s ordinals ordinals' pages room room' e before is_allowed replied ordinal numbers sound has_room = record {
+kept_more base history s ordinals ordinals' pages room room' e before is_allowed replied ordinal numbers sound has_room full = record {
   is_history = history-snoc base history e before.is_history (rw before.state_is is_allowed) (rw before.state_is replied) ordinal;
   state_is = after-snoc base history e ∙ ap (λ (t : State). next t e.event) before.state_is;
   opened = before.opened;
@@ -81,6 +82,8 @@ kept_more base history s ordinals ordinals' pages room room' e before is_allowed
   pages_is = rw before.pages_is (sym (pages_more history e));
   sized = sized_more s e.event is_allowed before.sized;
   has_room = has_room;
+  stops = stops_more history e before.stops full;
+  full = tells_more s history e before.full is_allowed;
 }
 
 -- the same, where memory was found for all that may follow
@@ -88,29 +91,29 @@ pub kept_with_room : (base : State) (history history' : List Entry) (s s' : Stat
     → IsKept base history s ordinals pages room → allowed s e.event ≡ true → e.reply ≡ reply s e.event
     → e.ordinal ≡ length (entries_of e.pass history) → AreNext ordinals' history' → (IsSound s → IsSound s')
     → history' ≡ history ++ e ∷ [] → s' ≡ next s e.event → pages' ≡ pages + (if asks_page e.event then 1 else 0)
-    → length history + (4 * length s.rows + length s.children + 2) ≤ room'
+    → length history + (4 * length s.rows + length s.children + 2) ≤ room' → (e.event ≡ full_stop → full_load ≤ load history)
     → IsKept base history' s' ordinals' pages' room'
-kept_with_room base history history' s s' ordinals ordinals' pages pages' room room' e before is_allowed replied ordinal numbers sound history_is state_is pages_is space =
+kept_with_room base history history' s s' ordinals ordinals' pages pages' room room' e before is_allowed replied ordinal numbers sound history_is state_is pages_is space full =
     let len : length (history ++ e ∷ []) ≡ length history + 1 = length-append history (e ∷ []) in
     let owes = owed-bound (next s e.event) in
     let rows = length-rows s e.event in
     let children = length-children s e.event in
     rw (history_is, state_is, pages_is)
     (kept_more base history s ordinals ordinals' pages room room' e before is_allowed replied ordinal (rw history_is at numbers)
-    (rw state_is at (sound before.sound)) (omega (arith, len, owes, rows, children, space)))
+    (rw state_is at (sound before.sound)) (omega (arith, len, owes, rows, children, space)) full)
 
 -- the same, where the room was taken before
 pub kept_sure : (base : State) (history history' : List Entry) (s s' : State) (ordinals ordinals' : List ℕ) (pages room room' : ℕ) (e : Entry)
     → IsKept base history s ordinals pages room → allowed s e.event ≡ true → e.reply ≡ reply s e.event
     → e.ordinal ≡ length (entries_of e.pass history) → AreNext ordinals' history' → (IsSound s → IsSound s')
-    → history' ≡ history ++ e ∷ [] → s' ≡ next s e.event → is_sure e.event ≡ true → room ≤ room'
+    → history' ≡ history ++ e ∷ [] → s' ≡ next s e.event → is_sure e.event ≡ true → room ≤ room' → (e.event ≡ full_stop → full_load ≤ load history)
     → IsKept base history' s' ordinals' pages room'
-kept_sure base history history' s s' ordinals ordinals' pages room room' e before is_allowed replied ordinal numbers sound history_is state_is sure space =
+kept_sure base history history' s s' ordinals ordinals' pages room room' e before is_allowed replied ordinal numbers sound history_is state_is sure space full =
     let len : length (history ++ e ∷ []) ≡ length history + 1 = length-append history (e ∷ []) in
     let owes = owed-sure s e.event is_allowed sure in
     let none = sure-pages e.event sure in
     let more = kept_more base history s ordinals ordinals' pages room room' e before is_allowed replied ordinal (rw history_is at numbers)
-    (rw state_is at (sound before.sound)) (omega (arith, len, owes, before.has_room, space)) in
+    (rw state_is at (sound before.sound)) (omega (arith, len, owes, before.has_room, space)) full in
     let same : pages + (if asks_page e.event then 1 else 0) ≡ pages = rw none (omega arith) in
     rw (history_is, state_is)
     (subst (λ (n : ℕ). IsKept base (history ++ e ∷ []) (next s e.event) ordinals' n room') same more)
@@ -134,6 +137,8 @@ kept_first slots children passes room shape few_slots few_children bounds space 
         moment = omega arith;
       };
       has_room = omega (arith, sum_by-replicate row_owes slots unused_row, sum_by-replicate child_owes children no_child, space);
+      stops = stops_first;
+      full = tells_first;
     }
 
 -- what a book shows once the entry was put at its end

@@ -6,4 +6,5 @@ pub mod FindLemmas
 pub mod HandLemmas
 pub mod RoomLemmas
 pub mod SlotLemmas
+pub mod StopLemmas
 pub mod TestLemmas

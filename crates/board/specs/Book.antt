@@ -1,12 +1,17 @@
 -- What a board keeps of its history.
 use Rattle.std.specs.Prelude.{◌≡◌, ℕ, ◌+◌, ◌<◌, ◌≤◌, List, [], ◌∷◌, ◌++◌, length, count_by, slice_index}
+use Rattle.conn_machine.specs.declared.event.Why.TheVariants as why
+use Rattle.conn_machine.specs.declared.event.Commanded.TheVariants.{Stop}
 use Rattle.conn_machine.specs.declared.event.Event.{Event}
+use Rattle.conn_machine.specs.declared.event.Event.TheVariants as event
 use Rattle.conn_machine.specs.declared.event.Reply.{Reply}
 use Rattle.conn_machine.specs.declared.event.Entry.{Entry}
+use Rattle.conn_machine.specs.declared.state.Going.{Going}
+use Rattle.conn_machine.specs.declared.state.Going.TheVariants.{Halted}
 use Rattle.conn_machine.specs.declared.state.State.{State}
 use Rattle.conn_machine.specs.States.{greatest_moment}
 use Rattle.conn_machine.specs.Table.{next, reply}
-use Rattle.conn_machine.specs.Runs.{after, entries_of, asks_page, IsHistory}
+use Rattle.conn_machine.specs.Runs.{after, entries_of, asks_page, load, full_load, IsHistory}
 use Rattle.conn_machine.specs.Sound.{IsSound}
 use Rattle.board.specs.Room.{owed}
 
@@ -45,8 +50,30 @@ pub record IsSized (s : State) : Type 0 where
 abbrev pub pages_of : List Entry → ℕ
 pages_of history = count_by (λ e. asks_page e.event) history
 
+-- the event that stops the server because the history is full
+abbrev pub full_stop : Event
+full_stop = event.Command (Stop why.Full)
+
+-- the history has an entry of that event: the entries before it, the entry, and those behind it
+pub record HasFullStop (history : List Entry) : Type 0 where
+  pub before : List Entry
+  pub stop : Entry
+  pub behind : List Entry
+  pub history_is : history ≡ before ++ stop ∷ behind
+  pub event_is : stop.event ≡ full_stop
+
+-- wherever the history has one, the load of the entries before it is at its limit
+pub record StopsWhereFull (history : List Entry) : Type 0 where
+  pub full : (has : HasFullStop history) → full_load ≤ load has.before
+
+-- the server stopped because the history is full exactly where the history has such an entry
+pub record TellsFullStop (going : Going) (history : List Entry) : Type 0 where
+  pub stands : going ≡ Halted why.Full → HasFullStop history
+  pub stopped : HasFullStop history → going ≡ Halted why.Full
+
 -- the history is one of the machine, from its base to its state, and the states are sound; each pass's next number and the
--- number of pages are known; and there is room for what must follow
+-- number of pages are known; there is room for what must follow; and a stop because the history is full stands only where it
+-- is, and is told by the state
 pub record IsKept (base : State) (history : List Entry) (state : State) (ordinals : List ℕ) (pages room : ℕ) : Type 0 where
   pub is_history : IsHistory base history
   pub state_is : after base history ≡ state
@@ -56,3 +83,5 @@ pub record IsKept (base : State) (history : List Entry) (state : State) (ordinal
   pub pages_is : pages ≡ pages_of history
   pub sized : IsSized state
   pub has_room : length history + owed state ≤ room
+  pub stops : StopsWhereFull history
+  pub full : TellsFullStop state.going history

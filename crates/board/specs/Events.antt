@@ -3,7 +3,9 @@ use Rattle.std.specs.Prelude.{◌≡◌, ℕ, ◌/◌, ◌≤◌, ◌||◌, Bool
 use Rattle.mpm_base.specs.declared.conn.ConnName.{ConnName}
 use Rattle.mpm_base.specs.declared.conn.Ask.{Ask}
 use Rattle.mpm_base.specs.declared.note.Note.{Note}
+use Rattle.conn_machine.specs.declared.event.Commanded.TheVariants.{Stop}
 use Rattle.conn_machine.specs.declared.event.Event.{Event}
+use Rattle.conn_machine.specs.declared.event.Event.TheVariants as event
 use Rattle.conn_machine.specs.declared.event.Reply.TheVariants.{Took}
 use Rattle.conn_machine.specs.declared.event.Why.{Why}
 use Rattle.conn_machine.specs.declared.event.Why.TheVariants as why
@@ -44,3 +46,8 @@ pub record IsDecided (s : State) (name : ConnName) (ask : Ask) (note : Note) : T
 abbrev pub IsStoppable : Why → SeenBook → Type 0
 IsStoppable why.Full b = full_load ≤ load b.history
 IsStoppable other b = ⊤
+
+-- so does its event; other events need nothing of the history
+abbrev pub MayStop : Event → SeenBook → Type 0
+MayStop (event.Command (Stop why)) b = IsStoppable why b
+MayStop other b = ⊤

@@ -10,7 +10,7 @@ ghost use Rattle.conn_machine.specs.declared.event.Commanded.TheVariants.{Stop};
 ghost use Rattle.conn_machine.specs.declared.event.Reply.TheVariants.{Took};
 ghost use Rattle.conn_machine.specs.declared.event.Why.TheVariants as why;
 ghost use Rattle.conn_state.specs.Answered.{IsEnded};
-ghost use Rattle.board.specs.Book.{IsSized, recorded};
+ghost use Rattle.board.specs.Book.{IsSized, StopsWhereFull, TellsFullStop, recorded};
 ghost use Rattle.board.specs.Board.{Agrees, conn_at};
 ghost use Rattle.board.specs.Events.{IsAdded, IsDecided, IsStoppable, IsTaken, added, noted};
 ghost use Rattle.board.specs.Faults.{IsNotTakenFor, IsRefusedFor};
@@ -124,14 +124,16 @@ impl<L: Link> Board<L> {
         self.ended.as_slice()
     }
 
-    /// What holds of every board: its history is one of the machine, from its base to its state, which are sound, and its
-    /// connections agree with it.
+    /// What holds of every board: its history is one of the machine, from its base to its state, which are sound; a stop
+    /// because the history is full stands only where it is; and the connections agree with the history.
     pub fn show(&self)
         ensures history { IsHistory self.now.book.base self.now.book.history }
         ensures state { after self.now.book.base self.now.book.history ≡ self.now.book.state }
         ensures opened { IsSound self.now.book.base }
         ensures sound { IsSound self.now.book.state }
         ensures sized { IsSized self.now.book.state }
+        ensures stops { StopsWhereFull self.now.book.history }
+        ensures full { TellsFullStop self.now.book.state.going self.now.book.history }
         ensures agrees { Agrees self.now }
     {
         self.book.show();

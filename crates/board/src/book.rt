@@ -5,7 +5,8 @@ ghost use Rattle.conn_machine.specs.States.{is_halted, opening};
 ghost use Rattle.conn_machine.specs.Table.{allowed, reply};
 ghost use Rattle.conn_machine.specs.Runs.{IsHistory, after, asks_page, load, full_load};
 ghost use Rattle.conn_machine.specs.Sound.{IsSound};
-ghost use Rattle.board.specs.Book.{AreNext, IsSized, numbered, recorded};
+ghost use Rattle.board.specs.Book.{AreNext, IsSized, StopsWhereFull, TellsFullStop, numbered, recorded};
+ghost use Rattle.board.specs.Events.{MayStop};
 ghost use Rattle.board.specs.Faults.{IsRecorded, IsRefusedFor};
 ghost use Rattle.board.specs.Room.{is_sure};
 
@@ -89,13 +90,15 @@ impl Book {
         self.history.as_slice()
     }
 
-    /// The history is one of the machine, from its base to its state.
+    /// The history is one of the machine, from its base to its state, and a stop because it is full stands only where it is.
     pub fn show(&self)
         ensures history { IsHistory self.now.base self.now.history }
         ensures state { after self.now.base self.now.history ≡ self.now.state }
         ensures opened { IsSound self.now.base }
         ensures sound { IsSound self.now.state }
         ensures sized { IsSized self.now.state }
+        ensures stops { StopsWhereFull self.now.history }
+        ensures full { TellsFullStop self.now.state.going self.now.history }
     {
         let _ = &self.history;
     }
@@ -112,6 +115,7 @@ impl Book {
     pub fn record(&mut self, who: u32, event: Event) -> Result<Reply, BoardFault>
         requires who { who < self.old.passes }
         requires allowed { is_halted self.old.state.going ≡ false → allowed self.old.state event ≡ true }
+        requires stops { MayStop event self.old }
         ensures ok { OnOk result (IsRecorded who event self.old self.new) }
         ensures reply { IfOk result (λ answer. answer ≡ reply self.old.state event) }
         ensures why { IfErr result (λ fault. IsRefusedFor fault self.old) }
@@ -140,6 +144,7 @@ impl Book {
         requires who { who < self.old.passes }
         requires allowed { allowed self.old.state event ≡ true }
         requires sure { is_sure event ≡ true }
+        requires stops { MayStop event self.old }
         ensures is { self.new ≡ recorded who event self.old }
         ensures reply { result ≡ reply self.old.state event }
     {

@@ -42,6 +42,19 @@ impl Pieces {
         }
     }
 
+    /// Writes to the link without pieces, and counts where that isn't ready.
+    fn put(&mut self, bytes: &[u8]) -> Sent
+        ensures { Writes (Some self.old.inner.told) (Some self.new.inner.told)
+            (record self.old.inner.counts { late_writes = self.old.late }) (record self.new.inner.counts { late_writes = self.new.late })
+            result bytes.now }
+    {
+        let answer = self.inner.write(bytes);
+        if let Sent::NotReady = answer {
+            self.late = self.late.saturating_add(1);
+        }
+        answer
+    }
+
     /// The link without its pieces.
     pub fn inner(&self) -> &ScriptLink
         ensures { result.now ≡ self.now.inner }
@@ -73,14 +86,14 @@ impl Link for Pieces {
         match self.room {
             Room::Narrow(room) => {
                 self.room = Room::Shut;
-                self.inner.write(&bytes[..bytes.len().min(room.max(1))])
+                self.put(&bytes[..bytes.len().min(room.max(1))])
             }
             Room::Shut => {
                 self.room = Room::Wide;
                 self.late = self.late.saturating_add(1);
                 Sent::NotReady
             }
-            Room::Wide => self.inner.write(bytes),
+            Room::Wide => self.put(bytes),
         }
     }
 

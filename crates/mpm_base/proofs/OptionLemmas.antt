@@ -13,3 +13,7 @@ none_from_match (Some x) P R Q f h = tt
 pub at_absence : {X : Type 0} (o : Option X) (P : Type 0) → is_some o ≡ false → IfNone o P → P
 at_absence None P e h = h
 at_absence (Some x) P e h = absurd (cc)
+
+pub at_none : {X : Type 0} (o : Option X) (P : Type 0) → P → IfNone o P
+at_none None P h = h
+at_none (Some x) P h = tt

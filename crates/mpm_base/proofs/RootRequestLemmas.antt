@@ -11,7 +11,7 @@ abbrev IsPassing : List ℕ → Type 0
 IsPassing bytes = AllPass is_host_byte bytes
 
 -- a host of one byte, 'a'
-short_host : IsHost (97 ∷ [])
+pub short_host : IsHost (97 ∷ [])
 short_host = record {
   some = omega arith;
   fits = omega arith;

@@ -1,127 +1,144 @@
--- A script of one connection: three lines, each ended by LF. A line below is one without its LF, which is 10.
-use Rattle.std.specs.Prelude.{◌≡◌, ℕ, zero, suc, ◌<◌, ◌≤◌, Bool, ◌||◌, not, ◌==◌, List, [], ◌∷◌, ◌++◌, length, codes, Result, Ok, Err, ⊤}
-use Rattle.std.specs.Char.{is_ascii_lowercase, is_ascii_digit}
-use Rattle.std.specs.List.{AllPass}
-use Rattle.mpm_base.specs.Escapes.{Spells}
-use Rattle.mpm_base.specs.RootRequest.{IsRootRequest}
-use Rattle.mpm_base.specs.declared.script.Script.{Script}
+-- A script: lines, each ended by a line feed, which is 10; and why bytes are none.
+use Rattle.std.specs.Prelude.{◌≡◌, ℕ, suc, ◌<◌, Bool, true, false, ◌||◌, not, ◌==◌, nat_lt, List, [], ◌∷◌, ◌++◌, length, bytes_eq, Result, Ok, Err, ⊤}
+use Rattle.std.specs.List.{AllPass, list_any}
+use Rattle.mpm_base.specs.BuiltLines.{AreBuilt, FirstUnbuilt}
+use Rattle.mpm_base.specs.ScriptLine.{IsLine}
 use Rattle.mpm_base.specs.declared.script.ScriptFault.{ScriptFault}
 use Rattle.mpm_base.specs.declared.script.ScriptFault.TheVariants as fault
+use Rattle.mpm_base.specs.declared.script_line.ScriptLine.{ScriptLine}
+use Rattle.mpm_base.specs.declared.script_line.ScriptLine.TheVariants as line
 
--- a byte of a connection's name
-abbrev pub is_name_byte : ℕ → Bool
-is_name_byte b = is_ascii_lowercase b || is_ascii_digit b
+-- ## The lines of the bytes
 
--- a name has 1 to 16 such bytes
-pub record IsName (name : List ℕ) : Type 0 where
-  pub some : 0 < length name
-  pub fits : length name ≤ 16
-  pub bytes : AllPass is_name_byte name
-
--- `conn NAME`
-pub record IsConnLine (line name : List ℕ) : Type 0 where
-  pub is_name : IsName name
-  pub whole : line ≡ codes "conn " ++ name
-
--- `send NAME TEXT`, where TEXT spells one request of the known form
-pub record IsSendLine (line name sent : List ℕ) : Type 0 where
-  pub text : List ℕ
-  pub whole : line ≡ codes "send " ++ (name ++ (codes " " ++ text))
-  pub spells : Spells text sent
-  pub request : IsRootRequest sent
-
--- `end NAME`
-abbrev pub IsEndLine : List ℕ → List ℕ → Type 0
-IsEndLine line name = line ≡ codes "end " ++ name
-
--- a byte of a line: any but LF
+-- a byte of a line: any but the line feed
 abbrev pub is_line_byte : ℕ → Bool
 is_line_byte b = not (b == 10)
 
--- the bytes are that line, its LF, and then rest
-abbrev pub Begins : List ℕ → List ℕ → List ℕ → Type 0
-Begins bytes line rest = bytes ≡ line ++ 10 ∷ rest
+-- the bytes are that text, its line feed, and then the rest
+pub record Begins (bytes text rest : List ℕ) : Type 0 where
+  pub one_line : AllPass is_line_byte text
+  pub whole : bytes ≡ text ++ 10 ∷ rest
 
--- the bytes begin with the first line, or with the second or third of a script with that name
-abbrev pub BeginsConn : List ℕ → List ℕ → List ℕ → Type 0
-BeginsConn bytes name rest = (line : List ℕ) × IsConnLine line name × Begins bytes line rest
+-- the bytes begin with that line, and the rest stands behind it
+pub record BeginsWith (bytes : List ℕ) (line : ScriptLine) (rest : List ℕ) : Type 0 where
+  pub text : List ℕ
+  pub begins : Begins bytes text rest
+  pub is_line : IsLine text line
 
-abbrev pub BeginsSend : List ℕ → List ℕ → List ℕ → List ℕ → Type 0
-BeginsSend bytes name sent rest = (line : List ℕ) × IsSendLine line name sent × Begins bytes line rest
+-- the bytes are these lines, one behind the other, and then the rest
+abbrev pub AreLines : List ℕ → List ScriptLine → List ℕ → Type 0
+AreLines bytes [] rest = bytes ≡ rest
+AreLines bytes (line ∷ lines) rest = (behind : List ℕ) × BeginsWith bytes line behind × AreLines behind lines rest
 
-abbrev pub BeginsEnd : List ℕ → List ℕ → List ℕ → Type 0
-BeginsEnd bytes name rest = (line : List ℕ) × IsEndLine line name × Begins bytes line rest
+-- ## What a line has to agree with
 
--- the three lines, each behind the one before, and what is left behind the third
-pub record HasLines (bytes name sent rest : List ℕ) : Type 0 where
-  pub behind_conn : List ℕ
-  pub behind_send : List ℕ
-  pub conn : BeginsConn bytes name behind_conn
-  pub send : BeginsSend behind_conn name sent behind_send
-  pub end : BeginsEnd behind_send name rest
+-- the line makes the connection of that name
+abbrev pub makes : List ℕ → ScriptLine → Bool
+makes name (line.At m) = false
+makes name (line.Conn other) = bytes_eq other name
+makes name (line.Client other act) = false
+makes name (line.Command word) = false
+makes name (line.Site site) = false
 
--- the bytes are a script in which that connection's client sends those bytes
-abbrev pub IsScript : List ℕ → List ℕ → List ℕ → Type 0
-IsScript bytes name sent = HasLines bytes name sent []
+-- one of the lines does
+abbrev pub has_conn : List ℕ → List ScriptLine → Bool
+has_conn name lines = list_any (makes name) lines
 
-abbrev pub IsSomeScript : List ℕ → Type 0
-IsSomeScript bytes = (name : List ℕ) × (sent : List ℕ) × IsScript bytes name sent
+-- the moment after the lines, which begin at that moment
+abbrev pub moment_from : ℕ → List ScriptLine → ℕ
+moment_from m [] = m
+moment_from m (line.At later ∷ lines) = moment_from later lines
+moment_from m (line.Conn name ∷ lines) = moment_from m lines
+moment_from m (line.Client name act ∷ lines) = moment_from m lines
+moment_from m (line.Command word ∷ lines) = moment_from m lines
+moment_from m (line.Site site ∷ lines) = moment_from m lines
 
--- no first line stands where it has to
-abbrev pub LacksConn : List ℕ → Type 0
-LacksConn bytes = (name rest : List ℕ) → ¬ BeginsConn bytes name rest
+-- the line makes a connection whose name was used
+abbrev pub is_repeated : List ScriptLine → ScriptLine → Bool
+is_repeated before (line.At m) = false
+is_repeated before (line.Conn name) = has_conn name before
+is_repeated before (line.Client name act) = false
+is_repeated before (line.Command word) = false
+is_repeated before (line.Site site) = false
 
--- the first line does, and no second behind it
-pub record LacksSend (bytes : List ℕ) : Type 0 where
-  pub name : List ℕ
-  pub behind_conn : List ℕ
-  pub conn : BeginsConn bytes name behind_conn
-  pub no_send : (sent rest : List ℕ) → ¬ BeginsSend behind_conn name sent rest
+-- the line goes back to an earlier moment
+abbrev pub is_backwards : List ScriptLine → ScriptLine → Bool
+is_backwards before (line.At m) = nat_lt m (moment_from 0 before)
+is_backwards before (line.Conn name) = false
+is_backwards before (line.Client name act) = false
+is_backwards before (line.Command word) = false
+is_backwards before (line.Site site) = false
 
--- the first two do, and no third behind them
-pub record LacksEnd (bytes : List ℕ) : Type 0 where
-  pub name : List ℕ
-  pub sent : List ℕ
-  pub behind_conn : List ℕ
-  pub behind_send : List ℕ
-  pub conn : BeginsConn bytes name behind_conn
-  pub send : BeginsSend behind_conn name sent behind_send
-  pub no_end : (rest : List ℕ) → ¬ BeginsEnd behind_send name rest
+-- the line names a connection that no earlier line makes
+abbrev pub is_unknown : List ScriptLine → ScriptLine → Bool
+is_unknown before (line.At m) = false
+is_unknown before (line.Conn name) = false
+is_unknown before (line.Client name act) = not (has_conn name before)
+is_unknown before (line.Command word) = false
+is_unknown before (line.Site site) = false
 
--- all three do, and more behind them
-pub record HasMore (bytes : List ℕ) : Type 0 where
-  pub name : List ℕ
-  pub sent : List ℕ
+-- the line agrees with those before it
+abbrev pub agrees : List ScriptLine → ScriptLine → Bool
+agrees before line = not (is_repeated before line || is_backwards before line || is_unknown before line)
+
+-- so does each of the lines, which stand behind the others
+abbrev pub AllAgree : List ScriptLine → List ScriptLine → Type 0
+AllAgree before [] = ⊤
+AllAgree before (line ∷ lines) = (agrees before line ≡ true) × AllAgree (before ++ line ∷ []) lines
+
+-- the bytes are a script of these lines
+pub record IsScript (bytes : List ℕ) (lines : List ScriptLine) : Type 0 where
+  pub are_lines : AreLines bytes lines []
+  pub agree : AllAgree [] lines
+
+-- ## Refusals
+
+-- the bytes begin with good lines, and the line behind them, which has this number from 1, is refused for what is said of
+-- the lines before it and of the bytes from it on
+pub record IsRefusedAt (bytes : List ℕ) (number : ℕ) (For : List ScriptLine → List ℕ → Type 0) : Type 0 where
+  pub lines : List ScriptLine
   pub rest : List ℕ
-  pub lines : HasLines bytes name sent rest
+  pub are_lines : AreLines bytes lines rest
+  pub agree : AllAgree [] lines
+  pub number_is : number ≡ suc (length lines)
+  pub refused_for : For lines rest
+
+-- more bytes come, and don't begin with a line, but for one that uses a name again
+pub record IsBadLine (before : List ScriptLine) (rest : List ℕ) : Type 0 where
   pub some : 0 < length rest
+  pub no_line : (line : ScriptLine) (behind : List ℕ) → BeginsWith rest line behind → is_repeated before line ≡ true
 
--- the line, counted from 1, at which the bytes are no script
-abbrev pub IsNotYet : List ℕ → ℕ → Type 0
-IsNotYet bytes zero = ⊥
-IsNotYet bytes (suc zero) = LacksConn bytes
-IsNotYet bytes (suc (suc zero)) = LacksSend bytes
-IsNotYet bytes (suc (suc (suc zero))) = LacksEnd bytes
-IsNotYet bytes (suc (suc (suc (suc zero)))) = HasMore bytes
-IsNotYet bytes (suc (suc (suc (suc (suc n))))) = ⊥
+-- the bytes begin with a line that fails the test
+pub record BeginsFailing (fails : List ScriptLine → ScriptLine → Bool) (before : List ScriptLine) (rest : List ℕ) : Type 0 where
+  pub line : ScriptLine
+  pub behind : List ℕ
+  pub begins : BeginsWith rest line behind
+  pub failing : fails before line ≡ true
 
-abbrev pub IsSomeNotYet : List ℕ → Type 0
-IsSomeNotYet bytes = (line : ℕ) × IsNotYet bytes line
+-- the bytes are a script, and its line of that number, from 1, is the first that isn't built yet
+pub record IsNotYetAt (bytes : List ℕ) (number : ℕ) : Type 0 where
+  pub lines : List ScriptLine
+  pub place : ℕ
+  pub is_script : IsScript bytes lines
+  pub first : FirstUnbuilt lines place
+  pub number_is : number ≡ suc place
+
+-- ## The answer
 
 -- the answer says what the bytes are
-abbrev pub ScriptIs : List ℕ → Result Script ScriptFault → Type 0
-ScriptIs bytes (Ok s) = IsScript bytes s.name s.sent
-ScriptIs bytes (Err (fault.NotYet n)) = IsNotYet bytes n
+abbrev pub ScriptIs : List ℕ → Result (List ScriptLine) ScriptFault → Type 0
+ScriptIs bytes (Ok script) = IsScript bytes script × AreBuilt [] script []
+ScriptIs bytes (Err (fault.BadLine n)) = IsRefusedAt bytes n IsBadLine
+ScriptIs bytes (Err (fault.MomentBackwards n)) = IsRefusedAt bytes n (BeginsFailing is_backwards)
+ScriptIs bytes (Err (fault.UnknownName n)) = IsRefusedAt bytes n (BeginsFailing is_unknown)
+ScriptIs bytes (Err (fault.NotYet n)) = IsNotYetAt bytes n
 ScriptIs bytes (Err fault.NoMemory) = ⊤
 
--- the answer is that script, or that memory lacked
-abbrev pub IsScriptOr : List ℕ → List ℕ → Result Script ScriptFault → Type 0
-IsScriptOr name sent (Ok s) = (s.name ≡ name) × (s.sent ≡ sent)
-IsScriptOr name sent (Err (fault.NotYet n)) = ⊥
-IsScriptOr name sent (Err fault.NoMemory) = ⊤
-
--- the answer is the refusal at that line, or that memory lacked
-abbrev pub IsNotYetOr : ℕ → Result Script ScriptFault → Type 0
-IsNotYetOr n (Ok s) = ⊥
-IsNotYetOr n (Err (fault.NotYet line)) = line ≡ n
-IsNotYetOr n (Err fault.NoMemory) = ⊤
+-- the answer isn't that memory lacked
+abbrev pub IsAnswer : Result (List ScriptLine) ScriptFault → Type 0
+IsAnswer (Ok script) = ⊤
+IsAnswer (Err (fault.BadLine n)) = ⊤
+IsAnswer (Err (fault.MomentBackwards n)) = ⊤
+IsAnswer (Err (fault.UnknownName n)) = ⊤
+IsAnswer (Err (fault.NotYet n)) = ⊤
+IsAnswer (Err fault.NoMemory) = ⊥

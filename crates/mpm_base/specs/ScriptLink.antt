@@ -9,12 +9,14 @@ use Rattle.mpm_base.specs.declared.link.Got.TheVariants as got
 use Rattle.mpm_base.specs.declared.link.Sent.{Sent}
 use Rattle.mpm_base.specs.declared.link.Sent.TheVariants as sent
 
--- what the link tells and counts, whether the client sends no more behind the bytes that come, how many reads and writes
--- were called, whatever they answered, and which of them are to fail
+-- what the link tells and counts, whether the client sends no more behind the bytes that come, whether the bytes and the
+-- room for what is written come little by little, how many reads and writes were called, whatever they answered, and which
+-- of them are to fail
 pub record SeenScriptLink : Type 0 where
   pub told : LinkTold
   pub counts : LinkCounts
   pub ends : Bool
+  pub paced : Bool
   pub reads : ℕ
   pub writes : ℕ
   pub fail_reads : List ℕ
@@ -28,11 +30,18 @@ new_script_link number coming ended bad_reads bad_writes =
       told = fresh_link number coming;
       counts = no_link_counts;
       ends = ended;
+      paced = false;
       reads = 0;
       writes = 0;
       fail_reads = bad_reads;
       fail_writes = bad_writes;
     }
+
+-- the link whose bytes and room come little by little: its number, all that its client sends, and the numbers of the reads
+-- and writes that are to fail
+abbrev pub new_paced_link : ℕ → List ℕ → List ℕ → List ℕ → SeenScriptLink
+new_paced_link number coming bad_reads bad_writes =
+    record (new_script_link number coming false bad_reads bad_writes) { paced = true }
 
 -- the next read, or write, is to fail
 abbrev pub read_is_listed : SeenScriptLink → Bool
@@ -41,7 +50,8 @@ read_is_listed link = is_listed link.fail_reads (next_count link.reads)
 abbrev pub write_is_listed : SeenScriptLink → Bool
 write_is_listed link = is_listed link.fail_writes (next_count link.writes)
 
--- what a read into so much room answers: Failed where it is to fail, and else what a link without failures does
+-- what a read into so much room answers where all has come: Failed where it is to fail, and else what a link without
+-- failures does
 abbrev pub script_read_answer : SeenScriptLink → ℕ → Got
 script_read_answer link room =
     if read_is_listed link then got.Failed else read_answer link.told.coming link.ends room
@@ -55,7 +65,7 @@ script_link_after_read answer link =
       reads = next_count link.reads;
     }
 
--- a write fails where it is to fail, and else takes the whole piece, or fails for want of memory
+-- a write fails where it is to fail; else it takes the whole piece where there is room for all, or fails for want of memory
 abbrev pub TakesWholeUnless : Bool → Sent → ℕ → Type 0
 TakesWholeUnless true answer size = answer ≡ sent.Failed
 TakesWholeUnless false (sent.Put n) size = n ≡ size

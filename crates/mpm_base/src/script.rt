@@ -1,32 +1,82 @@
-//! The scripts that play a client's connection.
+//! The scripts that say what comes to the server, and when.
 //!
-//! Three lines are read so far, `conn NAME`, `send NAME TEXT` and `end NAME`. The form stands in
-//! `specs/Script.antt`, what a TEXT spells in `specs/Escapes.antt`.
-ghost use Rattle.std.specs.Prelude.{◌≡◌, ◌≢◌, ℕ, List, ◌∷◌, ◌++◌, ◌↔◌, ◌⊎◌, codes, IsTrue, IfOk, IfSome, IfNone, MatchOption};
-ghost use Rattle.std.specs.List.{AllPass, prefix_len};
-ghost use Rattle.mpm_base.specs.Script.{is_name_byte, is_line_byte, IsName, IsConnLine, IsSendLine, IsEndLine, Begins, BeginsConn, BeginsEnd, IsScript, IsSomeScript, IsNotYet, IsSomeNotYet, ScriptIs, IsScriptOr, IsNotYetOr};
+//! A script is a list of lines, each ended by a line feed (`specs/Script.antt`); which text is which line stands in
+//! `specs/ScriptLine.antt`, what a TEXT spells in `specs/Escapes.antt`, and which lines are built so far in
+//! `specs/BuiltLines.antt`.
+ghost use Rattle.std.specs.Prelude.{◌≡◌, ◌≢◌, ℕ, List, [], ◌∷◌, ◌++◌, length, Result, Err, IfSome, IfNone, IfOk, IfErr, MatchOption, OnOk, OnErr};
+ghost use Rattle.std.specs.List.{prefix_len};
+ghost use Rattle.mpm_base.specs.Script.{Begins, BeginsWith, IsAnswer, IsScript, ScriptIs, is_line_byte};
+ghost use Rattle.mpm_base.specs.declared.script_line.ScriptLine.{ScriptLine as Line};
+ghost use Rattle.mpm_base.specs.declared.script.ScriptFault.{ScriptFault as Fault};
+ghost use Rattle.mpm_base.specs.declared.script.ScriptFault.TheVariants as fault;
 
-use crate::escapes::spelled;
+use crate::agreement::{add_name, is_backwards, is_repeated, is_unknown, moment_after};
+use crate::built_lines::first_unbuilt;
+use crate::line_reader::{line_of, one_line};
 use crate::memory::NoMemory;
-use crate::octets::Octets;
-use crate::root_request::host_of;
+use crate::script_line::ScriptLine;
 use std::alloc::Global;
+use std::marker::Model;
 use thiserror::Error;
 
-/// A script, as it was read.
+/// A script, as it was read: a list of lines, as contracts see it.
 #[derive(Debug, Drop)]
 pub struct Script {
-    /// The connection's name: 1 to 16 of `a` to `z` and `0` to `9`.
-    pub name: Octets,
-    /// The bytes that its client sends.
-    pub sent: Octets,
+    items: Vec<ScriptLine>,
 }
 
-/// Why a script was not read.
+impl Model for Script {
+    ghost use Rattle.std.specs.Prelude.{List};
+    ghost use Rattle.mpm_base.specs.declared.script_line.ScriptLine.{ScriptLine as Line};
+
+    ghost Value = { List Line };
+
+    ghost view = { λ s. s.items.items };
+}
+
+impl Script {
+    /// The empty script, which takes no memory.
+    pub fn make(alloc: Global) -> Script
+        ensures { result ≡ [] }
+    {
+        Script {
+            items: Vec::new(alloc),
+        }
+    }
+
+    /// Puts the line at the end. Where memory lacks nothing changes.
+    pub fn add(&mut self, line: ScriptLine) -> Result<(), NoMemory>
+        ensures ok { OnOk result (self.new ≡ self.old ++ line ∷ []) }
+        ensures err { OnErr result (self.new ≡ self.old) }
+    {
+        match self.items.push(line) {
+            Ok(()) => Ok(()),
+            Err(_) => Err(NoMemory),
+        }
+    }
+
+    /// The lines, in order.
+    pub fn lines(&self) -> &[ScriptLine]
+        ensures { result.now ≡ self.now }
+    {
+        self.items.as_slice()
+    }
+}
+
+/// Why a script was not read. The number is that of the line, from 1.
 #[derive(Clone, Copy, Debug, PartialEq, Eq, Error)]
 pub enum ScriptFault {
-    /// The line at this number, from 1, is missing or is not the one that is read there yet.
-    #[error("line {0} is not read yet")]
+    /// The line is none of a script, or makes a connection whose name was used.
+    #[error("line {0} is none of a script")]
+    BadLine(u64),
+    /// The line goes back to an earlier moment.
+    #[error("line {0} goes back to an earlier moment")]
+    MomentBackwards(u64),
+    /// The line names a connection that no earlier line makes.
+    #[error("line {0} names no connection")]
+    UnknownName(u64),
+    /// The script has none of these faults, and this is its first line that isn't built yet.
+    #[error("line {0} is not built yet")]
     NotYet(u64),
     /// Memory was wanted and not found.
     #[error("out of memory")]
@@ -44,111 +94,81 @@ impl From<NoMemory> for ScriptFault {
     }
 }
 
-/// Reads a script of one connection. Each line ends with LF, the last one too, and words have one space
-/// between them. TEXT has the escapes `\r \n \t \\ \xHH`, and spells one request of the known form.
+/// Reads a script. Each line ends with LF, the last one too, and words have one space between them. The earliest line that
+/// is refused is told; only where there is none, the first line that isn't built yet.
 pub fn read_script(alloc: Global, bytes: &[u8]) -> Result<Script, ScriptFault>
     ensures answer { ScriptIs bytes.now result }
-
-    // The same from the bytes: which answer they have, unless memory lacks.
-    ensures script { (name sent : List ℕ) → IsScript bytes.now name sent → IsScriptOr name sent result }
-    ensures not_yet { (line : ℕ) → IsNotYet bytes.now line → IsNotYetOr line result }
 {
-    one_script();
-    read_lines(alloc, bytes)
+    let script = read_lines(alloc, bytes)?;
+    match first_unbuilt(script.lines()) {
+        Some(place) => Err(ScriptFault::NotYet(place as u64 + 1)),
+        None => Ok(script),
+    }
 }
 
-/// Laws of scripts: bytes are one script alone or are none at one line alone, and not both; and they are one of
-/// the two.
-pub fn one_script()
-    ensures reading { (bytes name other sent also : List ℕ) → IsScript bytes name sent → IsScript bytes other also
-        → (name ≡ other) × (sent ≡ also) }
-    ensures line { (bytes : List ℕ) (line other : ℕ) → IsNotYet bytes line → IsNotYet bytes other → line ≡ other }
-    ensures apart { (bytes name sent : List ℕ) (line : ℕ) → IsScript bytes name sent → ¬ IsNotYet bytes line }
-    ensures some { (bytes : List ℕ) → IsSomeScript bytes ⊎ IsSomeNotYet bytes }
-{}
+/// A law of scripts: bytes have one answer, unless memory lacks.
+pub fn one_answer()
+    ensures { (bytes : List ℕ) (answer other : Result (List Line) Fault) → ScriptIs bytes answer → ScriptIs bytes other
+        → IsAnswer answer → IsAnswer other → answer ≡ other }
+{
+    one_line();
+}
 
+// The lines of the bytes, or why one of them is refused.
 fn read_lines(alloc: Global, bytes: &[u8]) -> Result<Script, ScriptFault>
-    ensures { ScriptIs bytes.now result }
+    ensures ok { IfOk result (λ script. IsScript bytes.now script) }
+    ensures err { IfErr result (λ fault. ScriptIs bytes.now (Err fault)) }
+    ensures not_yet { (number : ℕ) → result ≢ Err (fault.NotYet number) }
 {
-    let Some((name, rest)) = conn_line(bytes) else {
-        return Err(ScriptFault::NotYet(1));
-    };
-    let Some((line, rest)) = first_line(rest) else {
-        return Err(ScriptFault::NotYet(2));
-    };
-    let Some(sent) = sent_by(alloc, line, name)? else {
-        return Err(ScriptFault::NotYet(2));
-    };
-    let Some(rest) = end_line(rest, name) else {
-        return Err(ScriptFault::NotYet(3));
-    };
-    if !rest.is_empty() {
-        return Err(ScriptFault::NotYet(4));
+    one_line();
+    let mut script = Script::make(alloc);
+    let mut names = Vec::new(alloc);
+    let mut moment = 0;
+    let mut rest = bytes;
+    'lines: while !rest.is_empty() {
+        let number = script.lines().len() as u64 + 1;
+        let Some((line, behind)) = next_line(alloc, rest)? else {
+            return Err(ScriptFault::BadLine(number));
+        };
+        if is_repeated(names.as_slice(), &line) {
+            return Err(ScriptFault::BadLine(number));
+        }
+        if is_backwards(moment, &line) {
+            return Err(ScriptFault::MomentBackwards(number));
+        }
+        if is_unknown(names.as_slice(), &line) {
+            return Err(ScriptFault::UnknownName(number));
+        }
+        moment = moment_after(moment, &line);
+        add_name(alloc, &mut names, &line)?;
+        script.add(line)?;
+        rest = behind;
     }
-    let name = Octets::of(alloc, name)?;
-    Ok(Script { name, sent })
+    Ok(script)
 }
 
-// The name in the first line, and the bytes behind that line.
-fn conn_line(bytes: &[u8]) -> Option<(&[u8], &[u8])>
-    ensures some { IfSome result (λ conn. BeginsConn bytes.now conn.0.now conn.1.now) }
-    ensures none { IfNone result ((name rest : List ℕ) → ¬ BeginsConn bytes.now name rest) }
+// The line that the bytes begin with, and the bytes behind it; None where they begin with none.
+fn next_line(alloc: Global, bytes: &[u8]) -> Result<Option<(ScriptLine, &[u8])>, NoMemory>
+    ensures { IfOk result (λ next. MatchOption next ((line : Line) (rest : List ℕ) → ¬ BeginsWith bytes.now line rest)
+        (λ next. BeginsWith bytes.now next.0 next.1.now)) }
 {
-    let (line, rest) = first_line(bytes)?;
-    let name = line.strip_prefix(b"conn ")?;
-    if is_name(name) {
-        Some((name, rest))
-    } else {
-        None
-    }
-}
-
-// What the client sends by the second line.
-fn sent_by(alloc: Global, line: &[u8], name: &[u8]) -> Result<Option<Octets>, NoMemory>
-    ensures { IfOk result (λ sent. MatchOption sent ((sent : List ℕ) → ¬ IsSendLine line.now name.now sent) (IsSendLine line.now name.now)) }
-{
-    let Some(text) = text_of(line, name) else {
+    let Some((text, rest)) = first_line(bytes) else {
         return Ok(None);
     };
-    let Some(sent) = spelled(alloc, text)? else {
-        return Ok(None);
-    };
-    if host_of(sent.as_slice()).is_some() {
-        Ok(Some(sent))
-    } else {
-        Ok(None)
+    match line_of(alloc, text)? {
+        Some(line) => Ok(Some((line, rest))),
+        None => Ok(None),
     }
 }
 
-fn text_of<'a>(line: &'a [u8], name: &[u8]) -> Option<&'a [u8]>
-    ensures some { IfSome result (λ text. line.now ≡ codes "send " ++ (name.now ++ (codes " " ++ text.now))) }
-    ensures none { IfNone result ((text : List ℕ) → line.now ≢ codes "send " ++ (name.now ++ (codes " " ++ text))) }
-{
-    line.strip_prefix(b"send ")?
-        .strip_prefix(name)?
-        .strip_prefix(b" ")
-}
-
-// The bytes behind the third line.
-fn end_line<'a>(bytes: &'a [u8], name: &[u8]) -> Option<&'a [u8]>
-    requires { IsName name.now }
-    ensures some { IfSome result (λ rest. BeginsEnd bytes.now name.now rest.now) }
-    ensures none { IfNone result ((rest : List ℕ) → ¬ BeginsEnd bytes.now name.now rest) }
-{
-    let (line, rest) = first_line(bytes)?;
-    let ended = line.strip_prefix(b"end ")?;
-    if ended == name { Some(rest) } else { None }
-}
-
-// The bytes before the first LF, and those behind it.
+// The bytes before the first line feed, and those behind it.
 fn first_line(bytes: &[u8]) -> Option<(&[u8], &[u8])>
     ensures some { IfSome result (λ cut. Begins bytes.now cut.0.now cut.1.now) }
-    ensures none { IfNone result ((line rest : List ℕ) → ¬ Begins bytes.now line rest) }
-    ensures line { IfSome result (λ cut. AllPass is_line_byte cut.0.now) }
+    ensures none { IfNone result ((text rest : List ℕ) → ¬ Begins bytes.now text rest) }
 {
-    let (line, end) = bytes.split_at(line_len(bytes));
+    let (text, end) = bytes.split_at(line_len(bytes));
     let (_, rest) = end.split_first()?;
-    Some((line, rest))
+    Some((text, rest))
 }
 
 fn line_len(bytes: &[u8]) -> usize
@@ -157,128 +177,108 @@ fn line_len(bytes: &[u8]) -> usize
     bytes.iter().take_while(|byte| **byte != b'\n').count()
 }
 
-fn is_name(bytes: &[u8]) -> bool
-    ensures { IsTrue result ↔ IsName bytes.now }
-{
-    !bytes.is_empty() && bytes.len() <= 16 && bytes.iter().all(|byte| is_name_byte(*byte))
-}
-
-fn is_name_byte(byte: u8) -> bool
-    ensures { result ≡ is_name_byte byte }
-{
-    byte.is_ascii_lowercase() || byte.is_ascii_digit()
-}
-
 #[cfg(test)]
 mod tests {
     use super::*;
+    use crate::script_line::ClientAct;
     use std::test::Fail;
 
-    const WORKED: &[u8] =
-        b"conn a\nsend a GET / HTTP/1.1\\r\\nHost: localhost\\r\\n\\r\\n\nend a\n";
-
-    // The line at which a script is refused, if it is.
-    fn refused_at(alloc: Global, text: &[u8]) -> Result<Option<u64>, ScriptFault> {
+    // How many lines were read, or why one is refused. Want of memory is an error of its own.
+    fn answer(alloc: Global, text: &[u8]) -> Result<Result<usize, ScriptFault>, ScriptFault> {
         match read_script(alloc, text) {
-            Ok(_) => Ok(None),
-            Err(ScriptFault::NotYet(line)) => Ok(Some(line)),
+            Ok(script) => Ok(Ok(script.lines().len())),
             Err(ScriptFault::NoMemory) => Err(ScriptFault::NoMemory),
+            Err(fault) => Ok(Err(fault)),
+        }
+    }
+
+    // What the line does, and the name or the bytes in it.
+    fn told(line: &ScriptLine) -> (&str, &[u8]) {
+        match line {
+            ScriptLine::Conn(name) => ("conn", name.as_slice()),
+            ScriptLine::Client(_, ClientAct::Send(bytes)) => ("send", bytes.as_slice()),
+            ScriptLine::Client(name, ClientAct::End) => ("end", name.as_slice()),
+            ScriptLine::Client(name, ClientAct::Room(_)) => ("room", name.as_slice()),
+            ScriptLine::At(_) => ("at", b""),
+            _ => ("", b""),
         }
     }
 
     #[test]
-    fn reads_a_script(rt: HostRuntime) -> Result<(), Fail> {
-        let script = read_script(rt.alloc(), WORKED)?;
-        assert_eq!(rt; script.name.as_slice(), b"a".as_slice());
-        assert_eq!(rt;
-            script.sent.as_slice(),
-            b"GET / HTTP/1.1\r\nHost: localhost\r\n\r\n".as_slice()
-        );
+    fn reads_the_lines_of_two_connections(rt: HostRuntime) -> Result<(), Fail> {
+        let text: &[u8] =
+            b"conn a\nsend a GET / HTTP/1.1\\r\\nHost: a\\r\\n\\r\\n\nat 10\nconn b\nroom b 7\nend a\nroom b all\nat 10\nend b\n";
+        let wanted: [(&str, &[u8]); 9] = [
+            ("conn", b"a"),
+            ("send", b"GET / HTTP/1.1\r\nHost: a\r\n\r\n"),
+            ("at", b""),
+            ("conn", b"b"),
+            ("room", b"b"),
+            ("end", b"a"),
+            ("room", b"b"),
+            ("at", b""),
+            ("end", b"b"),
+        ];
+        let script = read_script(rt.alloc(), text)?;
+        assert_eq!(rt; script.lines().len(), wanted.len());
+        for (line, wanted) in script.lines().iter().zip(wanted) {
+            assert_eq!(rt; told(line), wanted);
+        }
         Ok(())
     }
 
     #[test]
-    fn names_the_line_that_is_not_read(rt: HostRuntime) -> Result<(), Fail> {
-        let cases: [(&[u8], Option<u64>); 22] = [
-            (b"", Some(1)),
+    fn tells_the_earliest_line_that_is_refused(rt: HostRuntime) -> Result<(), Fail> {
+        let cases: [(&[u8], Result<usize, ScriptFault>); 25] = [
+            (b"", Ok(0)),
+            (b"conn a\nend a\n", Ok(2)),
+            (b"at 7\nat 7\nat 4999\n", Ok(3)),
+            (b"\n", Err(ScriptFault::BadLine(1))),
+            (b"conn a\r\nend a\r\n", Err(ScriptFault::BadLine(1))),
+            (b"conn a\nend a\n\n", Err(ScriptFault::BadLine(3))),
+            (b"conn a\nend  a\n", Err(ScriptFault::BadLine(2))),
+            (b"conn a\nend a", Err(ScriptFault::BadLine(2))),
+            (b"conn a", Err(ScriptFault::BadLine(1))),
             (
-                b"conn a\nsend a GET / HTTP/1.1\\r\\nHost: a\\r\\n\\r\\n\nend a\n",
-                None,
+                b"conn a\nend a\nconn a\nend a\n",
+                Err(ScriptFault::BadLine(3)),
+            ),
+            (b"conn a\nconn b\nconn b\n", Err(ScriptFault::BadLine(3))),
+            (b"at 7\nat 6\n", Err(ScriptFault::MomentBackwards(2))),
+            (
+                b"at 7\nconn a\nat 6\nend a\n",
+                Err(ScriptFault::MomentBackwards(3)),
+            ),
+            (b"end a\nconn a\n", Err(ScriptFault::UnknownName(1))),
+            (b"conn a\nend a\nend b\n", Err(ScriptFault::UnknownName(3))),
+            (
+                b"conn a\nend b\nconn a\nat 7\nat 6\nend",
+                Err(ScriptFault::UnknownName(2)),
             ),
             (
-                b"conn 0123456789abcdef\nsend 0123456789abcdef GET / HTTP/1.1\\r\\nHost: a\\r\\n\\r\\n\nend 0123456789abcdef\n",
-                None,
+                b"at 7\nat 6\nend b\n\n",
+                Err(ScriptFault::MomentBackwards(2)),
             ),
             (
-                b"conn a\nsend a \\x47ET / HTTP/1.1\\x0D\\x0aHost: \\x61\\r\\n\\r\\n\nend a\n",
-                None,
+                b"conn a\nconn a\nend b\nat 7\nat 6\n",
+                Err(ScriptFault::BadLine(2)),
             ),
+            (b"conn a\n", Err(ScriptFault::NotYet(1))),
+            (b"at 4999\nat 5000\n", Err(ScriptFault::NotYet(2))),
             (
-                b"conn 0123456789abcdefg\nsend 0123456789abcdefg GET / HTTP/1.1\\r\\nHost: a\\r\\n\\r\\n\nend 0123456789abcdefg\n",
-                Some(1),
+                b"conn a\ndrop a\nend a\ncommand stop\n",
+                Err(ScriptFault::NotYet(2)),
             ),
+            (b"command stop\n", Err(ScriptFault::NotYet(1))),
+            (b"clear\nend a\n", Err(ScriptFault::UnknownName(2))),
             (
-                b"conn A\nsend A GET / HTTP/1.1\\r\\nHost: a\\r\\n\\r\\n\nend A\n",
-                Some(1),
+                b"conn a\nat 5000\nat 4999\n",
+                Err(ScriptFault::MomentBackwards(3)),
             ),
-            (
-                b"conn a\r\nsend a GET / HTTP/1.1\\r\\nHost: a\\r\\n\\r\\n\r\nend a\r\n",
-                Some(1),
-            ),
-            (b"conn  a\n", Some(1)),
-            (b"conn a", Some(1)),
-            (b"conn a\n", Some(2)),
-            (
-                b"conn a\nconn b\nsend a GET / HTTP/1.1\\r\\nHost: a\\r\\n\\r\\n\nend a\n",
-                Some(2),
-            ),
-            (
-                b"conn a\nsend b GET / HTTP/1.1\\r\\nHost: a\\r\\n\\r\\n\nend a\n",
-                Some(2),
-            ),
-            (
-                b"conn a\nsend a \\qGET / HTTP/1.1\\r\\nHost: a\\r\\n\\r\\n\nend a\n",
-                Some(2),
-            ),
-            (
-                b"conn a\nsend a \\x4GET / HTTP/1.1\\r\\nHost: a\\r\\n\\r\\n\nend a\n",
-                Some(2),
-            ),
-            (
-                b"conn a\nsend a GET / HTTP/1.1\\r\\nHost:\ta\\r\\n\\r\\n\nend a\n",
-                Some(2),
-            ),
-            (
-                b"conn a\nsend a GET / HTTP/1.1\\r\\nHost: a\\r\\n\nend a\n",
-                Some(2),
-            ),
-            (
-                b"conn a\nsend a GET / HTTP/1.1\\r\\nHost: a\\r\\n\\r\\nGET / HTTP/1.1\\r\\nHost: a\\r\\n\\r\\n\nend a\n",
-                Some(2),
-            ),
-            (
-                b"conn a\nsend a GET / HTTP/1.1\\r\\nHost: a\\r\\n\\r\\n\n",
-                Some(3),
-            ),
-            (
-                b"conn a\nsend a GET / HTTP/1.1\\r\\nHost: a\\r\\n\\r\\n\nend a",
-                Some(3),
-            ),
-            (
-                b"conn a\nsend a GET / HTTP/1.1\\r\\nHost: a\\r\\n\\r\\n\nend b\n",
-                Some(3),
-            ),
-            (
-                b"conn a\nsend a GET / HTTP/1.1\\r\\nHost: a\\r\\n\\r\\n\nend a\nend a\n",
-                Some(4),
-            ),
-            (
-                b"conn a\nsend a GET / HTTP/1.1\\r\\nHost: a\\r\\n\\r\\n\nend a\n\n",
-                Some(4),
-            ),
+            (b"at 5000\nend", Err(ScriptFault::BadLine(2))),
         ];
         for (text, wanted) in cases {
-            assert_eq!(rt; refused_at(rt.alloc(), text)?, wanted, "at {text:?}");
+            assert_eq!(rt; answer(rt.alloc(), text)?, wanted, "at {text:?}");
         }
         Ok(())
     }

@@ -1,10 +1,15 @@
 pub mod TellLemmas
 pub mod ServeLemmas
 pub mod AnswerLemmas
+pub mod PassLemmas
 pub mod CloseLemmas
 pub mod StartLemmas
 pub mod ListenLemmas
+pub mod TimeLemmas
+pub mod FrontLemmas
 pub mod TakeLemmas
+pub mod StepLemmas
 pub mod ReportLemmas
 pub mod StatusLemmas
 pub mod RunLemmas
+pub mod EndLemmas

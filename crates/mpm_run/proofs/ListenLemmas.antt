@@ -106,13 +106,13 @@ goes-trans a b c first second = record {
 }
 
 -- the links tell of a board that stayed as it was
-pub tell-still : (text : List ℕ) (b b' : SeenBoard) → b' ≡ b → AllTell text b → AllTell text b'
-tell-still text b b' is tells = subst (AllTell text) (sym is) tells
+pub tell-still : (clients : List (List ℕ)) (b b' : SeenBoard) → b' ≡ b → AllTell clients b → AllTell clients b'
+tell-still clients b b' is tells = subst (AllTell clients) (sym is) tells
 
 -- and of one that recorded an event alone
-pub tell-added : (text : List ℕ) (who : ℕ) (e : Event) (b b' : SeenBoard) → b' ≡ added who e b → AllTell text b → AllTell text b'
-tell-added text who e b b' is tells =
-    tell-same text b b' (record { conns = ap (λ (x : SeenBoard). x.conns) is; ended = ap (λ (x : SeenBoard). x.ended) is }) tells
+pub tell-added : (clients : List (List ℕ)) (who : ℕ) (e : Event) (b b' : SeenBoard) → b' ≡ added who e b → AllTell clients b → AllTell clients b'
+tell-added clients who e b b' is tells =
+    tell-same clients b b' (record { conns = ap (λ (x : SeenBoard). x.conns) is; ended = ap (λ (x : SeenBoard). x.ended) is }) tells
 
 -- ## Starting children
 
@@ -229,22 +229,33 @@ settled-from r (Some Writing) c is settled = rw is refl
 settled-from r (Some Linger) c is settled = absurd settled.waits
 settled-from r (Some ShortLinger) c is settled = absurd settled.waits
 
--- a connection that is held may be closed where the server has stopped
-pub closes-held : (s s' : State) (name : ConnName) (c : SeenConn) → FindsRow is_waiting s (Some name) → is_halted s.going ≡ true
-    → s' ≡ next s (event.Hold name) → c.name ≡ name → IsSound s' → IsHandedOut s' c → IsClosable s' cause.Stopped c
-closes-held s s' name c found halted is named sound handed =
+-- a row that is held, and doesn't linger
+pub record StaysHeld (r : Row) : Type 0 where
+  pub held : is_held r.place ≡ true
+  pub serves : is_lingering r ≡ false
+
+-- so is that of a connection that waited for service until it was held
+pub held-row : (s s' : State) (name : ConnName) (c : SeenConn) → FindsRow is_waiting s (Some name) → s' ≡ next s (event.Hold name) → c.name ≡ name
+    → IsSound s' → (handed : IsHandedOut s' c) → StaysHeld handed.row
+held-row s s' name c found is named sound handed =
     let live = waits s name found in
     let here = alive s.rows name live.row live.found in
     let held : live_row s'.rows name ≡ Some (held_row live.row) = rw is (live_row-update s.rows name live.row held_row here.at (rw here.life refl)) in
     let same : handed.row ≡ held_row live.row = cc (subst (λ (n : ConnName). live_row s'.rows n ≡ Some handed.row) named handed.found, held) in
     let at : is_held handed.row.place ≡ true = ap (λ (r : Row). is_held r.place) same in
     let lingers = held_kind s' handed.row at (served-row s' c.name handed.row sound handed.found) in
-    let stays : is_lingering handed.row ≡ false = sym lingers ∙ settled-from handed.row handed.row.from c refl handed.settled in
+    record { held = at; serves = sym lingers ∙ settled-from handed.row handed.row.from c refl handed.settled }
+
+-- a connection that is held may be closed where the server has stopped
+pub closes-held : (s s' : State) (name : ConnName) (c : SeenConn) → FindsRow is_waiting s (Some name) → is_halted s.going ≡ true
+    → s' ≡ next s (event.Hold name) → c.name ≡ name → IsSound s' → IsHandedOut s' c → IsClosable s' cause.Stopped c
+closes-held s s' name c found halted is named sound handed =
+    let row = held-row s s' name c found is named sound handed in
     record {
       row = handed.row;
       found = handed.found;
-      in_hand = rw at refl;
-      serves = stays;
+      in_hand = rw row.held refl;
+      serves = row.serves;
       cause_fits = ap (λ (t : State). is_halted t.going) is ∙ halted;
       child = handed.fits.child;
       generation = handed.fits.generation;
@@ -254,10 +265,10 @@ closes-held s s' name c found halted is named sound handed =
     }
 
 -- the links tell after a connection was taken out
-pub tell-held : (text : List ℕ) (who slot : ℕ) (name : ConnName) (b b' : SeenBoard) → b' ≡ record (added who (event.Hold name) b) { conns = slice_set b.conns slot None }
-    → AllTell text b → AllTell text b'
-tell-held text who slot name b b' is tells =
-    tell-set text b b' slot None (ap (λ (x : SeenBoard). x.conns) is) (ap (λ (x : SeenBoard). x.ended) is) (λ c at. absurd (cc)) tells
+pub tell-held : (clients : List (List ℕ)) (who slot : ℕ) (name : ConnName) (b b' : SeenBoard) → b' ≡ record (added who (event.Hold name) b) { conns = slice_set b.conns slot None }
+    → AllTell clients b → AllTell clients b'
+tell-held clients who slot name b b' is tells =
+    tell-set clients b b' slot None (ap (λ (x : SeenBoard). x.conns) is) (ap (λ (x : SeenBoard). x.ended) is) (λ c at. absurd (cc)) tells
 
 -- ## Letting go of children
 

@@ -1,13 +1,15 @@
 -- What a board shows of its run.
-use Rattle.std.proofs.Common.{◌≡◌, ℕ, zero, suc, ◌+◌, ◌<◌, Bool, true, false, ◌||◌, cond, min, List, [], ◌∷◌, ◌++◌, length, replicate, count_by, Option, Some, IfSome, slice_get, refl, sym, ap, subst, ◌∙◌, arith}
+use Rattle.std.proofs.Common.{◌≡◌, ℕ, zero, suc, ◌+◌, ◌<◌, Bool, true, false, ◌||◌, cond, List, [], ◌∷◌, ◌++◌, length, replicate, count_by, Option, Some, IfSome, slice_get, refl, sym, ap, subst, ◌∙◌, arith}
 use Rattle.std.proofs.lemmas.List.{append-nil, length-replicate, get_or-replicate}
 use Rattle.std.proofs.lemmas.Option.{slice_get-get_or}
 use Rattle.std.proofs.lemmas.List.Sums.{sum_by-cons}
 use Rattle.std.specs.List.{list_any}
-use Rattle.mpm_base.specs.Count.{greatest_count}
+use Rattle.mpm_base.specs.Front.{client_at}
 use Rattle.mpm_base.specs.Link.{LinkTold}
 use Rattle.mpm_base.specs.declared.shape.Shape.{Shape}
 use Rattle.conn_machine.specs.declared.row.Row.{Row}
+use Rattle.conn_machine.specs.declared.event.Why.TheVariants as why
+use Rattle.conn_machine.specs.declared.state.Going.TheVariants.{Halted}
 use Rattle.conn_machine.specs.declared.event.Event.{Event}
 use Rattle.conn_machine.specs.declared.event.Event.TheVariants as event
 use Rattle.conn_machine.specs.declared.event.Entry.{Entry}
@@ -21,26 +23,29 @@ use Rattle.conn_machine.specs.Events.{count_events, is_accept, is_close}
 use Rattle.conn_machine.specs.Laws.{StaysSound}
 use Rattle.conn_state.specs.Conn.{SeenConn}
 use Rattle.conn_state.specs.Answered.{SeenEnded, IsAnswered, IsEnded}
+use Rattle.board.specs.Book.{StopsWhereFull, TellsFullStop}
 use Rattle.board.specs.Board.{SeenBoard, Agrees, AreHome, IsHome, AreClosed, AreEnded, Closes, conn_at}
 use Rattle.mpm_run.specs.Tells.{TellsFrom, EndedTell, AllTell, Receives, AllReceive}
-use Rattle.mpm_run.specs.Listen.{HasEnded, IsRunFrom, IsWholeRun}
+use Rattle.mpm_run.specs.Listen.{AllEmpty, HasNoLive, IsRunFrom, IsWholeRun}
 
 -- ## The history
 
 -- the history of a board that opened so is a run from there, each state of which is sound
 pub run-from : (slots children : ℕ) (shape : Shape) (b : SeenBoard) → b.book.base ≡ opening slots children shape
     → ((s : State) (history : List Entry) → IsSound s → Run s history → StaysSound s history)
-    → IsHistory b.book.base b.book.history → after b.book.base b.book.history ≡ b.book.state → IsSound b.book.base → Agrees b
-    → IsRunFrom slots children shape b
-run-from slots children shape b opened law is_history state sound agrees = record {
+    → IsHistory b.book.base b.book.history → after b.book.base b.book.history ≡ b.book.state → IsSound b.book.base
+    → StopsWhereFull b.book.history → TellsFullStop b.book.state.going b.book.history → Agrees b → IsRunFrom slots children shape b
+run-from slots children shape b opened law is_history state sound stops full agrees = record {
   opened = opened;
   is_history = subst (λ (s : State). IsHistory s b.book.history) opened is_history;
   state = subst (λ (s : State). after s b.book.history ≡ b.book.state) opened state;
   stays_sound = subst (λ (s : State). StaysSound s b.book.history) opened (law b.book.base b.book.history sound is_history.run);
+  stops = stops;
+  full = full;
   agrees = agrees;
 }
 
--- ## The one connection
+-- ## The connections that were taken
 
 -- an event that closes a connection counts one
 closes-count : (s : State) (e : Event) (Others : List SeenEnded → Type 0) (ended : List SeenEnded) (n : ℕ) → Closes s e Others ended
@@ -79,58 +84,40 @@ none-counted : (rows : List Row) → list_any is_live rows ≡ false → count_b
 none-counted [] none = refl
 none-counted (r ∷ rows) none = none-cons r rows (is_live r) refl none (none-counted rows)
 
--- a count that is 1 where it may stay at its greatest number
-count-one : (n : ℕ) → min n greatest_count ≡ 1 → n ≡ 1
-count-one n is = omega (arith, is)
-
--- what closed, where one was accepted and none is live
-closed-one : (taken closed live : ℕ) → taken ≡ closed + live → taken ≡ 1 → live ≡ 0 → closed ≡ 1
-closed-one taken closed live is one none = omega (arith, is, one, none)
-
--- a list of one item
-record IsOne (ended : List SeenEnded) : Type 0 where
-  pub one : SeenEnded
-  pub is : ended ≡ one ∷ []
-
-is-one : (ended : List SeenEnded) → length ended ≡ 1 → IsOne ended
-is-one [] one = absurd (cc)
-is-one (e ∷ []) one = record { one = e; is = refl }
-is-one (e ∷ x ∷ ended) one = absurd (omega (arith, one))
-
--- where the one connection was taken and is gone it ended
+-- where the server stopped because nothing more could come, and no connection is live, each that was taken ended
 pub whole-run : (slots children : ℕ) (shape : Shape) (b : SeenBoard) → IsRunFrom slots children shape b
     → count_events is_accept b.book.history ≡ count_events is_close b.book.history + count_by is_live (after (opening slots children shape) b.book.history).rows
-    → (after (opening slots children shape) b.book.history).accepted ≡ min (count_events is_accept b.book.history) greatest_count
-    → HasEnded b.book.state → IsWholeRun slots children shape b
-whole-run slots children shape b run closed_or_live accepted ended =
-    let ended' = subst HasEnded (sym run.state) ended in
-    let taken = count-one (count_events is_accept b.book.history) (sym accepted ∙ ended'.accepted) in
-    let closed : count_events is_close b.book.history ≡ 1 =
-    closed-one _ _ _ closed_or_live taken (none-counted (after (opening slots children shape) b.book.history).rows ended'.live) in
-    let one = is-one b.ended (closed-count b.book.base b.book.history b.ended run.agrees.closed ∙ closed) in
-    record { run = run; ended = ended'; one = one.one; is_one = one.is }
+    → b.book.state.going ≡ Halted why.FrontEnded → AllEmpty b.book.state → HasNoLive b.book.state → IsWholeRun slots children shape b
+whole-run slots children shape b run closed_or_live going empty live = record {
+  run = run;
+  going = going;
+  empty = empty;
+  live = live;
+  closed = omega (arith, closed_or_live, none-counted (after (opening slots children shape) b.book.history).rows (subst HasNoLive (sym run.state) live), closed-count b.book.base b.book.history b.ended run.agrees.closed);
+}
 
 -- ## What ended connections received
 
 -- all that the client sends came
-all-came : (text : List ℕ) (t : LinkTold) → t.received ++ t.coming ≡ text → t.coming ≡ [] → t.received ≡ text
-all-came text t offered none = sym (append-nil t.received) ∙ ap (λ (xs : List ℕ). t.received ++ xs) (sym none) ∙ offered
+all-came : (sent : List ℕ) (t : LinkTold) → t.received ++ t.coming ≡ sent → t.coming ≡ [] → t.received ≡ sent
+all-came sent t offered none = sym (append-nil t.received) ∙ ap (λ (xs : List ℕ). t.received ++ xs) (sym none) ∙ offered
 
--- a connection that ended received a front of the text, and all of it where the client had done
-receives : (text : List ℕ) (e : SeenEnded) → TellsFrom text e.told → IsEnded e → Receives text e
-receives text e tells ended =
+-- a connection that ended received a front of what its client sends, and all of it where the client had done
+receives : (clients : List (List ℕ)) (e : SeenEnded) → TellsFrom clients e.told → IsEnded e → Receives clients e
+receives clients e tells ended =
     let answered : IsAnswered e.cause e.tail e.notes tells.t = subst (λ (o : Option LinkTold). IfSome o (IsAnswered e.cause e.tail e.notes)) tells.told_is ended.answered in
     record {
       t = tells.t;
       told_is = tells.told_is;
+      known = tells.known;
       front = (tells.t.coming, sym tells.offered);
-      whole = λ done. all-came text tells.t tells.offered (answered.received done);
+      whole = λ done. all-came (client_at clients tells.t.rank) tells.t tells.offered (answered.received done);
     }
 
 -- so did each
-pub all-receive : (text : List ℕ) (ended : List SeenEnded) → AreEnded ended → EndedTell text ended → AllReceive text ended
-all-receive text [] are tells = tt
-all-receive text (e ∷ ended) are tells = (receives text e tells.0 are.0, all-receive text ended are.1 tells.1)
+pub all-receive : (clients : List (List ℕ)) (ended : List SeenEnded) → AreEnded ended → EndedTell clients ended → AllReceive clients ended
+all-receive clients [] are tells = tt
+all-receive clients (e ∷ ended) are tells = (receives clients e tells.0 are.0, all-receive clients ended are.1 tells.1)
 
 -- ## The opening board
 
@@ -149,11 +136,11 @@ opening-empty n slot conns c home at =
     slice_get-get_or (replicate n unused_row) slot unused_row (omega (arith, within, size)) ∙ ap (λ (r : Row). Some r) (get_or-replicate n slot unused_row unused_row within) in
     (subst (IsHome slot unused_row) at (home.homes slot unused_row row)).here
 
--- so its links tell from any text
-pub opening-tells : (text : List ℕ) (slots children : ℕ) (shape : Shape) (b : SeenBoard) → Agrees b → b.book.state ≡ opening slots children shape → b.ended ≡ []
-    → AllTell text b
-opening-tells text slots children shape b agrees opened none = record {
+-- so its links tell of any clients
+pub opening-tells : (clients : List (List ℕ)) (slots children : ℕ) (shape : Shape) (b : SeenBoard) → Agrees b → b.book.state ≡ opening slots children shape → b.ended ≡ []
+    → AllTell clients b
+opening-tells clients slots children shape b agrees opened none = record {
   conns = λ slot c at.
       absurd (opening-empty slots slot b.conns c (subst (λ (s : State). AreHome s.rows b.conns) opened agrees.waiting) at);
-  ended = subst (EndedTell text) (sym none) tt;
+  ended = subst (EndedTell clients) (sym none) tt;
 }

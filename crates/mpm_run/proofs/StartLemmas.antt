@@ -156,18 +156,18 @@ fewer-served s s1 s2 a b c name may queued started at stays goes =
 -- ## The links
 
 -- those of the other connections tell, and that of the connection that was started
-pub record StartTells (text : List ℕ) (b : SeenBoard) (c : SeenConn) : Type 0 where
-  pub others : AllTell text b
-  pub own : TellsFrom text c.told
+pub record StartTells (clients : List (List ℕ)) (b : SeenBoard) (c : SeenConn) : Type 0 where
+  pub others : AllTell clients b
+  pub own : TellsFrom clients c.told
 
-pub start-tells : (text : List ℕ) (who slot : ℕ) (name : ConnName) (b b1 b2 : SeenBoard) (c : SeenConn) → b1 ≡ added who (event.Queue name) b
+pub start-tells : (clients : List (List ℕ)) (who slot : ℕ) (name : ConnName) (b b1 b2 : SeenBoard) (c : SeenConn) → b1 ≡ added who (event.Queue name) b
     → b2 ≡ record (added who (event.Start name) b1) { conns = slice_set b1.conns slot None } → conn_at b1.conns slot ≡ Some c
-    → AllTell text b → StartTells text b2 c
-start-tells text who slot name b b1 b2 c queued started at tells =
-    let tells1 = tell-same text b b1 (record { conns = ap (λ (x : SeenBoard). x.conns) queued; ended = ap (λ (x : SeenBoard). x.ended) queued }) tells in
+    → AllTell clients b → StartTells clients b2 c
+start-tells clients who slot name b b1 b2 c queued started at tells =
+    let tells1 = tell-same clients b b1 (record { conns = ap (λ (x : SeenBoard). x.conns) queued; ended = ap (λ (x : SeenBoard). x.ended) queued }) tells in
     record {
       others =
-          tell-set text b1 b2 slot None (ap (λ (x : SeenBoard). x.conns) started) (ap (λ (x : SeenBoard). x.ended) started)
+          tell-set clients b1 b2 slot None (ap (λ (x : SeenBoard). x.conns) started) (ap (λ (x : SeenBoard). x.ended) started)
           (λ c is. absurd (cc)) tells1;
       own = tells1.conns slot c at;
     }

@@ -6,7 +6,6 @@ use Rattle.std.proofs.lemmas.List.{append_assoc, length-drop}
 use Rattle.mpm_base.specs.Sink.{Puts, put_bytes}
 use Rattle.mpm_base.specs.declared.sink.Put.{Put}
 use Rattle.mpm_base.specs.declared.sink.Put.TheVariants as put
-use Rattle.board.specs.Board.{SeenBoard}
 use Rattle.mpm_run.specs.Statuses.{IsCommand}
 
 -- one more piece is written
@@ -48,15 +47,3 @@ pub is_command : (words : List (List ℕ)) (second : Option (Bor (List ℕ))) �
     → option_map (λ word. word.now) second ≡ slice_get words 1 → IfSome second (λ name. IsCommand words name.now)
 is_command words None two first is = tt
 is_command words (Some word) two first is = command_of words word.now two first (sym is)
-
--- what holds of the board that is left
-pub left-if : {X : Type 0} (o : Option X) (board : X → SeenBoard) (P : SeenBoard → Type 0) (b : SeenBoard) → IsSomeAnd o (λ s. board s ≡ b) → P b
-    → IfSome o (λ s. P (board s))
-left-if None board P b is holds = tt
-left-if (Some s) board P b is holds = subst P (sym is) holds
-
--- the same of a board that has to be left
-pub left-and : {X : Type 0} (o : Option X) (board : X → SeenBoard) (P : SeenBoard → Type 0) (b : SeenBoard) → IsSomeAnd o (λ s. board s ≡ b) → P b
-    → IsSomeAnd o (λ s. P (board s))
-left-and None board P b is holds = is
-left-and (Some s) board P b is holds = subst P (sym is) holds

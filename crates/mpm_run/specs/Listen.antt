@@ -1,7 +1,10 @@
 -- What the listener keeps, and how a run ends.
-use Rattle.std.specs.Prelude.{◌≡◌, ◌⊎◌, ℕ, true, false, List, [], ◌∷◌, Option, None, Some, is_some, if◌then◌else◌, IfSome}
+use Rattle.std.specs.Prelude.{◌≡◌, ◌⊎◌, ◌↔◌, ℕ, ◌<◌, Bool, true, false, List, [], length, Option, None, Some, IfSome, slice_get, slice_index}
 use Rattle.std.specs.List.{list_any}
+use Rattle.mpm_base.specs.Count.{NeverFalls, Rises}
+use Rattle.mpm_base.specs.Front.{FrontTold, FrontCounts, HasAllTaken}
 use Rattle.mpm_base.specs.Link.{LinkTold}
+use Rattle.mpm_base.specs.declared.script_line.ScriptLine.{ScriptLine}
 use Rattle.mpm_base.specs.declared.conn.ConnName.{ConnName}
 use Rattle.mpm_base.specs.declared.shape.Shape.{Shape}
 use Rattle.conn_machine.specs.declared.row.Row.{Row}
@@ -9,18 +12,21 @@ use Rattle.conn_machine.specs.declared.event.Why.TheVariants as why
 use Rattle.conn_machine.specs.declared.state.Going.{Going}
 use Rattle.conn_machine.specs.declared.state.Going.TheVariants.{Serving, Halted}
 use Rattle.conn_machine.specs.declared.state.State.{State}
-use Rattle.conn_machine.specs.Rows.{is_held, is_live, is_lingering, live_row}
+use Rattle.conn_machine.specs.Rows.{is_held, is_live, is_lingering, is_parked, live_row}
 use Rattle.conn_machine.specs.Children.{child_at, is_empty}
-use Rattle.conn_machine.specs.States.{is_halted, opening}
+use Rattle.conn_machine.specs.States.{is_halted, is_overdue, is_signalled, opening}
+use Rattle.conn_machine.specs.Table.{may_retire}
+use Rattle.conn_machine.specs.Events.{count_events, is_accept}
 use Rattle.conn_machine.specs.Runs.{after, IsHistory}
 use Rattle.conn_machine.specs.Laws.{StaysSound}
-use Rattle.conn_state.specs.Answered.{SeenEnded}
 use Rattle.board.specs.declared.faults.BoardFault.{BoardFault}
 use Rattle.board.specs.declared.faults.BoardFault.TheVariants as fault
-use Rattle.board.specs.Book.{SeenBook}
+use Rattle.board.specs.Book.{SeenBook, StopsWhereFull, TellsFullStop}
 use Rattle.board.specs.Board.{SeenBoard, Agrees}
 use Rattle.board.specs.Faults.{IsFull}
-use Rattle.mpm_run.specs.Tells.{IsArrival, TellsFrom}
+use Rattle.board.specs.Finds.{acceptable, is_due, is_quiet, startable}
+use Rattle.mpm_run.specs.declared.listen.End.{End}
+use Rattle.mpm_run.specs.declared.listen.End.TheVariants as end
 
 -- ## What the listener keeps
 
@@ -34,17 +40,33 @@ pub record IsGoing (old new : SeenBook) : Type 0 where
   pub keeps : Keeps old new
   pub going : (new.state.going ≡ Serving) ⊎ (new.state.going ≡ Halted why.Full)
 
--- the arrival, where it is still there, is a fresh link of that number
-abbrev pub IsWaitingLink : {L : Type 0} → (L → Option LinkTold) → ℕ → Option L → Type 0
-IsWaitingLink told number arrival = IfSome arrival (λ link. IsArrival number (told link))
+-- what is seen of a front: the script that it was made of, what it tells, and its counts
+pub record SeenOutside : Type 0 where
+  pub script : Option (List ScriptLine)
+  pub told : Option FrontTold
+  pub counts : FrontCounts
 
--- it tells from the text
-abbrev pub LinkTells : {L : Type 0} → (L → Option LinkTold) → List ℕ → Option L → Type 0
-LinkTells told text arrival = IfSome arrival (λ link. TellsFrom text (told link))
+abbrev pub outside : Option (List ScriptLine) → Option FrontTold → FrontCounts → SeenOutside
+outside script told counts = record { script = script; told = told; counts = counts }
 
--- how many connections were taken: the one that arrives, unless it is still there
-abbrev pub taken_count : {L : Type 0} → Option L → ℕ
-taken_count arrival = if is_some arrival then 0 else 1
+-- the front tells, and its clients are these
+abbrev pub HasClients : List (List ℕ) → Option FrontTold → Type 0
+HasClients clients told = (t : FrontTold) × (told ≡ Some t) × (t.clients ≡ clients)
+
+-- the front is still the one that it was
+pub record Follows (old new : SeenOutside) : Type 0 where
+  pub script : new.script ≡ old.script
+  pub clients : (clients : List (List ℕ)) → HasClients clients old.told → HasClients clients new.told
+  pub faults : NeverFalls old.counts.faults new.counts.faults
+  pub ends : NeverFalls old.counts.ends new.counts.ends
+
+-- the front, where it tells, handed out as many links as the table took connections
+abbrev pub IsInStep : Option FrontTold → State → Type 0
+IsInStep told s = IfSome told (λ t. t.accepted ≡ s.accepted)
+
+-- each link of the type tells
+pub record LinksTell {L : Type 0} (told : L → Option LinkTold) : Type 0 where
+  pub each : (link : L) → (t : LinkTold) × (told link ≡ Some t)
 
 -- the server has to be stopped for the fault, or was
 abbrev pub MustStop : BoardFault → SeenBook → Type 0
@@ -74,41 +96,95 @@ HasNoLive s = list_any is_live s.rows ≡ false
 abbrev pub AllEmpty : State → Type 0
 AllEmpty s = (k : ℕ) → is_empty (child_at s.children k).phase ≡ true
 
--- the one connection was taken, and nothing more can come
-pub record IsOver (s : State) : Type 0 where
+-- a wait of the front answered Ended, so that one which tells has handed all out, and the table took them
+pub record HasTakenAll (old new : SeenOutside) (s : State) : Type 0 where
+  pub answered : Rises old.counts.ends new.counts.ends
+  pub taken : IfSome new.told (λ t. HasAllTaken t × (t.accepted ≡ s.accepted))
+
+-- nothing more can come, and no connection is live
+pub record IsOver (old new : SeenOutside) (s : State) : Type 0 where
   pub going : s.going ≡ Serving
   pub live : HasNoLive s
-  pub accepted : s.accepted ≡ 1
+  pub all : HasTakenAll old new s
 
--- the server stopped for that; the one connection was taken and is gone, and so is each child
-pub record HasEnded (s : State) : Type 0 where
+-- the server stopped for that; no connection is live, and each child is gone
+pub record HasEnded (old new : SeenOutside) (s : State) : Type 0 where
   pub going : s.going ≡ Halted why.FrontEnded
   pub empty : AllEmpty s
   pub live : HasNoLive s
-  pub accepted : s.accepted ≡ 1
+  pub all : HasTakenAll old new s
+
+-- the server stopped because a wait of the front failed
+pub record HasFailed (old new : SeenOutside) (s : State) : Type 0 where
+  pub going : s.going ≡ Halted why.FrontFailed
+  pub failed : Rises old.counts.faults new.counts.faults
+
+-- how the listener's turns end
+abbrev pub EndsAs : End → SeenOutside → SeenOutside → State → Type 0
+EndsAs end.Ended old new s = IsOver old new s
+EndsAs end.Failed old new s = (s.going ≡ Serving) × Rises old.counts.faults new.counts.faults
+
+-- ## Between turns
+
+-- no connection is late
+abbrev pub NoneOverdue : State → Type 0
+NoneOverdue s = list_any (is_overdue s.moment) s.rows ≡ false
+
+-- no connection waits
+abbrev pub NoneParked : State → Type 0
+NoneParked s = (slot : ℕ) (r : Row) → slice_get s.rows slot ≡ Some r → is_parked r.place ≡ false
+
+-- no connection has to be served, for which a worker is free
+abbrev pub NoneDue : State → Type 0
+NoneDue s = (slot : ℕ) (r : Row) → slice_get s.rows slot ≡ Some r → is_due s slot r ≡ false
+
+-- each of the slots that the table has is signalled
+abbrev pub AreSignalled : List ℕ → State → Type 0
+AreSignalled slots s = (i : ℕ) → i < length slots → slice_index slots i < length s.rows → is_signalled s (slice_index slots i) ≡ true
+
+-- no further connection is taken: none could be, none of a front that tells has arrived, or an accept of it failed
+abbrev pub TookAll : Option FrontTold → FrontCounts → FrontCounts → State → Type 0
+TookAll told counts counts' s =
+    (acceptable s ≡ None) ⊎ IfSome told (λ t. t.accepted ≡ t.arrived) ⊎ Rises counts.accept_faults counts'.accept_faults
+
+-- the next wait may let time pass: no connection is in hand or has to be served, and no child waits to be started or let go of
+pub record IsAtRest (s : State) : Type 0 where
+  pub quiet : is_quiet s ≡ true
+  pub served : NoneDue s
+  pub kept : (k : ℕ) → may_retire s k ≡ false
+  pub started : startable s ≡ None
+
+abbrev pub IsRestful : Bool → State → Type 0
+IsRestful quiet s = (quiet ≡ true) ↔ IsAtRest s
 
 -- the server stopped for one of these
 abbrev pub IsEnd : Going → Type 0
 IsEnd going = (going ≡ Halted why.FrontEnded) ⊎ (going ≡ Halted why.Full) ⊎ (going ≡ Halted why.NoMemory)
 
--- it stopped: nothing more could come, the history was full, or memory lacked
-abbrev pub HasStopped : State → Type 0
-HasStopped s = HasEnded s ⊎ (s.going ≡ Halted why.Full) ⊎ (s.going ≡ Halted why.NoMemory)
+-- it stopped: nothing more could come, a wait failed, the history was full, or memory lacked
+abbrev pub HasStopped : SeenOutside → SeenOutside → State → Type 0
+HasStopped old new s =
+    HasEnded old new s ⊎ HasFailed old new s ⊎ (s.going ≡ Halted why.Full) ⊎ (s.going ≡ Halted why.NoMemory)
 
 -- ## A run
 
 -- the history that is kept is one of the machine, from the opening state on, in the order of its passes; each state on its
--- way is sound; and the connections agree with it
+-- way is sound; a stop because the history is full stands only where it is, and is told by the state; and the connections agree
+-- with the history
 pub record IsRunFrom (slots children : ℕ) (shape : Shape) (b : SeenBoard) : Type 0 where
   pub opened : b.book.base ≡ opening slots children shape
   pub is_history : IsHistory (opening slots children shape) b.book.history
   pub state : after (opening slots children shape) b.book.history ≡ b.book.state
   pub stays_sound : StaysSound (opening slots children shape) b.book.history
+  pub stops : StopsWhereFull b.book.history
+  pub full : TellsFullStop b.book.state.going b.book.history
   pub agrees : Agrees b
 
--- it is a whole one: it took the one connection, which ended, and came to its end
+-- it is a whole one: it stopped because nothing more could come, no connection is live, each child is gone, and each
+-- connection that was taken ended
 pub record IsWholeRun (slots children : ℕ) (shape : Shape) (b : SeenBoard) : Type 0 where
   pub run : IsRunFrom slots children shape b
-  pub ended : HasEnded (after (opening slots children shape) b.book.history)
-  pub one : SeenEnded
-  pub is_one : b.ended ≡ one ∷ []
+  pub going : b.book.state.going ≡ Halted why.FrontEnded
+  pub empty : AllEmpty b.book.state
+  pub live : HasNoLive b.book.state
+  pub closed : length b.ended ≡ count_events is_accept b.book.history

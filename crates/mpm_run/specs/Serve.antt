@@ -1,5 +1,5 @@
 -- What a worker knows of the connection that it serves, and how it may leave it.
-use Rattle.std.specs.Prelude.{◌≡◌, ◌⊎◌, ℕ, ◌-◌, ◌<◌, ◌≤◌, ◌||◌, Bool, true, false, length, count_by, Some, IfSome, ⊤}
+use Rattle.std.specs.Prelude.{◌≡◌, ◌≢◌, ◌⊎◌, ℕ, ◌-◌, ◌<◌, ◌≤◌, ◌||◌, Bool, true, false, length, count_by, Some, IfSome, ⊤}
 use Rattle.mpm_base.specs.declared.conn.Kind.{Kind}
 use Rattle.mpm_base.specs.declared.conn.Kind.TheVariants.{Reading, KeepAlive, Writing, Linger, ShortLinger}
 use Rattle.mpm_base.specs.declared.conn.ConnName.{ConnName}
@@ -17,6 +17,7 @@ use Rattle.conn_machine.specs.Rows.{is_held, is_parked, is_working, is_lingering
 use Rattle.conn_machine.specs.Children.{child_at}
 use Rattle.conn_machine.specs.States.{is_halted}
 use Rattle.conn_machine.specs.Table.{direct_cause_fits}
+use Rattle.conn_machine.specs.Runs.{entries_of}
 use Rattle.conn_state.specs.Conn.{SeenConn, is_usable}
 use Rattle.conn_state.specs.Answered.{IsShown}
 use Rattle.board.specs.declared.faults.BoardFault.{BoardFault}
@@ -101,6 +102,10 @@ pub record GoesOn (old new : SeenBook) : Type 0 where
   pub accepted : new.state.accepted ≡ old.state.accepted
   pub signals : signalled_count new.state ≤ signalled_count old.state
   pub going : (new.state.going ≡ old.state.going) ⊎ (new.state.going ≡ Halted why.Full)
+
+-- all entries that were added are of the pass: each other pass has the entries that it had
+abbrev pub OthersStay : ℕ → SeenBook → SeenBook → Type 0
+OthersStay who old new = (p : ℕ) → p ≢ who → entries_of p new.history ≡ entries_of p old.history
 
 -- whether the server goes on after a connection was given up for the fault: a full history stops it
 abbrev pub LeavesGoing : BoardFault → Going → Going → Type 0

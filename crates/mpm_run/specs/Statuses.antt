@@ -1,24 +1,31 @@
 -- Why a run ends with its status, and what it leaves of the output.
-use Rattle.std.specs.Prelude.{◌≡◌, ℕ, Bool, true, false, ◌⊎◌, List, ◌∷◌, [], ◌++◌, Option, Some, None, option_map, Result, Ok, Err, codes}
+use Rattle.std.specs.Prelude.{◌≡◌, ℕ, ◌≤◌, Bool, true, false, ◌⊎◌, List, ◌∷◌, [], ◌++◌, length, Option, Some, None, option_map, Result, Ok, Err, codes}
 use Rattle.std.specs.List.{list_any}
 use Rattle.mpm_base.specs.Count.{NeverFalls, Rises}
-use Rattle.mpm_base.specs.Script.{IsNotYet, IsScript}
+use Rattle.mpm_base.specs.Clients.{clients_of, names_of}
+use Rattle.mpm_base.specs.Script.{ScriptIs}
+use Rattle.mpm_base.specs.ScriptFront.{SeenFront}
 use Rattle.mpm_base.specs.Store.{ReadsFile, StoreCounts, StoreTold}
 use Rattle.mpm_base.specs.declared.conn.Cause.{Cause}
 use Rattle.mpm_base.specs.declared.conn.Cause.TheVariants as cause
+use Rattle.mpm_base.specs.declared.script.ScriptFault.{ScriptFault}
+use Rattle.mpm_base.specs.declared.script.ScriptFault.TheVariants as script
 use Rattle.mpm_base.specs.declared.store.StoreFault.{StoreFault}
 use Rattle.mpm_base.specs.declared.store.StoreFault.TheVariants as fault
 use Rattle.conn_machine.specs.declared.event.Why.TheVariants as why
 use Rattle.conn_machine.specs.declared.state.Going.{Going}
 use Rattle.conn_machine.specs.declared.state.Going.TheVariants.{Halted}
+use Rattle.conn_machine.specs.Runs.{full_load, load}
 use Rattle.conn_state.specs.Answered.{SeenEnded}
+use Rattle.board.specs.Book.{HasFullStop}
 use Rattle.board.specs.Board.{SeenBoard}
 use Rattle.mpm_run.specs.FirstShape.{first_shape}
 use Rattle.mpm_run.specs.Listen.{IsRunFrom, IsWholeRun}
 use Rattle.mpm_run.specs.Report.{report_of}
 use Rattle.mpm_run.specs.Tells.{AllReceive}
 use Rattle.mpm_run.specs.Texts.{script_refused, store_fault, usage}
-use Rattle.mpm_run.specs.declared.texts.ScriptRefusal.TheVariants.{BadLine, NotYet}
+use Rattle.mpm_run.specs.declared.texts.ScriptRefusal.{ScriptRefusal}
+use Rattle.mpm_run.specs.declared.texts.ScriptRefusal.TheVariants.{BadLine, MomentBackwards, UnknownName, NotYet}
 
 -- ## A call
 
@@ -114,15 +121,23 @@ pub record EndsTooLarge (call : Call) : Type 0 where
   pub shows : call.shown ≡ Some 0
   pub text : Writes call.sink call.sink' (script_refused 0 BadLine)
 
+-- the fault of a script that is refused so at that line
+abbrev pub fault_at : ScriptRefusal → ℕ → ScriptFault
+fault_at BadLine line = script.BadLine line
+fault_at MomentBackwards line = script.MomentBackwards line
+fault_at UnknownName line = script.UnknownName line
+fault_at NotYet line = script.NotYet line
+
 -- with status 8, for a line
 pub record EndsAtLine (call : Call) : Type 0 where
   pub name : List ℕ
   pub bytes : List ℕ
   pub line : ℕ
+  pub why : ScriptRefusal
   pub asks : Asks call name (Ok bytes)
-  pub not_yet : IsNotYet bytes line
+  pub refused : ScriptIs bytes (Err (fault_at why line))
   pub shows : call.shown ≡ Some line
-  pub text : Writes call.sink call.sink' (script_refused line NotYet)
+  pub text : Writes call.sink call.sink' (script_refused line why)
 
 -- with status 8
 abbrev pub EndsRefused : Call → Type 0
@@ -138,22 +153,20 @@ board_report b = report_of b.book.history b.book.state.newest b.ended
 abbrev pub Reports : SinkSeen → SinkSeen → SeenBoard → Type 0
 Reports old new b = new.told ≡ option_map (λ written. written ++ board_report b) old.told
 
--- what is left of a run of a client that sends the text: each connection that ended received a front of it, and all of it
+-- what is left of a run of these clients: each connection that ended received a front of what its client sends, and all of it
 -- where the client had done
-pub record HasRun (text : List ℕ) (b : SeenBoard) : Type 0 where
+pub record HasRun (clients : List (List ℕ)) (b : SeenBoard) : Type 0 where
   pub run : IsRunFrom 64 1 first_shape b
-  pub receive : AllReceive text b.ended
+  pub receive : AllReceive clients b.ended
 
--- a script was read, and what is left is of a run of it
-pub record HasPlayed (call : Call) (b : SeenBoard) : Type 0 where
+-- a script was read, and what is left is of a run of it: a board, and the front that played the script
+pub record HasPlayed (call : Call) (b : SeenBoard) (f : SeenFront) : Type 0 where
   pub name : List ℕ
   pub bytes : List ℕ
-  pub client : List ℕ
-  pub text : List ℕ
   pub asks : Asks call name (Ok bytes)
-  pub script : IsScript bytes client text
+  pub script : ScriptIs bytes (Ok f.script)
   pub shows : call.shown ≡ None
-  pub has_run : HasRun text b
+  pub has_run : HasRun (clients_of f.script) b
 
 -- how a run that stopped so may end: with 6 wherever memory lacked for its report
 abbrev pub EndsFor : Going → ℕ → Type 0
@@ -171,21 +184,29 @@ is_cut_by other = true
 abbrev pub is_cut : SeenEnded → Bool
 is_cut e = is_cut_by e.cause
 
--- with status 0: the run is a whole one, no connection was cut short by anything but want of memory, and its report was
--- written
-pub record EndsWell (sink sink' : SinkSeen) (b : SeenBoard) : Type 0 where
+-- the script was played to its end: the run is a whole one, all lines have happened, and each connection of the script was
+-- taken
+pub record HasEnd (b : SeenBoard) (f : SeenFront) : Type 0 where
   pub whole : IsWholeRun 64 1 first_shape b
+  pub happened : f.happened ≡ length f.script
+  pub taken : b.book.state.accepted ≡ length (names_of f.script)
+
+-- with status 0: the script was played to its end, no connection was cut short by anything but want of memory, and the report
+-- was written
+pub record EndsWell (sink sink' : SinkSeen) (b : SeenBoard) (f : SeenFront) : Type 0 where
+  pub end : HasEnd b f
   pub none_cut : list_any is_cut b.ended ≡ false
   pub report : Reports sink sink' b
 
--- with status 5: the run is a whole one, and a write of its report failed
-pub record EndsUnwritten (sink sink' : SinkSeen) (b : SeenBoard) : Type 0 where
-  pub whole : IsWholeRun 64 1 first_shape b
+-- with status 5: the script was played to its end, and a write of the report failed
+pub record EndsUnwritten (sink sink' : SinkSeen) (b : SeenBoard) (f : SeenFront) : Type 0 where
+  pub end : HasEnd b f
   pub failed : Rises sink.faults sink'.faults
 
--- with status 7: the server stopped for a full history
+-- with status 7: the history has a stop because it is full, at a load that is at its limit
 pub record EndsFull (sink sink' : SinkSeen) (b : SeenBoard) : Type 0 where
-  pub going : b.book.state.going ≡ Halted why.Full
+  pub stop : HasFullStop b.book.history
+  pub full : full_load ≤ load stop.before
   pub text : Writes sink sink' (board_report b)
 
 -- the statuses that there are
@@ -208,6 +229,14 @@ IsEndStatus s = (s ≡ 0) ⊎ (s ≡ 6) ⊎ (s ≡ 7)
 -- what a report makes of a status: a failed write changes 0 alone, and want of memory each
 abbrev pub ReportsAs : ℕ → ℕ → Type 0
 ReportsAs status status' = (status' ≡ status) ⊎ ((status ≡ 0) × (status' ≡ 5)) ⊎ (status' ≡ 6)
+
+-- a script is refused for the fault: its line is shown, and its text was written
+pub record IsRefusalOf (sink sink' : SinkSeen) (e : ScriptFault) (shown : Option ℕ) : Type 0 where
+  pub line : ℕ
+  pub why : ScriptRefusal
+  pub fault_is : e ≡ fault_at why line
+  pub shows : shown ≡ Some line
+  pub text : Writes sink sink' (script_refused line why)
 
 -- the statuses of a script that was read
 abbrev pub IsPlayed : ℕ → Type 0

@@ -1,5 +1,7 @@
--- What the links of a board tell of the bytes that their clients send.
-use Rattle.std.specs.Prelude.{◌≡◌, ℕ, List, [], ◌∷◌, ◌++◌, Option, Some, IfSome, ⊤}
+-- What the links of a board tell of the bytes that their clients send. The clients are those of a front, in the order in which
+-- they arrive: for each, all that it sends.
+use Rattle.std.specs.Prelude.{◌≡◌, ℕ, ◌<◌, List, [], ◌∷◌, ◌++◌, length, Option, Some, IfSome, ⊤}
+use Rattle.mpm_base.specs.Front.{client_at}
 use Rattle.mpm_base.specs.Link.{LinkTold}
 use Rattle.mpm_base.specs.declared.conn.Cause.TheVariants as cause
 use Rattle.conn_state.specs.Conn.{SeenConn, IsFresh, IsFrontOf}
@@ -15,25 +17,27 @@ pub record Arrives (number : ℕ) (t : LinkTold) : Type 0 where
 abbrev pub IsArrival : ℕ → Option LinkTold → Type 0
 IsArrival number told = IfSome told (Arrives number)
 
--- the link tells: what it received, and what still comes behind it, are the text
-pub record TellsFrom (text : List ℕ) (told : Option LinkTold) : Type 0 where
+-- the link tells, and is that of one of these clients: what it received, and what still comes behind it, are what that
+-- client sends
+pub record TellsFrom (clients : List (List ℕ)) (told : Option LinkTold) : Type 0 where
   pub t : LinkTold
   pub told_is : told ≡ Some t
-  pub offered : t.received ++ t.coming ≡ text
+  pub known : t.rank < length clients
+  pub offered : t.received ++ t.coming ≡ client_at clients t.rank
 
 -- so does the link of each connection that the board has
-abbrev pub ConnsTell : List ℕ → List (Option SeenConn) → Type 0
-ConnsTell text conns = (slot : ℕ) (c : SeenConn) → conn_at conns slot ≡ Some c → TellsFrom text c.told
+abbrev pub ConnsTell : List (List ℕ) → List (Option SeenConn) → Type 0
+ConnsTell clients conns = (slot : ℕ) (c : SeenConn) → conn_at conns slot ≡ Some c → TellsFrom clients c.told
 
 -- and of each that ended
-abbrev pub EndedTell : List ℕ → List SeenEnded → Type 0
-EndedTell text [] = ⊤
-EndedTell text (e ∷ ended) = TellsFrom text e.told × EndedTell text ended
+abbrev pub EndedTell : List (List ℕ) → List SeenEnded → Type 0
+EndedTell clients [] = ⊤
+EndedTell clients (e ∷ ended) = TellsFrom clients e.told × EndedTell clients ended
 
 -- each link of a board tells so
-pub record AllTell (text : List ℕ) (b : SeenBoard) : Type 0 where
-  pub conns : ConnsTell text b.conns
-  pub ended : EndedTell text b.ended
+pub record AllTell (clients : List (List ℕ)) (b : SeenBoard) : Type 0 where
+  pub conns : ConnsTell clients b.conns
+  pub ended : EndedTell clients b.ended
 
 -- the board has the same connections
 pub record HasSame (old new : SeenBoard) : Type 0 where
@@ -42,14 +46,16 @@ pub record HasSame (old new : SeenBoard) : Type 0 where
 
 -- ## What an ended connection received
 
--- its link received a front of the text, and all of it where the client had done
-pub record Receives (text : List ℕ) (e : SeenEnded) : Type 0 where
+-- its link is that of one of the clients, and received a front of what that client sends, and all of it where the client
+-- had done
+pub record Receives (clients : List (List ℕ)) (e : SeenEnded) : Type 0 where
   pub t : LinkTold
   pub told_is : e.told ≡ Some t
-  pub front : IsFrontOf text t.received
-  pub whole : e.cause ≡ cause.ClientDone → t.received ≡ text
+  pub known : t.rank < length clients
+  pub front : IsFrontOf (client_at clients t.rank) t.received
+  pub whole : e.cause ≡ cause.ClientDone → t.received ≡ client_at clients t.rank
 
 -- so did the link of each
-abbrev pub AllReceive : List ℕ → List SeenEnded → Type 0
-AllReceive text [] = ⊤
-AllReceive text (e ∷ ended) = Receives text e × AllReceive text ended
+abbrev pub AllReceive : List (List ℕ) → List SeenEnded → Type 0
+AllReceive clients [] = ⊤
+AllReceive clients (e ∷ ended) = Receives clients e × AllReceive clients ended

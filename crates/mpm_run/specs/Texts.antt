@@ -2,7 +2,7 @@
 use Rattle.std.specs.Prelude.{ℕ, List, ◌++◌, codes}
 use Rattle.std.specs.Fmt.{decimal}
 use Rattle.mpm_run.specs.declared.texts.ScriptRefusal.{ScriptRefusal}
-use Rattle.mpm_run.specs.declared.texts.ScriptRefusal.TheVariants.{NotYet, BadLine}
+use Rattle.mpm_run.specs.declared.texts.ScriptRefusal.TheVariants.{BadLine, MomentBackwards, UnknownName, NotYet}
 
 -- how the program is called
 abbrev pub usage : List ℕ
@@ -13,8 +13,10 @@ abbrev pub store_fault : List ℕ → List ℕ
 store_fault name = codes "store fault: " ++ name ++ codes "\n"
 
 abbrev pub refusal_word : ScriptRefusal → List ℕ
-refusal_word NotYet = codes "NotYet"
 refusal_word BadLine = codes "BadLine"
+refusal_word MomentBackwards = codes "MomentBackwards"
+refusal_word UnknownName = codes "UnknownName"
+refusal_word NotYet = codes "NotYet"
 
 -- the script is refused at the line
 abbrev pub script_refused : ℕ → ScriptRefusal → List ℕ

@@ -1,21 +1,20 @@
-//! The listener: starts children, takes connections, and stops the server when nothing more can come.
-ghost use Rattle.std.specs.Prelude.{◌≡◌, ◌⊎◌, ◌<◌, ◌≤◌, ℕ, List, true, false, is_some, length, IfOk, IfErr, OnOk};
-ghost use Rattle.std.specs.Bool.{OnFalse, OnTrue};
+//! The listener: waits for what comes, takes connections, has them served, and stops the server when nothing more can come.
+ghost use Rattle.std.specs.Prelude.{◌≡◌, ◌⊎◌, ◌<◌, ◌≤◌, ℕ, List, None, true, false, is_some, length, max, min, IfOk, IfErr, OnOk};
+ghost use Rattle.std.specs.Bool.{OnFalse};
 ghost use Rattle.mpm_base.specs.Count.{next_count};
-ghost use Rattle.conn_machine.specs.Rows.{is_parked, row_passes};
-ghost use Rattle.conn_machine.specs.States.{is_halted};
+ghost use Rattle.conn_machine.specs.States.{greatest_moment, is_halted, is_signalled};
 ghost use Rattle.conn_machine.specs.declared.event.Why.TheVariants as why;
 ghost use Rattle.conn_machine.specs.declared.state.Going.TheVariants.{Halted, Serving};
-ghost use Rattle.board.specs.Finds.{acceptable};
+ghost use Rattle.board.specs.Finds.{acceptable, next_deadline_of, startable};
 ghost use Rattle.mpm_run.specs.Serve.{GoesOn, Stays};
-ghost use Rattle.mpm_run.specs.Listen.{AllEmpty, HasNoLive, HasStopped, HasTaken, IsGoing, IsOver, IsWaitingLink, Keeps, LinkTells, MustStop, taken_count};
+ghost use Rattle.mpm_run.specs.Listen.{AllEmpty, AreSignalled, EndsAs, Follows, HasClients, HasNoLive, HasStopped, HasTaken, IsGoing, IsInStep, IsRestful, Keeps, LinksTell, MustStop, NoneDue, NoneOverdue, NoneParked, TookAll, outside};
 ghost use Rattle.mpm_run.specs.Tells.{AllTell, HasSame, IsArrival, TellsFrom};
 
 use crate::serve::{close, park, serve};
 use board::{AcceptFault, Board, BoardFault, Taken};
 use conn_machine::Why;
 use conn_state::Conn;
-use mpm_base::{Cause, Kind, Link};
+use mpm_base::{Arrival, Cause, Clock, Front, Kind, Link, Moment, Ready, Woke};
 use std::alloc::Global;
 use std::sync::Wait;
 
@@ -28,24 +27,54 @@ const SERVER: u32 = 1;
 /// How many passes there are.
 pub const PASSES: u32 = 2;
 
-/// Takes the one connection that arrives, serves it until it ends, and stops. The server stops for a full history or want
-/// of memory where a call that the listener must make was refused for that; then each connection that waits is closed. How
-/// it ended is read off the board.
-pub fn listen<R: Wait, L: Link>(rt: &R, alloc: Global, board: &mut Board<L>, link: L)
+/// The greatest moment, the last of the year 9999.
+const LATEST: Moment = 253_402_300_799_999;
+
+/// Why the listener's turns end.
+#[derive(Clone, Copy, Debug, PartialEq, Eq)]
+pub enum End {
+    /// Nothing more can come.
+    Ended,
+    /// A wait of the front failed.
+    Failed,
+}
+
+/// What the next wait of the front is told.
+#[derive(Clone, Copy, Debug, PartialEq, Eq)]
+pub struct Rest {
+    /// The least deadline of a connection that waits.
+    pub until: Option<Moment>,
+    /// Whether no connection is in hand or waits for service, so that time may pass.
+    pub quiet: bool,
+}
+
+/// Takes the connections that come, has them served, and stops when nothing more can come. The server stops before that for
+/// a wait that failed, and for a full history or want of memory where a call that the listener must make was refused for
+/// that; then each connection that waits is closed. How it ended is read off the board.
+pub fn listen<R: Wait, L: Link + Send, F: Front<L = L>, C: Clock>(
+    rt: &R,
+    alloc: Global,
+    board: &mut Board<L>,
+    front: &mut F,
+    clock: &mut C,
+    ready: &mut Ready,
+)
     requires passes { board.old.book.passes ≡ 2 }
     requires serving { board.old.book.state.going ≡ Serving }
-    requires none { board.old.book.state.accepted ≡ 0 }
-    requires arrival { IsArrival 0 (L.told link) }
+    requires step { IsInStep (F.told front.old) board.old.book.state }
     ensures keeps { Keeps board.old.book board.new.book }
-    ensures stopped { HasStopped board.new.book.state }
-    ensures tells { (text : List ℕ) → AllTell text board.old → TellsFrom text (L.told link) → AllTell text board.new }
+    ensures stopped { HasStopped (outside (F.script front.old) (F.told front.old) (F.counts front.old)) (outside (F.script front.new) (F.told front.new) (F.counts front.new)) board.new.book.state }
+    ensures follows { Follows (outside (F.script front.old) (F.told front.old) (F.counts front.old)) (outside (F.script front.new) (F.told front.new) (F.counts front.new)) }
+    ensures tells { (clients : List (List ℕ)) → LinksTell L.told → HasClients clients (F.told front.old) → AllTell clients board.old → AllTell clients board.new }
 {
-    let mut arrival = Some(link);
-    let played = play(rt, alloc, board, &mut arrival);
-    hang_up(arrival);
-    match played {
-        Ok(()) => {
+    match play(rt, alloc, board, front, clock, ready) {
+        Ok(End::Ended) => {
             board.halt(LISTENER, Why::FrontEnded);
+            retire_all(board);
+        }
+        Ok(End::Failed) => {
+            board.halt(LISTENER, Why::FrontFailed);
+            close_all(board);
             retire_all(board);
         }
         Err(fault) => {
@@ -56,66 +85,87 @@ pub fn listen<R: Wait, L: Link>(rt: &R, alloc: Global, board: &mut Board<L>, lin
     }
 }
 
-/// Closes the link of an arrival that was not taken.
-fn hang_up<L: Link>(arrival: Option<L>) {
-    if let Some(mut link) = arrival {
-        link.close();
-    }
-}
-
-/// Starts the children, takes the connection once a child admits it, and serves it until no connection is live. Err where
-/// the server has to stop before.
-fn play<R: Wait, L: Link>(
+/// Starts the children, and takes turns with the front until nothing more can come, each followed by the service of what is
+/// signalled. What the next wait is told is found before that service, as a worker's service goes on by itself. Err where the
+/// server has to stop before.
+fn play<R: Wait, L: Link + Send, F: Front<L = L>, C: Clock>(
     rt: &R,
     alloc: Global,
     board: &mut Board<L>,
-    arrival: &mut Option<L>,
-) -> Result<(), BoardFault>
+    front: &mut F,
+    clock: &mut C,
+    ready: &mut Ready,
+) -> Result<End, BoardFault>
     requires passes { board.old.book.passes ≡ 2 }
     requires serving { board.old.book.state.going ≡ Serving }
-    requires none { board.old.book.state.accepted ≡ 0 }
-    requires some { is_some arrival.old ≡ true }
-    requires arrival { IsWaitingLink L.told 0 arrival.old }
+    requires step { IsInStep (F.told front.old) board.old.book.state }
     ensures keeps { Keeps board.old.book board.new.book }
-    ensures ok { OnOk result (IsOver board.new.book.state) }
+    ensures follows { Follows (outside (F.script front.old) (F.told front.old) (F.counts front.old)) (outside (F.script front.new) (F.told front.new) (F.counts front.new)) }
+    ensures ok { IfOk result (λ end. EndsAs end (outside (F.script front.old) (F.told front.old) (F.counts front.old)) (outside (F.script front.new) (F.told front.new) (F.counts front.new)) board.new.book.state) }
     ensures err { IfErr result (λ fault. MustStop fault board.new.book) }
-    ensures tells { (text : List ℕ) → AllTell text board.old → LinkTells L.told text arrival.old → AllTell text board.new }
+    ensures tells { (clients : List (List ℕ)) → LinksTell L.told → HasClients clients (F.told front.old) → AllTell clients board.old → AllTell clients board.new }
 {
     start_children(board)?;
+    let mut rest = Rest {
+        until: None,
+        quiet: true,
+    };
     for _ in rt.forever() {
-        if turn(alloc, board, arrival)? {
-            return Ok(());
+        let moment = match front.wait(rt, rest.until, rest.quiet, ready) {
+            Woke::Woke(at) => clock.now(at),
+            Woke::Ended if has_live(board) => board.moment(),
+            Woke::Ended => return Ok(End::Ended),
+            Woke::Failed => return Ok(End::Failed),
+        };
+        turn(rt, alloc, board, front, ready, moment)?;
+        rest = find_rest(board);
+        serve_all(board)?;
+        if board.going().is_halted() {
+            return Err(BoardFault::Halted);
         }
     }
     unreachable!()
 }
 
-/// Takes what arrives, signals what waits, and serves what is signalled. Whether nothing more can come.
-fn turn<L: Link>(
+/// Lets time pass to the moment, signals what something came for, and takes what has arrived.
+fn turn<R: Wait, L: Link + Send, F: Front<L = L>>(
+    rt: &R,
     alloc: Global,
     board: &mut Board<L>,
-    arrival: &mut Option<L>,
-) -> Result<bool, BoardFault>
+    front: &mut F,
+    ready: &Ready,
+    moment: Moment,
+) -> Result<(), BoardFault>
     requires passes { board.old.book.passes ≡ 2 }
     requires serving { board.old.book.state.going ≡ Serving }
-    requires taken { board.old.book.state.accepted ≡ taken_count arrival.old }
-    requires arrival { IsWaitingLink L.told 0 arrival.old }
+    requires step { IsInStep (F.told front.old) board.old.book.state }
     ensures keeps { Keeps board.old.book board.new.book }
     ensures going { OnOk result (board.new.book.state.going ≡ Serving) }
-    ensures taken { OnOk result (board.new.book.state.accepted ≡ taken_count arrival.new) }
-    ensures arrival { OnOk result (IsWaitingLink L.told 0 arrival.new) }
-    ensures over { IfOk result (λ over. OnTrue over (IsOver board.new.book.state)) }
+    ensures step { OnOk result (IsInStep (F.told front.new) board.new.book.state) }
+    ensures follows { Follows (outside (F.script front.old) (F.told front.old) (F.counts front.old)) (outside (F.script front.new) (F.told front.new) (F.counts front.new)) }
     ensures err { IfErr result (λ fault. MustStop fault board.new.book) }
-    ensures tells { (text : List ℕ) → AllTell text board.old → LinkTells L.told text arrival.old → AllTell text board.new }
-    ensures told { (text : List ℕ) → LinkTells L.told text arrival.old → LinkTells L.told text arrival.new }
+    ensures moment { OnOk result (board.new.book.state.moment ≡ max board.old.book.state.moment (min moment greatest_moment)) }
+    ensures taken { OnOk result (TookAll (F.told front.new) (F.counts front.old) (F.counts front.new) board.new.book.state) }
+    ensures tells { (clients : List (List ℕ)) → LinksTell L.told → HasClients clients (F.told front.old) → AllTell clients board.old → AllTell clients board.new }
 {
-    take(alloc, board, arrival)?;
-    signal_all(board)?;
-    serve_all(board)?;
-    if board.going().is_halted() {
-        return Err(BoardFault::Halted);
+    pass_time(board, moment)?;
+    signal_all(board, ready.slots())?;
+    start_children(board)?;
+    take_all(rt, alloc, board, front)
+}
+
+/// What the next wait is told: until when it may take, and whether nobody serves or has to.
+fn find_rest<L: Link>(board: &Board<L>) -> Rest
+    ensures until { result.until ≡ next_deadline_of board.now.book.state }
+    ensures quiet { IsRestful result.quiet board.now.book.state }
+{
+    Rest {
+        until: board.next_deadline(),
+        quiet: board.quiet()
+            && board.signalled().is_none()
+            && board.can_retire().is_none()
+            && board.can_start().is_none(),
     }
-    Ok(arrival.is_none() && !has_live(board))
 }
 
 /// Whether a connection is live: one in hand, or one that waits.
@@ -125,13 +175,89 @@ fn has_live<L: Link>(board: &Board<L>) -> bool
     !board.quiet() || board.parked().is_some()
 }
 
+/// Lets time pass to the moment, where it is later than the present one. A connection that is late is closed before and after.
+fn pass_time<L: Link>(board: &mut Board<L>, moment: Moment) -> Result<(), BoardFault>
+    requires passes { board.old.book.passes ≡ 2 }
+    requires serving { board.old.book.state.going ≡ Serving }
+    ensures stays { Stays board.old.book board.new.book }
+    ensures err { IfErr result (λ fault. MustStop fault board.new.book) }
+    ensures moment { OnOk result (board.new.book.state.moment ≡ max board.old.book.state.moment (min moment greatest_moment)) }
+    ensures tells { (clients : List (List ℕ)) → AllTell clients board.old → AllTell clients board.new }
+{
+    close_overdue(board);
+    let moment = moment.min(LATEST);
+    if moment > board.moment() {
+        board.show();
+        board.tick(LISTENER, moment)?;
+        close_overdue(board);
+    }
+    Ok(())
+}
+
+/// Closes each connection that is late. Lingering closes are not built yet: such a connection ends for want of memory, the one
+/// cause that needs no other. Takes no memory.
+fn close_overdue<L: Link>(board: &mut Board<L>)
+    requires passes { board.old.book.passes ≡ 2 }
+    ensures stays { Stays board.old.book board.new.book }
+    ensures none { NoneOverdue board.new.book.state }
+    ensures moment { board.new.book.state.moment ≡ board.old.book.state.moment }
+    ensures tells { (clients : List (List ℕ)) → AllTell clients board.old → AllTell clients board.new }
+{
+    while let Some(name) = board.overdue() {
+        let conn = board.hold(LISTENER, name);
+        board.show();
+        close(board, LISTENER, conn, Cause::NoMemory);
+    }
+}
+
+/// Signals each of the slots that the table has.
+fn signal_all<L: Link>(board: &mut Board<L>, slots: &[u32]) -> Result<(), BoardFault>
+    requires passes { board.old.book.passes ≡ 2 }
+    requires serving { board.old.book.state.going ≡ Serving }
+    ensures keeps { Keeps board.old.book board.new.book }
+    ensures going { board.new.book.state.going ≡ Serving }
+    ensures taken { board.new.book.state.accepted ≡ board.old.book.state.accepted }
+    ensures err { IfErr result (λ fault. MustStop fault board.new.book) }
+    ensures signalled { OnOk result (AreSignalled slots.now board.new.book.state) }
+    ensures moment { board.new.book.state.moment ≡ board.old.book.state.moment }
+    ensures tells { (clients : List (List ℕ)) → AllTell clients board.old → AllTell clients board.new }
+{
+    for slot in slots {
+        signal(board, *slot)?;
+    }
+    Ok(())
+}
+
+/// Signals the slot, where the table has it.
+fn signal<L: Link>(board: &mut Board<L>, slot: u32) -> Result<(), BoardFault>
+    requires passes { board.old.book.passes ≡ 2 }
+    requires serving { board.old.book.state.going ≡ Serving }
+    ensures keeps { Keeps board.old.book board.new.book }
+    ensures going { board.new.book.state.going ≡ Serving }
+    ensures taken { board.new.book.state.accepted ≡ board.old.book.state.accepted }
+    ensures err { IfErr result (λ fault. MustStop fault board.new.book) }
+    ensures signalled { OnOk result (slot < length board.old.book.state.rows → is_signalled board.new.book.state slot ≡ true) }
+    ensures others { (other : ℕ) → is_signalled board.old.book.state other ≡ true → is_signalled board.new.book.state other ≡ true }
+    ensures rows { board.new.book.state.rows ≡ board.old.book.state.rows }
+    ensures moment { board.new.book.state.moment ≡ board.old.book.state.moment }
+    ensures tells { (clients : List (List ℕ)) → AllTell clients board.old → AllTell clients board.new }
+{
+    board.show();
+    if slot as usize >= board.state().rows.len() {
+        return Ok(());
+    }
+    board.ready(LISTENER, slot)
+}
+
 /// Starts children, while fewer run than should.
 fn start_children<L: Link>(board: &mut Board<L>) -> Result<(), BoardFault>
     requires passes { board.old.book.passes ≡ 2 }
     requires serving { board.old.book.state.going ≡ Serving }
     ensures stays { Stays board.old.book board.new.book }
     ensures err { IfErr result (λ fault. MustStop fault board.new.book) }
-    ensures tells { (text : List ℕ) → AllTell text board.old → AllTell text board.new }
+    ensures started { OnOk result (startable board.new.book.state ≡ None) }
+    ensures moment { board.new.book.state.moment ≡ board.old.book.state.moment }
+    ensures tells { (clients : List (List ℕ)) → AllTell clients board.old → AllTell clients board.new }
 {
     while let Some(child) = board.can_start() {
         board.show();
@@ -140,34 +266,77 @@ fn start_children<L: Link>(board: &mut Board<L>) -> Result<(), BoardFault>
     Ok(())
 }
 
-/// Takes the connection that arrives and parks it, where a child admits it and a slot is vacant.
-fn take<L: Link>(
+/// Takes the connections that have arrived, while a child admits one and a slot is vacant.
+fn take_all<R: Wait, L: Link + Send, F: Front<L = L>>(
+    rt: &R,
     alloc: Global,
     board: &mut Board<L>,
-    arrival: &mut Option<L>,
+    front: &mut F,
 ) -> Result<(), BoardFault>
     requires passes { board.old.book.passes ≡ 2 }
     requires serving { board.old.book.state.going ≡ Serving }
-    requires taken { board.old.book.state.accepted ≡ taken_count arrival.old }
-    requires arrival { IsWaitingLink L.told 0 arrival.old }
+    requires step { IsInStep (F.told front.old) board.old.book.state }
     ensures keeps { Keeps board.old.book board.new.book }
     ensures going { OnOk result (board.new.book.state.going ≡ Serving) }
-    ensures taken { OnOk result (board.new.book.state.accepted ≡ taken_count arrival.new) }
-    ensures arrival { OnOk result (IsWaitingLink L.told 0 arrival.new) }
+    ensures step { OnOk result (IsInStep (F.told front.new) board.new.book.state) }
+    ensures follows { Follows (outside (F.script front.old) (F.told front.old) (F.counts front.old)) (outside (F.script front.new) (F.told front.new) (F.counts front.new)) }
     ensures err { IfErr result (λ fault. MustStop fault board.new.book) }
-    ensures tells { (text : List ℕ) → AllTell text board.old → LinkTells L.told text arrival.old → AllTell text board.new }
-    ensures told { (text : List ℕ) → LinkTells L.told text arrival.old → LinkTells L.told text arrival.new }
+    ensures taken { OnOk result (TookAll (F.told front.new) (F.counts front.old) (F.counts front.new) board.new.book.state) }
+    ensures moment { board.new.book.state.moment ≡ board.old.book.state.moment }
+    ensures tells { (clients : List (List ℕ)) → LinksTell L.told → HasClients clients (F.told front.old) → AllTell clients board.old → AllTell clients board.new }
 {
-    if arrival.is_none() || board.can_accept().is_none() {
-        return Ok(());
+    for _ in rt.forever() {
+        if board.can_accept().is_none() {
+            return Ok(());
+        }
+        match front.accept() {
+            Arrival::Some(link) => take(alloc, board, front, link)?,
+            Arrival::None | Arrival::Failed => return Ok(()),
+        }
     }
-    let taken = accept(board)?;
-    let Some(link) = arrival.take() else {
-        unreachable!()
+    unreachable!()
+}
+
+/// Takes the connection of the link into the table, and has the front watch it. Where the table refuses it, or the front
+/// can't watch it, it is closed.
+fn take<L: Link + Send, F: Front<L = L>>(
+    alloc: Global,
+    board: &mut Board<L>,
+    front: &mut F,
+    link: L,
+) -> Result<(), BoardFault>
+    requires passes { board.old.book.passes ≡ 2 }
+    requires serving { board.old.book.state.going ≡ Serving }
+    requires acceptable { is_some (acceptable board.old.book.state) ≡ true }
+    requires arrival { IsArrival board.old.book.state.accepted (L.told link) }
+    requires healthy { (L.counts link).faults ≡ 0 }
+    ensures keeps { Keeps board.old.book board.new.book }
+    ensures going { OnOk result (board.new.book.state.going ≡ Serving) }
+    ensures taken { OnOk result (board.new.book.state.accepted ≡ next_count board.old.book.state.accepted) }
+    ensures step { IsInStep (F.told front.old) board.new.book.state → IsInStep (F.told front.new) board.new.book.state }
+    ensures follows { Follows (outside (F.script front.old) (F.told front.old) (F.counts front.old)) (outside (F.script front.new) (F.told front.new) (F.counts front.new)) }
+    ensures err { IfErr result (λ fault. MustStop fault board.new.book) }
+    ensures counts { F.counts front.new ≡ F.counts front.old }
+    ensures moment { board.new.book.state.moment ≡ board.old.book.state.moment }
+    ensures tells { (clients : List (List ℕ)) → AllTell clients board.old → TellsFrom clients (L.told link) → AllTell clients board.new }
+{
+    let mut link = link;
+    let taken = match accept(board) {
+        Ok(taken) => taken,
+        Err(fault) => {
+            link.close();
+            return Err(fault);
+        }
     };
+    let watched = front.watch(taken.name, &mut link);
     let conn = Conn::new(alloc, taken.name, taken.child, taken.generation, link);
     conn.show();
-    park(board, LISTENER, conn, Kind::Reading)
+    if watched {
+        park(board, LISTENER, conn, Kind::Reading)
+    } else {
+        close(board, LISTENER, conn, Cause::LinkFailed);
+        Ok(())
+    }
 }
 
 /// Takes a connection into a slot, for the child that takes one.
@@ -181,6 +350,7 @@ fn accept<L: Link>(board: &mut Board<L>) -> Result<Taken, BoardFault>
     ensures held { IfOk result (λ taken. HasTaken board.new.book.state taken.name taken.child taken.generation board.old.book.state.accepted) }
     ensures same { HasSame board.old board.new }
     ensures err { IfErr result (λ fault. MustStop fault board.new.book) }
+    ensures moment { board.new.book.state.moment ≡ board.old.book.state.moment }
 {
     board.show();
     match board.accept(LISTENER) {
@@ -196,58 +366,14 @@ fn accept<L: Link>(board: &mut Board<L>) -> Result<Taken, BoardFault>
     }
 }
 
-/// Signals each connection that waits: something may have come for it.
-fn signal_all<L: Link>(board: &mut Board<L>) -> Result<(), BoardFault>
-    requires passes { board.old.book.passes ≡ 2 }
-    requires serving { board.old.book.state.going ≡ Serving }
-    ensures keeps { Keeps board.old.book board.new.book }
-    ensures going { board.new.book.state.going ≡ Serving }
-    ensures taken { board.new.book.state.accepted ≡ board.old.book.state.accepted }
-    ensures err { IfErr result (λ fault. MustStop fault board.new.book) }
-    ensures tells { (text : List ℕ) → AllTell text board.old → AllTell text board.new }
-{
-    board.show();
-    for slot in 0..board.state().rows.len() as u32 {
-        signal(board, slot)?;
-    }
-    Ok(())
-}
-
-/// Signals the slot, where it has a connection that waits.
-fn signal<L: Link>(board: &mut Board<L>, slot: u32) -> Result<(), BoardFault>
-    requires passes { board.old.book.passes ≡ 2 }
-    requires serving { board.old.book.state.going ≡ Serving }
-    requires within { slot < length board.old.book.state.rows }
-    ensures keeps { Keeps board.old.book board.new.book }
-    ensures going { board.new.book.state.going ≡ Serving }
-    ensures taken { board.new.book.state.accepted ≡ board.old.book.state.accepted }
-    ensures rows { board.new.book.state.rows ≡ board.old.book.state.rows }
-    ensures err { IfErr result (λ fault. MustStop fault board.new.book) }
-    ensures tells { (text : List ℕ) → AllTell text board.old → AllTell text board.new }
-{
-    if !is_parked(board, slot) {
-        return Ok(());
-    }
-    board.ready(LISTENER, slot)
-}
-
-/// Whether the slot has a connection that waits.
-fn is_parked<L: Link>(board: &Board<L>, slot: u32) -> bool
-    ensures { result ≡ row_passes (λ r. is_parked r.place) board.now.book.state.rows slot }
-{
-    match board.state().rows.get(slot) {
-        Some(row) => row.place.is_parked(),
-        None => false,
-    }
-}
-
 /// Serves each connection that is signalled and that a worker of its child is free for.
 fn serve_all<L: Link>(board: &mut Board<L>) -> Result<(), BoardFault>
     requires passes { board.old.book.passes ≡ 2 }
     requires serving { board.old.book.state.going ≡ Serving }
     ensures goes { GoesOn board.old.book board.new.book }
     ensures err { IfErr result (λ fault. MustStop fault board.new.book) }
-    ensures tells { (text : List ℕ) → AllTell text board.old → AllTell text board.new }
+    ensures served { OnOk result (NoneDue board.new.book.state) }
+    ensures tells { (clients : List (List ℕ)) → AllTell clients board.old → AllTell clients board.new }
 {
     while let Some(name) = board.signalled() {
         serve(board, SERVER, name)?;
@@ -261,7 +387,7 @@ fn stop<L: Link>(board: &mut Board<L>, fault: BoardFault)
     requires must { MustStop fault board.old.book }
     ensures keeps { Keeps board.old.book board.new.book }
     ensures stopped { (board.new.book.state.going ≡ Halted why.Full) ⊎ (board.new.book.state.going ≡ Halted why.NoMemory) }
-    ensures tells { (text : List ℕ) → AllTell text board.old → AllTell text board.new }
+    ensures tells { (clients : List (List ℕ)) → AllTell clients board.old → AllTell clients board.new }
 {
     if board.going().is_halted() {
         return;
@@ -278,7 +404,8 @@ fn close_all<L: Link>(board: &mut Board<L>)
     requires passes { board.old.book.passes ≡ 2 }
     requires halted { is_halted board.old.book.state.going ≡ true }
     ensures stays { Stays board.old.book board.new.book }
-    ensures tells { (text : List ℕ) → AllTell text board.old → AllTell text board.new }
+    ensures none { NoneParked board.new.book.state }
+    ensures tells { (clients : List (List ℕ)) → AllTell clients board.old → AllTell clients board.new }
 {
     while let Some(name) = board.parked() {
         let conn = board.hold(LISTENER, name);
@@ -294,7 +421,7 @@ fn retire_all<L: Link>(board: &mut Board<L>)
     ensures stays { Stays board.old.book board.new.book }
     ensures live { HasNoLive board.old.book.state → HasNoLive board.new.book.state }
     ensures empty { HasNoLive board.old.book.state → AllEmpty board.new.book.state }
-    ensures tells { (text : List ℕ) → AllTell text board.old → AllTell text board.new }
+    ensures tells { (clients : List (List ℕ)) → AllTell clients board.old → AllTell clients board.new }
 {
     while let Some(child) = board.can_retire() {
         board.retire(LISTENER, child);

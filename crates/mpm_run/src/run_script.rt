@@ -1,13 +1,16 @@
 //! The top call: from the words of the command line to the report.
-ghost use Rattle.std.specs.Prelude.{◌≡◌, ◌<◌, ◌≤◌, ℕ, false, List, Some, None, [], IfOk, IfSome, IfNone, IsSomeAnd, IsNone, is_some, length, take, option_map};
+ghost use Rattle.std.specs.Prelude.{◌≡◌, ◌⊎◌, ◌<◌, ◌≤◌, ℕ, false, List, Some, None, [], IfOk, IfSome, IfNone, IsSomeAnd, IsNone, is_some, length, take, option_map};
 ghost use Rattle.std.specs.List.{list_any};
 ghost use Rattle.mpm_base.specs.Count.{NeverFalls, Rises};
 ghost use Rattle.conn_machine.specs.States.{opening};
 ghost use Rattle.conn_machine.specs.declared.state.Going.{Going};
 ghost use Rattle.mpm_run.specs.FirstShape as spec;
-ghost use Rattle.mpm_run.specs.Listen.{HasEnded, HasStopped, IsEnd, IsRunFrom, IsWholeRun};
+ghost use Rattle.mpm_base.specs.Clients.{clients_of};
+ghost use Rattle.conn_machine.specs.declared.event.Why.TheVariants as why;
+ghost use Rattle.conn_machine.specs.declared.state.Going.TheVariants.{Halted};
+ghost use Rattle.mpm_run.specs.Listen.{AllEmpty, HasNoLive, IsEnd, IsRunFrom, IsWholeRun};
 ghost use Rattle.mpm_run.specs.Statuses as statuses;
-ghost use Rattle.mpm_run.specs.Statuses.{EndsFor, EndsFull, EndsRefused, EndsUnknown, EndsUnread, EndsUnwritten, EndsWell, HasPlayed, HasRun, IsCommand, IsEndStatus, IsNoCommand, IsPlayed, IsStatus, IsStatusOf, Reports, ReportsAs, Writes, WritesAll, board_report, is_cut, seen_call, sink_seen};
+ghost use Rattle.mpm_run.specs.Statuses.{EndsFor, EndsFull, EndsRefused, EndsUnknown, EndsUnread, EndsUnwritten, EndsWell, HasPlayed, HasRun, IsCommand, IsRefusalOf, IsEndStatus, IsNoCommand, IsPlayed, IsStatus, IsStatusOf, Reports, ReportsAs, Writes, WritesAll, board_report, is_cut, seen_call, sink_seen};
 ghost use Rattle.mpm_run.specs.Tells.{AllReceive, EndedTell};
 
 use crate::counting::tally;
@@ -18,8 +21,8 @@ use board::Board;
 use conn_machine::laws::{accepted_connections_are_closed_or_live, events_keep_states_sound};
 use conn_machine::{Going, Why};
 use mpm_base::{
-    Calls, Cause, Link, NoMemory, Octets, Put, Script, ScriptFault, ScriptLink, Shape, Sink, Store,
-    StoreFault, Words, read_script,
+    Cause, Link, NoMemory, Octets, Put, Ready, Script, ScriptClock, ScriptFault, ScriptFront,
+    ScriptLink, Shape, Sink, Store, StoreFault, Words, read_script,
 };
 use std::alloc::Global;
 use std::sync::Wait;
@@ -55,6 +58,10 @@ fn first_shape() -> Shape
 pub struct Scripted {
     /// The table of connections, as the run left it.
     pub board: Board<ScriptLink>,
+    /// The front that played the script.
+    pub front: ScriptFront,
+    /// The clock of the run.
+    pub clock: ScriptClock,
 }
 
 /// How a run ended.
@@ -80,11 +87,11 @@ pub fn run<R: Threads + Wait + Sync, D: Store, K: Sink>(
     store: &mut D,
     out: &mut K,
 ) -> Outcome
-    // A run that ended is a whole run of the machine from its opening state, and the output has its report.
-    ensures served { result.status ≡ 0 → IsSomeAnd result.scripted (λ s. EndsWell (sink_seen (K.told out.old) (K.faults out.old)) (sink_seen (K.told out.new) (K.faults out.new)) s.board) }
+    // A run that ended is a whole run of the machine from its opening state, of the whole script, and the output has its report.
+    ensures served { result.status ≡ 0 → IsSomeAnd result.scripted (λ s. EndsWell (sink_seen (K.told out.old) (K.faults out.old)) (sink_seen (K.told out.new) (K.faults out.new)) s.board s.front) }
 
     // Whatever the status, what is left of a run is of one of the script that was read.
-    ensures kept { IfSome result.scripted (λ s. HasPlayed (seen_call words.now (D.told store.old) (D.counts store.old) (D.told store.new) (D.counts store.new) (K.told out.old) (K.faults out.old) (K.told out.new) (K.faults out.new) result.shown) s.board) }
+    ensures kept { IfSome result.scripted (λ s. HasPlayed (seen_call words.now (D.told store.old) (D.counts store.old) (D.told store.new) (D.counts store.new) (K.told out.old) (K.faults out.old) (K.told out.new) (K.faults out.new) result.shown) s.board s.front) }
     ensures stopped { IfSome result.scripted (λ s. EndsFor s.board.book.state.going result.status) }
 
     // Each other status has its cause.
@@ -92,7 +99,7 @@ pub fn run<R: Threads + Wait + Sync, D: Store, K: Sink>(
     ensures unknown { result.status ≡ 2 → EndsUnknown (seen_call words.now (D.told store.old) (D.counts store.old) (D.told store.new) (D.counts store.new) (K.told out.old) (K.faults out.old) (K.told out.new) (K.faults out.new) result.shown) }
     ensures unread { result.status ≡ 3 → EndsUnread (seen_call words.now (D.told store.old) (D.counts store.old) (D.told store.new) (D.counts store.new) (K.told out.old) (K.faults out.old) (K.told out.new) (K.faults out.new) result.shown) }
     ensures refused { result.status ≡ 8 → EndsRefused (seen_call words.now (D.told store.old) (D.counts store.old) (D.told store.new) (D.counts store.new) (K.told out.old) (K.faults out.old) (K.told out.new) (K.faults out.new) result.shown) }
-    ensures unwritten { result.status ≡ 5 → IsSomeAnd result.scripted (λ s. EndsUnwritten (sink_seen (K.told out.old) (K.faults out.old)) (sink_seen (K.told out.new) (K.faults out.new)) s.board) }
+    ensures unwritten { result.status ≡ 5 → IsSomeAnd result.scripted (λ s. EndsUnwritten (sink_seen (K.told out.old) (K.faults out.old)) (sink_seen (K.told out.new) (K.faults out.new)) s.board s.front) }
     ensures full { result.status ≡ 7 → IsSomeAnd result.scripted (λ s. EndsFull (sink_seen (K.told out.old) (K.faults out.old)) (sink_seen (K.told out.new) (K.faults out.new)) s.board) }
 
     // A run that did not open for want of memory writes nothing.
@@ -128,13 +135,7 @@ pub fn run<R: Threads + Wait + Sync, D: Store, K: Sink>(
     };
     match read_script(alloc, bytes.as_slice()) {
         Ok(script) => play(rt, alloc, script, out),
-        Err(ScriptFault::NotYet(line)) => {
-            let Ok(text) = script_refused_text(alloc, line, ScriptRefusal::NotYet) else {
-                return no_memory();
-            };
-            refuse(out, 8, Some(line), &text)
-        }
-        Err(ScriptFault::NoMemory) => no_memory(),
+        Err(fault) => refuse_script(alloc, fault, out),
     }
 }
 
@@ -180,35 +181,68 @@ fn refuse<K: Sink>(out: &mut K, status: u8, shown: Option<u64>, text: &Octets) -
     }
 }
 
+/// The end of a run whose script is refused for the fault, or for which memory lacked.
+fn refuse_script<K: Sink>(alloc: Global, fault: ScriptFault, out: &mut K) -> Outcome
+    ensures known { (result.status ≡ 8) ⊎ (result.status ≡ 6) }
+    ensures scripted { IsNone result.scripted }
+    ensures refused { result.status ≡ 8 → IsRefusalOf (sink_seen (K.told out.old) (K.faults out.old)) (sink_seen (K.told out.new) (K.faults out.new)) fault result.shown }
+    ensures silent { result.status ≡ 6 → K.told out.new ≡ K.told out.old }
+{
+    let (line, why) = match fault {
+        ScriptFault::BadLine(line) => (line, ScriptRefusal::BadLine),
+        ScriptFault::MomentBackwards(line) => (line, ScriptRefusal::MomentBackwards),
+        ScriptFault::UnknownName(line) => (line, ScriptRefusal::UnknownName),
+        ScriptFault::NotYet(line) => (line, ScriptRefusal::NotYet),
+        ScriptFault::NoMemory => return no_memory(),
+    };
+    let Ok(text) = script_refused_text(alloc, line, why) else {
+        return no_memory();
+    };
+    refuse(out, 8, Some(line), &text)
+}
+
 /// Plays the script, and writes the report.
 fn play<R: Wait, K: Sink>(rt: &R, alloc: Global, script: Script, out: &mut K) -> Outcome
-    ensures kept { IfSome result.scripted (λ s. HasRun script.sent s.board) }
+    ensures kept { IfSome result.scripted (λ s. HasRun (clients_of script) s.board) }
+    ensures script { IfSome result.scripted (λ s. s.front.script ≡ script) }
     ensures stopped { IfSome result.scripted (λ s. EndsFor s.board.book.state.going result.status) }
     ensures shown { result.shown ≡ None }
     ensures known { IsPlayed result.status }
-    ensures served { result.status ≡ 0 → IsSomeAnd result.scripted (λ s. EndsWell (sink_seen (K.told out.old) (K.faults out.old)) (sink_seen (K.told out.new) (K.faults out.new)) s.board) }
-    ensures unwritten { result.status ≡ 5 → IsSomeAnd result.scripted (λ s. EndsUnwritten (sink_seen (K.told out.old) (K.faults out.old)) (sink_seen (K.told out.new) (K.faults out.new)) s.board) }
+    ensures served { result.status ≡ 0 → IsSomeAnd result.scripted (λ s. EndsWell (sink_seen (K.told out.old) (K.faults out.old)) (sink_seen (K.told out.new) (K.faults out.new)) s.board s.front) }
+    ensures unwritten { result.status ≡ 5 → IsSomeAnd result.scripted (λ s. EndsUnwritten (sink_seen (K.told out.old) (K.faults out.old)) (sink_seen (K.told out.new) (K.faults out.new)) s.board s.front) }
     ensures full { result.status ≡ 7 → IsSomeAnd result.scripted (λ s. EndsFull (sink_seen (K.told out.old) (K.faults out.old)) (sink_seen (K.told out.new) (K.faults out.new)) s.board) }
     ensures silent { IsNone result.scripted → K.told out.new ≡ K.told out.old }
 {
     let Ok(mut board) = Board::make(alloc, SLOTS, CHILDREN, PASSES, first_shape()) else {
         return no_memory();
     };
+    let (Ok(mut front), Ok(mut ready)) = (ScriptFront::make(alloc, script), Ready::make(alloc))
+    else {
+        return no_memory();
+    };
+    let mut clock = ScriptClock::make(alloc);
     board.show();
-    let (reads, writes) = (Calls::make(alloc), Calls::make(alloc));
-    let link = ScriptLink::make(alloc, 0, script.sent, true, reads, writes);
-    listen(rt, alloc, &mut board, link);
+    listen(rt, alloc, &mut board, &mut front, &mut clock, &mut ready);
     show_run(&board);
-    finish(alloc, board, out)
+    front.show();
+    finish(
+        alloc,
+        Scripted {
+            board,
+            front,
+            clock,
+        },
+        out,
+    )
 }
 
-/// What a board shows of its run: each state on the way was sound; where the one connection was taken and is gone it
-/// ended; and where links tell from a text, those of ended connections received a front of it. Does nothing.
+/// What a board shows of its run: each state on the way was sound; where nothing more could come each connection that was
+/// taken ended; and those that ended received a front of what their clients send. Does nothing.
 fn show_run<L: Link>(board: &Board<L>)
     requires { board.now.book.base ≡ opening 64 1 spec.first_shape }
     ensures run { IsRunFrom 64 1 spec.first_shape board.now }
-    ensures whole { HasEnded board.now.book.state → IsWholeRun 64 1 spec.first_shape board.now }
-    ensures receive { (text : List ℕ) → EndedTell text board.now.ended → AllReceive text board.now.ended }
+    ensures whole { board.now.book.state.going ≡ Halted why.FrontEnded → AllEmpty board.now.book.state → HasNoLive board.now.book.state → IsWholeRun 64 1 spec.first_shape board.now }
+    ensures receive { (clients : List (List ℕ)) → EndedTell clients board.now.ended → AllReceive clients board.now.ended }
 {
     events_keep_states_sound();
     accepted_connections_are_closed_or_live();
@@ -216,27 +250,25 @@ fn show_run<L: Link>(board: &Board<L>)
 }
 
 /// The end of a run that opened: its report is written.
-fn finish<K: Sink>(alloc: Global, board: Board<ScriptLink>, out: &mut K) -> Outcome
-    requires stopped { HasStopped board.book.state }
-    ensures scripted { IsSomeAnd result.scripted (λ s. s.board ≡ board) }
-    ensures stopped { EndsFor board.book.state.going result.status }
+fn finish<K: Sink>(alloc: Global, scripted: Scripted, out: &mut K) -> Outcome
+    requires stopped { IsEnd scripted.board.book.state.going }
+    ensures scripted { result.scripted ≡ Some scripted }
+    ensures stopped { EndsFor scripted.board.book.state.going result.status }
     ensures shown { result.shown ≡ None }
     ensures known { IsPlayed result.status }
-    ensures reported { result.status ≡ 0 → HasEnded board.book.state × Reports (sink_seen (K.told out.old) (K.faults out.old)) (sink_seen (K.told out.new) (K.faults out.new)) board }
-    ensures none_cut { result.status ≡ 0 → list_any is_cut board.ended ≡ false }
-    ensures unwritten { result.status ≡ 5 → HasEnded board.book.state × Rises (K.faults out.old) (K.faults out.new) }
-    ensures full { result.status ≡ 7 → EndsFull (sink_seen (K.told out.old) (K.faults out.old)) (sink_seen (K.told out.new) (K.faults out.new)) board }
+    ensures ended { (result.status ≡ 0) ⊎ (result.status ≡ 5) → scripted.board.book.state.going ≡ Halted why.FrontEnded }
+    ensures reported { result.status ≡ 0 → Reports (sink_seen (K.told out.old) (K.faults out.old)) (sink_seen (K.told out.new) (K.faults out.new)) scripted.board }
+    ensures none_cut { result.status ≡ 0 → list_any is_cut scripted.board.ended ≡ false }
+    ensures unwritten { result.status ≡ 5 → Rises (K.faults out.old) (K.faults out.new) }
+    ensures full { result.status ≡ 7 → EndsFull (sink_seen (K.told out.old) (K.faults out.old)) (sink_seen (K.told out.new) (K.faults out.new)) scripted.board }
 {
-    let status = report(
-        alloc,
-        &board,
-        out,
-        status_of(board.going(), has_cut(&board)),
-    );
+    let board = &scripted.board;
+    board.show();
+    let status = report(alloc, board, out, status_of(board.going(), has_cut(board)));
     Outcome {
         status,
         shown: None,
-        scripted: Some(Scripted { board }),
+        scripted: Some(scripted),
     }
 }
 

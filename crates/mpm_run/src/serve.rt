@@ -8,7 +8,7 @@ ghost use Rattle.board.specs.Book.{recorded};
 ghost use Rattle.board.specs.Faults.{IsRefusedFor};
 ghost use Rattle.board.specs.Fits.{IsSettled};
 ghost use Rattle.conn_state.specs.declared.turn.LastTurn.TheVariants as turn;
-ghost use Rattle.mpm_run.specs.Serve.{GoesOn, IsClosable, IsInHand, IsServed, LeavesGoing, MayLeave, Stays, answers_left, given_up, parked_count, signalled_count};
+ghost use Rattle.mpm_run.specs.Serve.{GoesOn, IsClosable, IsInHand, IsServed, LeavesGoing, MayLeave, OthersStay, Stays, answers_left, given_up, parked_count, signalled_count};
 ghost use Rattle.mpm_run.specs.Tells.{AllTell, HasSame, TellsFrom};
 
 use board::{Board, BoardFault};
@@ -32,8 +32,9 @@ pub fn serve<L: Link>(board: &mut Board<L>, who: u32, name: ConnName) -> Result<
     requires who { who < board.old.book.passes }
     requires allowed { is_halted board.old.book.state.going ≡ false → allowed board.old.book.state (event.Queue name) ≡ true }
     ensures goes { GoesOn board.old.book board.new.book }
+    ensures others { OthersStay who board.old.book board.new.book }
     ensures fewer { OnOk result (signalled_count board.new.book.state < signalled_count board.old.book.state) }
-    ensures tells { (text : List ℕ) → AllTell text board.old → AllTell text board.new }
+    ensures tells { (clients : List (List ℕ)) → AllTell clients board.old → AllTell clients board.new }
     ensures why { IfErr result (λ fault. IsRefusedFor fault board.old.book) }
     ensures err { OnErr result (board.new ≡ board.old) }
 {
@@ -49,8 +50,9 @@ fn converse<L: Link>(board: &mut Board<L>, who: u32, conn: &mut Conn<L>) -> Exit
     requires who { who < board.old.book.passes }
     requires served { IsServed board.old.book.state conn.old }
     ensures stays { Stays board.old.book board.new.book }
+    ensures others { OthersStay who board.old.book board.new.book }
     ensures same { HasSame board.old board.new }
-    ensures told { (text : List ℕ) → TellsFrom text conn.old.told → TellsFrom text conn.new.told }
+    ensures told { (clients : List (List ℕ)) → TellsFrom clients conn.old.told → TellsFrom clients conn.new.told }
     ensures may { MayLeave board.new.book conn.new result }
 {
     loop {
@@ -68,8 +70,9 @@ fn turn<L: Link>(board: &mut Board<L>, who: u32, conn: &mut Conn<L>) -> Option<E
     requires who { who < board.old.book.passes }
     requires served { IsServed board.old.book.state conn.old }
     ensures stays { Stays board.old.book board.new.book }
+    ensures others { OthersStay who board.old.book board.new.book }
     ensures same { HasSame board.old board.new }
-    ensures told { (text : List ℕ) → TellsFrom text conn.old.told → TellsFrom text conn.new.told }
+    ensures told { (clients : List (List ℕ)) → TellsFrom clients conn.old.told → TellsFrom clients conn.new.told }
     ensures may { IfSome result (MayLeave board.new.book conn.new) }
     ensures served { IfNone result (IsServed board.new.book.state conn.new) }
     ensures fewer { IfNone result (answers_left board.new.book.state conn.new < answers_left board.old.book.state conn.old) }
@@ -99,6 +102,7 @@ fn answer<L: Link>(board: &mut Board<L>, who: u32, conn: &mut Conn<L>, ask: Ask)
     requires served { IsServed board.old.book.state conn.old }
     requires asked { conn.old.turn ≡ turn.Asked ask }
     ensures stays { Stays board.old.book board.new.book }
+    ensures others { OthersStay who board.old.book board.new.book }
     ensures same { HasSame board.old board.new }
     ensures told { conn.new.told ≡ conn.old.told }
     ensures may { IfSome result (MayLeave board.new.book conn.new) }
@@ -121,7 +125,8 @@ fn leave<L: Link>(board: &mut Board<L>, who: u32, conn: Conn<L>, exit: Exit)
     requires who { who < board.old.book.passes }
     requires may { MayLeave board.old.book conn exit }
     ensures goes { GoesOn board.old.book board.new.book }
-    ensures tells { (text : List ℕ) → AllTell text board.old → TellsFrom text conn.told → AllTell text board.new }
+    ensures others { OthersStay who board.old.book board.new.book }
+    ensures tells { (clients : List (List ℕ)) → AllTell clients board.old → TellsFrom clients conn.told → AllTell clients board.new }
 {
     board.show();
     conn.show();
@@ -146,10 +151,12 @@ pub fn park<L: Link>(
     requires hand { IsInHand board.old.book.state conn }
     requires settled { IsSettled kind conn }
     ensures goes { GoesOn board.old.book board.new.book }
+    ensures others { OthersStay who board.old.book board.new.book }
     ensures ok { OnOk result (board.new.book.state.going ≡ board.old.book.state.going) }
     ensures parked { OnOk result (board.new.book ≡ recorded who (event.Park conn.name kind) board.old.book) }
+    ensures moment { board.new.book.state.moment ≡ board.old.book.state.moment }
     ensures err { IfErr result (λ fault. LeavesGoing fault board.old.book.state.going board.new.book.state.going) }
-    ensures tells { (text : List ℕ) → AllTell text board.old → TellsFrom text conn.told → AllTell text board.new }
+    ensures tells { (clients : List (List ℕ)) → AllTell clients board.old → TellsFrom clients conn.told → AllTell clients board.new }
 {
     match board.park(who, kind, conn) {
         Ok(()) => Ok(()),
@@ -168,8 +175,9 @@ pub fn give_up<L: Link>(board: &mut Board<L>, who: u32, conn: Conn<L>, fault: Bo
     requires why { IsRefusedFor fault board.old.book }
     ensures is { board.new.book ≡ given_up fault who conn.name board.old.book }
     ensures goes { GoesOn board.old.book board.new.book }
+    ensures others { OthersStay who board.old.book board.new.book }
     ensures going { LeavesGoing fault board.old.book.state.going board.new.book.state.going }
-    ensures tells { (text : List ℕ) → AllTell text board.old → TellsFrom text conn.told → AllTell text board.new }
+    ensures tells { (clients : List (List ℕ)) → AllTell clients board.old → TellsFrom clients conn.told → AllTell clients board.new }
 {
     match fault {
         BoardFault::Halted => close(board, who, conn, Cause::Stopped),
@@ -187,8 +195,9 @@ pub fn close<L: Link>(board: &mut Board<L>, who: u32, conn: Conn<L>, cause: Caus
     requires may { IsClosable board.old.book.state cause conn }
     ensures closed { board.new.book ≡ recorded who (event.Close conn.name cause Direct) board.old.book }
     ensures stays { Stays board.old.book board.new.book }
+    ensures others { OthersStay who board.old.book board.new.book }
     ensures parked { parked_count board.new.book.state ≤ parked_count board.old.book.state }
-    ensures tells { (text : List ℕ) → AllTell text board.old → TellsFrom text conn.told → AllTell text board.new }
+    ensures tells { (clients : List (List ℕ)) → AllTell clients board.old → TellsFrom clients conn.told → AllTell clients board.new }
 {
     board.close(who, conn.end(cause, Tail::Direct));
 }

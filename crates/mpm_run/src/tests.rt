@@ -2,8 +2,10 @@
 use crate::run_script::{Outcome, run};
 use board::Board;
 use conn_machine::{Commanded, Event, Going, Reply, Why};
+use conn_state::Ended;
 use mpm_base::{
-    Ask, Calls, Cause, ConnName, Files, Kind, MemSink, MemStore, NoMemory, ScriptLink, Tail, Words,
+    Ask, Calls, Cause, ConnName, Files, Kind, MemSink, MemStore, NoMemory, Octets, ScriptLink,
+    Tail, Words,
 };
 use std::alloc::Global;
 use std::process::Abort;
@@ -123,22 +125,54 @@ fn keeps(rt: &impl Abort, board: &Board<ScriptLink>) {
     }
 }
 
-/// The one connection of the board is to have received the request, and to have been sent the reply; its link is to have
-/// been closed once.
+/// The one connection of the board is to have received the request, and to have been sent the reply.
 fn served(rt: &impl Abort, board: &Board<ScriptLink>) {
-    let ended = board.ended();
-    assert_eq!(rt; ended.len(), 1);
     assert_eq!(rt; REPLY.len(), 106);
-    for ended in ended {
-        assert_eq!(rt;
-            (ended.cause, ended.tail),
-            (Cause::ClientDone, Tail::Direct)
-        );
+    assert_eq!(rt; board.ended().len(), 1);
+    for ended in board.ended() {
         assert_eq!(rt; ended.link.received(), REQUEST);
-        assert!(rt; ended.link.left().is_empty());
-        assert_eq!(rt; ended.link.sent(), REPLY);
-        assert_eq!(rt; (ended.link.shuts(), ended.link.closes()), (0, 1));
+        is_done(rt, ended, &[REPLY]);
     }
+}
+
+/// The connection's client is to have been done, its link to have been sent these replies and closed once.
+fn is_done(rt: &impl Abort, ended: &Ended<ScriptLink>, replies: &[&[u8]]) {
+    assert_eq!(rt;
+        (ended.cause, ended.tail),
+        (Cause::ClientDone, Tail::Direct)
+    );
+    assert_eq!(rt; ended.notes.as_slice().len(), replies.len());
+    let mut sent = ended.link.sent();
+    for reply in replies {
+        assert!(rt; sent.starts_with(reply));
+        sent = sent.strip_prefix(*reply).unwrap_or(sent);
+    }
+    assert!(rt; sent.is_empty());
+    assert!(rt; ended.link.left().is_empty());
+    assert_eq!(rt; (ended.link.shuts(), ended.link.closes()), (0, 1));
+}
+
+/// The script is to be played to its end, and its connections are to end in this order, each after these replies.
+fn serves(
+    rt: &(impl Abort + Threads + Wait + Sync),
+    alloc: Global,
+    script: &[u8],
+    wanted: &[&[&[u8]]],
+) -> Result<(), NoMemory> {
+    let mut out = MemSink::make(alloc, Calls::make(alloc));
+    let outcome = plays(rt, alloc, &["--script", "s"], script, &mut out)?;
+    assert_eq!(rt; outcome.status, 0);
+    let Some(scripted) = &outcome.scripted else {
+        assert!(rt; false);
+        return Ok(());
+    };
+    let front = &scripted.front;
+    assert_eq!(rt; front.happened(), front.script().lines().len());
+    assert_eq!(rt; scripted.board.ended().len(), wanted.len());
+    for (ended, replies) in scripted.board.ended().iter().zip(wanted) {
+        is_done(rt, ended, replies);
+    }
+    Ok(())
 }
 
 /// The server is to have stopped as the status says, and each link that was taken to have been closed once.
@@ -189,18 +223,113 @@ fn words_that_are_no_command_are_refused(rt: HostRuntime) -> Result<(), Fail> {
 #[test]
 fn scripts_are_refused_at_their_line(rt: HostRuntime) -> Result<(), Fail> {
     let alloc = rt.alloc();
-    let cases: [(&[u8], u64, &[u8]); 3] = [
-        (b"", 1, b"script refused at 1: NotYet\n"),
-        (b"conn a\nconn b\n", 2, b"script refused at 2: NotYet\n"),
+    let cases: [(&[u8], u64, &[u8]); 8] = [
+        (b"conn a", 1, b"script refused at 1: BadLine\n"),
+        (
+            b"conn a\nend a\nconn a\n",
+            3,
+            b"script refused at 3: BadLine\n",
+        ),
+        (
+            b"at 5\nat 4\n",
+            2,
+            b"script refused at 2: MomentBackwards\n",
+        ),
+        (b"send z hi\n", 1, b"script refused at 1: UnknownName\n"),
+        (b"conn a\nconn b\n", 1, b"script refused at 1: NotYet\n"),
         (
             b"conn a\nsend a GET / HTTP/1.1\\r\\nHost: a\\r\\n\\r\\n\n",
-            3,
-            b"script refused at 3: NotYet\n",
+            1,
+            b"script refused at 1: NotYet\n",
+        ),
+        (
+            b"conn a\nroom a 5\nend a\n",
+            2,
+            b"script refused at 2: NotYet\n",
+        ),
+        (
+            b"command stop\nhello\n",
+            2,
+            b"script refused at 2: BadLine\n",
         ),
     ];
     for (script, line, text) in cases {
         ends(&rt, alloc, &["--script", "s"], script, 8, Some(line), text)?;
     }
+    Ok(())
+}
+
+#[test]
+fn an_empty_script_starts_and_stops_a_server(rt: HostRuntime) -> Result<(), Fail> {
+    let text: &[u8] =
+        b"Generation: 0\nAccepted: 0\nClosed: 0\nResponses: 0\nClientDone: 0\nLastSent: 0\nKeepAliveLate: 0\nReadLate: 0\nWriteLate: 0\nRetiring: 0\nLinkFailed: 0\nStopped: 0\nNoMemory: 0\nChildrenStarted: 1\n";
+    ends(&rt, rt.alloc(), &["--script", "s"], b"", 0, None, text)?;
+    Ok(())
+}
+
+#[test]
+fn two_connections_are_served_as_their_bytes_and_their_room_come(
+    rt: HostRuntime,
+) -> Result<(), Fail> {
+    let script: &[u8] =
+        b"conn a\nroom a 20\nsend a GET / HTTP/1.1\\r\\nHost: localhost\\r\\n\\r\\nGET / HTTP/1.1\\r\\nHost: localhost\\r\\n\\r\\n\nconn b\nsend b GET / HTT\nat 5\nroom a all\nsend b P/1.1\\r\\nHost: localhost\\r\\n\\r\\n\nat 10\nend a\nend b\n";
+    serves(&rt, rt.alloc(), script, &[&[REPLY, REPLY], &[REPLY]])?;
+    Ok(())
+}
+
+#[test]
+fn clients_may_send_nothing_or_stop_within_a_request(rt: HostRuntime) -> Result<(), Fail> {
+    let alloc = rt.alloc();
+    let cases: [(&[u8], &[&[&[u8]]]); 6] = [
+        (b"conn a\nend a\n", &[&[]]),
+        (b"conn a\nat 4999\nend a\n", &[&[]]),
+        (b"conn a\nsend a \nsend a GET / HT\nat 7\nend a\n", &[&[]]),
+        (b"at 0\nconn a\nat 0\nat 3\nend a\nat 3\nend a\n", &[&[]]),
+        (
+            b"conn a\nsend a \\x47ET / HTTP/1.1\\x0D\\x0aHost: a\\r\\n\\r\\n\nend a\nsend a \\t\\\\\nat 1\nend a\n",
+            &[&[REPLY]],
+        ),
+        (
+            b"conn a\nsend a GET / HTTP/1.1\\r\\nHost: a\\r\\n\\r\\n\nat 4\nsend a GET / HTTP/1.1\\r\\nHost: b\\r\\n\\r\\nGET /\nend a\n",
+            &[&[REPLY, REPLY]],
+        ),
+    ];
+    for (script, wanted) in cases {
+        serves(&rt, alloc, script, wanted)?;
+    }
+    Ok(())
+}
+
+/// Adds the lines of a connection of that number: its arrival and its one request.
+fn add_client(script: &mut Octets, number: u8) -> Result<(), NoMemory> {
+    let name = [b'a' + number / 26, b'a' + number % 26];
+    script.add(b"conn ")?;
+    script.add(&name)?;
+    script.add(b"\nsend ")?;
+    script.add(&name)?;
+    script.add(b" GET / HTTP/1.1\\r\\nHost: localhost\\r\\n\\r\\n\n")
+}
+
+/// Adds the line of its end.
+fn add_end(script: &mut Octets, number: u8) -> Result<(), NoMemory> {
+    script.add(b"end ")?;
+    script.add(&[b'a' + number / 26, b'a' + number % 26])?;
+    script.add(b"\n")
+}
+
+#[test]
+fn seventy_connections_share_64_slots(rt: HostRuntime) -> Result<(), Fail> {
+    let alloc = rt.alloc();
+    let mut script = Octets::make(alloc);
+    for number in 0..70 {
+        add_client(&mut script, number)?;
+    }
+    script.add(b"at 5\n")?;
+    for number in 0..70 {
+        add_end(&mut script, number)?;
+    }
+    let once: &[&[u8]] = &[REPLY];
+    serves(&rt, alloc, script.as_slice(), &[once; 70])?;
     Ok(())
 }
 

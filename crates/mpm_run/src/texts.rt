@@ -9,10 +9,14 @@ use std::alloc::Global;
 /// Why a script is refused.
 #[derive(Clone, Copy, Debug, PartialEq, Eq)]
 pub enum ScriptRefusal {
-    /// The line is of a kind that is not there yet.
-    NotYet,
-    /// The line is none of a script.
+    /// The line is none of a script, or the script is too large.
     BadLine,
+    /// The line goes back to an earlier moment.
+    MomentBackwards,
+    /// The line names a connection that no earlier line makes.
+    UnknownName,
+    /// The line isn't built yet.
+    NotYet,
 }
 
 /// The text where the words of the command line are none that the program knows.
@@ -52,7 +56,9 @@ fn refusal_word(why: ScriptRefusal) -> &'static [u8]
     ensures { result.now ≡ spec.refusal_word why }
 {
     match why {
-        ScriptRefusal::NotYet => b"NotYet",
         ScriptRefusal::BadLine => b"BadLine",
+        ScriptRefusal::MomentBackwards => b"MomentBackwards",
+        ScriptRefusal::UnknownName => b"UnknownName",
+        ScriptRefusal::NotYet => b"NotYet",
     }
 }

@@ -26,9 +26,12 @@ loop-name-preserved g c =
           stays-trans c.args.board.now.book c.hold-conn.new.self.book c.close.new.board.book
           (stays-hold 0 c.in-Some.name c.args.board.now.book c.loop-name.board c.hold-conn.new.self _ c.loop-name.invariant.stays c.hold-conn.ensures.is)
           c.close.ensures.stays;
-      tells = λ text tells.
-          let before = c.loop-name.invariant.tells text tells in
-          c.close.ensures.tells text
-          (tell-held text 0 c.in-Some.name.slot c.in-Some.name c.loop-name.board c.hold-conn.new.self c.hold-conn.ensures.is before)
+      tells = λ clients tells.
+          let before = c.loop-name.invariant.tells clients tells in
+          c.close.ensures.tells clients
+          (tell-held clients 0 c.in-Some.name.slot c.in-Some.name c.loop-name.board c.hold-conn.new.self c.hold-conn.ensures.is before)
           (before.conns c.in-Some.name.slot c.hold-conn.result c.hold-conn.ensures.conn);
     }
+
+pub returns-clause-none : goal.returns-clause-none
+returns-clause-none g c = c.in_default.ensures

@@ -8,7 +8,7 @@ abbrev pub invariant-loop-name : goal.invariant-loop-name
 invariant-loop-name g l =
     record {
       stays : Stays l.fn.board.book l.board.book;
-      tells : (text : List ℕ) → AllTell text l.fn.board → AllTell text l.board;
+      tells : (clients : List (List ℕ)) → AllTell clients l.fn.board → AllTell clients l.board;
     }
 
 -- how many connections wait

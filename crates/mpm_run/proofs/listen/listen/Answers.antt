@@ -1,11 +1,18 @@
 use Rattle.mpm_run.proofs.ListenLemmas.{tell-added}
 use Rattle.mpm_run.proofs.listen.listen.Goals as goal
 
-pub returns-in-Ok-clause-tells : goal.returns-in-Ok-clause-tells
-returns-in-Ok-clause-tells g c text tells link =
-    c.retire_all.ensures.tells text
-    (tell-added text 0 _ c.play-played.new.board c.halt.new.self c.halt.ensures (c.play-played.ensures.tells text tells link))
+pub returns-in-Ok-Ended-clause-tells : goal.returns-in-Ok-Ended-clause-tells
+returns-in-Ok-Ended-clause-tells g c clients links has tells =
+    c.retire_all.ensures.tells clients
+    (tell-added clients 0 _ c.play.new.board c.halt.new.self c.halt.ensures (c.play.ensures.tells clients links has tells))
+
+pub returns-in-Ok-Failed-clause-tells : goal.returns-in-Ok-Failed-clause-tells
+returns-in-Ok-Failed-clause-tells g c clients links has tells =
+    c.retire_all-in-Ok-Failed.ensures.tells clients
+    (c.close_all.ensures.tells clients
+    (tell-added clients 0 _ c.play.new.board c.halt-in-Ok-Failed.new.self c.halt-in-Ok-Failed.ensures (c.play.ensures.tells clients links has tells)))
 
 pub returns-in-Err-clause-tells : goal.returns-in-Err-clause-tells
-returns-in-Err-clause-tells g c text tells link =
-    c.retire_all-in-Err.ensures.tells text (c.close_all.ensures.tells text (c.stop.ensures.tells text (c.play-played.ensures.tells text tells link)))
+returns-in-Err-clause-tells g c clients links has tells =
+    c.retire_all-in-Err.ensures.tells clients
+    (c.close_all-in-Err.ensures.tells clients (c.stop.ensures.tells clients (c.play.ensures.tells clients links has tells)))

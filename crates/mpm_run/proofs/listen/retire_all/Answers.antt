@@ -16,7 +16,7 @@ loop-child-preserved g c =
     record {
       stays = stays-retire 0 c.in-Some.child c.args.board.now.book c.loop-child.board c.retire.new.self c.loop-child.invariant.stays c.retire.ensures;
       rows = ap (λ (b : SeenBoard). b.book.state.rows) c.retire.ensures ∙ c.loop-child.invariant.rows;
-      tells = λ text tells. tell-added text 0 _ c.loop-child.board c.retire.new.self c.retire.ensures (c.loop-child.invariant.tells text tells);
+      tells = λ clients tells. tell-added clients 0 _ c.loop-child.board c.retire.new.self c.retire.ensures (c.loop-child.invariant.tells clients tells);
     }
 
 pub returns-clause-empty : goal.returns-clause-empty

@@ -10,7 +10,7 @@ invariant-loop-child g l =
     record {
       stays : Stays l.fn.board.book l.board.book;
       rows : l.board.book.state.rows ≡ l.fn.board.book.state.rows;
-      tells : (text : List ℕ) → AllTell text l.fn.board → AllTell text l.board;
+      tells : (clients : List (List ℕ)) → AllTell clients l.fn.board → AllTell clients l.board;
     }
 
 -- how many children stop

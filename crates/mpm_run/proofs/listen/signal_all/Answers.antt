@@ -1,9 +1,10 @@
 use Rattle.std.proofs.Common.{◌∙◌}
 use Rattle.mpm_run.proofs.ListenLemmas.{keeps-trans}
+use Rattle.mpm_run.proofs.StepLemmas.{signalled-more}
 use Rattle.mpm_run.proofs.listen.signal_all.Goals as goal
 
 pub returns-in_err-signal-clause-tells : goal.returns-in_err-signal-clause-tells
-returns-in_err-signal-clause-tells g c text tells = c.signal.ensures.tells text (c.loop-slot.invariant.tells text tells)
+returns-in_err-signal-clause-tells g c clients tells = c.signal.ensures.tells clients (c.loop-slot.invariant.tells clients tells)
 
 pub loop-slot-preserved : goal.loop-slot-preserved
 loop-slot-preserved g c =
@@ -11,6 +12,9 @@ loop-slot-preserved g c =
       keeps = keeps-trans c.args.board.now.book c.loop-slot.board.book c.signal.new.board.book c.loop-slot.invariant.keeps c.signal.ensures.keeps;
       going = c.signal.ensures.going;
       taken = c.signal.ensures.taken ∙ c.loop-slot.invariant.taken;
-      rows = c.signal.ensures.rows ∙ c.loop-slot.invariant.rows;
-      tells = λ text tells. c.signal.ensures.tells text (c.loop-slot.invariant.tells text tells);
+      signalled =
+          signalled-more c.args.slots.now c.loop-slot.slot-index c.loop-slot.board.book.state c.signal.new.board.book.state c.signal.ensures.rows c.signal.ensures.others
+          c.loop-slot.invariant.signalled c.in_ok-signal.ensures.signalled;
+      moment = c.signal.ensures.moment ∙ c.loop-slot.invariant.moment;
+      tells = λ clients tells. c.signal.ensures.tells clients (c.loop-slot.invariant.tells clients tells);
     }

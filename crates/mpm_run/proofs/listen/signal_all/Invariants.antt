@@ -1,16 +1,19 @@
-use Rattle.std.proofs.Common.{◌≡◌, List, ℕ}
+use Rattle.std.proofs.Common.{◌≡◌, ◌<◌, List, ℕ, length, true, slice_index}
 use Rattle.conn_machine.specs.declared.state.Going.TheVariants.{Serving}
+use Rattle.conn_machine.specs.States.{is_signalled}
 use Rattle.mpm_run.specs.Listen.{Keeps}
 use Rattle.mpm_run.specs.Tells.{AllTell}
 use Rattle.mpm_run.proofs.listen.signal_all.Given as goal
 
--- the server goes on as before, with the rows that it had
+-- the server goes on as before, and the slots so far are signalled
 abbrev pub invariant-loop-slot : goal.invariant-loop-slot
 invariant-loop-slot g l =
     record {
       keeps : Keeps l.fn.board.book l.board.book;
       going : l.board.book.state.going ≡ Serving;
       taken : l.board.book.state.accepted ≡ l.fn.board.book.state.accepted;
-      rows : l.board.book.state.rows ≡ l.fn.board.book.state.rows;
-      tells : (text : List ℕ) → AllTell text l.fn.board → AllTell text l.board;
+      signalled : (i : ℕ) → i < l.slot-index → slice_index l.slots i < length l.board.book.state.rows
+          → is_signalled l.board.book.state (slice_index l.slots i) ≡ true;
+      moment : l.board.book.state.moment ≡ l.fn.board.book.state.moment;
+      tells : (clients : List (List ℕ)) → AllTell clients l.fn.board → AllTell clients l.board;
     }

@@ -18,9 +18,10 @@ loop-child-preserved g c =
       stays =
           stays-start_child 0 c.in-Some.child c.args.board.now.book c.loop-child.board c.start_child.new.self c.loop-child.invariant.stays
           c.in_ok-start_child.ensures.ok.new_is;
-      tells = λ text tells. tell-added text 0 _ c.loop-child.board c.start_child.new.self c.in_ok-start_child.ensures.ok.new_is (c.loop-child.invariant.tells text tells);
+      moment = ap (λ (b : SeenBoard). b.book.state.moment) c.in_ok-start_child.ensures.ok.new_is ∙ c.loop-child.invariant.moment;
+      tells = λ clients tells. tell-added clients 0 _ c.loop-child.board c.start_child.new.self c.in_ok-start_child.ensures.ok.new_is (c.loop-child.invariant.tells clients tells);
     }
 
 pub returns-in_err-start_child-clause-tells : goal.returns-in_err-start_child-clause-tells
-returns-in_err-start_child-clause-tells g c text tells =
-    tell-still text c.loop-child.board c.start_child.new.self c.in_err-start_child.ensures.err (c.loop-child.invariant.tells text tells)
+returns-in_err-start_child-clause-tells g c clients tells =
+    tell-still clients c.loop-child.board c.start_child.new.self c.in_err-start_child.ensures.err (c.loop-child.invariant.tells clients tells)

@@ -1,15 +1,16 @@
-use Rattle.std.proofs.Common.{List, ℕ, count_by}
+use Rattle.std.proofs.Common.{◌≡◌, List, ℕ, count_by}
 use Rattle.conn_machine.specs.Children.{is_empty}
 use Rattle.mpm_run.specs.Serve.{Stays}
 use Rattle.mpm_run.specs.Tells.{AllTell}
 use Rattle.mpm_run.proofs.listen.start_children.Given as goal
 
--- the server goes on as before
+-- the server goes on as before, and no time passes
 abbrev pub invariant-loop-child : goal.invariant-loop-child
 invariant-loop-child g l =
     record {
       stays : Stays l.fn.board.book l.board.book;
-      tells : (text : List ℕ) → AllTell text l.fn.board → AllTell text l.board;
+      moment : l.board.book.state.moment ≡ l.fn.board.book.state.moment;
+      tells : (clients : List (List ℕ)) → AllTell clients l.fn.board → AllTell clients l.board;
     }
 
 -- how many children are gone

@@ -1,17 +1,31 @@
-use Rattle.mpm_run.specs.Statuses.{HasRun, EndsFull}
+use Rattle.std.proofs.Common.{inl, inr, refl}
+use Rattle.mpm_base.specs.Clients.{clients_of}
+use Rattle.mpm_run.specs.Statuses.{EndsUnwritten, EndsWell, HasRun}
 use Rattle.mpm_run.proofs.RunLemmas.{opening-tells}
-use Rattle.mpm_run.proofs.TellLemmas.{new-tells}
-use Rattle.mpm_run.proofs.StatusLemmas.{left-if, left-and}
+use Rattle.mpm_run.proofs.EndLemmas.{has-end, has-clients, left-if, left-and}
 use Rattle.mpm_run.proofs.run_script.play.Goals as goal
 
 pub returns-clause-kept : goal.returns-clause-kept
 returns-clause-kept g c =
-    let text = c.args.script.sent in
-    let tells = opening-tells text 64 1 c.first_shape.result c.in-Ok.board c.show.ensures.agrees c.in-Ok.ensures.state c.in-Ok.ensures.ended in
-    let link = new-tells text 0 _ _ _ c.make-link.result c.make-link.ensures in
-    left-if c.finish.result.scripted (λ s. s.board) (HasRun text) c.listen.new.board c.finish.ensures.scripted
-    (record { run = c.show_run.ensures.run; receive = c.show_run.ensures.receive text (c.listen.ensures.tells text tells link).ended })
+    let clients = clients_of c.args.script in
+    let tells = opening-tells clients 64 1 c.first_shape.result c.in-Ok.board c.show.ensures.agrees c.in-Ok.ensures.state c.in-Ok.ensures.ended in
+    let told = c.listen.ensures.tells clients (record { each = λ link. (link.told, refl) }) (has-clients c.args.script c.in-Ok-Ok.front c.in-Ok-Ok.ensures) tells in
+    left-if c.finish.result.scripted _ (λ s. HasRun clients s.board) c.finish.ensures.scripted
+    (record { run = c.show_run.ensures.run; receive = c.show_run.ensures.receive clients told.ended })
 
-pub returns-clause-full : goal.returns-clause-full
-returns-clause-full g c full =
-    left-and c.finish.result.scripted (λ s. s.board) (EndsFull _ _) c.listen.new.board c.finish.ensures.scripted (c.finish.ensures.full full)
+pub returns-clause-served : goal.returns-clause-served
+returns-clause-served g c good =
+    left-and c.finish.result.scripted _ (λ s. EndsWell _ _ s.board s.front) c.finish.ensures.scripted
+    (record {
+      end = has-end _ _ c.listen.new.board c.listen.new.front c.listen.ensures.stopped (c.finish.ensures.ended (inl good)) refl c.show-2.ensures.is c.show_run.ensures.whole;
+      none_cut = c.finish.ensures.none_cut good;
+      report = c.finish.ensures.reported good;
+    })
+
+pub returns-clause-unwritten : goal.returns-clause-unwritten
+returns-clause-unwritten g c unwritten =
+    left-and c.finish.result.scripted _ (λ s. EndsUnwritten _ _ s.board s.front) c.finish.ensures.scripted
+    (record {
+      end = has-end _ _ c.listen.new.board c.listen.new.front c.listen.ensures.stopped (c.finish.ensures.ended (inr unwritten)) refl c.show-2.ensures.is c.show_run.ensures.whole;
+      failed = c.finish.ensures.unwritten unwritten;
+    })

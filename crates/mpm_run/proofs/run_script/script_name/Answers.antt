@@ -2,7 +2,6 @@ use Rattle.std.proofs.Common.{rules, ℕ, List, Some, sym, ap, ◌∙◌}
 use Rattle.mpm_run.proofs.StatusLemmas.{is_command}
 use Rattle.mpm_run.proofs.run_script.script_name.Goals as goal
 
--- src/run_script.rt:130:1
 pub returns-in-Some-text-clause-some : goal.returns-in-Some-text-clause-some
 returns-in-Some-text-clause-some c =
     is_command c.args.words.now c.get-in-Some-text.result (search rules)

@@ -2,7 +2,6 @@ use Rattle.std.proofs.Common.{rules}
 use Rattle.mpm_run.proofs.StatusLemmas.{told_puts}
 use Rattle.mpm_run.proofs.run_script.write_all.Goals as goal
 
--- src/run_script.rt:234:5
 pub loop-from-preserved : goal.loop-from-preserved
 loop-from-preserved g c =
     record {

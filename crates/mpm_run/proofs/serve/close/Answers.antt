@@ -3,6 +3,7 @@ use Rattle.board.specs.Board.{SeenBoard}
 use Rattle.mpm_run.specs.Serve.{Stays}
 use Rattle.mpm_run.proofs.CloseLemmas.{signals-cleared, parked-after_close}
 use Rattle.mpm_run.proofs.TellLemmas.{tell-ended, tells-closed}
+use Rattle.mpm_run.proofs.PassLemmas.{others-recorded}
 use Rattle.mpm_run.proofs.serve.close.Goals as goal
 
 pub returns-clause-closed : goal.returns-clause-closed
@@ -20,13 +21,17 @@ returns-clause-stays g c =
       going = refl;
     })
 
+pub returns-clause-others : goal.returns-clause-others
+returns-clause-others g c =
+    others-recorded c.args.who _ c.args.board.now.book c.close.new.self.book (ap (λ (b : SeenBoard). b.book) c.close.ensures)
+
 pub returns-clause-parked : goal.returns-clause-parked
 returns-clause-parked g c =
     parked-after_close c.args.board.now.book.state c.close.new.self.book.state c.args.conn.name c.end.result.name c.requires.may.row c.requires.may.found
     c.end.ensures.ends.name (ap (λ (b : SeenBoard). b.book.state) c.close.ensures)
 
 pub returns-clause-tells : goal.returns-clause-tells
-returns-clause-tells g c text tells told =
-    tell-ended text c.args.board.now c.close.new.self c.end.result
+returns-clause-tells g c clients tells told =
+    tell-ended clients c.args.board.now c.close.new.self c.end.result
     (ap (λ (b : SeenBoard). b.conns) c.close.ensures) (ap (λ (b : SeenBoard). b.ended) c.close.ensures)
-    (tells-closed text c.args.conn.told c.end.result.told c.end.ensures.ends.told told) tells
+    (tells-closed clients c.args.conn.told c.end.result.told c.end.ensures.ends.told told) tells

@@ -1,5 +1,5 @@
 use Rattle.std.proofs.Common.{List, ℕ}
-use Rattle.mpm_run.specs.Serve.{IsServed, Stays, answers_left}
+use Rattle.mpm_run.specs.Serve.{IsServed, OthersStay, Stays, answers_left}
 use Rattle.mpm_run.specs.Tells.{HasSame, TellsFrom}
 use Rattle.mpm_run.proofs.serve.converse.Given as goal
 
@@ -9,8 +9,9 @@ invariant-loop-exit g l =
     record {
       served : IsServed l.board.book.state l.conn;
       stays : Stays l.fn.board.book l.board.book;
+      others : OthersStay l.fn.who l.fn.board.book l.board.book;
       same : HasSame l.fn.board l.board;
-      told : (text : List ℕ) → TellsFrom text l.fn.conn.told → TellsFrom text l.conn.told;
+      told : (clients : List (List ℕ)) → TellsFrom clients l.fn.conn.told → TellsFrom clients l.conn.told;
     }
 
 -- how many more responses the connection may have

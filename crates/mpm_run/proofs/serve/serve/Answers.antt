@@ -1,6 +1,7 @@
 use Rattle.std.proofs.Common.{ap, refl}
 use Rattle.board.specs.Board.{SeenBoard}
 use Rattle.mpm_run.proofs.StartLemmas.{may-start, served-started, queued-stays, started-stays, stays-goes, fewer-served, start-tells}
+use Rattle.mpm_run.proofs.PassLemmas.{others-recorded, others-more}
 use Rattle.mpm_run.proofs.TellLemmas.{tell-same}
 use Rattle.mpm_run.proofs.serve.serve.Goals as goal
 
@@ -24,6 +25,15 @@ returns-clause-goes g c =
     (stays-goes c.queue.new.self.book c.start-conn.new.self.book c.leave.new.board.book started
     (stays-goes c.start-conn.new.self.book c.converse-exit.new.board.book c.leave.new.board.book c.converse-exit.ensures.stays c.leave.ensures.goes))
 
+pub returns-clause-others : goal.returns-clause-others
+returns-clause-others g c =
+    others-more c.args.who c.args.board.now.book c.queue.new.self.book c.leave.new.board.book
+    (others-recorded c.args.who _ c.args.board.now.book c.queue.new.self.book (ap (λ (b : SeenBoard). b.book) c.in_ok-queue.ensures.ok.new_is))
+    (others-more c.args.who c.queue.new.self.book c.start-conn.new.self.book c.leave.new.board.book
+    (others-recorded c.args.who _ c.queue.new.self.book c.start-conn.new.self.book (ap (λ (b : SeenBoard). b.book) c.start-conn.ensures.is))
+    (others-more c.args.who c.start-conn.new.self.book c.converse-exit.new.board.book c.leave.new.board.book c.converse-exit.ensures.others
+    c.leave.ensures.others))
+
 pub returns-clause-fewer : goal.returns-clause-fewer
 returns-clause-fewer g c =
     fewer-served c.args.board.now.book.state c.queue.new.self.book.state _ c.start-conn.new.self.book c.converse-exit.new.board.book
@@ -32,8 +42,8 @@ returns-clause-fewer g c =
     c.converse-exit.ensures.stays c.leave.ensures.goes
 
 pub returns-clause-tells : goal.returns-clause-tells
-returns-clause-tells g c text tells =
-    let here = start-tells text c.args.who c.args.name.slot c.args.name c.args.board.now c.queue.new.self c.start-conn.new.self c.start-conn.result.1
+returns-clause-tells g c clients tells =
+    let here = start-tells clients c.args.who c.args.name.slot c.args.name c.args.board.now c.queue.new.self c.start-conn.new.self c.start-conn.result.1
     c.in_ok-queue.ensures.ok.new_is c.start-conn.ensures.is c.start-conn.ensures.conn tells in
-    c.leave.ensures.tells text (tell-same text c.start-conn.new.self c.converse-exit.new.board c.converse-exit.ensures.same here.others)
-    (c.converse-exit.ensures.told text here.own)
+    c.leave.ensures.tells clients (tell-same clients c.start-conn.new.self c.converse-exit.new.board c.converse-exit.ensures.same here.others)
+    (c.converse-exit.ensures.told clients here.own)

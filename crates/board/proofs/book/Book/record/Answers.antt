@@ -4,6 +4,7 @@ use Rattle.conn_machine.specs.Table.{allowed, reply}
 use Rattle.conn_machine.specs.Runs.{asks_page}
 use Rattle.board.specs.Book.{SeenBook, numbered}
 use Rattle.board.proofs.BookLemmas.{open_if, kept_with_room, recorded_is}
+use Rattle.board.proofs.StopLemmas.{full_inside}
 use Rattle.board.proofs.book.Book.record.Goals as goal
 
 pub step-requires-clause-allowed : goal.step-requires-clause-allowed
@@ -25,6 +26,7 @@ invariant_of-self-2 c =
     c.append.new.ordinals.items inside.pages (inside.pages + c.pages_in.result) (vec_capacity inside.history) (vec_capacity c.append.new.history)
     (numbered c.args.who c.args.event c.in-Ok.reply inside.history.items) c.self.invariant may c.in-Ok.ensures.reply refl
     c.append.ensures.numbers c.step.ensures.sound (rw c.reserve.ensures.items at c.append.ensures.history) c.in-Ok.ensures.state pages space
+    (full_inside _ c.args.self.now c.args.event c.self.view_is c.requires.stops)
 
 pub returns-clause-ok : goal.returns-clause-ok
 returns-clause-ok c =

@@ -4,6 +4,7 @@ use Rattle.board.specs.Book.{SeenBook, numbered}
 use Rattle.board.specs.Room.{owed}
 use Rattle.board.proofs.BookLemmas.{kept_sure}
 use Rattle.board.proofs.RoomLemmas.{owed-sure}
+use Rattle.board.proofs.StopLemmas.{full_inside}
 use Rattle.board.proofs.book.Book.record_sure.Goals as goal
 
 pub append-requires-clause-room : goal.append-requires-clause-room
@@ -23,3 +24,4 @@ invariant_of-self c =
     c.append.new.ordinals.items inside.pages (vec_capacity inside.history) (vec_capacity c.append.new.history)
     (numbered c.args.who c.args.event c.in-Ok.reply inside.history.items) c.self.invariant may c.in-Ok.ensures.reply refl
     c.append.ensures.numbers c.step.ensures.sound c.append.ensures.history c.in-Ok.ensures.state c.requires.sure c.append.ensures.room
+    (full_inside _ c.args.self.now c.args.event c.self.view_is c.requires.stops)

@@ -1,0 +1,132 @@
+-- The stop because a history is full, where the history goes on by one entry.
+use Rattle.std.proofs.Common.{◌≡◌, ◌≤◌, ◌⊎◌, inl, inr, Bool, true, not, ◌&&◌, List, [], ◌∷◌, ◌++◌, refl, sym, ap, subst, ◌∙◌}
+use Rattle.std.proofs.lemmas.Bool.{and_parts}
+use Rattle.std.proofs.lemmas.List.{append_assoc}
+use Rattle.conn_machine.specs.declared.event.Why.TheVariants as why
+use Rattle.conn_machine.specs.declared.event.Commanded.TheVariants.{Graceful, Refused, GracefulStop, Stop}
+use Rattle.conn_machine.specs.declared.event.Event.{Event}
+use Rattle.conn_machine.specs.declared.event.Event.TheVariants as event
+use Rattle.conn_machine.specs.declared.event.Entry.{Entry}
+use Rattle.conn_machine.specs.declared.state.Going.{Going}
+use Rattle.conn_machine.specs.declared.state.Going.TheVariants.{Serving, Halted}
+use Rattle.conn_machine.specs.declared.state.State.{State}
+use Rattle.conn_machine.specs.States.{is_halted}
+use Rattle.conn_machine.specs.Table.{allowed, next}
+use Rattle.conn_machine.specs.Runs.{load, full_load}
+use Rattle.board.specs.Book.{SeenBook, full_stop, HasFullStop, StopsWhereFull, TellsFullStop}
+use Rattle.board.specs.Events.{MayStop}
+
+-- ## The machine
+
+-- a server that stopped takes no command
+no-command : (going : Going) (fits : Bool) → (not (is_halted going) && fits) ≡ true → going ≡ Halted why.Full → ⊥
+no-command going fits may halted =
+    let open_still = (and_parts (not (is_halted going)) fits may).0 in
+    let stopped : is_halted going ≡ true = ap is_halted halted in
+    absurd (cc)
+
+-- it stays as it stopped
+stays_full : (s : State) (e : Event) → allowed s e ≡ true → s.going ≡ Halted why.Full → (next s e).going ≡ Halted why.Full
+stays_full s (event.Command c) may halted = absurd (no-command s.going _ may halted)
+stays_full s e may halted = halted
+
+-- it stops because the history is full by one event
+by_full_stop : (s : State) (e : Event) → (next s e).going ≡ Halted why.Full → (e ≡ full_stop) ⊎ (s.going ≡ Halted why.Full)
+by_full_stop s (event.Command (Graceful shape)) halted = inr halted
+by_full_stop s (event.Command (Refused reason)) halted = inr halted
+by_full_stop s (event.Command (GracefulStop until)) halted = absurd (cc)
+by_full_stop s (event.Command (Stop why)) halted = inl (cc)
+by_full_stop s e halted = inr halted
+
+-- ## The history
+
+-- an entry of a history that goes on by one is the new one, or it was there
+split_last : (history before behind : List Entry) (x e : Entry) → history ++ x ∷ [] ≡ before ++ e ∷ behind
+    → ((history ≡ before) × (x ≡ e)) ⊎ ((rest : List Entry) × (history ≡ before ++ e ∷ rest))
+split_last [] [] behind x e is = inl (refl, cc)
+split_last [] (y ∷ []) behind x e is = absurd (cc)
+split_last [] (y ∷ z ∷ before) behind x e is = absurd (cc)
+split_last (h ∷ history) [] behind x e is =
+    let first : h ≡ e = cc in
+    inr (history, ap (λ (y : Entry). y ∷ history) first)
+split_last (h ∷ history) (y ∷ before) behind x e is =
+    let first : h ≡ y = cc in
+    let others : history ++ x ∷ [] ≡ before ++ e ∷ behind = cc in
+    elim (split_last history before behind x e others) [
+      | inl last ↦ inl (rw (first, last.0) refl, last.1)
+      | inr found ↦ inr (found.0, rw first (ap (λ (xs : List Entry). y ∷ xs) found.1))
+    ]
+
+-- a history that has the stop has it behind one more entry
+has_kept : (history : List Entry) (x : Entry) → HasFullStop history → HasFullStop (history ++ x ∷ [])
+has_kept history x has = record {
+  before = has.before;
+  stop = has.stop;
+  behind = has.behind ++ x ∷ [];
+  history_is = ap (λ (xs : List Entry). xs ++ x ∷ []) has.history_is ∙ append_assoc has.before (has.stop ∷ has.behind) (x ∷ []);
+  event_is = has.event_is;
+}
+
+-- and has it where the new entry is one
+has_new : (history : List Entry) (x : Entry) → x.event ≡ full_stop → HasFullStop (history ++ x ∷ [])
+has_new history x is = record { before = history; stop = x; behind = []; history_is = refl; event_is = is }
+
+-- where the new entry is none, the stop was there
+has_before : (history : List Entry) (x : Entry) (has : HasFullStop (history ++ x ∷ []))
+    → ((history ≡ has.before) × (x.event ≡ full_stop)) ⊎ ((old : HasFullStop history) × (old.before ≡ has.before))
+has_before history x has =
+    elim (split_last history has.before has.behind x has.stop has.history_is) [
+      | inl last ↦ inl (last.0, ap (λ (e : Entry). e.event) last.1 ∙ has.event_is)
+      | inr found ↦
+          inr (record { before = has.before; stop = has.stop; behind = found.0; history_is = found.1; event_is = has.event_is }, refl)
+    ]
+
+-- an empty history has none
+none_first : HasFullStop [] → ⊥
+none_first has = none_in has.before has.stop has.behind has.history_is where
+  none_in : (before : List Entry) (e : Entry) (behind : List Entry) → [] ≡ before ++ e ∷ behind → ⊥
+  none_in [] e behind is = absurd (cc)
+  none_in (y ∷ before) e behind is = absurd (cc)
+
+-- ## The book
+
+-- each stop stands where the history is full, in one that has none
+pub stops_first : StopsWhereFull []
+stops_first = record { full = λ has. absurd (none_first has) }
+
+-- and in one that goes on, where the new entry does
+pub stops_more : (history : List Entry) (x : Entry) → StopsWhereFull history → (x.event ≡ full_stop → full_load ≤ load history)
+    → StopsWhereFull (history ++ x ∷ [])
+stops_more history x stops full = record {
+  full = λ has. elim (has_before history x has) [
+    | inl new ↦ subst (λ (xs : List Entry). full_load ≤ load xs) new.0 (full new.1)
+    | inr old ↦ subst (λ (xs : List Entry). full_load ≤ load xs) old.1 (stops.full old.0)
+  ];
+}
+
+-- a server that opens has not stopped, as its empty history tells
+pub tells_first : TellsFullStop Serving []
+tells_first = record {
+  stands = λ (halted : Serving ≡ Halted why.Full). absurd (cc);
+  stopped = λ has. absurd (none_first has);
+}
+
+-- the history tells so by its next entry too
+pub tells_more : (s : State) (history : List Entry) (x : Entry) → TellsFullStop s.going history → allowed s x.event ≡ true
+    → TellsFullStop (next s x.event).going (history ++ x ∷ [])
+tells_more s history x tells may = record {
+  stands = λ halted. elim (by_full_stop s x.event halted) [
+    | inl is ↦ has_new history x is
+    | inr was ↦ has_kept history x (tells.stands was)
+  ];
+  stopped = λ has. elim (has_before history x has) [
+    | inl new ↦ subst (λ (e : Event). (next s e).going ≡ Halted why.Full) (sym new.1) refl
+    | inr old ↦ stays_full s x.event may (tells.stopped old.0)
+  ];
+}
+
+-- an event that may stop the server may do so inside
+pub full_inside : (seen b : SeenBook) (e : Event) → seen ≡ b → MayStop e b → e ≡ full_stop → full_load ≤ load seen.history
+full_inside seen b e is may stops =
+    let full : full_load ≤ load b.history = subst (λ (x : Event). MayStop x b) stops may in
+    subst (λ (v : SeenBook). full_load ≤ load v.history) (sym is) full

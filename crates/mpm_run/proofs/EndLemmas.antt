@@ -1,0 +1,92 @@
+-- How a run of a script ends.
+use Rattle.std.proofs.Common.{◌≡◌, ◌⊎◌, inl, inr, ℕ, List, length, Option, Some, IfSome, IsSomeAnd, refl, sym, ap, subst, ◌∙◌, arith}
+use Rattle.std.proofs.lemmas.List.{length-map}
+use Rattle.mpm_base.specs.Clients.{clients_of, names_of, sent_by}
+use Rattle.mpm_base.specs.Front.{FrontTold, HasAllTaken}
+use Rattle.mpm_base.specs.ScriptFront.{SeenFront, IsOfScript, new_front}
+use Rattle.mpm_base.specs.declared.script_line.ScriptLine.{ScriptLine}
+use Rattle.conn_machine.specs.declared.event.Why.TheVariants as why
+use Rattle.conn_machine.specs.declared.state.Going.{Going}
+use Rattle.conn_machine.specs.declared.state.Going.TheVariants.{Halted}
+use Rattle.conn_machine.specs.declared.state.State.{State}
+use Rattle.board.specs.Book.{StopsWhereFull, TellsFullStop}
+use Rattle.board.specs.Board.{SeenBoard}
+use Rattle.mpm_run.specs.FirstShape.{first_shape}
+use Rattle.mpm_run.specs.Listen.{AllEmpty, HasNoLive, SeenOutside, HasEnded, HasClients, HasStopped, IsEnd, IsWholeRun}
+use Rattle.mpm_run.specs.Statuses.{EndsFull, HasEnd, IsStatusOf, ReportsAs, SinkSeen, Writes, board_report}
+
+-- ## Why the server stopped
+
+-- it stopped because nothing more could come
+stopped-ended : (old new : SeenOutside) (s : State) → HasStopped old new s → s.going ≡ Halted why.FrontEnded → HasEnded old new s
+stopped-ended old new s (inl ended) going = ended
+stopped-ended old new s (inr (inl failed)) going = absurd (cc (failed.going, going))
+stopped-ended old new s (inr (inr (inl full))) going = absurd (cc (full, going))
+stopped-ended old new s (inr (inr (inr no_memory))) going = absurd (cc (no_memory, going))
+
+-- a report makes no other status 7
+of-seven : (status status' : ℕ) → ReportsAs status status' → status' ≡ 7 → status ≡ 7
+of-seven status status' (inl same) seven = sym same ∙ seven
+of-seven status status' (inr (inl failed)) seven = absurd (omega (arith, failed.1, seven))
+of-seven status status' (inr (inr no_memory)) seven = absurd (omega (arith, no_memory, seven))
+
+-- the status is 7 only where the server stopped for a full history
+seven-full : (going : Going) (status : ℕ) → IsEnd going → IsStatusOf going status → status ≡ 7 → going ≡ Halted why.Full
+seven-full going status (inl ended) is seven =
+    elim (subst (λ (g : Going). IsStatusOf g status) ended is) [
+      | inl well ↦ absurd (omega (arith, well, seven))
+      | inr cut ↦ absurd (omega (arith, cut, seven))
+    ]
+seven-full going status (inr (inl full)) is seven = full
+seven-full going status (inr (inr no_memory)) is seven =
+    absurd (omega (arith, subst (λ (g : Going). IsStatusOf g status) no_memory is, seven))
+
+-- then the history has a stop for that
+pub ends-full : (old new : SinkSeen) (b : SeenBoard) (status status' : ℕ) → StopsWhereFull b.book.history
+    → TellsFullStop b.book.state.going b.book.history → IsEnd b.book.state.going → IsStatusOf b.book.state.going status → ReportsAs status status'
+    → status' ≡ 7 → Writes old new (board_report b) → EndsFull old new b
+ends-full old new b status status' stops full end is reports seven text =
+    let stop = full.stands (seven-full b.book.state.going status end is (of-seven status status' reports seven)) in
+    record { stop = stop; full = stops.full stop; text = text }
+
+-- ## The end of the script
+
+-- each client has its name
+clients-names : (lines : List ScriptLine) → length (clients_of lines) ≡ length (names_of lines)
+clients-names lines = length-map (names_of lines) (λ name. sent_by name lines)
+
+-- the script was played to its end
+ended-end : (old new : SeenOutside) (b : SeenBoard) (f : SeenFront) → HasEnded old new b.book.state → new.told ≡ Some f.told → IsOfScript f
+    → IsWholeRun 64 1 first_shape b → HasEnd b f
+ended-end old new b f ended told of_script whole =
+    let all : HasAllTaken f.told × (f.told.accepted ≡ b.book.state.accepted) =
+    subst (λ (o : Option FrontTold). IfSome o (λ t. HasAllTaken t × (t.accepted ≡ b.book.state.accepted))) told ended.all.taken in
+    record {
+      whole = whole;
+      happened = omega (arith, all.0.left, of_script.left);
+      taken = sym all.1 ∙ all.0.accepted ∙ ap length of_script.clients ∙ clients-names f.script;
+    }
+
+-- so it was where the server stopped because nothing more could come
+pub has-end : (old new : SeenOutside) (b : SeenBoard) (f : SeenFront) → HasStopped old new b.book.state → b.book.state.going ≡ Halted why.FrontEnded
+    → new.told ≡ Some f.told → IsOfScript f
+    → (b.book.state.going ≡ Halted why.FrontEnded → AllEmpty b.book.state → HasNoLive b.book.state → IsWholeRun 64 1 first_shape b) → HasEnd b f
+has-end old new b f stopped going told of_script whole =
+    let ended = stopped-ended old new b.book.state stopped going in
+    ended-end old new b f ended told of_script (whole ended.going ended.empty ended.live)
+
+-- ## The front
+
+-- the clients of a new front are those of its script
+pub has-clients : (lines : List ScriptLine) (f : SeenFront) → f ≡ new_front lines → HasClients (clients_of lines) (Some f.told)
+has-clients lines f made = (f.told, refl, ap (λ (f : SeenFront). f.told.clients) made)
+
+-- ## What is left
+
+-- what holds of what is left
+pub left-if : {X : Type 0} (o : Option X) (left : X) (P : X → Type 0) → o ≡ Some left → P left → IfSome o P
+left-if o left P is holds = subst (λ (o' : Option _). IfSome o' P) (sym is) holds
+
+-- the same of what has to be left
+pub left-and : {X : Type 0} (o : Option X) (left : X) (P : X → Type 0) → o ≡ Some left → P left → IsSomeAnd o P
+left-and o left P is holds = subst (λ (o' : Option _). IsSomeAnd o' P) (sym is) holds

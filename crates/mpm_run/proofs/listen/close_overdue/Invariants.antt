@@ -1,0 +1,17 @@
+use Rattle.std.proofs.Common.{◌≡◌, List, ℕ}
+use Rattle.mpm_run.specs.Serve.{Stays, parked_count}
+use Rattle.mpm_run.specs.Tells.{AllTell}
+use Rattle.mpm_run.proofs.listen.close_overdue.Given as goal
+
+-- the server goes on as before, and no time passes
+abbrev pub invariant-loop-name : goal.invariant-loop-name
+invariant-loop-name g l =
+    record {
+      stays : Stays l.fn.board.book l.board.book;
+      moment : l.board.book.state.moment ≡ l.fn.board.book.state.moment;
+      tells : (clients : List (List ℕ)) → AllTell clients l.fn.board → AllTell clients l.board;
+    }
+
+-- how many connections wait
+abbrev pub decreases-loop-name : goal.decreases-loop-name
+decreases-loop-name g l = parked_count l.board.book.state
