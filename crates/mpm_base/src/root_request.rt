@@ -6,13 +6,17 @@ ghost use Rattle.std.specs.Prelude.{◌≡◌, ℕ, List, ◌↔◌, ◌⊎◌, 
 ghost use Rattle.std.specs.List.{AllPass, prefix_len};
 ghost use Rattle.mpm_base.specs.RootRequest.{is_host_byte, IsHost, after_host, request_of, IsRootRequest, BeginsRequest, Stops, IsProperFront, IsHostStarted, IsStarted};
 
-pub(crate) const BEFORE_HOST: &[u8] = b"GET / HTTP/1.1\r\nHost: ";
+/// What stands before the host of a request.
+pub const BEFORE_HOST: &[u8] = b"GET / HTTP/1.1\r\nHost: ";
 
-pub(crate) const AFTER_HOST: &[u8] = b"\r\n\r\n";
+/// What follows the host of a request.
+pub const AFTER_HOST: &[u8] = b"\r\n\r\n";
 
-pub(crate) const LONGEST_HOST: usize = 255;
+/// How many bytes a host has at most.
+pub const LONGEST_HOST: usize = 255;
 
-pub(crate) fn is_host_byte(byte: u8) -> bool
+/// Whether the byte may stand in a host: a letter or a digit of ASCII, a point, a colon or a dash.
+pub fn is_host_byte(byte: u8) -> bool
     ensures { result ≡ is_host_byte byte }
 {
     byte.is_ascii_alphanumeric() || byte == b'.' || byte == b':' || byte == b'-'

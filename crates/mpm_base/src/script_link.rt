@@ -73,7 +73,7 @@ impl ScriptLink {
 
     /// A link of that number whose client sends the bytes `coming` in all. The front that has the wire says how many of
     /// them came, whether the end has, and for how many bytes there is room.
-    pub(crate) fn paced(
+    pub fn paced(
         alloc: Global,
         rank: u64,
         coming: Octets,

@@ -1,6 +1,4 @@
 //! What the stand-ins answer and keep, by hand-made sequences of calls.
-mod built;
-
 use crate::calls::Calls;
 use crate::files::Files;
 use crate::link::{Got, Link, Sent};

@@ -6,7 +6,7 @@ use std::sync::atomic::{AtomicBool, AtomicU64, Ordering};
 /// far, whether the client sends no more, and how many the link may take in all, by the front; how many its writes took,
 /// and whether it was closed, by the link.
 #[derive(Debug, Drop)]
-pub(crate) struct Wire {
+pub struct Wire {
     came: AtomicU64,
     ended: AtomicBool,
     limit: AtomicU64,
@@ -16,7 +16,7 @@ pub(crate) struct Wire {
 
 impl Wire {
     /// Nothing came or was taken yet, and there is room for all.
-    pub(crate) fn make() -> Wire {
+    pub fn make() -> Wire {
         Wire {
             came: AtomicU64::new(0),
             ended: AtomicBool::new(false),
@@ -27,12 +27,12 @@ impl Wire {
     }
 
     /// How many bytes came so far.
-    pub(crate) fn came(&self) -> u64 {
+    pub fn came(&self) -> u64 {
         self.came.load(Ordering::SeqCst)
     }
 
     /// Whether the client sends no more.
-    pub(crate) fn ended(&self) -> bool {
+    pub fn ended(&self) -> bool {
         self.ended.load(Ordering::SeqCst)
     }
 
@@ -42,23 +42,23 @@ impl Wire {
     }
 
     /// Whether the link was closed.
-    pub(crate) fn closed(&self) -> bool {
+    pub fn closed(&self) -> bool {
         self.closed.load(Ordering::SeqCst)
     }
 
     /// The front says that so many further bytes came.
-    pub(crate) fn bring(&self, count: u64) {
+    pub fn bring(&self, count: u64) {
         self.came
             .store(self.came().saturating_add(count), Ordering::SeqCst);
     }
 
     /// The front says that the client sends no more.
-    pub(crate) fn end(&self) {
+    pub fn end(&self) {
         self.ended.store(true, Ordering::SeqCst);
     }
 
     /// The front says that the link takes so many further bytes, or all of them.
-    pub(crate) fn allow(&self, room: Option<u64>) {
+    pub fn allow(&self, room: Option<u64>) {
         let limit = match room {
             Some(count) => self.taken.load(Ordering::SeqCst).saturating_add(count),
             None => u64::MAX,

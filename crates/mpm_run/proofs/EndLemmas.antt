@@ -1,9 +1,9 @@
 -- How a run of a script ends.
 use Rattle.std.proofs.Common.{◌≡◌, ◌⊎◌, inl, inr, ℕ, List, length, Option, Some, IfSome, IsSomeAnd, refl, sym, ap, subst, ◌∙◌, arith}
 use Rattle.std.proofs.lemmas.List.{length-map}
-use Rattle.mpm_base.specs.Clients.{clients_of, names_of, sent_by}
+use Rattle.mpm_script.specs.Clients.{clients_of, names_of, sent_by}
 use Rattle.mpm_base.specs.Front.{FrontTold, HasAllTaken}
-use Rattle.mpm_base.specs.ScriptFront.{SeenFront, IsOfScript, new_front}
+use Rattle.script_front.specs.ScriptFront.{SeenFront, IsOfScript, new_front}
 use Rattle.mpm_base.specs.declared.script_line.ScriptLine.{ScriptLine}
 use Rattle.conn_machine.specs.declared.event.Why.TheVariants as why
 use Rattle.conn_machine.specs.declared.state.Going.{Going}

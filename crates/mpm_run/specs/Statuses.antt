@@ -2,14 +2,14 @@
 use Rattle.std.specs.Prelude.{◌≡◌, ℕ, ◌≤◌, Bool, true, false, ◌⊎◌, List, ◌∷◌, [], ◌++◌, length, Option, Some, None, option_map, Result, Ok, Err, codes}
 use Rattle.std.specs.List.{list_any}
 use Rattle.mpm_base.specs.Count.{NeverFalls, Rises}
-use Rattle.mpm_base.specs.Clients.{clients_of, names_of}
-use Rattle.mpm_base.specs.Script.{ScriptIs}
-use Rattle.mpm_base.specs.ScriptFront.{SeenFront}
+use Rattle.mpm_script.specs.Clients.{clients_of, names_of}
+use Rattle.mpm_script.specs.Script.{ScriptIs}
+use Rattle.script_front.specs.ScriptFront.{SeenFront}
 use Rattle.mpm_base.specs.Store.{ReadsFile, StoreCounts, StoreTold}
 use Rattle.mpm_base.specs.declared.conn.Cause.{Cause}
 use Rattle.mpm_base.specs.declared.conn.Cause.TheVariants as cause
-use Rattle.mpm_base.specs.declared.script.ScriptFault.{ScriptFault}
-use Rattle.mpm_base.specs.declared.script.ScriptFault.TheVariants as script
+use Rattle.mpm_script.specs.declared.script.ScriptFault.{ScriptFault}
+use Rattle.mpm_script.specs.declared.script.ScriptFault.TheVariants as script
 use Rattle.mpm_base.specs.declared.store.StoreFault.{StoreFault}
 use Rattle.mpm_base.specs.declared.store.StoreFault.TheVariants as fault
 use Rattle.conn_machine.specs.declared.event.Why.TheVariants as why

@@ -5,7 +5,7 @@ ghost use Rattle.mpm_base.specs.Count.{NeverFalls, Rises};
 ghost use Rattle.conn_machine.specs.States.{opening};
 ghost use Rattle.conn_machine.specs.declared.state.Going.{Going};
 ghost use Rattle.mpm_run.specs.FirstShape as spec;
-ghost use Rattle.mpm_base.specs.Clients.{clients_of};
+ghost use Rattle.mpm_script.specs.Clients.{clients_of};
 ghost use Rattle.conn_machine.specs.declared.event.Why.TheVariants as why;
 ghost use Rattle.conn_machine.specs.declared.state.Going.TheVariants.{Halted};
 ghost use Rattle.mpm_run.specs.Listen.{AllEmpty, HasNoLive, IsEnd, IsRunFrom, IsWholeRun};
@@ -21,9 +21,10 @@ use board::Board;
 use conn_machine::laws::{accepted_connections_are_closed_or_live, events_keep_states_sound};
 use conn_machine::{Going, Why};
 use mpm_base::{
-    Cause, Link, NoMemory, Octets, Put, Ready, Script, ScriptClock, ScriptFault, ScriptFront,
-    ScriptLink, Shape, Sink, Store, StoreFault, Words, read_script,
+    Cause, Link, NoMemory, Octets, Put, Ready, ScriptLink, Shape, Sink, Store, StoreFault, Words,
 };
+use mpm_script::{Script, ScriptFault, read_script};
+use script_front::{ScriptClock, ScriptFront};
 use std::alloc::Global;
 use std::sync::Wait;
 use std::thread::Threads;

@@ -1,5 +1,5 @@
 use Rattle.std.proofs.Common.{inl, inr, refl}
-use Rattle.mpm_base.specs.Clients.{clients_of}
+use Rattle.mpm_script.specs.Clients.{clients_of}
 use Rattle.mpm_run.specs.Statuses.{EndsUnwritten, EndsWell, HasRun}
 use Rattle.mpm_run.proofs.RunLemmas.{opening-tells}
 use Rattle.mpm_run.proofs.EndLemmas.{has-end, has-clients, left-if, left-and}

@@ -1,5 +1,0 @@
-use Rattle.mpm_base.proofs.LineLemmas.{one_line}
-use Rattle.mpm_base.proofs.line_reader.one_line.Goals as goal
-
-pub returns : goal.returns
-returns c = one_line

@@ -1,5 +1,0 @@
-use Rattle.mpm_base.proofs.AnswerLemmas.{one_answer}
-use Rattle.mpm_base.proofs.script.one_answer.Goals as goal
-
-pub returns : goal.returns
-returns c = one_answer c.one_line.ensures

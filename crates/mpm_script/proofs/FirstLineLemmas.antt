@@ -1,0 +1,33 @@
+-- Where the first line of bytes ends.
+use Rattle.std.proofs.Common.{◌≡◌, ℕ, ◌<◌, true, false, List, [], ◌∷◌, ◌++◌, length, refl, sym, ap, subst, ◌∙◌, arith, ◌==◌}
+use Rattle.std.specs.List.{AllPass}
+use Rattle.std.proofs.lemmas.Bool.{eqb-true, not-false, false≢true}
+use Rattle.std.proofs.lemmas.List.{append-nil, length-append}
+use Rattle.std.proofs.lemmas.List.Elements.{All-head}
+use Rattle.mpm_base.specs.RootRequest.{Stops}
+use Rattle.mpm_script.specs.Script.{is_line_byte, Begins}
+use Rattle.mpm_base.proofs.ListLemmas.{back_passes, one_run}
+
+-- the first byte that is none of a line is a line feed
+pub line_end : (bytes : List ℕ) (b : ℕ) (rest : List ℕ) → bytes ≡ b ∷ rest → Stops is_line_byte bytes → b ≡ 10
+line_end bytes b rest e stops =
+    let fails : is_line_byte b ≡ false = subst (Stops is_line_byte) e stops in
+    eqb-true b 10 (not-false (b == 10) fails)
+
+-- bytes that have none begin with no line
+pub no_line_end : (bytes text end : List ℕ) → bytes ≡ text ++ end → AllPass is_line_byte text → end ≡ []
+    → (other rest : List ℕ) → ¬ Begins bytes other rest
+no_line_end bytes text end e one_line none other rest h =
+    let same : other ++ 10 ∷ rest ≡ text = sym h.whole ∙ e ∙ ap (λ xs. text ++ xs) none ∙ append-nil text in
+    let all : AllPass is_line_byte (other ++ 10 ∷ rest) = subst (AllPass is_line_byte) (sym same) one_line in
+    false≢true (All-head (λ b. is_line_byte b ≡ true) 10 rest (back_passes is_line_byte other (10 ∷ rest) all))
+
+-- bytes begin with one text
+pub begins_once : (bytes text rest other behind : List ℕ) → Begins bytes text rest → Begins bytes other behind
+    → (text ≡ other) × (rest ≡ behind)
+begins_once bytes text rest other behind h k =
+    one_run is_line_byte 10 refl text other rest behind h.one_line k.one_line (sym h.whole ∙ k.whole)
+
+-- what stands behind it is shorter
+pub begins_shorter : (bytes text rest : List ℕ) → Begins bytes text rest → length rest < length bytes
+begins_shorter bytes text rest h = omega (arith, ap length h.whole, length-append text (10 ∷ rest))

@@ -1,0 +1,94 @@
+-- The words of a script's lines: what one more digit does, and where a name ends.
+use Rattle.std.proofs.Common.{◌≡◌, ℕ, ◌+◌, ◌-◌, ◌*◌, ◌<◌, ◌≤◌, ◌^◌, Bool, true, List, [], ◌∷◌, ◌++◌, length, take, drop, get_or, refl, sym, ap, subst, ◌∙◌, arith}
+use Rattle.std.specs.Prelude.{codes}
+use Rattle.std.specs.Char.{is_ascii_digit, digit_value}
+use Rattle.std.specs.Int.{IsInRange}
+use Rattle.std.specs.List.{AllPass, prefix_len}
+use Rattle.std.specs.Str.Parse.{digits_value, AllDigits}
+use Rattle.std.proofs.Math.Nat.{pow-le-pow_right}
+use Rattle.std.proofs.lemmas.Bool.{false≢true}
+use Rattle.std.proofs.lemmas.Bool.Decides.{nat_tests}
+use Rattle.std.proofs.lemmas.Int.Digits.{digits_value_more, digits_value-lt}
+use Rattle.std.proofs.lemmas.List.{append_cancel_left}
+use Rattle.std.proofs.lemmas.List.Elements.{All-head, All-tail}
+use Rattle.std.proofs.lemmas.Str.Parse.{digit_at, numerals_by_value, tells_by_index, digits_value-take-le}
+use Rattle.mpm_base.specs.RootRequest.{Stops}
+use Rattle.mpm_script.specs.ScriptLine.{is_name_byte, is_file_byte, IsNumber}
+use Rattle.mpm_script.specs.LineWords.{IsNamed, IsFiled}
+use Rattle.mpm_base.proofs.ListLemmas.{run_passes, run_stops}
+
+-- ---- numbers
+
+digit_range : (d : ℕ) → is_ascii_digit d ≡ true → IsInRange 48 57 d
+digit_range d h = grind (arith, nat_tests)
+
+digit_is : (d : ℕ) → 48 ≤ d → d ≤ 57 → digit_value d ≡ d - 48
+digit_is d h k = grind (arith, nat_tests)
+
+all_digits : (ds : List ℕ) → AllPass is_ascii_digit ds → AllDigits 10 ds
+all_digits ds pass =
+    let by_place = numerals_by_value (λ xs. (i : ℕ) → i < length xs → IsInRange 48 57 (get_or xs i 0)) tells_by_index in
+    by_place.to ds (λ i l. digit_range (get_or ds i 0) (pass i 0 l))
+
+-- what one more digit of a number does
+pub record Step (ds : List ℕ) (i n : ℕ) : Type 0 where
+  pub least : 48 ≤ get_or ds i 0
+  pub value : n * 10 + (get_or ds i 0 - 48) ≡ digits_value 10 (take (i + 1) ds)
+  pub small : n * 10 + (get_or ds i 0 - 48) < 1000000000000000
+
+pub step : (ds : List ℕ) (i n : ℕ) → IsNumber ds (digits_value 10 ds) → i < length ds → n ≡ digits_value 10 (take i ds) → Step ds i n
+step ds i n number within e =
+    let all = all_digits ds number.bytes in
+    let digit = digit_at ds i all within in
+    let is : digit_value (get_or ds i 0) ≡ get_or ds i 0 - 48 = digit_is (get_or ds i 0) digit.0 digit.1 in
+    let more = digits_value_more 10 ds i within in
+    let part = digits_value-take-le 10 ds (i + 1) (omega arith) in
+    let whole = digits_value-lt 10 ds all in
+    let power : 10 ^ length ds ≤ 10 ^ 15 = pow-le-pow_right (omega arith) number.fits in
+    let value : n * 10 + (get_or ds i 0 - 48) ≡ digits_value 10 (take (i + 1) ds) = omega arith in
+    record { least = digit.0; value = value; small = omega arith }
+
+-- ---- names
+
+-- a list is cut in one way at the end of the elements that pass
+pub one_cut : (test : ℕ → Bool) (front other end also : List ℕ) → AllPass test front → AllPass test other → Stops test end → Stops test also
+    → front ++ end ≡ other ++ also → (front ≡ other) × (end ≡ also)
+one_cut test [] [] end also p q s t e = (refl, e)
+one_cut test [] (b ∷ other) end also p q s t e =
+    absurd (false≢true (sym (subst (Stops test) e s) ∙ All-head (λ c. test c ≡ true) b other q))
+one_cut test (a ∷ front) [] end also p q s t e =
+    absurd (false≢true (sym (subst (Stops test) (sym e) t) ∙ All-head (λ c. test c ≡ true) a front p))
+one_cut test (a ∷ front) (b ∷ other) end also p q s t e =
+    let first : a ≡ b = cc in
+    let rest : front ++ end ≡ other ++ also = cc in
+    let same = one_cut test front other end also (All-tail (λ c. test c ≡ true) a front p) (All-tail (λ c. test c ≡ true) b other q) s t rest in
+    let fronts : front ≡ other = same.0 in
+    (cc, same.1)
+
+-- a list, cut at the end of the longest front whose elements pass
+pub record IsCut (test : ℕ → Bool) (xs front end : List ℕ) : Type 0 where
+  pub whole : xs ≡ front ++ end
+  pub passes : AllPass test front
+  pub stops : Stops test end
+
+pub cut_at : (test : ℕ → Bool) (xs : List ℕ) (n : ℕ) (front end : List ℕ) → n ≡ prefix_len test xs → front ≡ take n xs → end ≡ drop n xs
+    → xs ≡ front ++ end → IsCut test xs front end
+cut_at test xs n front end longest is_front is_end whole = record {
+  whole = whole;
+  passes = subst (AllPass test) (sym is_front) (rw longest (run_passes test xs));
+  stops = subst (Stops test) (sym is_end) (rw longest (run_stops test xs));
+}
+
+-- the name behind a word is where the text behind the word is cut at the end of its first name bytes
+pub one_name : (word text name behind rest front end : List ℕ) → text ≡ word ++ rest → IsCut is_name_byte rest front end
+    → IsNamed word text name behind → (name ≡ front) × (behind ≡ end)
+one_name word text name behind rest front end e cut h =
+    one_cut is_name_byte name front behind end h.is_name.bytes cut.passes h.stops cut.stops
+    (append_cancel_left word (name ++ behind) (front ++ end) (sym h.whole ∙ e ∙ ap (λ xs. word ++ xs) cut.whole))
+
+-- the same of a file's name, behind which a space stands
+pub one_file : (text name behind rest front end : List ℕ) → text ≡ codes "file " ++ rest → IsCut is_file_byte rest front end
+    → IsFiled text name behind → (name ≡ front) × (32 ∷ behind ≡ end)
+one_file text name behind rest front end e cut h =
+    one_cut is_file_byte name front (32 ∷ behind) end h.is_name.bytes cut.passes refl cut.stops
+    (append_cancel_left (codes "file ") (name ++ 32 ∷ behind) (front ++ end) (sym h.whole ∙ e ∙ ap (λ xs. codes "file " ++ xs) cut.whole))

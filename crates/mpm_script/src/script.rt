@@ -1,0 +1,284 @@
+//! The scripts that say what comes to the server, and when.
+//!
+//! A script is a list of lines, each ended by a line feed (`specs/Script.antt`); which text is which line stands in
+//! `specs/ScriptLine.antt`, what a TEXT spells in `specs/Escapes.antt`, and which lines are built so far in
+//! `specs/BuiltLines.antt`.
+ghost use Rattle.std.specs.Prelude.{◌≡◌, ◌≢◌, ℕ, List, [], ◌∷◌, ◌++◌, length, Result, Err, IfSome, IfNone, IfOk, IfErr, MatchOption, OnOk, OnErr};
+ghost use Rattle.std.specs.List.{prefix_len};
+ghost use Rattle.mpm_script.specs.Script.{Begins, BeginsWith, IsAnswer, IsScript, ScriptIs, is_line_byte};
+ghost use Rattle.mpm_base.specs.declared.script_line.ScriptLine.{ScriptLine as Line};
+ghost use Rattle.mpm_script.specs.declared.script.ScriptFault.{ScriptFault as Fault};
+ghost use Rattle.mpm_script.specs.declared.script.ScriptFault.TheVariants as fault;
+
+use crate::agreement::{add_name, is_backwards, is_repeated, is_unknown, moment_after};
+use crate::built_lines::first_unbuilt;
+use crate::line_reader::{line_of, one_line};
+use mpm_base::{NoMemory, ScriptLine};
+use std::alloc::Global;
+use std::marker::Model;
+use thiserror::Error;
+
+/// A script, as it was read: a list of lines, as contracts see it.
+#[derive(Debug, Drop)]
+pub struct Script {
+    items: Vec<ScriptLine>,
+}
+
+impl Model for Script {
+    ghost use Rattle.std.specs.Prelude.{List};
+    ghost use Rattle.mpm_base.specs.declared.script_line.ScriptLine.{ScriptLine as Line};
+
+    ghost Value = { List Line };
+
+    ghost view = { λ s. s.items.items };
+}
+
+impl Script {
+    /// The empty script, which takes no memory.
+    pub fn make(alloc: Global) -> Script
+        ensures { result ≡ [] }
+    {
+        Script {
+            items: Vec::new(alloc),
+        }
+    }
+
+    /// Puts the line at the end. Where memory lacks nothing changes.
+    pub fn add(&mut self, line: ScriptLine) -> Result<(), NoMemory>
+        ensures ok { OnOk result (self.new ≡ self.old ++ line ∷ []) }
+        ensures err { OnErr result (self.new ≡ self.old) }
+    {
+        match self.items.push(line) {
+            Ok(()) => Ok(()),
+            Err(_) => Err(NoMemory),
+        }
+    }
+
+    /// The lines, in order.
+    pub fn lines(&self) -> &[ScriptLine]
+        ensures { result.now ≡ self.now }
+    {
+        self.items.as_slice()
+    }
+}
+
+/// Why a script was not read. The number is that of the line, from 1.
+#[derive(Clone, Copy, Debug, PartialEq, Eq, Error)]
+pub enum ScriptFault {
+    /// The line is none of a script, or makes a connection whose name was used.
+    #[error("line {0} is none of a script")]
+    BadLine(u64),
+    /// The line goes back to an earlier moment.
+    #[error("line {0} goes back to an earlier moment")]
+    MomentBackwards(u64),
+    /// The line names a connection that no earlier line makes.
+    #[error("line {0} names no connection")]
+    UnknownName(u64),
+    /// The script has none of these faults, and this is its first line that isn't built yet.
+    #[error("line {0} is not built yet")]
+    NotYet(u64),
+    /// Memory was wanted and not found.
+    #[error("out of memory")]
+    NoMemory,
+}
+
+impl From<NoMemory> for ScriptFault {
+    ghost use Rattle.std.specs.Prelude.{◌≡◌};
+    ghost use Rattle.mpm_script.specs.declared.script.ScriptFault.TheVariants as fault;
+
+    ghost from_gives = { λ _ e. e ≡ fault.NoMemory };
+
+    fn from(_: NoMemory) -> ScriptFault {
+        ScriptFault::NoMemory
+    }
+}
+
+/// Reads a script. Each line ends with LF, the last one too, and words have one space between them. The earliest line that
+/// is refused is told; only where there is none, the first line that isn't built yet.
+pub fn read_script(alloc: Global, bytes: &[u8]) -> Result<Script, ScriptFault>
+    ensures answer { ScriptIs bytes.now result }
+{
+    let script = read_lines(alloc, bytes)?;
+    match first_unbuilt(script.lines()) {
+        Some(place) => Err(ScriptFault::NotYet(place as u64 + 1)),
+        None => Ok(script),
+    }
+}
+
+/// A law of scripts: bytes have one answer, unless memory lacks.
+pub fn one_answer()
+    ensures { (bytes : List ℕ) (answer other : Result (List Line) Fault) → ScriptIs bytes answer → ScriptIs bytes other
+        → IsAnswer answer → IsAnswer other → answer ≡ other }
+{
+    one_line();
+}
+
+// The lines of the bytes, or why one of them is refused.
+fn read_lines(alloc: Global, bytes: &[u8]) -> Result<Script, ScriptFault>
+    ensures ok { IfOk result (λ script. IsScript bytes.now script) }
+    ensures err { IfErr result (λ fault. ScriptIs bytes.now (Err fault)) }
+    ensures not_yet { (number : ℕ) → result ≢ Err (fault.NotYet number) }
+{
+    one_line();
+    let mut script = Script::make(alloc);
+    let mut names = Vec::new(alloc);
+    let mut moment = 0;
+    let mut rest = bytes;
+    'lines: while !rest.is_empty() {
+        let number = script.lines().len() as u64 + 1;
+        let Some((line, behind)) = next_line(alloc, rest)? else {
+            return Err(ScriptFault::BadLine(number));
+        };
+        if is_repeated(names.as_slice(), &line) {
+            return Err(ScriptFault::BadLine(number));
+        }
+        if is_backwards(moment, &line) {
+            return Err(ScriptFault::MomentBackwards(number));
+        }
+        if is_unknown(names.as_slice(), &line) {
+            return Err(ScriptFault::UnknownName(number));
+        }
+        moment = moment_after(moment, &line);
+        add_name(alloc, &mut names, &line)?;
+        script.add(line)?;
+        rest = behind;
+    }
+    Ok(script)
+}
+
+// The line that the bytes begin with, and the bytes behind it; None where they begin with none.
+fn next_line(alloc: Global, bytes: &[u8]) -> Result<Option<(ScriptLine, &[u8])>, NoMemory>
+    ensures { IfOk result (λ next. MatchOption next ((line : Line) (rest : List ℕ) → ¬ BeginsWith bytes.now line rest)
+        (λ next. BeginsWith bytes.now next.0 next.1.now)) }
+{
+    let Some((text, rest)) = first_line(bytes) else {
+        return Ok(None);
+    };
+    match line_of(alloc, text)? {
+        Some(line) => Ok(Some((line, rest))),
+        None => Ok(None),
+    }
+}
+
+// The bytes before the first line feed, and those behind it.
+fn first_line(bytes: &[u8]) -> Option<(&[u8], &[u8])>
+    ensures some { IfSome result (λ cut. Begins bytes.now cut.0.now cut.1.now) }
+    ensures none { IfNone result ((text rest : List ℕ) → ¬ Begins bytes.now text rest) }
+{
+    let (text, end) = bytes.split_at(line_len(bytes));
+    let (_, rest) = end.split_first()?;
+    Some((text, rest))
+}
+
+fn line_len(bytes: &[u8]) -> usize
+    ensures { result ≡ prefix_len is_line_byte bytes.now }
+{
+    bytes.iter().take_while(|byte| **byte != b'\n').count()
+}
+
+#[cfg(test)]
+mod tests {
+    use super::*;
+    use mpm_base::ClientAct;
+    use std::test::Fail;
+
+    // How many lines were read, or why one is refused. Want of memory is an error of its own.
+    fn answer(alloc: Global, text: &[u8]) -> Result<Result<usize, ScriptFault>, ScriptFault> {
+        match read_script(alloc, text) {
+            Ok(script) => Ok(Ok(script.lines().len())),
+            Err(ScriptFault::NoMemory) => Err(ScriptFault::NoMemory),
+            Err(fault) => Ok(Err(fault)),
+        }
+    }
+
+    // What the line does, and the name or the bytes in it.
+    fn told(line: &ScriptLine) -> (&str, &[u8]) {
+        match line {
+            ScriptLine::Conn(name) => ("conn", name.as_slice()),
+            ScriptLine::Client(_, ClientAct::Send(bytes)) => ("send", bytes.as_slice()),
+            ScriptLine::Client(name, ClientAct::End) => ("end", name.as_slice()),
+            ScriptLine::Client(name, ClientAct::Room(_)) => ("room", name.as_slice()),
+            ScriptLine::At(_) => ("at", b""),
+            _ => ("", b""),
+        }
+    }
+
+    #[test]
+    fn reads_the_lines_of_two_connections(rt: HostRuntime) -> Result<(), Fail> {
+        let text: &[u8] =
+            b"conn a\nsend a GET / HTTP/1.1\\r\\nHost: a\\r\\n\\r\\n\nat 10\nconn b\nroom b 7\nend a\nroom b all\nat 10\nend b\n";
+        let wanted: [(&str, &[u8]); 9] = [
+            ("conn", b"a"),
+            ("send", b"GET / HTTP/1.1\r\nHost: a\r\n\r\n"),
+            ("at", b""),
+            ("conn", b"b"),
+            ("room", b"b"),
+            ("end", b"a"),
+            ("room", b"b"),
+            ("at", b""),
+            ("end", b"b"),
+        ];
+        let script = read_script(rt.alloc(), text)?;
+        assert_eq!(rt; script.lines().len(), wanted.len());
+        for (line, wanted) in script.lines().iter().zip(wanted) {
+            assert_eq!(rt; told(line), wanted);
+        }
+        Ok(())
+    }
+
+    #[test]
+    fn tells_the_earliest_line_that_is_refused(rt: HostRuntime) -> Result<(), Fail> {
+        let cases: [(&[u8], Result<usize, ScriptFault>); 25] = [
+            (b"", Ok(0)),
+            (b"conn a\nend a\n", Ok(2)),
+            (b"at 7\nat 7\nat 4999\n", Ok(3)),
+            (b"\n", Err(ScriptFault::BadLine(1))),
+            (b"conn a\r\nend a\r\n", Err(ScriptFault::BadLine(1))),
+            (b"conn a\nend a\n\n", Err(ScriptFault::BadLine(3))),
+            (b"conn a\nend  a\n", Err(ScriptFault::BadLine(2))),
+            (b"conn a\nend a", Err(ScriptFault::BadLine(2))),
+            (b"conn a", Err(ScriptFault::BadLine(1))),
+            (
+                b"conn a\nend a\nconn a\nend a\n",
+                Err(ScriptFault::BadLine(3)),
+            ),
+            (b"conn a\nconn b\nconn b\n", Err(ScriptFault::BadLine(3))),
+            (b"at 7\nat 6\n", Err(ScriptFault::MomentBackwards(2))),
+            (
+                b"at 7\nconn a\nat 6\nend a\n",
+                Err(ScriptFault::MomentBackwards(3)),
+            ),
+            (b"end a\nconn a\n", Err(ScriptFault::UnknownName(1))),
+            (b"conn a\nend a\nend b\n", Err(ScriptFault::UnknownName(3))),
+            (
+                b"conn a\nend b\nconn a\nat 7\nat 6\nend",
+                Err(ScriptFault::UnknownName(2)),
+            ),
+            (
+                b"at 7\nat 6\nend b\n\n",
+                Err(ScriptFault::MomentBackwards(2)),
+            ),
+            (
+                b"conn a\nconn a\nend b\nat 7\nat 6\n",
+                Err(ScriptFault::BadLine(2)),
+            ),
+            (b"conn a\n", Err(ScriptFault::NotYet(1))),
+            (b"at 4999\nat 5000\n", Err(ScriptFault::NotYet(2))),
+            (
+                b"conn a\ndrop a\nend a\ncommand stop\n",
+                Err(ScriptFault::NotYet(2)),
+            ),
+            (b"command stop\n", Err(ScriptFault::NotYet(1))),
+            (b"clear\nend a\n", Err(ScriptFault::UnknownName(2))),
+            (
+                b"conn a\nat 5000\nat 4999\n",
+                Err(ScriptFault::MomentBackwards(3)),
+            ),
+            (b"at 5000\nend", Err(ScriptFault::BadLine(2))),
+        ];
+        for (text, wanted) in cases {
+            assert_eq!(rt; answer(rt.alloc(), text)?, wanted, "at {text:?}");
+        }
+        Ok(())
+    }
+}

@@ -1,0 +1,5 @@
+pub mod ClientLemmas
+pub mod ComingLemmas
+pub mod PlayedLemmas
+pub mod PlaysLemmas
+pub mod WaitLemmas

@@ -1,0 +1,111 @@
+-- A wait of a front that plays a script is one of a front.
+use Rattle.std.proofs.Common.{◌≡◌, ℕ, ◌+◌, ◌-◌, ◌<◌, ◌≤◌, Bool, true, false, List, [], length, take, Option, Some, ap, sym, refl, ◌∙◌, arith}
+use Rattle.mpm_script.specs.Clients.{clients_of, names_of}
+use Rattle.mpm_base.specs.Count.{RisesExactlyWhere, RisesWhere}
+use Rattle.mpm_base.specs.Front.{Given, GivesOnlyAwake, HasAllTaken, IsAnswerOf, PutsDown, StandsStill, Waits, is_ended, wait_failed}
+use Rattle.script_front.specs.PlayedFront.{KeepsRest, counts_of, with_given}
+use Rattle.script_front.specs.ScriptFront.{IsOfScript, Moves, Plays, SeenFront, begins, ends, over, passes, served, signals, stays}
+use Rattle.mpm_base.specs.declared.front.Woke.{Woke}
+use Rattle.mpm_base.specs.declared.front.Woke.TheVariants as woke
+use Rattle.mpm_base.specs.declared.script_line.ScriptLine.{ScriptLine}
+use Rattle.script_front.proofs.PlayedLemmas.{names-add}
+
+-- ## What was put down changes nothing else
+
+moves-given : (old mid : SeenFront) (g : Option Given) (count m : ℕ) → Moves old mid count m → Moves old (with_given g mid) count m
+moves-given old mid g count m p = record { script = p.script; begun = p.begun; happened = p.happened; moment_is = p.moment_is }
+
+plays-given : {old mid : SeenFront} {until : Option ℕ} {quiet : Bool} {answer : Woke} {ready : List ℕ} (g : Option Given)
+    → Plays old mid until quiet answer ready → Plays old (with_given g mid) until quiet answer ready
+plays-given g (over e m) = over e (moves-given _ _ g _ _ m)
+plays-given g (begins b l m) = begins b l (moves-given _ _ g _ _ m)
+plays-given g (signals s m) = signals s (moves-given _ _ g _ _ m)
+plays-given g (served q m) = served q (moves-given _ _ g _ _ m)
+plays-given g (passes q n t m) = passes q n t (moves-given _ _ g _ _ m)
+plays-given g (ends q n t m) = ends q n (record { left = t.left; accepted = t.accepted }) (moves-given _ _ g _ _ m)
+plays-given g (stays q n m) = stays q n (moves-given _ _ g _ _ m)
+
+pub plays-put_down : (old mid new : SeenFront) (until : Option ℕ) (quiet : Bool) (answer : Woke) (ready : List ℕ) → new ≡ with_given new.told.given mid
+    → Plays old mid until quiet answer ready → Plays old new until quiet answer ready
+plays-put_down old mid new until quiet answer ready is p = rw is (plays-given new.told.given p)
+
+-- ## What a wait did is what a front may do
+
+-- it went no way back
+record Went (old new : SeenFront) : Type 0 where
+  pub script : new.script ≡ old.script
+  pub happened : old.happened ≤ new.happened
+  pub moment_is : old.told.moment ≤ new.told.moment
+
+went-still : {old new : SeenFront} {count : ℕ} → Moves old new count old.told.moment → Went old new
+went-still m = record { script = m.script; happened = omega (arith, m.happened); moment_is = omega (arith, m.moment_is) }
+
+plays-went : {old new : SeenFront} {until : Option ℕ} {quiet : Bool} {answer : Woke} {ready : List ℕ} → Plays old new until quiet answer ready → Went old new
+plays-went (over e m) = went-still m
+plays-went (begins b l m) = went-still m
+plays-went (signals s m) = went-still m
+plays-went (served q m) = went-still m
+plays-went (passes q n t m) = record { script = m.script; happened = omega (arith, m.happened); moment_is = omega (arith, m.moment_is, t) }
+plays-went (ends q n t m) = went-still m
+plays-went (stays q n m) = went-still m
+
+-- the answer is one that it may give there
+plays-answers : {old new : SeenFront} {until : Option ℕ} {quiet : Bool} {answer : Woke} {ready : List ℕ} → (0 < old.ends → HasAllTaken new.told)
+    → Plays old new until quiet answer ready → IsAnswerOf answer new.told × GivesOnlyAwake answer ready × RisesWhere (wait_failed answer) 0 0
+plays-answers taken (over e m) = (taken e, refl, omega arith)
+plays-answers taken (begins b l m) = (sym m.moment_is, tt, omega arith)
+plays-answers taken (signals s m) = (sym m.moment_is, tt, omega arith)
+plays-answers taken (served q m) = (sym m.moment_is, tt, omega arith)
+plays-answers taken (passes q n t m) = (sym m.moment_is, tt, omega arith)
+plays-answers taken (ends q n t m) = (t, refl, omega arith)
+plays-answers taken (stays q n m) = (sym m.moment_is, tt, omega arith)
+
+-- no count fell
+never-fell : (ended : Bool) (n n' : ℕ) → RisesExactlyWhere ended n n' → n ≤ n'
+never-fell true n n' p = p.0
+never-fell false n n' p = omega (arith, p)
+
+-- of more lines no fewer connections
+arrived-more : (lines : List ScriptLine) (h h' : ℕ) → h ≤ h' → length (names_of (take h lines)) ≤ length (names_of (take h' lines))
+arrived-more lines h h' more =
+    let up : h' ≡ h + (h' - h) = omega arith in
+    rw up (omega (arith, names-add lines h (h' - h)))
+
+still-given : (old mid new : SeenFront) → new ≡ with_given new.told.given mid → StandsStill old.told mid.told → StandsStill old.told new.told
+still-given old mid new is still = record {
+  arrived = ap (λ (f : SeenFront). f.told.arrived) is ∙ still.arrived;
+  left = ap (λ (f : SeenFront). f.told.left) is ∙ still.left;
+  moment = ap (λ (f : SeenFront). f.told.moment) is ∙ still.moment;
+}
+
+pub waits : (old mid new : SeenFront) (until : Option ℕ) (quiet : Bool) (answer : Woke) (ready : List ℕ) → IsOfScript old → IsOfScript new → (0 < new.ends → HasAllTaken new.told)
+    → new ≡ with_given new.told.given mid → Plays old new until quiet answer ready → KeepsRest answer old mid → PutsDown ready answer mid.told.given new.told.given
+    → (0 < old.ends → (ready ≡ []) × StandsStill old.told mid.told) → length ready ≤ 256
+    → Waits (Some old.told) (Some new.told) (counts_of old) (counts_of new) answer ready
+waits old mid new until quiet answer ready was now taken is plays rest given ended few =
+    let went = plays-went plays in
+    let ends : new.ends ≡ mid.ends = ap (λ (f : SeenFront). f.ends) is in
+    let rises : RisesExactlyWhere (is_ended answer) old.ends new.ends = rw ends rest.ends in
+    let says = plays-answers (λ e. taken (omega (arith, e, never-fell (is_ended answer) old.ends new.ends rises))) plays in
+    record {
+      tells = (
+        new.told,
+        refl,
+        record {
+          clients = now.clients ∙ ap clients_of went.script ∙ sym was.clients;
+          arrived = rw (was.arrived, now.arrived, went.script) (arrived-more old.script old.happened new.happened went.happened);
+          accepted = ap (λ (f : SeenFront). f.told.accepted) is ∙ rest.accepted;
+          watched = ap (λ (f : SeenFront). f.told.watched) is ∙ rest.watched;
+          left = omega (arith, was.left, now.left, went.happened, ap length went.script);
+          moment = went.moment_is;
+          answers = says.0;
+          given = rw rest.given at given;
+        },
+      );
+      over = λ e. record { none = (ended e).0; still = (new.told, refl, still-given old mid new is (ended e).1) };
+      awake = says.1;
+      few = few;
+      faults = says.2;
+      accept_faults = refl;
+      ends = rises;
+    }

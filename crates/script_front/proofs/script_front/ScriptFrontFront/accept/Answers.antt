@@ -1,0 +1,41 @@
+use Rattle.std.proofs.Common.{◌≡◌, ◌+◌, length, ap, refl, arith, ◌∙◌}
+use Rattle.mpm_base.specs.Count.{next_count}
+use Rattle.mpm_base.specs.Link.{fresh_link}
+use Rattle.mpm_base.specs.ScriptLink.{SeenScriptLink}
+use Rattle.script_front.proofs.PlayedLemmas.{next-taken, none-waits, played-accept}
+use Rattle.script_front.proofs.script_front.ScriptFrontFront.accept.Goals as goal
+
+pub invariant_of-self : goal.invariant_of-self
+invariant_of-self c =
+    let s = c.self.inside in
+    let p = played-accept s.script s.happened s.arrived s.accepted _ s.ends _ _ _ c.self.invariant c.in-Some.ensures.some c.if-self.false in
+    rw c.in-Some.ensures.watched p
+
+pub returns-clause-accepts : goal.returns-clause-accepts
+returns-clause-accepts c =
+    let s = c.self.inside in
+    let next = next-taken s.script s.happened s.arrived s.accepted _ s.ends _ _ _ c.self.invariant c.in-Some.ensures.some in
+    let e : next_count s.accepted ≡ s.accepted + 1 = omega arith in
+    rw (← c.self.view_is) (record {
+      told_is = rw (e, c.in-Some.ensures.watched);
+      hands = (
+        (
+          _,
+          refl,
+          record {
+            arrived = omega (arith, c.self.invariant.accepted, c.if-self.false);
+            known = next.0;
+            fresh = ap (λ (l : SeenScriptLink). l.told) c.paced.ensures ∙ ap (fresh_link s.accepted) next.1;
+          },
+        ),
+        ap (λ (l : SeenScriptLink). l.counts.faults) c.paced.ensures,
+      );
+      faults = refl;
+      accept_faults = omega arith;
+      ends = refl;
+    })
+
+pub unreachable-requires : goal.unreachable-requires
+unreachable-requires c =
+    let s = c.self.inside in
+    none-waits s.script s.happened s.arrived s.accepted _ s.ends _ c.self.invariant (ap length c.in-None.ensures.none) c.if-self.false

@@ -1,0 +1,2 @@
+pub mod PlayedFront
+pub mod ScriptFront

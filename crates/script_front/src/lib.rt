@@ -1,0 +1,20 @@
+//! The front and the clock that play a script.
+//!
+//! `ScriptFront` is a front over a script: its connections arrive, send and end as the lines say, and time goes from moment
+//! to moment while nobody is served. It meets the trait `Front` of `mpm_base`; what it shows of itself and the rules of its
+//! waits stand in `specs/ScriptFront.antt`, what holds between its parts in `specs/PlayedFront.antt`. `ScriptClock` is the
+//! clock that goes with it.
+#![tactic(auto)]
+
+mod client_texts;
+mod coming_lines;
+mod given_log;
+mod script_client;
+mod script_clients;
+mod script_clock;
+mod script_front;
+#[cfg(test)]
+mod tests;
+
+pub use script_clock::ScriptClock;
+pub use script_front::ScriptFront;

@@ -1,0 +1,240 @@
+//! Scripts that are played by hand, wait by wait.
+use crate::script_front::ScriptFront;
+use mpm_base::{
+    Arrival, ClientAct, CommandWord, ConnName, Front, Got, Link, Moment, NoMemory, Octets, Ready,
+    ScriptLine, ScriptLink, Sent, Woke,
+};
+use mpm_script::Script;
+use std::alloc::Global;
+use std::process::Abort;
+use std::sync::Wait;
+use std::test::Fail;
+
+/// A row of a script: a moment, or a client's name and what it does.
+#[derive(Clone, Copy)]
+enum Row {
+    At(Moment),
+    Conn(&'static [u8]),
+    Send(&'static [u8], &'static [u8]),
+    End(&'static [u8]),
+    Room(&'static [u8], Option<u64>),
+}
+
+/// The script of these rows, and a command that does nothing here.
+fn script_of(alloc: Global, rows: &[Row]) -> Result<Script, NoMemory> {
+    let mut script = Script::make(alloc);
+    for row in rows {
+        let line = match row {
+            Row::At(moment) => ScriptLine::At(*moment),
+            Row::Conn(name) => ScriptLine::Conn(Octets::of(alloc, name)?),
+            Row::Send(name, text) => {
+                let act = ClientAct::Send(Octets::of(alloc, text)?);
+                ScriptLine::Client(Octets::of(alloc, name)?, act)
+            }
+            Row::End(name) => ScriptLine::Client(Octets::of(alloc, name)?, ClientAct::End),
+            Row::Room(name, room) => {
+                ScriptLine::Client(Octets::of(alloc, name)?, ClientAct::Room(*room))
+            }
+        };
+        script.add(line)?;
+    }
+    script.add(ScriptLine::Command(CommandWord::Graceful))?;
+    Ok(script)
+}
+
+/// A wait: until when, whether no connection is being served, and what is wanted: the answer, the slots, and how many lines
+/// have happened then.
+type Turn<'a> = (Option<Moment>, bool, Woke, &'a [u32], usize);
+
+/// Waits once for each row.
+fn waits(rt: &(impl Wait + Abort), front: &mut ScriptFront, ready: &mut Ready, wanted: &[Turn]) {
+    for (until, quiet, answer, slots, happened) in wanted {
+        let woke = front.wait(rt, *until, *quiet, ready);
+        assert_eq!(rt; woke, *answer, "{until:?}");
+        assert_eq!(rt; ready.slots(), *slots, "{until:?}");
+        assert_eq!(rt; front.happened(), *happened, "{until:?}");
+    }
+}
+
+/// The link that waits, which is watched from now on.
+fn taken(rt: &impl Abort, front: &mut ScriptFront, slot: u32) -> ScriptLink {
+    match front.accept() {
+        Arrival::Some(mut link) => {
+            assert!(rt; front.watch(ConnName { slot, life: 0 }, &mut link));
+            link
+        }
+        _ => panic!(rt; "no link waits"),
+    }
+}
+
+/// Reads into eight bytes as often as answers are wanted.
+fn reads(rt: &impl Abort, link: &mut ScriptLink, wanted: &[Got]) {
+    let mut buffer = [0u8; 8];
+    for answer in wanted {
+        assert_eq!(rt; link.read(&mut buffer), *answer);
+    }
+}
+
+/// Writes each piece once.
+fn writes(rt: &impl Abort, link: &mut ScriptLink, wanted: &[(&[u8], Sent)]) {
+    for (piece, answer) in wanted {
+        assert_eq!(rt; link.write(piece), *answer, "{piece:?}");
+    }
+}
+
+/// Two connections: one sends in three pieces and has room for only some of what is written to it for a while, the other
+/// sends something behind its end.
+const TWO: [Row; 16] = [
+    Row::Conn(b"a"),
+    Row::Send(b"a", b"GE"),
+    Row::At(0),
+    Row::Send(b"a", b"T "),
+    Row::At(10),
+    Row::Conn(b"b"),
+    Row::Send(b"b", b"x"),
+    Row::Room(b"a", Some(3)),
+    Row::At(10),
+    Row::End(b"b"),
+    Row::Send(b"b", b"late"),
+    Row::At(20),
+    Row::Send(b"a", b"/"),
+    Row::End(b"a"),
+    Row::At(30),
+    Row::Room(b"a", None),
+];
+
+/// The lines before the first `at` happen in the first wait. Then no time passes while a connection is served, nor in a
+/// wait that gives a signal, and none goes back.
+fn begins(rt: &(impl Wait + Abort), front: &mut ScriptFront, ready: &mut Ready) -> ScriptLink {
+    assert!(rt; matches!(front.accept(), Arrival::None));
+    waits(rt, front, ready, &[(Some(7), true, Woke::Woke(0), &[], 2)]);
+    let mut link = taken(rt, front, 5);
+    assert!(rt; matches!(front.accept(), Arrival::None));
+    reads(rt, &mut link, &[Got::Got(2), Got::NotReady]);
+    let turns: [Turn; 6] = [
+        (Some(7), true, Woke::Woke(0), &[5], 2),
+        (Some(7), false, Woke::Woke(0), &[], 2),
+        (Some(7), true, Woke::Woke(0), &[], 4),
+        (Some(7), true, Woke::Woke(0), &[5], 4),
+        (Some(7), true, Woke::Woke(7), &[], 4),
+        (Some(3), true, Woke::Woke(7), &[], 4),
+    ];
+    waits(rt, front, ready, &turns);
+    reads(rt, &mut link, &[Got::Got(2), Got::NotReady]);
+    writes(rt, &mut link, &[(b"1234", Sent::Put(4))]);
+    link
+}
+
+/// Both groups of one moment happen at once. The other link is read to its end and closed.
+fn goes_on(
+    rt: &(impl Wait + Abort),
+    front: &mut ScriptFront,
+    ready: &mut Ready,
+    link: &mut ScriptLink,
+) {
+    let turns: [Turn; 2] = [
+        (Some(50), true, Woke::Woke(10), &[], 11),
+        (None, true, Woke::Woke(10), &[5], 11),
+    ];
+    waits(rt, front, ready, &turns);
+    let room: [(&[u8], Sent); 4] = [
+        (b"abcd", Sent::Put(3)),
+        (b"d", Sent::NotReady),
+        (b"", Sent::Put(0)),
+        (b"d", Sent::NotReady),
+    ];
+    writes(rt, link, &room);
+    let mut other = taken(rt, front, 6);
+    reads(rt, &mut other, &[Got::Got(1), Got::End]);
+    assert_eq!(rt; other.received(), b"x".as_slice());
+    assert_eq!(rt; other.rank(), 1);
+    other.close();
+}
+
+/// The signal of the link that was closed is dropped, and the front ends only once the other is closed too.
+fn ends(
+    rt: &(impl Wait + Abort),
+    front: &mut ScriptFront,
+    ready: &mut Ready,
+    link: &mut ScriptLink,
+) {
+    let turns: [Turn; 5] = [
+        (None, true, Woke::Woke(20), &[], 14),
+        (None, true, Woke::Woke(20), &[5], 14),
+        (None, true, Woke::Woke(30), &[], 17),
+        (None, true, Woke::Woke(30), &[5], 17),
+        (None, true, Woke::Woke(30), &[], 17),
+    ];
+    waits(rt, front, ready, &turns);
+    reads(rt, link, &[Got::Got(1), Got::End, Got::End]);
+    writes(rt, link, &[(b"defgh", Sent::Put(5))]);
+    link.close();
+    let turns: [Turn; 3] = [
+        (Some(50), true, Woke::Woke(50), &[], 17),
+        (None, true, Woke::Ended, &[], 17),
+        (Some(60), false, Woke::Ended, &[], 17),
+    ];
+    waits(rt, front, ready, &turns);
+}
+
+#[test]
+fn a_script_of_two_connections_is_played(rt: HostRuntime) -> Result<(), Fail> {
+    let mut ready = Ready::make(rt.alloc())?;
+    let mut front = ScriptFront::make(rt.alloc(), script_of(rt.alloc(), &TWO)?)?;
+    let mut link = begins(&rt, &mut front, &mut ready);
+    goes_on(&rt, &mut front, &mut ready, &mut link);
+    ends(&rt, &mut front, &mut ready, &mut link);
+    assert_eq!(rt; link.received(), b"GET /".as_slice());
+    assert_eq!(rt; link.sent(), b"1234abcdefgh".as_slice());
+    assert_eq!(rt; (link.rank(), link.faults()), (0, 0));
+    assert_eq!(rt; front.script().lines().len(), 17);
+    Ok(())
+}
+
+#[test]
+fn an_empty_script_ends_at_once(rt: HostRuntime) -> Result<(), Fail> {
+    let mut ready = Ready::make(rt.alloc())?;
+    let mut front = ScriptFront::make(rt.alloc(), Script::make(rt.alloc()))?;
+    let turns: [Turn; 3] = [
+        (Some(4), true, Woke::Woke(4), &[], 0),
+        (None, false, Woke::Woke(4), &[], 0),
+        (None, true, Woke::Ended, &[], 0),
+    ];
+    waits(&rt, &mut front, &mut ready, &turns);
+    Ok(())
+}
+
+/// The script of so many clients who end at once.
+fn script_of_many(alloc: Global, count: u8) -> Result<Script, NoMemory> {
+    let mut script = Script::make(alloc);
+    for number in 0..count {
+        for tens in [b'0', b'1'] {
+            let name = [tens, number];
+            script.add(ScriptLine::Conn(Octets::of(alloc, &name)?))?;
+            let act = ClientAct::End;
+            script.add(ScriptLine::Client(Octets::of(alloc, &name)?, act))?;
+        }
+    }
+    Ok(script)
+}
+
+#[test]
+fn signals_that_find_no_room_stay_due(rt: HostRuntime) -> Result<(), Fail> {
+    let mut ready = Ready::make(rt.alloc())?;
+    let mut front = ScriptFront::make(rt.alloc(), script_of_many(rt.alloc(), 130)?)?;
+    waits(
+        &rt,
+        &mut front,
+        &mut ready,
+        &[(None, true, Woke::Woke(0), &[], 520)],
+    );
+    let mut links = Vec::new(rt.alloc());
+    for slot in 0..260 {
+        links.push(taken(&rt, &mut front, slot))?;
+    }
+    for slots in [256, 4, 0] {
+        assert_eq!(rt; front.wait(&rt, None, true, &mut ready), Woke::Woke(0));
+        assert_eq!(rt; ready.slots().len(), slots);
+    }
+    Ok(())
+}
