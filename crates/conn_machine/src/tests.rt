@@ -90,7 +90,7 @@ const REFUSED: Ask = Ask {
     ..FOUND
 };
 
-// The events that lead from the opening to a row 0 that is so.
+// The events that lead from the opening to a row of slot 0 that is so.
 const HELD: [Event; 2] = [BEGIN, TAKE];
 
 const READING: [Event; 3] = [BEGIN, TAKE, READ];

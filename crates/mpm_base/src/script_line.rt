@@ -1,4 +1,4 @@
-//! The lines of a script, as they were read. Which text is which line stands in `specs/ScriptLine.antt`.
+//! The lines of a script, as they were read. Which text is which line stands in `specs/ScriptLine.antt` of `mpm_script`.
 
 use crate::conn::Moment;
 use crate::octets::Octets;

@@ -12,8 +12,10 @@ use crate::plain_store::PlainStore;
 use crate::script_link::ScriptLink;
 use crate::sink::{Put, Sink};
 use crate::store::{Names, Store, StoreFault};
+use crate::wire::Wire;
 use std::alloc::Global;
 use std::process::Abort;
+use std::sync::Arc;
 use std::test::Fail;
 
 /// The list of these numbers.
@@ -178,6 +180,57 @@ fn a_link_counts_how_often_it_ended(rt: HostRuntime) {
     assert_eq!(rt; link.sent(), b"HTTP/1.1 200 OK".as_slice());
     assert_eq!(rt; link.shuts(), 2);
     assert_eq!(rt; link.closes(), 2);
+}
+
+#[test]
+fn a_link_with_a_wire_reads_and_takes_as_its_front_says(rt: HostRuntime) -> Result<(), Fail> {
+    let alloc = rt.alloc();
+    let wire = Arc::new(alloc, Wire::make())?;
+    let coming = Octets::of(alloc, b"GET")?;
+    let theirs = Arc::try_clone(&wire)?;
+    let mut link = ScriptLink::paced(
+        alloc,
+        0,
+        coming,
+        theirs,
+        Calls::make(alloc),
+        Calls::make(alloc),
+    );
+    let mut came = Octets::make(alloc);
+    reads(&rt, &mut link, &[(8, Got::NotReady)], &mut came)?;
+    wire.bring(2);
+    reads(
+        &rt,
+        &mut link,
+        &[(8, Got::Got(2)), (8, Got::NotReady)],
+        &mut came,
+    )?;
+    wire.bring(1);
+    wire.end();
+    reads(
+        &rt,
+        &mut link,
+        &[(8, Got::Got(1)), (8, Got::End)],
+        &mut came,
+    )?;
+    writes(&rt, &mut link, &[(b"ab", Sent::Put(2))]);
+    wire.allow(Some(3));
+    writes(
+        &rt,
+        &mut link,
+        &[(b"cdef", Sent::Put(3)), (b"f", Sent::NotReady)],
+    );
+    wire.allow(None);
+    writes(&rt, &mut link, &[(b"f", Sent::Put(1))]);
+    assert_eq!(rt;
+        (wire.came(), wire.ended(), wire.closed()),
+        (3, true, false)
+    );
+    link.close();
+    assert!(rt; wire.closed());
+    assert_eq!(rt; came.as_slice(), b"GET".as_slice());
+    assert_eq!(rt; link.sent(), b"abcdef".as_slice());
+    Ok(())
 }
 
 #[test]
