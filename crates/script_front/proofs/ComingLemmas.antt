@@ -1,5 +1,5 @@
 -- The lines that happen next, counted one by one, and how many of the lines make a connection.
-use Rattle.std.proofs.Common.{◌≡◌, ℕ, ◌+◌, ◌<◌, ◌≤◌, cond, List, ◌∷◌, length, get_or, drop, refl, ◌∙◌, arith}
+use Rattle.std.proofs.Common.{◌≡◌, ℕ, suc, ◌+◌, ◌<◌, ◌≤◌, true, false, cond, nat_le, List, [], ◌∷◌, length, get_or, drop, refl, ◌∙◌, arith}
 use Rattle.std.proofs.Math.Numerals.{one-add}
 use Rattle.std.specs.List.{count_by}
 use Rattle.std.proofs.lemmas.List.{at_drop_more, at_drop_all}
@@ -26,6 +26,15 @@ now_more lines i d h = at_drop_more lines_now lines i d h ∙ now-cons (get_or l
 pub now_end : (lines : List ScriptLine) (i : ℕ) → length lines ≤ i → lines_now (drop i lines) ≡ 0
 now_end lines i h = at_drop_all lines_now lines i h
 
+-- behind them the next line is an `at`
+pub now_passed : (lines : List ScriptLine) → lines_now (drop (lines_now lines) lines) ≡ 0
+now_passed [] = refl
+now_passed (line.At m ∷ lines) = refl
+now_passed (line.Conn name ∷ lines) = now_passed lines
+now_passed (line.Client name act ∷ lines) = now_passed lines
+now_passed (line.Command word ∷ lines) = now_passed lines
+now_passed (line.Site site ∷ lines) = now_passed lines
+
 -- the lines before the first `at` of a later moment
 by-cons : (m : ℕ) (l : ScriptLine) (lines : List ScriptLine) → lines_by m (l ∷ lines) ≡ cond (happens_by m l) (1 + lines_by m lines) 0
 by-cons m (line.At at) lines = rw one-add
@@ -40,6 +49,19 @@ by_more m lines i d h = at_drop_more (lines_by m) lines i d h ∙ by-cons m (get
 
 pub by_end : (m : ℕ) (lines : List ScriptLine) (i : ℕ) → length lines ≤ i → lines_by m (drop i lines) ≡ 0
 by_end m lines i h = at_drop_all (lines_by m) lines i h
+
+-- behind them too
+pub by_passed : (m : ℕ) (lines : List ScriptLine) → lines_now (drop (lines_by m lines) lines) ≡ 0
+by_passed m [] = refl
+by_passed m (line.At at ∷ lines) =
+    elim (nat_le at m) as (λ happens. lines_now (drop (cond happens (suc (lines_by m lines)) 0) (line.At at ∷ lines)) ≡ 0) [
+      | true ↦ by_passed m lines
+      | false ↦ refl
+    ]
+by_passed m (line.Conn name ∷ lines) = by_passed m lines
+by_passed m (line.Client name act ∷ lines) = by_passed m lines
+by_passed m (line.Command word ∷ lines) = by_passed m lines
+by_passed m (line.Site site ∷ lines) = by_passed m lines
 
 names-cons : (l : ScriptLine) (lines : List ScriptLine) → length (names_of (l ∷ lines)) ≡ cond (is_conn l) (1 + length (names_of lines)) (length (names_of lines))
 names-cons (line.At m) lines = refl

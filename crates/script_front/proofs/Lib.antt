@@ -2,4 +2,5 @@ pub mod ClientLemmas
 pub mod ComingLemmas
 pub mod PlayedLemmas
 pub mod PlaysLemmas
+pub mod SignalLemmas
 pub mod WaitLemmas

@@ -1,12 +1,14 @@
 -- The parts of a front that plays a script, after a step.
-use Rattle.std.proofs.Common.{◌≡◌, ℕ, zero, suc, ◌+◌, ◌-◌, ◌<◌, ◌≤◌, List, [], ◌∷◌, ◌++◌, length, get_or, take, drop, ap, sym, ◌∙◌, add-one, arith}
+use Rattle.std.proofs.Common.{◌≡◌, ℕ, zero, suc, ◌+◌, ◌-◌, ◌<◌, ◌≤◌, Bool, true, List, [], ◌∷◌, ◌++◌, length, get_or, take, drop, ap, sym, refl, ◌∙◌, drop-drop, add-one, arith}
 use Rattle.std.proofs.Math.Seq.{take-add}
 use Rattle.std.proofs.lemmas.Grind.{flat_map-append}
 use Rattle.std.proofs.lemmas.List.{length-append, length-drop, length-map, length-take, take-append-drop}
 use Rattle.mpm_script.specs.Clients.{clients_of, made_by, names_of, sent_by}
-use Rattle.script_front.specs.PlayedFront.{ArePlayed}
+use Rattle.script_front.specs.PlayedFront.{ArePlayed, SeenClients}
+use Rattle.script_front.specs.ScriptFront.{lines_now}
 use Rattle.mpm_base.specs.declared.script_line.ScriptLine.{ScriptLine}
 use Rattle.script_front.proofs.ComingLemmas.{names-few}
+use Rattle.script_front.proofs.SignalLemmas.{names}
 
 -- the connections of the lines up to one place, and from there to another
 pub names-add : (lines : List ScriptLine) (h n : ℕ)
@@ -38,41 +40,71 @@ first-rest (y ∷ ys) (suc k) x rest e =
     let r = first-rest ys k x rest e in
     record { within = omega (arith, r.within); is = r.is; rest_is = r.rest_is }
 
--- the first of the texts that wait is that of the next connection
-pub next-taken : (lines : List ScriptLine) (h a taken names ended : ℕ) (text : List ℕ) (texts rest : List (List ℕ)) → ArePlayed lines h a taken texts names ended
-    → texts ≡ text ∷ rest → (taken < length (clients_of lines)) × (text ≡ get_or (clients_of lines) taken [])
-next-taken lines h a taken names ended text texts rest p is =
-    let r = first-rest (clients_of lines) taken text rest (sym p.texts_are ∙ is) in
-    (r.within, r.is)
+module _ (lines : List ScriptLine) (h : ℕ) (waited : Bool) (a taken : ℕ) (cs : SeenClients) (ended : ℕ) (p : ArePlayed lines h waited a taken cs ended) where
+  -- the first of the texts that wait is that of the next connection
+  pub next-taken : (text : List ℕ) (rest : List (List ℕ)) → cs.waiting ≡ text ∷ rest → (taken < length (clients_of lines)) × (text ≡ get_or (clients_of lines) taken [])
+  next-taken text rest is =
+      let r = first-rest (clients_of lines) taken text rest (sym p.texts_are ∙ is) in
+      (r.within, r.is)
 
--- the next connection was handed out
-pub played-accept : (lines : List ScriptLine) (h a taken names ended : ℕ) (text : List ℕ) (texts rest : List (List ℕ)) → ArePlayed lines h a taken texts names ended
-    → texts ≡ text ∷ rest → (taken ≡ a → ⊥) → ArePlayed lines h a (taken + 1) rest names ended
-played-accept lines h a taken names ended text texts rest p is waits =
-    let r = first-rest (clients_of lines) taken text rest (sym p.texts_are ∙ is) in
-    record {
-      happened = p.happened;
-      arrived = p.arrived;
-      accepted = omega (arith, p.accepted);
-      texts_are = rw add-one r.rest_is;
-      names_are = p.names_are;
-      over = λ e. absurd (omega (arith, (p.over e).1, r.within));
-    }
+  -- the next connection was handed out
+  pub played-accept : (cs' : SeenClients) (text : List ℕ) → cs.waiting ≡ text ∷ cs'.waiting → cs' ≡ record cs { waiting = cs'.waiting } → (taken ≡ a → ⊥)
+      → ArePlayed lines h waited a (taken + 1) cs' ended
+  played-accept cs' text is only waits =
+      let r = first-rest (clients_of lines) taken text cs'.waiting (sym p.texts_are ∙ is) in
+      record {
+        happened = p.happened;
+        arrived = p.arrived;
+        accepted = omega (arith, p.accepted);
+        texts_are = rw add-one r.rest_is;
+        clients_are = ap (λ (s : SeenClients). names s.clients) only ∙ p.clients_are;
+        names_are = ap (λ (s : SeenClients). length s.watched) only ∙ p.names_are;
+        next = p.next;
+        over = λ e. absurd (omega (arith, (p.over e).2, r.within));
+      }
 
--- where a connection waits its text does
-pub none-waits : (lines : List ScriptLine) (h a taken names ended : ℕ) (texts : List (List ℕ)) → ArePlayed lines h a taken texts names ended
-    → length texts ≡ 0 → (taken ≡ a → ⊥) → ⊥
-none-waits lines h a taken names ended texts p is waits =
-    omega (arith, p.accepted, p.arrived, arrived-within lines h, length-drop taken (clients_of lines), ap length p.texts_are)
+  -- where a connection waits its text does
+  pub none-waits : length cs.waiting ≡ 0 → (taken ≡ a → ⊥) → ⊥
+  none-waits is waits =
+      omega (arith, p.accepted, p.arrived, arrived-within lines h, length-drop taken (clients_of lines), ap length p.texts_are)
 
--- so many further lines happened
-pub played-lines : (lines : List ScriptLine) (h n a more taken names ended : ℕ) (texts : List (List ℕ)) → ArePlayed lines h a taken texts names ended
-    → n ≤ length lines - h → more ≡ length (names_of (take n (drop h lines))) → ArePlayed lines (h + n) (a + more) taken texts names ended
-played-lines lines h n a more taken names ended texts p few is = record {
-  happened = omega (arith, p.happened);
-  arrived = omega (arith, p.arrived, names-add lines h n);
-  accepted = omega (arith, p.accepted);
-  texts_are = p.texts_are;
-  names_are = p.names_are;
-  over = λ e. let o = p.over e in (omega (arith, o.0, p.happened), o.1);
-}
+  -- of the clients something else is known
+  pub played-clients : (cs' : SeenClients) → cs'.waiting ≡ cs.waiting → length cs'.watched ≡ length cs.watched → names cs'.clients ≡ names cs.clients
+      → ArePlayed lines h waited a taken cs' ended
+  played-clients cs' waiting watched named = record {
+    happened = p.happened;
+    arrived = p.arrived;
+    accepted = p.accepted;
+    texts_are = waiting ∙ p.texts_are;
+    clients_are = named ∙ p.clients_are;
+    names_are = watched ∙ p.names_are;
+    next = p.next;
+    over = p.over;
+  }
+
+  -- so many further lines happened
+  pub played-lines : (n more : ℕ) → n ≤ length lines - h → more ≡ length (names_of (take n (drop h lines))) → lines_now (drop n (drop h lines)) ≡ 0
+      → ArePlayed lines (h + n) waited (a + more) taken cs ended
+  played-lines n more few is next = record {
+    happened = omega (arith, p.happened);
+    arrived = omega (arith, p.arrived, names-add lines h n);
+    accepted = omega (arith, p.accepted);
+    texts_are = p.texts_are;
+    clients_are = p.clients_are;
+    names_are = p.names_are;
+    next = λ e. ap lines_now (sym (drop-drop n h lines)) ∙ next;
+    over = λ e. let o = p.over e in (o.0, omega (arith, o.1, p.happened), o.2);
+  }
+
+  -- it waited
+  pub played-begun : lines_now (drop h lines) ≡ 0 → ArePlayed lines h true a taken cs ended
+  played-begun next = record {
+    happened = p.happened;
+    arrived = p.arrived;
+    accepted = p.accepted;
+    texts_are = p.texts_are;
+    clients_are = p.clients_are;
+    names_are = p.names_are;
+    next = λ e. next;
+    over = λ e. let o = p.over e in (refl, o.1, o.2);
+  }

@@ -6,7 +6,6 @@ use Rattle.mpm_base.specs.Front.{Given, GivesOnlyAwake, HasAllTaken, IsAnswerOf,
 use Rattle.script_front.specs.PlayedFront.{KeepsRest, counts_of, with_given}
 use Rattle.script_front.specs.ScriptFront.{IsOfScript, Moves, Plays, SeenFront, begins, ends, over, passes, served, signals, stays}
 use Rattle.mpm_base.specs.declared.front.Woke.{Woke}
-use Rattle.mpm_base.specs.declared.front.Woke.TheVariants as woke
 use Rattle.mpm_base.specs.declared.script_line.ScriptLine.{ScriptLine}
 use Rattle.script_front.proofs.PlayedLemmas.{names-add}
 
@@ -17,13 +16,13 @@ moves-given old mid g count m p = record { script = p.script; begun = p.begun; h
 
 plays-given : {old mid : SeenFront} {until : Option ℕ} {quiet : Bool} {answer : Woke} {ready : List ℕ} (g : Option Given)
     → Plays old mid until quiet answer ready → Plays old (with_given g mid) until quiet answer ready
-plays-given g (over e m) = over e (moves-given _ _ g _ _ m)
-plays-given g (begins b l m) = begins b l (moves-given _ _ g _ _ m)
-plays-given g (signals s m) = signals s (moves-given _ _ g _ _ m)
-plays-given g (served q m) = served q (moves-given _ _ g _ _ m)
-plays-given g (passes q n t m) = passes q n t (moves-given _ _ g _ _ m)
-plays-given g (ends q n t m) = ends q n (record { left = t.left; accepted = t.accepted }) (moves-given _ _ g _ _ m)
-plays-given g (stays q n m) = stays q n (moves-given _ _ g _ _ m)
+plays-given g (over e m c) = over e (moves-given _ _ g _ _ m) c
+plays-given g (begins e b l m c) = begins e b l (moves-given _ _ g _ _ m) c
+plays-given g (signals o s l m) = signals o s l (moves-given _ _ g _ _ m)
+plays-given g (served o s q m) = served o s q (moves-given _ _ g _ _ m)
+plays-given g (passes o s q n t m c) = passes o s q n t (moves-given _ _ g _ _ m) c
+plays-given g (ends o s q n t m) = ends o s q n (record { left = t.left; accepted = t.accepted }) (moves-given _ _ g _ _ m)
+plays-given g (stays o s q n m) = stays o s q n (moves-given _ _ g _ _ m)
 
 pub plays-put_down : (old mid new : SeenFront) (until : Option ℕ) (quiet : Bool) (answer : Woke) (ready : List ℕ) → new ≡ with_given new.told.given mid
     → Plays old mid until quiet answer ready → Plays old new until quiet answer ready
@@ -41,24 +40,24 @@ went-still : {old new : SeenFront} {count : ℕ} → Moves old new count old.tol
 went-still m = record { script = m.script; happened = omega (arith, m.happened); moment_is = omega (arith, m.moment_is) }
 
 plays-went : {old new : SeenFront} {until : Option ℕ} {quiet : Bool} {answer : Woke} {ready : List ℕ} → Plays old new until quiet answer ready → Went old new
-plays-went (over e m) = went-still m
-plays-went (begins b l m) = went-still m
-plays-went (signals s m) = went-still m
-plays-went (served q m) = went-still m
-plays-went (passes q n t m) = record { script = m.script; happened = omega (arith, m.happened); moment_is = omega (arith, m.moment_is, t) }
-plays-went (ends q n t m) = went-still m
-plays-went (stays q n m) = went-still m
+plays-went (over e m c) = went-still m
+plays-went (begins e b l m c) = went-still m
+plays-went (signals o s l m) = went-still m
+plays-went (served o s q m) = went-still m
+plays-went (passes o s q n t m c) = record { script = m.script; happened = omega (arith, m.happened); moment_is = omega (arith, m.moment_is, t) }
+plays-went (ends o s q n t m) = went-still m
+plays-went (stays o s q n m) = went-still m
 
 -- the answer is one that it may give there
 plays-answers : {old new : SeenFront} {until : Option ℕ} {quiet : Bool} {answer : Woke} {ready : List ℕ} → (0 < old.ends → HasAllTaken new.told)
     → Plays old new until quiet answer ready → IsAnswerOf answer new.told × GivesOnlyAwake answer ready × RisesWhere (wait_failed answer) 0 0
-plays-answers taken (over e m) = (taken e, refl, omega arith)
-plays-answers taken (begins b l m) = (sym m.moment_is, tt, omega arith)
-plays-answers taken (signals s m) = (sym m.moment_is, tt, omega arith)
-plays-answers taken (served q m) = (sym m.moment_is, tt, omega arith)
-plays-answers taken (passes q n t m) = (sym m.moment_is, tt, omega arith)
-plays-answers taken (ends q n t m) = (t, refl, omega arith)
-plays-answers taken (stays q n m) = (sym m.moment_is, tt, omega arith)
+plays-answers taken (over e m c) = (taken e, refl, omega arith)
+plays-answers taken (begins e b l m c) = (sym m.moment_is, tt, omega arith)
+plays-answers taken (signals o s l m) = (sym m.moment_is, tt, omega arith)
+plays-answers taken (served o s q m) = (sym m.moment_is, tt, omega arith)
+plays-answers taken (passes o s q n t m c) = (sym m.moment_is, tt, omega arith)
+plays-answers taken (ends o s q n t m) = (t, refl, omega arith)
+plays-answers taken (stays o s q n m) = (sym m.moment_is, tt, omega arith)
 
 -- no count fell
 never-fell : (ended : Bool) (n n' : ℕ) → RisesExactlyWhere ended n n' → n ≤ n'

@@ -1,2 +1,3 @@
 pub mod PlayedFront
 pub mod ScriptFront
+pub mod Signals

@@ -1,9 +1,10 @@
 -- The parts of a front that plays a script: what holds between them, and the steps of its waits.
-use Rattle.std.specs.Prelude.{◌≡◌, ℕ, ◌+◌, ◌-◌, ◌<◌, ◌≤◌, Bool, true, false, nat_le, List, length, take, drop, Option}
+use Rattle.std.specs.Prelude.{◌≡◌, ℕ, ◌+◌, ◌-◌, ◌<◌, ◌≤◌, Bool, true, false, nat_le, List, length, map, take, drop, Option}
 use Rattle.mpm_script.specs.Clients.{clients_of, names_of}
 use Rattle.mpm_base.specs.Count.{next_count, RisesExactlyWhere}
 use Rattle.mpm_base.specs.Front.{FrontCounts, Given, is_ended}
-use Rattle.script_front.specs.ScriptFront.{SeenFront, lines_by, to_come}
+use Rattle.script_front.specs.ScriptFront.{SeenFront, after_next, lines_by, lines_now, to_come}
+use Rattle.script_front.specs.Signals.{SeenClient}
 use Rattle.mpm_base.specs.declared.conn.ConnName.{ConnName}
 use Rattle.mpm_base.specs.declared.front.Woke.{Woke}
 use Rattle.mpm_base.specs.declared.script_line.ScriptLine.{ScriptLine}
@@ -33,20 +34,25 @@ happens_by m (line.Client name act) = true
 happens_by m (line.Command word) = true
 happens_by m (line.Site site) = true
 
+-- the clients of a script: what those send whose links were not handed out, what is known of each, and under which name each
+-- link is watched
+pub record SeenClients : Type 0 where
+  pub waiting : List (List ℕ)
+  pub clients : List SeenClient
+  pub watched : List (Option ConnName)
+
 -- so many of the lines have happened, so many connections have arrived and so many of them were handed out; the texts of
--- the others wait, and there is a place for the name of each connection; and where a wait answered Ended all was taken
-pub record ArePlayed (lines : List ScriptLine) (count arrivals taken : ℕ) (texts : List (List ℕ)) (names ended : ℕ) : Type 0 where
+-- the others wait, each client has its name, and there is a place for the name under which it is watched; once it has waited
+-- the next line is an `at`; and where a wait answered Ended it had waited, and all was taken
+pub record ArePlayed (lines : List ScriptLine) (count : ℕ) (waited : Bool) (arrivals taken : ℕ) (cs : SeenClients) (ended : ℕ) : Type 0 where
   pub happened : count ≤ length lines
   pub arrived : arrivals ≡ length (names_of (take count lines))
   pub accepted : taken ≤ arrivals
-  pub texts_are : texts ≡ drop taken (clients_of lines)
-  pub names_are : names ≡ length (clients_of lines)
-  pub over : 0 < ended → (count ≡ length lines) × (taken ≡ length (clients_of lines))
-
--- the clients of a script: what those send whose links were not handed out, and under which name each link is watched
-pub record SeenClients : Type 0 where
-  pub waiting : List (List ℕ)
-  pub watched : List (Option ConnName)
+  pub texts_are : cs.waiting ≡ drop taken (clients_of lines)
+  pub clients_are : map (λ client. client.name) cs.clients ≡ names_of lines
+  pub names_are : length cs.watched ≡ length (clients_of lines)
+  pub next : waited ≡ true → lines_now (drop count lines) ≡ 0
+  pub over : 0 < ended → (waited ≡ true) × (count ≡ length lines) × (taken ≡ length (clients_of lines))
 
 -- it has waited
 abbrev pub with_begun : SeenFront → SeenFront
@@ -56,11 +62,16 @@ with_begun f = record f { begun = true }
 abbrev pub with_moment : ℕ → SeenFront → SeenFront
 with_moment m f = record f { told = record f.told { moment = m } }
 
+-- its clients are these
+abbrev pub with_clients : List SeenClient → SeenFront → SeenFront
+with_clients clients f = record f { clients = clients }
+
 -- so many further lines happened
 abbrev pub with_lines : ℕ → SeenFront → SeenFront
 with_lines count f =
     record f {
       happened = f.happened + count;
+      clients = after_next count f f.clients;
       told = record f.told {
         arrived = length (names_of (take (f.happened + count) f.script));
         left = f.told.left - count;

@@ -2,18 +2,20 @@
 use Rattle.std.specs.Prelude.{◌≡◌, ℕ, suc, ◌+◌, ◌<◌, ◌≤◌, Bool, true, false, max, min, nat_le, if◌then◌else◌, List, [], ◌∷◌, drop, take, length, map, Option, None, Some}
 use Rattle.mpm_script.specs.Clients.{clients_of, names_of}
 use Rattle.mpm_base.specs.Front.{FrontTold, HasAllTaken}
+use Rattle.script_front.specs.Signals.{SeenClient, Gives, after_lines, new_client}
 use Rattle.mpm_base.specs.declared.conn.ConnName.{ConnName}
 use Rattle.mpm_base.specs.declared.front.Woke.{Woke}
 use Rattle.mpm_base.specs.declared.front.Woke.TheVariants as woke
 use Rattle.mpm_base.specs.declared.script_line.ScriptLine.{ScriptLine}
 use Rattle.mpm_base.specs.declared.script_line.ScriptLine.TheVariants as line
 
--- its script, how many of the lines have happened, whether it waited before, what it tells, and how often a wait answered
--- Ended
+-- its script, how many of the lines have happened, whether it waited before, its clients in the order of their connections,
+-- what it tells, and how often a wait answered Ended
 pub record SeenFront : Type 0 where
   pub script : List ScriptLine
   pub happened : ℕ
   pub begun : Bool
+  pub clients : List SeenClient
   pub told : FrontTold
   pub ends : ℕ
 
@@ -30,6 +32,7 @@ new_front lines =
       script = lines;
       happened = 0;
       begun = false;
+      clients = map new_client (names_of lines);
       told = record {
         clients = clients_of lines;
         arrived = 0;
@@ -42,17 +45,7 @@ new_front lines =
       ends = 0;
     }
 
--- what holds of every such front: it tells the connections of its script, of which those have arrived whose lines have
--- happened, and how many lines have not
-pub record IsOfScript (f : SeenFront) : Type 0 where
-  pub happened : f.happened ≤ length f.script
-  pub left : f.told.left + f.happened ≡ length f.script
-  pub clients : f.told.clients ≡ clients_of f.script
-  pub arrived : f.told.arrived ≡ length (names_of (take f.happened f.script))
-  pub accepted : f.told.accepted ≤ f.told.arrived
-  pub watched : length f.told.watched ≡ length f.told.clients
-
--- ## A wait
+-- ## The lines that come next
 
 -- the lines that have not happened
 abbrev pub to_come : SeenFront → List ScriptLine
@@ -91,6 +84,26 @@ earlier None other = other
 earlier (Some m) None = Some m
 earlier (Some m) (Some other) = Some (min m other)
 
+-- the clients after so many further lines
+abbrev pub after_next : ℕ → SeenFront → List SeenClient → List SeenClient
+after_next count f clients = map (after_lines (take count (to_come f))) clients
+
+-- ## Any time
+
+-- what holds of every such front: it tells the connections of its script, of which those have arrived whose lines have
+-- happened, and how many lines have not; each client has its name; and once it has waited the next line is an `at`
+pub record IsOfScript (f : SeenFront) : Type 0 where
+  pub happened : f.happened ≤ length f.script
+  pub left : f.told.left + f.happened ≡ length f.script
+  pub clients : f.told.clients ≡ clients_of f.script
+  pub arrived : f.told.arrived ≡ length (names_of (take f.happened f.script))
+  pub accepted : f.told.accepted ≤ f.told.arrived
+  pub watched : length f.told.watched ≡ length f.told.clients
+  pub names : map (λ client. client.name) f.clients ≡ names_of f.script
+  pub next : f.begun ≡ true → lines_now (to_come f) ≡ 0
+
+-- ## A wait
+
 -- so many further lines happened, and the front stands at that moment
 pub record Moves (old new : SeenFront) (count moment : ℕ) : Type 0 where
   pub script : new.script ≡ old.script
@@ -98,31 +111,32 @@ pub record Moves (old new : SeenFront) (count moment : ℕ) : Type 0 where
   pub happened : new.happened ≡ old.happened + count
   pub moment_is : new.told.moment ≡ moment
 
--- a wait does the first of these that fits; whether a signal is due is not told
+-- it hasn't answered Ended, and no line stands before the next `at`
+pub record GoesOn (f : SeenFront) : Type 0 where
+  pub ends : f.ends ≡ 0
+  pub next : lines_now (to_come f) ≡ 0
+
+-- a wait does the first of these that fits. One thing isn't told, which links were closed: of those no signal is given, and
+-- `ends` fits only once each was
 pub data Plays (old new : SeenFront) (until : Option ℕ) (quiet : Bool) : Woke → List ℕ → Type 0 where
   -- once it has answered Ended it does so again
-  over : 0 < old.ends → Moves old new 0 old.told.moment → Plays old new until quiet woke.Ended []
+  over : 0 < old.ends → Moves old new 0 old.told.moment → new.clients ≡ old.clients → Plays old new until quiet woke.Ended []
   -- in the first wait the lines before the first `at` happen
-  begins : old.begun ≡ false → 0 < lines_now (to_come old) → Moves old new (lines_now (to_come old)) old.told.moment
-      → Plays old new until quiet (woke.Woke old.told.moment) []
-  -- it gives the signals that are due
-  signals : {ready : List ℕ} → 0 < length ready → Moves old new 0 old.told.moment
-      → Plays old new until quiet (woke.Woke old.told.moment) ready
+  begins : old.ends ≡ 0 → old.begun ≡ false → 0 < lines_now (to_come old) → Moves old new (lines_now (to_come old)) old.told.moment
+      → new.clients ≡ after_next (lines_now (to_come old)) old old.clients → Plays old new until quiet (woke.Woke old.told.moment) []
+  -- it gives the signals that are due, as far as there is room
+  signals : {ready : List ℕ} → GoesOn old → Gives 256 old.clients old.told.watched new.clients ready → 0 < length ready
+      → Moves old new 0 old.told.moment → Plays old new until quiet (woke.Woke old.told.moment) ready
   -- where a connection is being served no time passes
-  served : quiet ≡ false → Moves old new 0 old.told.moment → Plays old new until quiet (woke.Woke old.told.moment) []
-  -- it goes on to the moment of the next `at`, or to `until`, whichever is earlier; what happens by then happens
-  passes : {m to : ℕ} → quiet ≡ true → earlier until (next_moment (to_come old)) ≡ Some m → to ≡ max old.told.moment m
-      → Moves old new (lines_by to (to_come old)) to → Plays old new until quiet (woke.Woke to) []
-  -- nothing comes any more
-  ends : quiet ≡ true → earlier until (next_moment (to_come old)) ≡ None → HasAllTaken new.told
-      → Moves old new 0 old.told.moment → Plays old new until quiet woke.Ended []
-  -- it waits for its links to be taken or closed
-  stays : quiet ≡ true → earlier until (next_moment (to_come old)) ≡ None → Moves old new 0 old.told.moment
+  served : GoesOn old → Gives 256 old.clients old.told.watched new.clients [] → quiet ≡ false → Moves old new 0 old.told.moment
       → Plays old new until quiet (woke.Woke old.told.moment) []
-
--- the first two of these come before the others: once it has answered Ended it does nothing else, and neither does the first
--- wait where lines stand before the first `at`
-pub record TakesFirst (old new : SeenFront) (answer : Woke) (ready : List ℕ) : Type 0 where
-  pub over : 0 < old.ends → answer ≡ woke.Ended
-  pub begins : old.ends ≡ 0 → old.begun ≡ false → 0 < lines_now (to_come old)
-      → (answer ≡ woke.Woke old.told.moment) × (ready ≡ []) × (new.happened ≡ old.happened + lines_now (to_come old))
+  -- it goes on to the moment of the next `at`, or to `until`, whichever is earlier; what happens by then happens
+  passes : {m to : ℕ} {still : List SeenClient} → GoesOn old → Gives 256 old.clients old.told.watched still [] → quiet ≡ true
+      → earlier until (next_moment (to_come old)) ≡ Some m → to ≡ max old.told.moment m → Moves old new (lines_by to (to_come old)) to
+      → new.clients ≡ after_next (lines_by to (to_come old)) old still → Plays old new until quiet (woke.Woke to) []
+  -- nothing comes any more
+  ends : GoesOn old → Gives 256 old.clients old.told.watched new.clients [] → quiet ≡ true → earlier until (next_moment (to_come old)) ≡ None
+      → HasAllTaken new.told → Moves old new 0 old.told.moment → Plays old new until quiet woke.Ended []
+  -- it waits for its links to be taken or closed
+  stays : GoesOn old → Gives 256 old.clients old.told.watched new.clients [] → quiet ≡ true → earlier until (next_moment (to_come old)) ≡ None
+      → Moves old new 0 old.told.moment → Plays old new until quiet (woke.Woke old.told.moment) []

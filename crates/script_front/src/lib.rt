@@ -2,8 +2,8 @@
 //!
 //! `ScriptFront` is a front over a script: its connections arrive, send and end as the lines say, and time goes from moment
 //! to moment while nobody is served. It meets the trait `Front` of `mpm_base`; what it shows of itself and the rules of its
-//! waits stand in `specs/ScriptFront.antt`, what holds between its parts in `specs/PlayedFront.antt`. `ScriptClock` is the
-//! clock that goes with it.
+//! waits stand in `specs/ScriptFront.antt`, which signals are due in `specs/Signals.antt`, and what holds between its parts
+//! in `specs/PlayedFront.antt`. `ScriptClock` is the clock that goes with it.
 #![tactic(auto)]
 
 mod client_texts;

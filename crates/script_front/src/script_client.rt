@@ -1,29 +1,49 @@
 //! A client of a script, as the front of the script knows it.
+ghost use Rattle.std.specs.Prelude.{◌≡◌, ◌<◌, true, [], bytes_eq, length, map};
+ghost use Rattle.script_front.specs.Signals.{Gives, after_act, after_line, after_lines, new_client, silenced, watched_client};
 
 use mpm_base::{ClientAct, ConnName, Octets, Ready, ScriptLine, Wire};
+use std::marker::Model;
 use std::sync::Arc;
 
-/// A client of a script: its name, what the front shares with its link, and whether a signal is due for it.
+/// A client of a script: its name, what the front shares with its link, whether a byte of it has come, whether it sends no
+/// more, and whether a signal is due for its link.
 #[derive(Drop)]
 pub(crate) struct ScriptClient {
     name: Octets,
     wire: Arc<Wire>,
+    came: bool,
+    ended: bool,
     due: bool,
+}
+
+impl Model for ScriptClient {
+    ghost use Rattle.script_front.specs.Signals.{SeenClient};
+
+    ghost Value = { SeenClient };
+
+    ghost view = { λ c. record { name = c.name; came = c.came; ended = c.ended; due = c.due } };
 }
 
 impl ScriptClient {
     /// A client of which nothing came yet.
-    pub(crate) fn make(name: Octets, wire: Arc<Wire>) -> ScriptClient {
+    pub(crate) fn make(name: Octets, wire: Arc<Wire>) -> ScriptClient
+        ensures { result ≡ new_client name }
+    {
         ScriptClient {
             name,
             wire,
+            came: false,
+            ended: false,
             due: false,
         }
     }
 
     /// Whether it has that name.
-    fn is_named(&self, name: &[u8]) -> bool {
-        self.name.as_slice() == name
+    fn is_named(&self, name: &[u8]) -> bool
+        ensures { result ≡ bytes_eq name.now self.now.name }
+    {
+        name == self.name.as_slice()
     }
 
     /// Whether its link was closed.
@@ -32,17 +52,21 @@ impl ScriptClient {
     }
 
     /// The act happens. What a client sends behind its end does nothing, and neither does a second end.
-    fn act(&mut self, act: &ClientAct) {
+    fn act(&mut self, act: &ClientAct)
+        ensures { self.new ≡ after_act act.now self.old }
+    {
         match act {
             ClientAct::Send(bytes) => {
-                if !self.wire.ended() {
+                if !self.ended {
                     self.wire.bring(bytes.len() as u64);
+                    self.came = self.came || !bytes.is_empty();
                     self.due = true;
                 }
             }
             ClientAct::End => {
-                if !self.wire.ended() {
+                if !self.ended {
                     self.wire.end();
+                    self.ended = true;
                     self.due = true;
                 }
             }
@@ -54,45 +78,66 @@ impl ScriptClient {
         }
     }
 
+    /// The line happens, which acts on it only where it names it.
+    fn hear(&mut self, line: &ScriptLine)
+        ensures { self.new ≡ after_line line.now self.old }
+    {
+        if let ScriptLine::Client(name, act) = line {
+            if self.is_named(name.as_slice()) {
+                self.act(act);
+            }
+        }
+    }
+
+    /// The lines happen, one after the other.
+    #[tactic(auto, using(crate::proofs::SignalLemmas::lines_more))]
+    fn hear_all(&mut self, lines: &[ScriptLine])
+        ensures { self.new ≡ after_lines lines.now self.old }
+    {
+        for line in lines {
+            self.hear(line);
+        }
+    }
+
     /// From now on its link is watched: a signal is due where bytes came before, or the end has.
-    pub(crate) fn watch(&mut self) {
-        self.due = self.wire.came() > 0 || self.wire.ended();
+    pub(crate) fn watch(&mut self)
+        ensures { self.new ≡ watched_client self.old }
+    {
+        self.due = self.came || self.ended;
     }
 
     /// Whether a signal is given now: one that is due, unless the link was closed. It is due no more.
-    fn take_signal(&mut self) -> bool {
+    fn take_signal(&mut self) -> bool
+        ensures due { result ≡ true → self.old.due ≡ true }
+        ensures state { self.new ≡ silenced self.old }
+    {
         let given = self.due && !self.wire.closed();
         self.due = false;
         given
     }
 }
 
-/// These lines happen to the clients that they name.
-pub(crate) fn happen(lines: &[ScriptLine], clients: &mut [ScriptClient]) {
-    for line in lines {
-        if let ScriptLine::Client(name, act) = line {
-            if let Some(place) = place_of(clients, name.as_slice()) {
-                if let Some(client) = clients.get_mut(place) {
-                    client.act(act);
-                }
-            }
-        }
+/// These lines happen to each of the clients.
+pub(crate) fn happen(lines: &[ScriptLine], clients: &mut [ScriptClient])
+    ensures { clients.new ≡ map (after_lines lines.now) clients.old }
+{
+    for client in clients.iter_mut() {
+        client.hear_all(lines);
     }
 }
 
-/// Where the client of that name stands.
-fn place_of(clients: &[ScriptClient], name: &[u8]) -> Option<usize> {
-    clients.iter().position(|client| client.is_named(name))
-}
-
 /// Gives the slots of those watched links for which a signal is due, as far as there is room; the others stay due.
-pub(crate) fn give(clients: &mut [ScriptClient], watched: &[Option<ConnName>], ready: &mut Ready) {
+pub(crate) fn give(clients: &mut [ScriptClient], watched: &[Option<ConnName>], ready: &mut Ready)
+    requires each { length clients.old ≡ length watched.now }
+    requires none { ready.old ≡ [] }
+    ensures { Gives 256 clients.old watched.now clients.new ready.new }
+{
     for (place, watch) in watched.iter().enumerate() {
         if ready.is_full() {
             return;
         }
-        if let (Some(name), Some(client)) = (watch, clients.get_mut(place)) {
-            if client.take_signal() {
+        if let Some(name) = watch {
+            if clients[place].take_signal() {
                 ready.add(name.slot);
             }
         }

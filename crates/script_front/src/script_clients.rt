@@ -2,6 +2,7 @@
 ghost use Rattle.std.specs.Prelude.{◌≡◌, None, Some, [], ◌∷◌, ◌++◌, length, map, slice_set, IfOk, IfSome, IfNone, OnOk, OnErr};
 ghost use Rattle.mpm_script.specs.Clients.{clients_of, made_by, names_of};
 ghost use Rattle.script_front.specs.ScriptFront.{unwatched};
+ghost use Rattle.script_front.specs.Signals.{Gives, after_lines, after_watch_of, new_client};
 
 use crate::client_texts::sent_by;
 use crate::script_client::{ScriptClient, are_closed, give, happen};
@@ -33,13 +34,14 @@ impl Model for ScriptClients {
 
     ghost Value = { SeenClients };
 
-    ghost view = { λ c. record { waiting = map (λ awaited. awaited.text) c.awaited.items; watched = c.names.items } };
+    ghost view = { λ c. record { waiting = map (λ awaited. awaited.text) c.awaited.items; clients = c.clients.items; watched = c.names.items } };
 }
 
 impl ScriptClients {
     /// The clients of the script. No link was handed out.
     pub(crate) fn make(alloc: Global, lines: &[ScriptLine]) -> Result<ScriptClients, NoMemory>
         ensures waiting { IfOk result (λ clients. clients.waiting ≡ clients_of lines.now) }
+        ensures clients { IfOk result (λ clients. clients.clients ≡ map new_client (names_of lines.now)) }
         ensures watched { IfOk result (λ clients. clients.watched ≡ map unwatched (names_of lines.now)) }
     {
         let mut clients = ScriptClients {
@@ -58,7 +60,7 @@ impl ScriptClients {
 
     /// Puts a client behind the others. Where memory lacks a part of it may be there.
     fn add(&mut self, alloc: Global, name: &[u8], text: Octets) -> Result<(), NoMemory>
-        ensures ok { OnOk result (self.new ≡ record { waiting = self.old.waiting ++ text ∷ []; watched = self.old.watched ++ None ∷ [] }) }
+        ensures ok { OnOk result (self.new ≡ record { waiting = self.old.waiting ++ text ∷ []; clients = self.old.clients ++ new_client name.now ∷ []; watched = self.old.watched ++ None ∷ [] }) }
     {
         let wire = Arc::new(alloc, Wire::make())?;
         let theirs = Arc::try_clone(&wire)?;
@@ -73,7 +75,7 @@ impl ScriptClients {
     pub(crate) fn next(&mut self) -> Option<Awaited>
         ensures some { IfSome result (λ next. self.old.waiting ≡ next.text ∷ self.new.waiting) }
         ensures none { IfNone result (self.old.waiting ≡ []) }
-        ensures watched { self.new.watched ≡ self.old.watched }
+        ensures rest { self.new ≡ record self.old { waiting = self.new.waiting } }
     {
         self.awaited.pop_front()
     }
@@ -87,26 +89,36 @@ impl ScriptClients {
 
     /// The link of that number, from 0, is watched under the name.
     pub(crate) fn watch(&mut self, number: usize, name: ConnName)
+        ensures { self.new ≡ record self.old { clients = after_watch_of number self.old.clients; watched = slice_set self.old.watched number (Some name) } }
+    {
+        self.put_name(number, name);
+        if number < self.clients.len() {
+            self.clients[number].watch();
+        }
+    }
+
+    /// Puts down under which name the link of that number is watched.
+    fn put_name(&mut self, number: usize, name: ConnName)
         ensures { self.new ≡ record self.old { watched = slice_set self.old.watched number (Some name) } }
     {
         if number < self.names.len() {
             self.names[number] = Some(name);
         }
-        if let Some(client) = self.clients.get_mut(number) {
-            client.watch();
-        }
     }
 
     /// These lines happen to the clients that they name.
     pub(crate) fn happen(&mut self, lines: &[ScriptLine])
-        ensures { self.new ≡ self.old }
+        ensures { self.new ≡ record self.old { clients = map (after_lines lines.now) self.old.clients } }
     {
         happen(lines, self.clients.as_mut_slice());
     }
 
     /// Gives the slots of those watched links for which a signal is due, as far as there is room.
     pub(crate) fn give(&mut self, ready: &mut Ready)
-        ensures { self.new ≡ self.old }
+        requires each { length self.old.clients ≡ length self.old.watched }
+        requires none { ready.old ≡ [] }
+        ensures gives { Gives 256 self.old.clients self.old.watched self.new.clients ready.new }
+        ensures rest { self.new ≡ record self.old { clients = self.new.clients } }
     {
         give(self.clients.as_mut_slice(), self.names.as_slice(), ready);
     }

@@ -1,9 +1,10 @@
 //! The front that plays a script.
-ghost use Rattle.std.specs.Prelude.{◌≡◌, ◌<◌, ◌≤◌, max, nat_lt, true, false, Some, [], IfOk};
+ghost use Rattle.std.specs.Prelude.{◌≡◌, ◌<◌, ◌≤◌, max, nat_lt, true, false, Some, [], drop, IfOk};
 ghost use Rattle.mpm_base.specs.Count.{Rises};
 ghost use Rattle.mpm_base.specs.Front.{Accepts, HasAllTaken, PutsDown, StandsStill, Waits, Watches, accept_failed, is_handed};
-ghost use Rattle.script_front.specs.PlayedFront.{KeepsRest, counts_of, gone_to, with_begun, with_end, with_given, with_lines};
-ghost use Rattle.script_front.specs.ScriptFront.{IsOfScript, Plays, TakesFirst, new_front, to_come};
+ghost use Rattle.script_front.specs.PlayedFront.{KeepsRest, counts_of, gone_to, with_begun, with_clients, with_end, with_given, with_lines};
+ghost use Rattle.script_front.specs.ScriptFront.{IsOfScript, Plays, lines_now, new_front, to_come};
+ghost use Rattle.script_front.specs.Signals.{Gives, after_watch_of};
 ghost use Rattle.mpm_base.specs.ScriptLink.{SeenScriptLink};
 
 use crate::coming_lines::{arrivals, earlier, lines_by, lines_now, next_lines, next_moment};
@@ -46,6 +47,7 @@ impl Model for ScriptFront {
       script = f.script;
       happened = f.happened;
       begun = f.begun;
+      clients = f.clients.clients;
       told = record {
         clients = clients_of f.script;
         arrived = f.arrived;
@@ -58,12 +60,13 @@ impl Model for ScriptFront {
       ends = f.ends;
     } };
 
-    ghost invariant = { λ f. ArePlayed f.script f.happened f.arrived f.accepted f.clients.waiting (length f.clients.watched) f.ends };
+    ghost invariant = { λ f. ArePlayed f.script f.happened f.begun f.arrived f.accepted f.clients f.ends };
 }
 
 impl ScriptFront {
-    /// The front of the script. No line has happened. Lines that aren't built yet do nothing when they happen, and of
-    /// connections of one name the first is meant; a script that was read has neither.
+    /// The front of the script. No line has happened. Lines that aren't built yet do nothing when they happen, and a line
+    /// that names a client means each connection of that name; a script that was read has neither such lines nor two
+    /// connections of one name.
     pub fn make(alloc: Global, script: Script) -> Result<ScriptFront, NoMemory>
         ensures { IfOk result (λ front. front ≡ new_front script) }
     {
@@ -113,7 +116,8 @@ impl ScriptFront {
 
     /// So many further lines happen.
     fn pass(&mut self, count: usize)
-        requires { count ≤ self.old.told.left }
+        requires few { count ≤ self.old.told.left }
+        requires next { lines_now (drop count (to_come self.old)) ≡ 0 }
         ensures { self.new ≡ with_lines count self.old }
     {
         let lines = next_lines(self.script.lines(), self.happened, count);
@@ -122,19 +126,27 @@ impl ScriptFront {
         self.happened += count;
     }
 
-    /// Notes that it waited. False the first time.
+    /// In the first wait the lines before the first `at` happen. Whether any did.
     fn begin(&mut self) -> bool
-        ensures is { result ≡ self.old.begun }
-        ensures state { self.new ≡ with_begun self.old }
+        ensures begins { result ≡ true → (self.old.begun ≡ false) × (0 < lines_now (to_come self.old)) × (self.new ≡ with_begun (with_lines (lines_now (to_come self.old)) self.old)) }
+        ensures goes_on { result ≡ false → (lines_now (to_come self.old) ≡ 0) × (self.new ≡ with_begun self.old) }
     {
-        let begun = self.begun;
+        if self.begun {
+            return false;
+        }
+        let count = lines_now(self.to_come());
+        if count > 0 {
+            self.pass(count);
+        }
         self.begun = true;
-        begun
+        count > 0
     }
 
     /// Gives the signals that are due, as far as there is room for them.
     fn signal(&mut self, ready: &mut Ready)
-        ensures { self.new ≡ self.old }
+        requires { ready.old ≡ [] }
+        ensures gives { Gives 256 self.old.clients self.old.told.watched self.new.clients ready.new }
+        ensures state { self.new ≡ with_clients self.new.clients self.old }
     {
         self.clients.give(ready);
     }
@@ -160,7 +172,8 @@ impl ScriptFront {
 
     /// Counts a wait that answers Ended.
     fn end(&mut self)
-        requires { HasAllTaken self.old.told }
+        requires taken { HasAllTaken self.old.told }
+        requires begun { self.old.begun ≡ true }
         ensures state { self.new ≡ with_end self.old }
         ensures rises { Rises self.old.ends self.new.ends }
     {
@@ -171,18 +184,14 @@ impl ScriptFront {
     fn play(&mut self, until: Option<Moment>, quiet: bool, ready: &mut Ready) -> Woke
         requires { ready.old ≡ [] }
         ensures plays { Plays self.old self.new until quiet result ready.new }
-        ensures first { TakesFirst self.old self.new result ready.new }
         ensures rest { KeepsRest result self.old self.new }
         ensures over { 0 < self.old.ends → ready.new ≡ [] × StandsStill self.old.told self.new.told }
     {
-        let begun = self.begin();
         if self.ends > 0 {
             self.end();
             return Woke::Ended;
         }
-        let count = lines_now(self.to_come());
-        if !begun && count > 0 {
-            self.pass(count);
+        if self.begin() {
             return Woke::Woke(self.moment);
         }
         self.signal(ready);
@@ -223,8 +232,9 @@ impl Front for ScriptFront {
 
     ghost counts = { λ f. record { faults = 0; accept_faults = 0; ends = f.ends } };
 
-    /// A signal is due for a watched link where bytes, room or the end came for it, until it is given; none is given in the
-    /// wait in which that happened, and none of a link that was closed. The front ends only once each link was closed.
+    /// A signal is due for a watched link where a send, be it of no byte, room or the end came for it, until it is given;
+    /// none is given in the wait in which that happened, and none of a link that was closed. The front ends only once each
+    /// link was closed.
     fn wait<R: Wait>(
         &mut self,
         rt: &R,
@@ -235,7 +245,6 @@ impl Front for ScriptFront {
         ensures waits { Waits (Some self.old.told) (Some self.new.told) (counts_of self.old) (counts_of self.new) result ready.new }
         ensures script { Some self.new.script ≡ Some self.old.script }
         ensures plays { Plays self.old self.new until quiet result ready.new }
-        ensures first { TakesFirst self.old self.new result ready.new }
     {
         let _ = rt;
         self.show();
@@ -251,6 +260,7 @@ impl Front for ScriptFront {
         ensures accepts { Accepts (λ (l : SeenScriptLink). Some l.told) (λ (l : SeenScriptLink). l.counts) (Some self.old.told) (Some self.new.told) (counts_of self.old) (counts_of self.new) result }
         ensures some { is_handed result ≡ nat_lt self.old.told.accepted self.old.told.arrived }
         ensures never { accept_failed result ≡ false }
+        ensures rest { self.new ≡ record self.old { told = self.new.told } }
     {
         if self.accepted == self.arrived {
             return Arrival::None;
@@ -277,6 +287,7 @@ impl Front for ScriptFront {
         ensures script { Some self.new.script ≡ Some self.old.script }
         ensures watches { Watches (Some self.old.told) (Some self.new.told) (counts_of self.old) (counts_of self.new) name (Some link.old.told) (Some link.new.told) link.old.counts link.new.counts result }
         ensures sure { result ≡ true }
+        ensures rest { self.new ≡ record self.old { clients = after_watch_of link.old.told.rank self.old.clients; told = self.new.told } }
     {
         self.clients.watch(link.rank() as usize, name);
         true

@@ -191,6 +191,50 @@ fn a_script_of_two_connections_is_played(rt: HostRuntime) -> Result<(), Fail> {
     Ok(())
 }
 
+/// One client, which gets room before its link is watched, sends no byte, gets room again, ends and then sends.
+const ONE: [Row; 13] = [
+    Row::Conn(b"a"),
+    Row::Room(b"a", Some(2)),
+    Row::At(1),
+    Row::Send(b"a", b""),
+    Row::At(2),
+    Row::Room(b"a", Some(2)),
+    Row::At(3),
+    Row::End(b"a"),
+    Row::At(4),
+    Row::Send(b"a", b"late"),
+    Row::End(b"a"),
+    Row::At(5),
+    Row::Room(b"a", None),
+];
+
+#[test]
+fn a_send_room_and_the_end_signal_once_and_nothing_behind_it(rt: HostRuntime) -> Result<(), Fail> {
+    let mut ready = Ready::make(rt.alloc())?;
+    let mut front = ScriptFront::make(rt.alloc(), script_of(rt.alloc(), &ONE)?)?;
+    let first: [Turn; 1] = [(None, true, Woke::Woke(0), &[], 2)];
+    waits(&rt, &mut front, &mut ready, &first);
+    let mut link = taken(&rt, &mut front, 3);
+    let turns: [Turn; 10] = [
+        (None, true, Woke::Woke(1), &[], 4),
+        (None, true, Woke::Woke(1), &[3], 4),
+        (None, true, Woke::Woke(2), &[], 6),
+        (None, false, Woke::Woke(2), &[3], 6),
+        (None, false, Woke::Woke(2), &[], 6),
+        (None, true, Woke::Woke(3), &[], 8),
+        (None, true, Woke::Woke(3), &[3], 8),
+        (None, true, Woke::Woke(4), &[], 11),
+        (None, true, Woke::Woke(5), &[], 14),
+        (None, true, Woke::Woke(5), &[3], 14),
+    ];
+    waits(&rt, &mut front, &mut ready, &turns);
+    reads(&rt, &mut link, &[Got::End]);
+    link.close();
+    let last: [Turn; 1] = [(None, true, Woke::Ended, &[], 14)];
+    waits(&rt, &mut front, &mut ready, &last);
+    Ok(())
+}
+
 #[test]
 fn an_empty_script_ends_at_once(rt: HostRuntime) -> Result<(), Fail> {
     let mut ready = Ready::make(rt.alloc())?;

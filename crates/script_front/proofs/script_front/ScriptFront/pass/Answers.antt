@@ -1,11 +1,13 @@
-use Rattle.std.proofs.Common.{◌≡◌, ◌+◌, ◌-◌, ◌≤◌, length, take, drop, ap, arith}
+use Rattle.std.proofs.Common.{◌≡◌, ◌+◌, ◌-◌, ◌≤◌, length, take, drop, ap, ◌∙◌, arith}
 use Rattle.mpm_script.specs.Clients.{names_of}
-use Rattle.script_front.proofs.PlayedLemmas.{names-add, names-within, played-lines}
+use Rattle.script_front.specs.PlayedFront.{SeenClients}
+use Rattle.script_front.proofs.PlayedLemmas.{names-add, names-within, played-clients, played-lines}
+use Rattle.script_front.proofs.SignalLemmas.{names, names-lines}
 use Rattle.script_front.proofs.script_front.ScriptFront.pass.Goals as goal
 use Rattle.script_front.proofs.script_front.ScriptFront.pass.Goals.{After-arrivals}
 
 few : (c : After-arrivals) → c.args.count ≤ length c.self.inside.script - c.self.inside.happened
-few c = rw (← c.self.view_is) at c.requires
+few c = rw (← c.self.view_is) at c.requires.few
 
 more : (c : After-arrivals) → c.arrivals.result ≡ length (names_of (take c.args.count (drop c.self.inside.happened c.self.inside.script)))
 more c = rw (c.next_lines-lines.ensures, c.lines.ensures) at c.arrivals.ensures.is
@@ -25,7 +27,12 @@ pub invariant_of-self : goal.invariant_of-self
 invariant_of-self c =
     let s = c.self.inside in
     let at = (goal.at.invariant_of-self c).After-arrivals in
-    rw c.happen.ensures (played-lines s.script s.happened c.args.count s.arrived c.arrivals.result s.accepted _ s.ends _ c.self.invariant (few at) (more at))
+    let next = rw (← c.self.view_is) at c.requires.next in
+    let p = played-lines s.script s.happened s.begun s.arrived s.accepted s.clients s.ends c.self.invariant c.args.count c.arrivals.result (few at) (more at) next in
+    let is = c.happen.ensures in
+    played-clients s.script _ s.begun _ s.accepted s.clients s.ends p c.happen.new.self
+    (ap (λ (cs : SeenClients). cs.waiting) is) (ap (λ (cs : SeenClients). length cs.watched) is)
+    (ap (λ (cs : SeenClients). names cs.clients) is ∙ names-lines c.next_lines-lines.result.now s.clients.clients)
 
 pub returns : goal.returns
 returns c =
@@ -33,4 +40,4 @@ returns c =
     let at = (goal.at.returns c).After-arrivals in
     let a = arrived at in
     let b : length s.script - (s.happened + c.args.count) ≡ length s.script - s.happened - c.args.count = omega arith in
-    rw (← c.self.view_is, c.happen.ensures, a, b)
+    rw (← c.self.view_is, c.happen.ensures, c.next_lines-lines.ensures, c.lines.ensures, a, b)

@@ -8,16 +8,15 @@ use Rattle.script_front.proofs.script_front.ScriptFrontFront.accept.Goals as goa
 pub invariant_of-self : goal.invariant_of-self
 invariant_of-self c =
     let s = c.self.inside in
-    let p = played-accept s.script s.happened s.arrived s.accepted _ s.ends _ _ _ c.self.invariant c.in-Some.ensures.some c.if-self.false in
-    rw c.in-Some.ensures.watched p
+    played-accept s.script s.happened s.begun s.arrived s.accepted s.clients s.ends c.self.invariant c.next.new.self _ c.in-Some.ensures.some c.in-Some.ensures.rest c.if-self.false
 
 pub returns-clause-accepts : goal.returns-clause-accepts
 returns-clause-accepts c =
     let s = c.self.inside in
-    let next = next-taken s.script s.happened s.arrived s.accepted _ s.ends _ _ _ c.self.invariant c.in-Some.ensures.some in
+    let next = next-taken s.script s.happened s.begun s.arrived s.accepted s.clients s.ends c.self.invariant _ _ c.in-Some.ensures.some in
     let e : next_count s.accepted ≡ s.accepted + 1 = omega arith in
     rw (← c.self.view_is) (record {
-      told_is = rw (e, c.in-Some.ensures.watched);
+      told_is = rw (e, c.in-Some.ensures.rest);
       hands = (
         (
           _,
@@ -38,4 +37,4 @@ returns-clause-accepts c =
 pub unreachable-requires : goal.unreachable-requires
 unreachable-requires c =
     let s = c.self.inside in
-    none-waits s.script s.happened s.arrived s.accepted _ s.ends _ c.self.invariant (ap length c.in-None.ensures.none) c.if-self.false
+    none-waits s.script s.happened s.begun s.arrived s.accepted s.clients s.ends c.self.invariant (ap length c.in-None.ensures.none) c.if-self.false

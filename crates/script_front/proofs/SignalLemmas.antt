@@ -1,0 +1,159 @@
+-- What lines, a watch and the signals of a wait leave of the clients.
+use Rattle.std.proofs.Common.{◌≡◌, ℕ, zero, suc, ◌+◌, ◌-◌, ◌<◌, ◌≤◌, inl, inr, Bool, true, false, if◌then◌else◌, bytes_eq, List, [], ◌∷◌, ◌++◌, length, get_or, set, take, drop, map, Option, None, Some, ap, sym, refl, ◌∙◌, append_assoc, append-nil, take-append-drop, arith}
+use Rattle.std.proofs.lemmas.Grind.{drop_more_same}
+use Rattle.std.proofs.lemmas.List.{at_drop_more, drop-set-lt, drop_all, drop_more, get_or_default, length_push, set-get_or, take_all, take_more_set}
+use Rattle.mpm_base.specs.declared.conn.ConnName.{ConnName}
+use Rattle.mpm_base.specs.declared.script_line.ClientAct.{ClientAct}
+use Rattle.mpm_base.specs.declared.script_line.ClientAct.TheVariants as act
+use Rattle.mpm_base.specs.declared.script_line.ScriptLine.{ScriptLine}
+use Rattle.mpm_base.specs.declared.script_line.ScriptLine.TheVariants as line
+use Rattle.script_front.specs.Signals.{Gives, SeenClient, after_act, after_line, after_lines, after_watch_of, closed, done, full, given, idle, new_client, silenced, watched_client}
+
+-- ## Each client keeps its name
+
+abbrev pub names : List SeenClient → List (List ℕ)
+names clients = map (λ client. client.name) clients
+
+pub names-new : (ns : List (List ℕ)) → names (map new_client ns) ≡ ns
+names-new [] = refl
+names-new (n ∷ ns) = ap (λ rest. n ∷ rest) (names-new ns)
+
+either-name : (b : Bool) (x y : SeenClient) → x.name ≡ y.name → (if b then x else y).name ≡ y.name
+either-name true x y same = same
+either-name false x y same = refl
+
+act-name : (act : ClientAct) (client : SeenClient) → (after_act act client).name ≡ client.name
+act-name (act.Send bytes) client = either-name client.ended client _ refl
+act-name act.End client = either-name client.ended client _ refl
+act-name act.Drop client = refl
+act-name (act.Room room) client = refl
+act-name (act.Fail which number) client = refl
+
+line-name : (line : ScriptLine) (client : SeenClient) → (after_line line client).name ≡ client.name
+line-name (line.At m) client = refl
+line-name (line.Conn name) client = refl
+line-name (line.Client name act) client = either-name (bytes_eq name client.name) (after_act act client) client (act-name act client)
+line-name (line.Command word) client = refl
+line-name (line.Site site) client = refl
+
+lines-name : (lines : List ScriptLine) (client : SeenClient) → (after_lines lines client).name ≡ client.name
+lines-name [] client = refl
+lines-name (line ∷ lines) client = lines-name lines (after_line line client) ∙ line-name line client
+
+pub names-lines : (lines : List ScriptLine) (clients : List SeenClient) → names (map (after_lines lines) clients) ≡ names clients
+names-lines lines [] = refl
+names-lines lines (client ∷ clients) = rw (lines-name lines client) (ap (λ rest. client.name ∷ rest) (names-lines lines clients))
+
+pub names-watch : (number : ℕ) (clients : List SeenClient) → names (after_watch_of number clients) ≡ names clients
+names-watch number [] = refl
+names-watch zero (client ∷ clients) = refl
+names-watch (suc number) (client ∷ clients) = ap (λ rest. client.name ∷ rest) (names-watch number clients)
+
+pub names-gives : {room : ℕ} {clients clients' : List SeenClient} {ns : List (Option ConnName)} {slots : List ℕ} → Gives room clients ns clients' slots → names clients' ≡ names clients
+names-gives full = refl
+names-gives done = refl
+names-gives (idle {client = client} still gives) = ap (λ rest. client.name ∷ rest) (names-gives gives)
+names-gives (given {client = client} due gives) = ap (λ rest. client.name ∷ rest) (names-gives gives)
+names-gives (closed {client = client} due gives) = ap (λ rest. client.name ∷ rest) (names-gives gives)
+
+-- ## Lines and a watch
+
+-- one line more
+pub lines_more : (lines : List ScriptLine) (i : ℕ) (line : ScriptLine) (client : SeenClient) → i < length lines
+    → after_lines (drop i lines) client ≡ after_lines (drop (i + 1) lines) (after_line (get_or lines i line) client)
+lines_more lines i line client h = at_drop_more (λ lines. after_lines lines client) lines i line h
+
+-- a client was changed as a watch of its link does
+pub watch-set : (clients : List SeenClient) (number : ℕ) (x : SeenClient) → number < length clients → x ≡ get_or clients number x
+    → set clients number (watched_client x) ≡ after_watch_of number clients
+watch-set [] number x h is = absurd (omega (arith, h))
+watch-set (client ∷ clients) zero x h is = rw is refl
+watch-set (client ∷ clients) (suc number) x h is = ap (λ rest. client ∷ rest) (watch-set clients number x (omega (arith, h)) is)
+
+-- there is none of that number
+pub watch-past : (clients : List SeenClient) (number : ℕ) → length clients ≤ number → after_watch_of number clients ≡ clients
+watch-past [] number h = refl
+watch-past (client ∷ clients) zero h = absurd (omega (arith, h))
+watch-past (client ∷ clients) (suc number) h = ap (λ rest. client ∷ rest) (watch-past clients number (omega (arith, h)))
+
+-- ## The signals of a wait, client by client
+
+-- up to a place the clients are done: whatever comes behind it, all is given as it should be
+pub record GivesOn (clients now : List SeenClient) (ns : List (Option ConnName)) (i : ℕ) (ready : List ℕ) : Type 0 where
+  pub rest : drop i now ≡ drop i clients
+  pub goes : (later : List SeenClient) (slots : List ℕ) → Gives (256 - length ready) (drop i clients) (drop i ns) later slots
+      → Gives 256 clients ns (take i now ++ later) (ready ++ slots)
+
+pub gives-start : (clients : List SeenClient) (ns : List (Option ConnName)) (ready : List ℕ) → ready ≡ [] → GivesOn clients clients ns 0 ready
+gives-start clients ns ready none = rw none (record { rest = refl; goes = λ later slots gives. gives })
+
+-- no room is left
+pub gives-full : (clients now : List SeenClient) (ns : List (Option ConnName)) (i : ℕ) (ready : List ℕ) → GivesOn clients now ns i ready → length ready ≡ 256
+    → Gives 256 clients ns now ready
+gives-full clients now ns i ready on long =
+    let none : 256 - length ready ≡ 0 = omega (arith, long) in
+    let gives : Gives 256 clients ns (take i now ++ drop i clients) (ready ++ []) = on.goes (drop i clients) [] (rw none full) in
+    let all : take i now ++ drop i clients ≡ now = rw (← on.rest) (take-append-drop i now) in
+    rw (all, append-nil ready) at gives
+
+-- no client is left
+pub gives-done : (clients now : List SeenClient) (ns : List (Option ConnName)) (i : ℕ) (ready : List ℕ) → GivesOn clients now ns i ready
+    → length now ≤ i → length clients ≤ i → length ns ≤ i → Gives 256 clients ns now ready
+gives-done clients now ns i ready on l m n =
+    let gives : Gives 256 clients ns (take i now ++ []) (ready ++ []) = on.goes [] [] (rw (drop_all i clients m, drop_all i ns n) done) in
+    let all : take i now ++ [] ≡ now = append-nil (take i now) ∙ take_all i now l in
+    rw (all, append-nil ready) at gives
+
+-- what becomes of one client, where these come behind it
+abbrev pub GivesOne : List SeenClient → List (Option ConnName) → List ℕ → SeenClient → Option ConnName → SeenClient → List ℕ → Type 0
+GivesOne clients ns ready x n x' added =
+    (later : List SeenClient) (slots : List ℕ) → Gives (256 - length (ready ++ added)) clients ns later slots
+    → Gives (256 - length ready) (x ∷ clients) (n ∷ ns) (x' ∷ later) (added ++ slots)
+
+gives-step : (clients now : List SeenClient) (ns : List (Option ConnName)) (i : ℕ) (ready added : List ℕ) (x x' : SeenClient) (n : Option ConnName)
+    → GivesOn clients now ns i ready → i < length now → i < length ns → x ≡ get_or now i x → get_or ns i None ≡ n
+    → GivesOne (drop (i + 1) clients) (drop (i + 1) ns) ready x n x' added → GivesOn clients (set now i x') ns (i + 1) (ready ++ added)
+gives-step clients now ns i ready added x x' n on l k is named one =
+    let after = drop_more_same now clients i on.rest in
+    let here : drop i clients ≡ x ∷ drop (i + 1) clients = sym on.rest ∙ drop_more now i x l ∙ rw (← is, after) refl in
+    let there : drop i ns ≡ n ∷ drop (i + 1) ns = drop_more ns i None k ∙ rw named refl in
+    record {
+      rest = drop-set-lt (i + 1) now i x' (omega arith) ∙ after;
+      goes = λ later slots gives.
+          rw (take_more_set now i x' l, append_assoc (take i now) (x' ∷ []) later, append_assoc ready added slots)
+          (on.goes (x' ∷ later) (added ++ slots) (rw (here, there) (one later slots gives)));
+    }
+
+-- its link isn't watched
+pub gives-unwatched : (clients now : List SeenClient) (ns : List (Option ConnName)) (i : ℕ) (ready : List ℕ)
+    → GivesOn clients now ns i ready → i < length now → i < length ns → get_or ns i None ≡ None → GivesOn clients now ns (i + 1) ready
+gives-unwatched clients now ns i ready on l k none =
+    let x = get_or now i (new_client []) in
+    let one : GivesOne (drop (i + 1) clients) (drop (i + 1) ns) ready x None x [] = λ later slots gives. idle (inl refl) (rw (append-nil ready) at gives) in
+    let step : GivesOn clients (set now i x) ns (i + 1) (ready ++ []) = gives-step clients now ns i ready [] x x None on l k (get_or_default now i (new_client []) x l) none one in
+    rw (set-get_or now i (new_client []), append-nil ready) at step
+
+-- its signal is given
+pub gives-given : (clients now : List SeenClient) (ns : List (Option ConnName)) (i : ℕ) (ready : List ℕ) (x : SeenClient) (name : ConnName)
+    → GivesOn clients now ns i ready → i < length now → i < length ns → x ≡ get_or now i x → get_or ns i None ≡ Some name → length ready < 256
+    → x.due ≡ true → GivesOn clients (set now i (silenced x)) ns (i + 1) (ready ++ name.slot ∷ [])
+gives-given clients now ns i ready x name on l k is named few due =
+    let room : 256 - length ready ≡ suc (256 - length (ready ++ name.slot ∷ [])) = omega (arith, length_push ready name.slot, few) in
+    gives-step clients now ns i ready (name.slot ∷ []) x (silenced x) (Some name) on l k is named (λ later slots gives. rw room (given due gives))
+
+silent : (x : SeenClient) → x.due ≡ false → silenced x ≡ x
+silent x still = ap (λ due. let y : SeenClient = record x { due = due } in y) (sym still)
+
+-- it is watched and its signal isn't given: none is due, or its link was closed
+pub gives-none : (clients now : List SeenClient) (ns : List (Option ConnName)) (i : ℕ) (ready : List ℕ) (x : SeenClient) (name : ConnName)
+    → GivesOn clients now ns i ready → i < length now → i < length ns → x ≡ get_or now i x → get_or ns i None ≡ Some name → length ready < 256
+    → GivesOn clients (set now i (silenced x)) ns (i + 1) ready
+gives-none clients now ns i ready x name on l k is named few =
+    let step : GivesOn clients (set now i (silenced x)) ns (i + 1) (ready ++ []) = gives-step clients now ns i ready [] x (silenced x) (Some name) on l k is named (go x.due refl) in
+    rw (append-nil ready) at step
+  where
+    go : (due : Bool) → x.due ≡ due → GivesOne (drop (i + 1) clients) (drop (i + 1) ns) ready x (Some name) (silenced x) []
+    go false still = λ later slots gives. rw (silent x still) (idle (inr still) (rw (append-nil ready) at gives))
+    go true due =
+        let room : 256 - length ready ≡ suc (255 - length ready) = omega (arith, few) in
+        λ later slots gives. rw room (closed due (rw (append-nil ready, room) at gives))

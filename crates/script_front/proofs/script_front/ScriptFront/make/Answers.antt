@@ -1,0 +1,24 @@
+use Rattle.std.proofs.Common.{length, map, ap, sym, refl, ◌∙◌, arith}
+use Rattle.std.proofs.lemmas.List.{length-map}
+use Rattle.mpm_script.specs.Clients.{clients_of, names_of, sent_by}
+use Rattle.script_front.specs.ScriptFront.{unwatched}
+use Rattle.script_front.proofs.SignalLemmas.{names, names-new}
+use Rattle.script_front.proofs.script_front.ScriptFront.make.Goals as goal
+
+pub invariant_of-result : goal.invariant_of-result
+invariant_of-result c =
+    let made = c.in_ok-clients.ensures in
+    let script = c.args.script in
+    let lines = c.lines.ensures in
+    record {
+      happened = omega arith;
+      arrived = refl;
+      accepted = omega arith;
+      texts_are = made.waiting ∙ ap clients_of lines;
+      clients_are = ap names made.clients ∙ names-new (names_of c.lines.result.now) ∙ ap names_of lines;
+      names_are =
+          ap length made.watched ∙ ap (λ lines. length (map unwatched (names_of lines))) lines ∙ length-map (names_of script) unwatched
+          ∙ sym (length-map (names_of script) (λ name. sent_by name script));
+      next = λ e. absurd (cc);
+      over = λ e. absurd (omega (arith, e));
+    }

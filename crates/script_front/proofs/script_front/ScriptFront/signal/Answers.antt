@@ -1,0 +1,12 @@
+use Rattle.std.proofs.Common.{length, ap}
+use Rattle.script_front.specs.PlayedFront.{SeenClients}
+use Rattle.script_front.proofs.PlayedLemmas.{played-clients}
+use Rattle.script_front.proofs.SignalLemmas.{names-gives}
+use Rattle.script_front.proofs.script_front.ScriptFront.signal.Goals as goal
+
+pub invariant_of-self : goal.invariant_of-self
+invariant_of-self c =
+    let s = c.self.inside in
+    let rest = c.give.ensures.rest in
+    played-clients s.script s.happened s.begun s.arrived s.accepted s.clients s.ends c.self.invariant c.give.new.self
+    (ap (λ (cs : SeenClients). cs.waiting) rest) (ap (λ (cs : SeenClients). length cs.watched) rest) (names-gives c.give.ensures.gives)
