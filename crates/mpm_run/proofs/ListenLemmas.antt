@@ -373,13 +373,52 @@ not-true : (b : Bool) → not b ≡ true → b ≡ false
 not-true true at = absurd (cc)
 not-true false at = refl
 
--- so it is where the board is quiet and found no connection that waits
-none-live : (s : State) (o : Option ConnName) → is_quiet s ≡ true → FindsRow is_waiting s o → is_some o ≡ false → HasNoLive s
-none-live s None quiet found none = idle-rows s.rows (not-true (list_any is_in_hand s.rows) quiet) found
-none-live s (Some name) quiet found none = absurd (cc)
+-- so it is where the board is quiet and no connection waits
+none-live : (s : State) → is_quiet s ≡ true → FindsRow is_waiting s None → HasNoLive s
+none-live s quiet none = idle-rows s.rows (not-true (list_any is_in_hand s.rows) quiet) none
 
--- the same by whether one was found
-pub none-live-unless : (s : State) (o : Option ConnName) (found : Bool) → is_quiet s ≡ true → FindsRow is_waiting s o → found ≡ is_some o
-    → OnFalse found (HasNoLive s)
-none-live-unless s o true quiet finds is = tt
-none-live-unless s o false quiet finds is = none-live s o quiet finds (sym is)
+-- ## A connection is live
+
+-- a row that is in hand is live
+live-in_hand : (p : Place) → (is_held p || is_queued p || is_working p) ≡ true → not (is_unused p) ≡ true
+live-in_hand Vacant hand = absurd (cc)
+live-in_hand Spent hand = absurd (cc)
+live-in_hand Held hand = refl
+live-in_hand (Parked kind) hand = absurd (cc)
+live-in_hand Queued hand = refl
+live-in_hand (Working cell phase) hand = refl
+
+busy-cons : (r : Row) (rows : List Row) (hand : Bool) → is_in_hand r ≡ hand → (hand || list_any is_in_hand rows) ≡ true
+    → (list_any is_in_hand rows ≡ true → list_any is_live rows ≡ true) → list_any is_live (r ∷ rows) ≡ true
+busy-cons r rows true is any rest = rw (live-in_hand r.place is) refl
+busy-cons r rows false is any rest = rw (rest any) (or-true (is_live r))
+
+-- some row is live where one is in hand
+busy-rows : (rows : List Row) → list_any is_in_hand rows ≡ true → list_any is_live rows ≡ true
+busy-rows [] any = absurd (cc)
+busy-rows (r ∷ rows) any = busy-cons r rows (is_in_hand r) refl any (busy-rows rows)
+
+not-false : (b : Bool) → not b ≡ false → b ≡ true
+not-false true at = refl
+not-false false at = absurd (cc)
+
+-- so it is where the board isn't quiet
+pub busy-live : (s : State) (quiet : Bool) → quiet ≡ is_quiet s → quiet ≡ false → not quiet ≡ list_any is_live s.rows
+busy-live s quiet is busy = ap not busy ∙ sym (busy-rows s.rows (not-false (list_any is_in_hand s.rows) (sym is ∙ busy)))
+
+-- some row is live where that of a slot is
+live-at : (rows : List Row) (slot : ℕ) (r : Row) → slice_get rows slot ≡ Some r → is_live r ≡ true → list_any is_live rows ≡ true
+live-at [] slot r at live = absurd (cc)
+live-at (x ∷ rows) zero r at live =
+    let same : r ≡ x = cc in
+    rw (subst (λ (y : Row). is_live y ≡ true) same live) refl
+live-at (x ∷ rows) (suc slot) r at live = rw (live-at rows slot r at live) (or-true (is_live x))
+
+-- where the board is quiet one is live exactly where one was found that waits
+pub found-live : (s : State) (o : Option ConnName) (quiet found : Bool) → quiet ≡ is_quiet s → quiet ≡ true → FindsRow is_waiting s o
+    → found ≡ is_some o → found ≡ list_any is_live s.rows
+found-live s None quiet found at rest finds is = is ∙ sym (none-live s (sym at ∙ rest) finds)
+found-live s (Some name) quiet found at rest finds is =
+    let live = waits s name finds in
+    let lives = alive s.rows name live.row live.found in
+    is ∙ sym (live-at s.rows name.slot live.row lives.at lives.live)

@@ -1,7 +1,8 @@
 //! The listener: waits for what comes, takes connections, has them served, and stops the server when nothing more can come.
 ghost use Rattle.std.specs.Prelude.{◌≡◌, ◌⊎◌, ◌<◌, ◌≤◌, ℕ, List, None, true, false, is_some, length, max, min, IfOk, IfErr, OnOk};
-ghost use Rattle.std.specs.Bool.{OnFalse};
+ghost use Rattle.std.specs.List.{list_any};
 ghost use Rattle.mpm_base.specs.Count.{next_count};
+ghost use Rattle.conn_machine.specs.Rows.{is_live};
 ghost use Rattle.conn_machine.specs.States.{greatest_moment, is_halted, is_signalled};
 ghost use Rattle.conn_machine.specs.declared.event.Why.TheVariants as why;
 ghost use Rattle.conn_machine.specs.declared.state.Going.TheVariants.{Halted, Serving};
@@ -170,7 +171,7 @@ fn find_rest<L: Link>(board: &Board<L>) -> Rest
 
 /// Whether a connection is live: one in hand, or one that waits.
 fn has_live<L: Link>(board: &Board<L>) -> bool
-    ensures { OnFalse result (HasNoLive board.now.book.state) }
+    ensures { result ≡ list_any is_live board.now.book.state.rows }
 {
     !board.quiet() || board.parked().is_some()
 }

@@ -1,7 +1,10 @@
-use Rattle.std.proofs.Common.{sym, ◌∙◌}
-use Rattle.mpm_run.proofs.ListenLemmas.{none-live-unless}
+use Rattle.mpm_run.proofs.ListenLemmas.{busy-live, found-live}
 use Rattle.mpm_run.proofs.listen.has_live.Goals as goal
+
+pub returns-then-not-quiet : goal.returns-then-not-quiet
+returns-then-not-quiet g c = busy-live c.args.board.now.book.state c.quiet.result c.quiet.ensures c.if-not-quiet.true
 
 pub returns-else-not-quiet : goal.returns-else-not-quiet
 returns-else-not-quiet g c =
-    none-live-unless c.args.board.now.book.state c.parked.result c.is_some.result (sym c.quiet.ensures ∙ c.if-not-quiet.false) c.parked.ensures c.is_some.ensures
+    found-live c.args.board.now.book.state c.parked.result c.quiet.result c.is_some.result c.quiet.ensures c.if-not-quiet.false c.parked.ensures
+    c.is_some.ensures
