@@ -198,9 +198,11 @@ pub record EndsWell (sink sink' : SinkSeen) (b : SeenBoard) (f : SeenFront) : Ty
   pub none_cut : list_any is_cut b.ended ≡ false
   pub report : Reports sink sink' b
 
--- with status 5: the script was played to its end, and a write of the report failed
+-- with status 5: the script was played to its end, no connection was cut short by anything but want of memory, and a write of
+-- the report failed
 pub record EndsUnwritten (sink sink' : SinkSeen) (b : SeenBoard) (f : SeenFront) : Type 0 where
   pub end : HasEnd b f
+  pub none_cut : list_any is_cut b.ended ≡ false
   pub failed : Rises sink.faults sink'.faults
 
 -- with status 7: the history has a stop because it is full, at a load that is at its limit

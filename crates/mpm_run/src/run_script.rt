@@ -259,7 +259,7 @@ fn finish<K: Sink>(alloc: Global, scripted: Scripted, out: &mut K) -> Outcome
     ensures known { IsPlayed result.status }
     ensures ended { (result.status ≡ 0) ⊎ (result.status ≡ 5) → scripted.board.book.state.going ≡ Halted why.FrontEnded }
     ensures reported { result.status ≡ 0 → Reports (sink_seen (K.told out.old) (K.faults out.old)) (sink_seen (K.told out.new) (K.faults out.new)) scripted.board }
-    ensures none_cut { result.status ≡ 0 → list_any is_cut scripted.board.ended ≡ false }
+    ensures none_cut { (result.status ≡ 0) ⊎ (result.status ≡ 5) → list_any is_cut scripted.board.ended ≡ false }
     ensures unwritten { result.status ≡ 5 → Rises (K.faults out.old) (K.faults out.new) }
     ensures full { result.status ≡ 7 → EndsFull (sink_seen (K.told out.old) (K.faults out.old)) (sink_seen (K.told out.new) (K.faults out.new)) scripted.board }
 {

@@ -18,7 +18,7 @@ returns-clause-served g c good =
     left-and c.finish.result.scripted _ (λ s. EndsWell _ _ s.board s.front) c.finish.ensures.scripted
     (record {
       end = has-end _ _ c.listen.new.board c.listen.new.front c.listen.ensures.stopped (c.finish.ensures.ended (inl good)) refl c.show-2.ensures.is c.show_run.ensures.whole;
-      none_cut = c.finish.ensures.none_cut good;
+      none_cut = c.finish.ensures.none_cut (inl good);
       report = c.finish.ensures.reported good;
     })
 
@@ -27,5 +27,6 @@ returns-clause-unwritten g c unwritten =
     left-and c.finish.result.scripted _ (λ s. EndsUnwritten _ _ s.board s.front) c.finish.ensures.scripted
     (record {
       end = has-end _ _ c.listen.new.board c.listen.new.front c.listen.ensures.stopped (c.finish.ensures.ended (inr unwritten)) refl c.show-2.ensures.is c.show_run.ensures.whole;
+      none_cut = c.finish.ensures.none_cut (inr unwritten);
       failed = c.finish.ensures.unwritten unwritten;
     })
