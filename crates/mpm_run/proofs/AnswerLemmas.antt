@@ -22,8 +22,10 @@ use Rattle.conn_state.specs.declared.turn.LastTurn.{LastTurn}
 use Rattle.conn_state.specs.declared.turn.LastTurn.TheVariants as turn
 use Rattle.conn_state.specs.Conn.{SeenConn, TurnFits, IsConn}
 use Rattle.conn_state.specs.Turns.{Answers}
-use Rattle.board.specs.Events.{IsDecided}
-use Rattle.mpm_run.specs.Serve.{IsServed, IsClosable, answers_left}
+use Rattle.board.specs.Board.{SeenBoard}
+use Rattle.board.specs.Events.{IsDecided, added}
+use Rattle.mpm_run.specs.Serve.{IsServed, IsClosable, Stays, answers_left}
+use Rattle.mpm_run.proofs.HandLemmas.{hand-answered}
 use Rattle.mpm_run.proofs.ServeLemmas.{alive, test-at, served-row, served-stays, row-open, working-in_hand}
 
 -- the connection was asked for something, and its last response wasn't decided
@@ -135,6 +137,14 @@ closes-unanswered s s' c c' name ask note sound served named decided is left =
       rank = served.fits.rank;
       shown = tt;
     }))
+
+-- the server goes on after the response was decided
+pub answered-stays : (who : ℕ) (name : ConnName) (ask : Ask) (c : SeenConn) (b b' : SeenBoard) → IsServed b.book.state c → name ≡ c.name
+    → b' ≡ added who (event.Answer name ask) b → Stays b.book b'.book
+answered-stays who name ask c b b' served named is =
+    let hand = hand-answered b.book.state (next b.book.state (event.Answer name ask)) c name ask served named refl in
+    subst (λ (x : SeenBoard). Stays b.book x.book) (sym is)
+    (record { base = refl; passes = refl; accepted = refl; signals = omega arith; hand = hand; going = refl })
 
 -- one less is left of a number that isn't used up
 one-less : (most n m : ℕ) → n < most → m ≡ n + 1 → most - m < most - n

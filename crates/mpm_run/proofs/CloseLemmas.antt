@@ -1,14 +1,19 @@
 -- What a close leaves of the server.
-use Rattle.std.proofs.Common.{◌≡◌, ◌==◌, ℕ, zero, suc, ◌+◌, ◌≤◌, Bool, true, false, cond, List, [], ◌∷◌, count_by, Some, slice_set, refl, sym, ap, subst, ◌∙◌, arith}
+use Rattle.std.proofs.Common.{◌≡◌, ◌==◌, ℕ, zero, suc, ◌+◌, ◌≤◌, Bool, true, false, ◌||◌, cond, List, [], ◌∷◌, ◌++◌, count_by, Some, slice_set, refl, sym, ap, subst, ◌∙◌, arith}
 use Rattle.std.proofs.lemmas.List.Sums.{sum_by-cons}
 use Rattle.mpm_base.specs.declared.conn.ConnName.{ConnName}
 use Rattle.conn_machine.specs.declared.row.Row.{Row}
+use Rattle.conn_machine.specs.declared.event.Event.TheVariants as event
 use Rattle.conn_machine.specs.declared.state.State.{State}
-use Rattle.conn_machine.specs.Rows.{is_parked, live_row}
+use Rattle.conn_machine.specs.Rows.{is_held, is_parked, is_working, live_row}
 use Rattle.conn_machine.specs.Table.{after_close, closed_row, greatest_life}
 use Rattle.conn_machine.proofs.UpdateLemmas.{count_update_kept}
-use Rattle.mpm_run.specs.Serve.{parked_count}
+use Rattle.conn_state.specs.Answered.{SeenEnded}
+use Rattle.board.specs.Board.{SeenBoard}
+use Rattle.board.specs.Events.{added}
+use Rattle.mpm_run.specs.Serve.{Stays, parked_count}
 use Rattle.mpm_run.proofs.ServeLemmas.{alive}
+use Rattle.mpm_run.proofs.HandLemmas.{hand-closed}
 
 -- a count of one more signal
 pub count-signal : (x : Bool) (signals : List Bool) → count_by (λ (b : Bool). b) (x ∷ signals) ≡ cond x 1 0 + count_by (λ (b : Bool). b) signals
@@ -38,3 +43,19 @@ pub parked-after_close : (s s' : State) (name named : ConnName) (row : Row) → 
     → s' ≡ after_close s named → parked_count s' ≤ parked_count s
 parked-after_close s s' name named row found same is =
     subst (λ (t : State). parked_count t ≤ parked_count s) (sym (is ∙ ap (after_close s) same)) (parked-closed s name row found)
+
+-- the server goes on after the close
+pub stays-ended : (who : ℕ) (b b' : SeenBoard) (name : ConnName) (ended : SeenEnded) (row : Row) → live_row b.book.state.rows name ≡ Some row
+    → (is_held row.place || is_working row.place) ≡ true → ended.name ≡ name
+    → b' ≡ record (added who (event.Close ended.name ended.cause ended.tail) b) { ended = b.ended ++ ended ∷ [] } → Stays b.book b'.book
+stays-ended who b b' name ended row found hand same is =
+    let less = hand-closed b.book.state (after_close b.book.state ended.name) name ended.name row found hand same refl in
+    subst (λ (x : SeenBoard). Stays b.book x.book) (sym is)
+    (record {
+      base = refl;
+      passes = refl;
+      accepted = refl;
+      signals = signals-cleared b.book.state.signals ended.name.slot;
+      hand = omega (arith, less);
+      going = refl;
+    })

@@ -1,5 +1,5 @@
 -- How a run of a script ends.
-use Rattle.std.proofs.Common.{◌≡◌, ◌⊎◌, inl, inr, ℕ, List, length, Option, Some, IfSome, IsSomeAnd, refl, sym, ap, subst, ◌∙◌, arith}
+use Rattle.std.proofs.Common.{◌≡◌, inl, inr, ℕ, List, length, Option, Some, IfSome, IsSomeAnd, refl, sym, ap, subst, ◌∙◌, arith}
 use Rattle.std.proofs.lemmas.List.{length-map}
 use Rattle.mpm_script.specs.Clients.{clients_of, names_of, sent_by}
 use Rattle.mpm_base.specs.Front.{FrontTold, HasAllTaken}
@@ -12,13 +12,13 @@ use Rattle.conn_machine.specs.declared.state.State.{State}
 use Rattle.board.specs.Book.{StopsWhereFull, TellsFullStop}
 use Rattle.board.specs.Board.{SeenBoard}
 use Rattle.mpm_run.specs.FirstShape.{first_shape}
-use Rattle.mpm_run.specs.Listen.{AllEmpty, HasNoLive, SeenOutside, HasEnded, HasClients, HasStopped, IsEnd, IsWholeRun}
+use Rattle.mpm_run.specs.Listen.{SeenOutside, HasClients, HasClosedAll, HasEnded, HasStopped, IsClosedDown, IsEnd, IsRunFrom, IsWholeRun, StoppedFor}
 use Rattle.mpm_run.specs.Statuses.{EndsFull, HasEnd, IsStatusOf, ReportsAs, SinkSeen, Writes, board_report}
 
 -- ## Why the server stopped
 
 -- it stopped because nothing more could come
-stopped-ended : (old new : SeenOutside) (s : State) → HasStopped old new s → s.going ≡ Halted why.FrontEnded → HasEnded old new s
+stopped-ended : (old new : SeenOutside) (s : State) → StoppedFor old new s → s.going ≡ Halted why.FrontEnded → HasEnded old new s
 stopped-ended old new s (inl ended) going = ended
 stopped-ended old new s (inr (inl failed)) going = absurd (cc (failed.going, going))
 stopped-ended old new s (inr (inr (inl full))) going = absurd (cc (full, going))
@@ -69,11 +69,10 @@ ended-end old new b f ended told of_script whole =
 
 -- so it was where the server stopped because nothing more could come
 pub has-end : (old new : SeenOutside) (b : SeenBoard) (f : SeenFront) → HasStopped old new b.book.state → b.book.state.going ≡ Halted why.FrontEnded
-    → new.told ≡ Some f.told → IsOfScript f
-    → (b.book.state.going ≡ Halted why.FrontEnded → AllEmpty b.book.state → HasNoLive b.book.state → IsWholeRun 64 1 first_shape b) → HasEnd b f
-has-end old new b f stopped going told of_script whole =
-    let ended = stopped-ended old new b.book.state stopped going in
-    ended-end old new b f ended told of_script (whole ended.going ended.empty ended.live)
+    → new.told ≡ Some f.told → IsOfScript f → IsRunFrom 64 1 first_shape b → (IsClosedDown b.book.state → HasClosedAll b) → HasEnd b f
+has-end old new b f stopped going told of_script run closed =
+    ended-end old new b f (stopped-ended old new b.book.state stopped.cause going) told of_script
+    (record { run = run; going = going; closed = closed stopped.down })
 
 -- ## The front
 

@@ -2,6 +2,7 @@ pub mod TellLemmas
 pub mod ServeLemmas
 pub mod AnswerLemmas
 pub mod PassLemmas
+pub mod HandLemmas
 pub mod CloseLemmas
 pub mod StartLemmas
 pub mod ListenLemmas

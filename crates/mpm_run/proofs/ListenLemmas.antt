@@ -1,10 +1,8 @@
 -- What the listener's calls leave of the server.
-use Rattle.std.proofs.Common.{◌≡◌, inl, inr, ◌==◌, ℕ, zero, suc, ◌+◌, ◌<◌, ◌≤◌, Bool, true, false, not, ◌&&◌, ◌||◌, cond, List, [], ◌∷◌, length, count_by, nat_lt, nat_le, Option, None, Some, slice_get, slice_set, slice_index_or, unwrap_or, is_some, refl, sym, ap, subst, ◌∙◌, arith}
+use Rattle.std.proofs.Common.{◌≡◌, inl, inr, ◌==◌, ℕ, zero, suc, ◌<◌, ◌≤◌, Bool, true, false, not, ◌&&◌, ◌||◌, cond, List, [], ◌∷◌, length, count_by, nat_lt, nat_le, Option, None, Some, slice_get, slice_set, slice_index_or, unwrap_or, is_some, refl, sym, ap, subst, ◌∙◌, arith}
 use Rattle.std.proofs.lemmas.Bool.{and_parts}
 use Rattle.std.proofs.lemmas.Bool.Decides.{nat_tests}
-use Rattle.std.proofs.lemmas.List.Sums.{sum_by-cons}
 use Rattle.std.proofs.lemmas.Option.{unwrap_or-slice_get}
-use Rattle.std.specs.Bool.{OnFalse}
 use Rattle.std.specs.Option.{option_map_or}
 use Rattle.std.specs.List.{list_any, find, range_with_len}
 use Rattle.mpm_base.specs.declared.conn.ConnName.{ConnName}
@@ -23,7 +21,6 @@ use Rattle.conn_machine.specs.declared.event.Event.{Event}
 use Rattle.conn_machine.specs.declared.state.Going.{Going}
 use Rattle.conn_machine.specs.declared.state.Going.TheVariants.{Serving, Ending, Halted}
 use Rattle.conn_machine.specs.declared.state.State.{State}
-use Rattle.conn_machine.specs.Lists.{update}
 use Rattle.conn_machine.specs.Rows.{is_unused, is_held, is_parked, is_queued, is_working, is_live, is_live_in, is_lingering, live_row}
 use Rattle.conn_machine.specs.Children.{no_child, child_at, is_empty, is_running, is_stopping, running_count, is_in_bounds, within, started_child, retired_child}
 use Rattle.conn_machine.specs.States.{is_halted, is_serving, is_signalled}
@@ -36,32 +33,17 @@ use Rattle.board.specs.Board.{SeenBoard}
 use Rattle.board.specs.Events.{added}
 use Rattle.board.specs.Fits.{IsSettledFrom, IsHandedOut}
 use Rattle.board.specs.Finds.{startable, FindsRow, FindsRetirable, is_waiting, is_in_hand, is_quiet}
-use Rattle.mpm_run.specs.Serve.{IsClosable, Stays, GoesOn, parked_count}
+use Rattle.mpm_run.specs.Serve.{IsClosable, Stays, GoesOn, in_hand_count, parked_count, signalled_count}
 use Rattle.mpm_run.specs.Tells.{AllTell}
-use Rattle.mpm_run.specs.Listen.{Keeps, HasNoLive, AllEmpty}
+use Rattle.mpm_run.specs.Listen.{Keeps, HasNoLive, AllEmpty, NoneParked}
 use Rattle.mpm_run.proofs.ServeLemmas.{alive, test-at, served-row}
 use Rattle.mpm_run.proofs.AnswerLemmas.{live_row-update}
+use Rattle.mpm_run.proofs.HandLemmas.{count-less, hand-more, none-in_hand}
 use Rattle.mpm_run.proofs.CloseLemmas.{count-signal}
 use Rattle.mpm_run.proofs.StartLemmas.{Lives, lives}
 use Rattle.mpm_run.proofs.TellLemmas.{tell-same, tell-set}
 
 -- ## Counts
-
--- a count of one more item
-count-cons : {X : Type 0} (p : X → Bool) (x : X) (xs : List X) → count_by p (x ∷ xs) ≡ cond (p x) 1 0 + count_by p xs
-count-cons p x xs = sum_by-cons (λ y. cond (p y) 1 0) x xs
-
--- one item less passes where the changed one did and doesn't
-pub count-less : {X : Type 0} (p : X → Bool) (xs : List X) (i : ℕ) (x : X) (change : X → X) → slice_get xs i ≡ Some x → p x ≡ true
-    → p (change x) ≡ false → count_by p (update xs i change) < count_by p xs
-count-less p [] i x change at before after = absurd (cc)
-count-less p (z ∷ xs) zero x change at before after =
-    let same : x ≡ z = cc in
-    let before' : p z ≡ true = subst (λ y. p y ≡ true) same before in
-    let after' : p (change z) ≡ false = subst (λ y. p (change y) ≡ false) same after in
-    rw (count-cons p (change z) xs, count-cons p z xs, before', after') (omega arith)
-count-less p (z ∷ xs) (suc i) x change at before after =
-    rw (count-cons p z (update xs i change), count-cons p z xs) (omega (arith, count-less p xs i x change at before after))
 
 -- no more signals are set where one is set only if it was
 signals-kept : (signals : List Bool) (slot : ℕ) (b : Bool) → (b ≡ true → slice_index_or signals slot false ≡ true)
@@ -76,17 +58,15 @@ signals-kept (x ∷ signals) (suc slot) b was =
 
 -- it is still the one that opened, twice
 pub keeps-trans : (a b c : SeenBook) → Keeps a b → Keeps b c → Keeps a c
-keeps-trans a b c first second = record { base = second.base ∙ first.base; passes = second.passes ∙ first.passes }
-
--- it goes on as before, twice
-pub stays-trans : (a b c : SeenBook) → Stays a b → Stays b c → Stays a c
-stays-trans a b c first second = record {
+keeps-trans a b c first second = record {
   base = second.base ∙ first.base;
   passes = second.passes ∙ first.passes;
-  accepted = second.accepted ∙ first.accepted;
-  signals = omega (arith, first.signals, second.signals);
-  going = second.going ∙ first.going;
+  hand = omega (arith, first.hand, second.hand);
 }
+
+-- it is where it goes on as before
+pub stays-keeps : (a b : SeenBook) → Stays a b → Keeps a b
+stays-keeps a b stays = record { base = stays.base; passes = stays.passes; hand = stays.hand }
 
 -- it goes on, or is stopped for a full history, twice
 pub goes-trans : (a b c : SeenBook) → GoesOn a b → GoesOn b c → GoesOn a c
@@ -95,6 +75,7 @@ goes-trans a b c first second = record {
   passes = second.passes ∙ first.passes;
   accepted = second.accepted ∙ first.accepted;
   signals = omega (arith, first.signals, second.signals);
+  hand = omega (arith, first.hand, second.hand);
   going =
       elim second.going [
         | inl same ↦ elim first.going [
@@ -181,7 +162,14 @@ fewer-gone s s' k found is =
 pub stays-start_child : (who k : ℕ) (a : SeenBook) (b b' : SeenBoard) → Stays a b.book → b' ≡ added who (event.StartChild k) b → Stays a b'.book
 stays-start_child who k a b b' stays is =
     subst (λ (x : SeenBoard). Stays a x.book) (sym is)
-    (record { base = stays.base; passes = stays.passes; accepted = stays.accepted; signals = stays.signals; going = stays.going })
+    (record {
+      base = stays.base;
+      passes = stays.passes;
+      accepted = stays.accepted;
+      signals = stays.signals;
+      hand = stays.hand;
+      going = stays.going;
+    })
 
 -- ## Closing what waits
 
@@ -212,13 +200,23 @@ fewer-parked s s' name found is =
 signal-after_hold : (s : State) (slot : ℕ) → signal_after_hold s slot ≡ true → is_signalled s slot ≡ true
 signal-after_hold s slot set = (and_parts (is_signalled s slot) _ set).0
 
--- the server goes on after a hold
-pub stays-hold : (who : ℕ) (name : ConnName) (a : SeenBook) (b b' : SeenBoard) (conns : List (Option SeenConn)) → Stays a b.book
-    → b' ≡ record (added who (event.Hold name) b) { conns = conns } → Stays a b'.book
-stays-hold who name a b b' conns stays is =
+-- the server goes on after a hold and the close of what was held
+pub stays-closed : (who : ℕ) (name : ConnName) (a : SeenBook) (b b' : SeenBoard) (c : SeenBook) (conns : List (Option SeenConn)) → Stays a b.book
+    → b' ≡ record (added who (event.Hold name) b) { conns = conns } → Stays b'.book c → in_hand_count c.state < in_hand_count b'.book.state
+    → Stays a c
+stays-closed who name a b b' c conns stays is closed less =
     let kept = signals-kept b.book.state.signals name.slot (signal_after_hold b.book.state name.slot) (signal-after_hold b.book.state name.slot) in
-    subst (λ (x : SeenBoard). Stays a x.book) (sym is)
-    (record { base = stays.base; passes = stays.passes; accepted = stays.accepted; signals = omega (arith, stays.signals, kept); going = stays.going })
+    let held : signalled_count b'.book.state ≤ signalled_count b.book.state =
+    subst (λ (x : SeenBoard). signalled_count x.book.state ≤ signalled_count b.book.state) (sym is) kept in
+    let more = hand-more b.book.state b'.book.state name.slot held_row (ap (λ (x : SeenBoard). x.book.state.rows) is) in
+    record {
+      base = closed.base ∙ ap (λ (x : SeenBoard). x.book.base) is ∙ stays.base;
+      passes = closed.passes ∙ ap (λ (x : SeenBoard). x.book.passes) is ∙ stays.passes;
+      accepted = closed.accepted ∙ ap (λ (x : SeenBoard). x.book.state.accepted) is ∙ stays.accepted;
+      signals = omega (arith, stays.signals, held, closed.signals);
+      hand = omega (arith, stays.hand, more, less);
+      going = closed.going ∙ ap (λ (x : SeenBoard). x.book.state.going) is ∙ stays.going;
+    }
 
 -- a connection that settled didn't linger
 settled-from : (r : Row) (from : Option Kind) (c : SeenConn) → r.from ≡ from → IsSettledFrom from c → is_from_linger r ≡ false
@@ -290,7 +288,14 @@ fewer-stopping s s' k may is =
 pub stays-retire : (who k : ℕ) (a : SeenBook) (b b' : SeenBoard) → Stays a b.book → b' ≡ added who (event.Retire k) b → Stays a b'.book
 stays-retire who k a b b' stays is =
     subst (λ (x : SeenBoard). Stays a x.book) (sym is)
-    (record { base = stays.base; passes = stays.passes; accepted = stays.accepted; signals = stays.signals; going = stays.going })
+    (record {
+      base = stays.base;
+      passes = stays.passes;
+      accepted = stays.accepted;
+      signals = stays.signals;
+      hand = stays.hand;
+      going = stays.going;
+    })
 
 and-none : (b : Bool) → ((b && false) || false) ≡ false
 and-none true = refl
@@ -373,7 +378,11 @@ not-true : (b : Bool) → not b ≡ true → b ≡ false
 not-true true at = absurd (cc)
 not-true false at = refl
 
--- so it is where the board is quiet and no connection waits
+-- so it is where none was in hand, no more are, and none waits
+pub none-left : (s s' : State) → in_hand_count s ≡ 0 → in_hand_count s' ≤ in_hand_count s → NoneParked s' → HasNoLive s'
+none-left s s' none fewer parked = idle-rows s'.rows (none-in_hand s s' none fewer) parked
+
+-- and where the board is quiet and no connection waits
 none-live : (s : State) → is_quiet s ≡ true → FindsRow is_waiting s None → HasNoLive s
 none-live s quiet none = idle-rows s.rows (not-true (list_any is_in_hand s.rows) quiet) none
 

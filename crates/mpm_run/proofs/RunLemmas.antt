@@ -8,8 +8,6 @@ use Rattle.mpm_base.specs.Front.{client_at}
 use Rattle.mpm_base.specs.Link.{LinkTold}
 use Rattle.mpm_base.specs.declared.shape.Shape.{Shape}
 use Rattle.conn_machine.specs.declared.row.Row.{Row}
-use Rattle.conn_machine.specs.declared.event.Why.TheVariants as why
-use Rattle.conn_machine.specs.declared.state.Going.TheVariants.{Halted}
 use Rattle.conn_machine.specs.declared.event.Event.{Event}
 use Rattle.conn_machine.specs.declared.event.Event.TheVariants as event
 use Rattle.conn_machine.specs.declared.event.Entry.{Entry}
@@ -26,7 +24,7 @@ use Rattle.conn_state.specs.Answered.{SeenEnded, IsAnswered, IsEnded}
 use Rattle.board.specs.Book.{StopsWhereFull, TellsFullStop}
 use Rattle.board.specs.Board.{SeenBoard, Agrees, AreHome, IsHome, AreClosed, AreEnded, Closes, conn_at}
 use Rattle.mpm_run.specs.Tells.{TellsFrom, EndedTell, AllTell, Receives, AllReceive}
-use Rattle.mpm_run.specs.Listen.{AllEmpty, HasNoLive, IsRunFrom, IsWholeRun}
+use Rattle.mpm_run.specs.Listen.{HasClosedAll, HasNoLive, IsClosedDown, IsRunFrom}
 
 -- ## The history
 
@@ -84,16 +82,19 @@ none-counted : (rows : List Row) → list_any is_live rows ≡ false → count_b
 none-counted [] none = refl
 none-counted (r ∷ rows) none = none-cons r rows (is_live r) refl none (none-counted rows)
 
--- where the server stopped because nothing more could come, and no connection is live, each that was taken ended
-pub whole-run : (slots children : ℕ) (shape : Shape) (b : SeenBoard) → IsRunFrom slots children shape b
+-- where no connection is live each that was taken ended
+pub closed-all : (slots children : ℕ) (shape : Shape) (b : SeenBoard) → IsRunFrom slots children shape b
     → count_events is_accept b.book.history ≡ count_events is_close b.book.history + count_by is_live (after (opening slots children shape) b.book.history).rows
-    → b.book.state.going ≡ Halted why.FrontEnded → AllEmpty b.book.state → HasNoLive b.book.state → IsWholeRun slots children shape b
-whole-run slots children shape b run closed_or_live going empty live = record {
-  run = run;
-  going = going;
-  empty = empty;
-  live = live;
-  closed = omega (arith, closed_or_live, none-counted (after (opening slots children shape) b.book.history).rows (subst HasNoLive (sym run.state) live), closed-count b.book.base b.book.history b.ended run.agrees.closed);
+    → IsClosedDown b.book.state → HasClosedAll b
+closed-all slots children shape b run closed_or_live down = record {
+  down = down;
+  ended =
+      omega (
+        arith,
+        closed_or_live,
+        none-counted (after (opening slots children shape) b.book.history).rows (subst HasNoLive (sym run.state) down.live),
+        closed-count b.book.base b.book.history b.ended run.agrees.closed,
+      );
 }
 
 -- ## What ended connections received

@@ -1,5 +1,5 @@
 -- A connection that is queued and started.
-use Rattle.std.proofs.Common.{◌≡◌, inl, inr, ℕ, zero, suc, ◌<◌, Bool, true, false, not, ◌&&◌, List, [], ◌∷◌, count_by, Option, None, Some, slice_set, slice_index_or, refl, sym, ap, subst, ◌∙◌, arith}
+use Rattle.std.proofs.Common.{◌≡◌, inl, inr, ℕ, zero, suc, ◌+◌, ◌<◌, ◌≤◌, Bool, true, false, not, ◌&&◌, List, [], ◌∷◌, count_by, Option, None, Some, slice_set, slice_index_or, refl, sym, ap, subst, ◌∙◌, arith}
 use Rattle.std.proofs.lemmas.Bool.{and_parts}
 use Rattle.mpm_base.specs.declared.conn.ConnName.{ConnName}
 use Rattle.mpm_base.specs.declared.conn.Kind.{Kind}
@@ -15,10 +15,11 @@ use Rattle.board.specs.Book.{SeenBook}
 use Rattle.board.specs.Board.{SeenBoard, conn_at}
 use Rattle.board.specs.Events.{added}
 use Rattle.board.specs.Fits.{WaitsAs, IsSettledFrom, IsHandedOut}
-use Rattle.mpm_run.specs.Serve.{IsServed, Stays, GoesOn, signalled_count}
+use Rattle.mpm_run.specs.Serve.{IsServed, Stays, GoesOn, in_hand_count, signalled_count}
 use Rattle.mpm_run.specs.Tells.{TellsFrom, AllTell}
 use Rattle.mpm_run.proofs.ServeLemmas.{alive, test-at}
 use Rattle.mpm_run.proofs.AnswerLemmas.{live_row-update}
+use Rattle.mpm_run.proofs.HandLemmas.{hand-more, hand-started}
 use Rattle.mpm_run.proofs.CloseLemmas.{count-signal, signals-cleared}
 use Rattle.mpm_run.proofs.TellLemmas.{tell-same, tell-set}
 
@@ -117,29 +118,46 @@ fewer-queued s s1 name may queued =
 
 -- ## The server
 
--- it goes on as before after the queueing
-pub queued-stays : (who : ℕ) (name : ConnName) (b b' : SeenBoard) → b' ≡ added who (event.Queue name) b → Stays b.book b'.book
-queued-stays who name b b' is =
-    subst (λ (x : SeenBoard). Stays b.book x.book) (sym is)
-    (record { base = refl; passes = refl; accepted = refl; signals = signals-cleared b.book.state.signals name.slot; going = refl })
+-- it goes on, with one more connection in hand at most
+pub record Starts (old new : SeenBook) : Type 0 where
+  pub base : new.base ≡ old.base
+  pub passes : new.passes ≡ old.passes
+  pub accepted : new.state.accepted ≡ old.state.accepted
+  pub signals : signalled_count new.state ≤ signalled_count old.state
+  pub hand : in_hand_count new.state ≤ in_hand_count old.state + 1
+  pub going : new.state.going ≡ old.state.going
 
--- and after the start
-pub started-stays : (who : ℕ) (name : ConnName) (b b' : SeenBoard) (conns : List (Option SeenConn)) → b' ≡ record (added who (event.Start name) b) { conns = conns }
-    → Stays b.book b'.book
-started-stays who name b b' conns is =
-    subst (λ (x : SeenBoard). Stays b.book x.book) (sym is)
-    (record { base = refl; passes = refl; accepted = refl; signals = omega arith; going = refl })
+-- so it does after a connection was queued and started
+pub starts : (who : ℕ) (name : ConnName) (b b1 b2 : SeenBoard) (conns : List (Option SeenConn)) → allowed b.book.state (event.Queue name) ≡ true
+    → b1 ≡ added who (event.Queue name) b → b2 ≡ record (added who (event.Start name) b1) { conns = conns } → Starts b.book b2.book
+starts who name b b1 b2 conns may queued started =
+    let live = (may-queue b.book.state name may).lives in
+    let at : b1.book.state ≡ next b.book.state (event.Queue name) = ap (λ (x : SeenBoard). x.book.state) queued in
+    let found : live_row b1.book.state.rows name ≡ Some (queued_row live.row) = rw at (queued-found b.book.state name live.row live.found) in
+    let more = hand-more b.book.state b1.book.state name.slot queued_row (ap (λ (s : State). s.rows) at) in
+    let same = hand-started b1.book.state b2.book.state name (queued_row live.row) found refl (ap (λ (x : SeenBoard). x.book.state) started) in
+    let fewer : signalled_count b1.book.state ≤ signalled_count b.book.state =
+    subst (λ (s : State). signalled_count s ≤ signalled_count b.book.state) (sym at) (signals-cleared b.book.state.signals name.slot) in
+    record {
+      base = ap (λ (x : SeenBoard). x.book.base) started ∙ ap (λ (x : SeenBoard). x.book.base) queued;
+      passes = ap (λ (x : SeenBoard). x.book.passes) started ∙ ap (λ (x : SeenBoard). x.book.passes) queued;
+      accepted = ap (λ (x : SeenBoard). x.book.state.accepted) started ∙ ap (λ (s : State). s.accepted) at;
+      signals = subst (λ (x : SeenBoard). signalled_count x.book.state ≤ signalled_count b.book.state) (sym started) fewer;
+      hand = omega (arith, more, same);
+      going = ap (λ (x : SeenBoard). x.book.state.going) started ∙ ap (λ (s : State). s.going) at;
+    }
 
--- what goes on from a server that went on as before
-pub stays-goes : (a b c : SeenBook) → Stays a b → GoesOn b c → GoesOn a c
-stays-goes a b c stays goes = record {
-  base = goes.base ∙ stays.base;
-  passes = goes.passes ∙ stays.passes;
-  accepted = goes.accepted ∙ stays.accepted;
-  signals = omega (arith, goes.signals, stays.signals);
+-- what goes on from there, and has one less in hand at the end, goes on from the server that it was
+pub starts-goes : (a b c d : SeenBook) → Starts a b → Stays b c → GoesOn c d → in_hand_count d.state < in_hand_count c.state → GoesOn a d
+starts-goes a b c d first stays goes less = record {
+  base = goes.base ∙ stays.base ∙ first.base;
+  passes = goes.passes ∙ stays.passes ∙ first.passes;
+  accepted = goes.accepted ∙ stays.accepted ∙ first.accepted;
+  signals = omega (arith, goes.signals, stays.signals, first.signals);
+  hand = omega (arith, less, stays.hand, first.hand);
   going =
       elim goes.going [
-        | inl same ↦ inl (same ∙ stays.going)
+        | inl same ↦ inl (same ∙ stays.going ∙ first.going)
         | inr full ↦ inr full
       ];
 }

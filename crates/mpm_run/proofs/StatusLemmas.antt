@@ -1,6 +1,6 @@
 -- What a run leaves of its output.
-use Rattle.std.proofs.Common.{◌≡◌, ℕ, ◌+◌, ◌-◌, List, [], ◌∷◌, ◌++◌, length, take, drop, Option, Some, None, option_map, slice_get, codes, Bor, sym, ap, subst, ◌∙◌, arith}
-use Rattle.std.specs.Option.{IfSome, IsSomeAnd}
+use Rattle.std.proofs.Common.{◌≡◌, ℕ, ◌+◌, ◌-◌, List, [], ◌∷◌, ◌++◌, length, take, drop, Option, Some, None, option_map, slice_get, codes, Bor, sym, ap, ◌∙◌, arith}
+use Rattle.std.specs.Option.{IfSome}
 use Rattle.std.proofs.Math.Seq.{take-add, take-length}
 use Rattle.std.proofs.lemmas.List.{append_assoc, length-drop}
 use Rattle.mpm_base.specs.Sink.{Puts, put_bytes}

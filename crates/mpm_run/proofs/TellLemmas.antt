@@ -77,6 +77,12 @@ tell-set clients b b' slot new conns ended new_tells tells = record {
   ended = subst (EndedTell clients) (sym ended) tells.ended;
 }
 
+-- the connection that was set tells
+pub same-tells : (clients : List (List ℕ)) (c x : SeenConn) → Some c ≡ Some x → TellsFrom clients c.told → TellsFrom clients x.told
+same-tells clients c x is tells =
+    let same : c ≡ x = cc is in
+    subst (λ (y : SeenConn). TellsFrom clients y.told) same tells
+
 -- a connection ended
 pub tell-ended : (clients : List (List ℕ)) (b b' : SeenBoard) (e : SeenEnded) → b'.conns ≡ b.conns → b'.ended ≡ b.ended ++ e ∷ []
     → TellsFrom clients e.told → AllTell clients b → AllTell clients b'

@@ -1,5 +1,5 @@
 -- What the listener keeps, and how a run ends.
-use Rattle.std.specs.Prelude.{◌≡◌, ◌⊎◌, ◌↔◌, ℕ, ◌<◌, Bool, true, false, List, [], length, Option, None, Some, IfSome, slice_get, slice_index}
+use Rattle.std.specs.Prelude.{◌≡◌, ◌⊎◌, ◌↔◌, ℕ, ◌<◌, ◌≤◌, Bool, true, false, List, [], length, Option, None, Some, IfSome, slice_get, slice_index}
 use Rattle.std.specs.List.{list_any}
 use Rattle.mpm_base.specs.Count.{NeverFalls, Rises}
 use Rattle.mpm_base.specs.Front.{FrontTold, FrontCounts, HasAllTaken}
@@ -25,15 +25,17 @@ use Rattle.board.specs.Book.{SeenBook, StopsWhereFull, TellsFullStop}
 use Rattle.board.specs.Board.{SeenBoard, Agrees}
 use Rattle.board.specs.Faults.{IsFull}
 use Rattle.board.specs.Finds.{acceptable, is_due, is_quiet, startable}
+use Rattle.mpm_run.specs.Serve.{in_hand_count}
 use Rattle.mpm_run.specs.declared.listen.End.{End}
 use Rattle.mpm_run.specs.declared.listen.End.TheVariants as end
 
 -- ## What the listener keeps
 
--- the server is still the one that opened
+-- the server is still the one that opened, with no more connections in hand
 pub record Keeps (old new : SeenBook) : Type 0 where
   pub base : new.base ≡ old.base
   pub passes : new.passes ≡ old.passes
+  pub hand : in_hand_count new.state ≤ in_hand_count old.state
 
 -- and takes connections, or was stopped for a full history
 pub record IsGoing (old new : SeenBook) : Type 0 where
@@ -107,11 +109,14 @@ pub record IsOver (old new : SeenOutside) (s : State) : Type 0 where
   pub live : HasNoLive s
   pub all : HasTakenAll old new s
 
--- the server stopped for that; no connection is live, and each child is gone
+-- no connection is live, and each child is gone
+pub record IsClosedDown (s : State) : Type 0 where
+  pub live : HasNoLive s
+  pub empty : AllEmpty s
+
+-- the server stopped because nothing more could come
 pub record HasEnded (old new : SeenOutside) (s : State) : Type 0 where
   pub going : s.going ≡ Halted why.FrontEnded
-  pub empty : AllEmpty s
-  pub live : HasNoLive s
   pub all : HasTakenAll old new s
 
 -- the server stopped because a wait of the front failed
@@ -161,10 +166,15 @@ IsRestful quiet s = (quiet ≡ true) ↔ IsAtRest s
 abbrev pub IsEnd : Going → Type 0
 IsEnd going = (going ≡ Halted why.FrontEnded) ⊎ (going ≡ Halted why.Full) ⊎ (going ≡ Halted why.NoMemory)
 
--- it stopped: nothing more could come, a wait failed, the history was full, or memory lacked
-abbrev pub HasStopped : SeenOutside → SeenOutside → State → Type 0
-HasStopped old new s =
+-- why it stopped: nothing more could come, a wait failed, the history was full, or memory lacked
+abbrev pub StoppedFor : SeenOutside → SeenOutside → State → Type 0
+StoppedFor old new s =
     HasEnded old new s ⊎ HasFailed old new s ⊎ (s.going ≡ Halted why.Full) ⊎ (s.going ≡ Halted why.NoMemory)
+
+-- it stopped for one of these, and closed down
+pub record HasStopped (old new : SeenOutside) (s : State) : Type 0 where
+  pub down : IsClosedDown s
+  pub cause : StoppedFor old new s
 
 -- ## A run
 
@@ -180,11 +190,13 @@ pub record IsRunFrom (slots children : ℕ) (shape : Shape) (b : SeenBoard) : Ty
   pub full : TellsFullStop b.book.state.going b.book.history
   pub agrees : Agrees b
 
--- it is a whole one: it stopped because nothing more could come, no connection is live, each child is gone, and each
--- connection that was taken ended
+-- it closed each connection: none is live, each child is gone, and as many connections ended as were taken
+pub record HasClosedAll (b : SeenBoard) : Type 0 where
+  pub down : IsClosedDown b.book.state
+  pub ended : length b.ended ≡ count_events is_accept b.book.history
+
+-- it is a whole one: it stopped because nothing more could come, and closed each connection
 pub record IsWholeRun (slots children : ℕ) (shape : Shape) (b : SeenBoard) : Type 0 where
   pub run : IsRunFrom slots children shape b
   pub going : b.book.state.going ≡ Halted why.FrontEnded
-  pub empty : AllEmpty b.book.state
-  pub live : HasNoLive b.book.state
-  pub closed : length b.ended ≡ count_events is_accept b.book.history
+  pub closed : HasClosedAll b

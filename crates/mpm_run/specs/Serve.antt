@@ -24,6 +24,7 @@ use Rattle.board.specs.declared.faults.BoardFault.{BoardFault}
 use Rattle.board.specs.declared.faults.BoardFault.TheVariants as fault
 use Rattle.board.specs.Book.{SeenBook, recorded}
 use Rattle.board.specs.Faults.{IsRefusedFor}
+use Rattle.board.specs.Finds.{is_in_hand}
 use Rattle.board.specs.Fits.{Fits, WaitsAs, NotesEnd}
 use Rattle.mpm_run.specs.declared.serve.Exit.{Exit}
 use Rattle.mpm_run.specs.declared.serve.Exit.TheVariants as exit
@@ -87,12 +88,17 @@ signalled_count s = count_by (λ (signal : Bool). signal) s.signals
 abbrev pub parked_count : State → ℕ
 parked_count s = count_by (λ r. is_parked r.place) s.rows
 
--- the server goes on as before, with no more signals, and took no connection
+-- how many connections are in hand: a worker or the listener has them, or they wait for a worker
+abbrev pub in_hand_count : State → ℕ
+in_hand_count s = count_by is_in_hand s.rows
+
+-- the server goes on as before, with no more signals and no more connections in hand, and took no connection
 pub record Stays (old new : SeenBook) : Type 0 where
   pub base : new.base ≡ old.base
   pub passes : new.passes ≡ old.passes
   pub accepted : new.state.accepted ≡ old.state.accepted
   pub signals : signalled_count new.state ≤ signalled_count old.state
+  pub hand : in_hand_count new.state ≤ in_hand_count old.state
   pub going : new.state.going ≡ old.state.going
 
 -- it went on so, or was stopped for a full history
@@ -101,6 +107,7 @@ pub record GoesOn (old new : SeenBook) : Type 0 where
   pub passes : new.passes ≡ old.passes
   pub accepted : new.state.accepted ≡ old.state.accepted
   pub signals : signalled_count new.state ≤ signalled_count old.state
+  pub hand : in_hand_count new.state ≤ in_hand_count old.state
   pub going : (new.state.going ≡ old.state.going) ⊎ (new.state.going ≡ Halted why.Full)
 
 -- all entries that were added are of the pass: each other pass has the entries that it had

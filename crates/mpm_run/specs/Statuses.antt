@@ -20,7 +20,7 @@ use Rattle.conn_state.specs.Answered.{SeenEnded}
 use Rattle.board.specs.Book.{HasFullStop}
 use Rattle.board.specs.Board.{SeenBoard}
 use Rattle.mpm_run.specs.FirstShape.{first_shape}
-use Rattle.mpm_run.specs.Listen.{IsRunFrom, IsWholeRun}
+use Rattle.mpm_run.specs.Listen.{HasClosedAll, IsRunFrom, IsWholeRun}
 use Rattle.mpm_run.specs.Report.{report_of}
 use Rattle.mpm_run.specs.Tells.{AllReceive}
 use Rattle.mpm_run.specs.Texts.{script_refused, store_fault, usage}
@@ -153,10 +153,11 @@ board_report b = report_of b.book.history b.book.state.newest b.ended
 abbrev pub Reports : SinkSeen → SinkSeen → SeenBoard → Type 0
 Reports old new b = new.told ≡ option_map (λ written. written ++ board_report b) old.told
 
--- what is left of a run of these clients: each connection that ended received a front of what its client sends, and all of it
--- where the client had done
+-- what is left of a run of these clients: it closed each connection that it took, each child is gone, and each connection
+-- received a front of what its client sends, and all of it where the client had done
 pub record HasRun (clients : List (List ℕ)) (b : SeenBoard) : Type 0 where
   pub run : IsRunFrom 64 1 first_shape b
+  pub closed : HasClosedAll b
   pub receive : AllReceive clients b.ended
 
 -- a script was read, and what is left is of a run of it: a board, and the front that played the script

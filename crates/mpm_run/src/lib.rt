@@ -2,9 +2,9 @@
 //!
 //! `run` is the one call that the program makes. What it promises stands in `specs/Statuses.antt` and `specs/Listen.antt`:
 //! the history that the board keeps is a run of the connection machine from its opening state, in the order of its passes,
-//! and each state on its way is sound; the connections agree with it; and with status 0 it is a whole one, which took each
-//! connection of its script and each of whose connections ended. What a connection received of what its client sends stands in
-//! `specs/Tells.antt`, and how a worker may leave a connection in `specs/Serve.antt`.
+//! and each state on its way is sound; the connections agree with it; each connection that was taken ended, and each child is
+//! gone; and with status 0 it is a whole one, which took each connection of its script. What a connection received of what its
+//! client sends stands in `specs/Tells.antt`, and how a worker may leave a connection in `specs/Serve.antt`.
 #![tactic(auto)]
 
 mod counting;

@@ -1,5 +1,5 @@
 //! The listener: waits for what comes, takes connections, has them served, and stops the server when nothing more can come.
-ghost use Rattle.std.specs.Prelude.{◌≡◌, ◌⊎◌, ◌<◌, ◌≤◌, ℕ, List, None, true, false, is_some, length, max, min, IfOk, IfErr, OnOk};
+ghost use Rattle.std.specs.Prelude.{◌≡◌, ◌⊎◌, ◌<◌, ◌≤◌, ◌+◌, ℕ, List, None, true, false, is_some, length, max, min, IfOk, IfErr, OnErr, OnOk};
 ghost use Rattle.std.specs.List.{list_any};
 ghost use Rattle.mpm_base.specs.Count.{next_count};
 ghost use Rattle.conn_machine.specs.Rows.{is_live};
@@ -7,8 +7,8 @@ ghost use Rattle.conn_machine.specs.States.{greatest_moment, is_halted, is_signa
 ghost use Rattle.conn_machine.specs.declared.event.Why.TheVariants as why;
 ghost use Rattle.conn_machine.specs.declared.state.Going.TheVariants.{Halted, Serving};
 ghost use Rattle.board.specs.Finds.{acceptable, next_deadline_of, startable};
-ghost use Rattle.mpm_run.specs.Serve.{GoesOn, Stays};
-ghost use Rattle.mpm_run.specs.Listen.{AllEmpty, AreSignalled, EndsAs, Follows, HasClients, HasNoLive, HasStopped, HasTaken, IsGoing, IsInStep, IsRestful, Keeps, LinksTell, MustStop, NoneDue, NoneOverdue, NoneParked, TookAll, outside};
+ghost use Rattle.mpm_run.specs.Serve.{GoesOn, Stays, in_hand_count};
+ghost use Rattle.mpm_run.specs.Listen.{AreSignalled, EndsAs, Follows, HasClients, HasNoLive, HasStopped, HasTaken, IsClosedDown, IsInStep, IsRestful, Keeps, LinksTell, MustStop, NoneDue, NoneOverdue, NoneParked, TookAll, outside};
 ghost use Rattle.mpm_run.specs.Tells.{AllTell, HasSame, IsArrival, TellsFrom};
 
 use crate::serve::{close, park, serve};
@@ -51,7 +51,8 @@ pub struct Rest {
 
 /// Takes the connections that come, has them served, and stops when nothing more can come. The server stops before that for
 /// a wait that failed, and for a full history or want of memory where a call that the listener must make was refused for
-/// that; then each connection that waits is closed. How it ended is read off the board.
+/// that; then each connection that waits is closed. However it stops, no connection is live then, and each child is gone. How
+/// it ended is read off the board.
 pub fn listen<R: Wait, L: Link + Send, F: Front<L = L>, C: Clock>(
     rt: &R,
     alloc: Global,
@@ -62,6 +63,7 @@ pub fn listen<R: Wait, L: Link + Send, F: Front<L = L>, C: Clock>(
 )
     requires passes { board.old.book.passes ≡ 2 }
     requires serving { board.old.book.state.going ≡ Serving }
+    requires hand { in_hand_count board.old.book.state ≡ 0 }
     requires step { IsInStep (F.told front.old) board.old.book.state }
     ensures keeps { Keeps board.old.book board.new.book }
     ensures stopped { HasStopped (outside (F.script front.old) (F.told front.old) (F.counts front.old)) (outside (F.script front.new) (F.told front.new) (F.counts front.new)) board.new.book.state }
@@ -340,12 +342,15 @@ fn take<L: Link + Send, F: Front<L = L>>(
     }
 }
 
-/// Takes a connection into a slot, for the child that takes one.
+/// Takes a connection into a slot, for the child that takes one. Where it is refused nothing changes.
 fn accept<L: Link>(board: &mut Board<L>) -> Result<Taken, BoardFault>
     requires passes { board.old.book.passes ≡ 2 }
     requires serving { board.old.book.state.going ≡ Serving }
     requires acceptable { is_some (acceptable board.old.book.state) ≡ true }
-    ensures keeps { Keeps board.old.book board.new.book }
+    ensures base { board.new.book.base ≡ board.old.book.base }
+    ensures passes { board.new.book.passes ≡ board.old.book.passes }
+    ensures hand { OnOk result (in_hand_count board.new.book.state ≤ in_hand_count board.old.book.state + 1) }
+    ensures refused { OnErr result (board.new ≡ board.old) }
     ensures going { board.new.book.state.going ≡ Serving }
     ensures taken { OnOk result (board.new.book.state.accepted ≡ next_count board.old.book.state.accepted) }
     ensures held { IfOk result (λ taken. HasTaken board.new.book.state taken.name taken.child taken.generation board.old.book.state.accepted) }
@@ -400,12 +405,13 @@ fn stop<L: Link>(board: &mut Board<L>, fault: BoardFault)
     }
 }
 
-/// Closes each connection that waits. Takes no memory.
+/// Closes each connection that waits; none is live then where none was in hand. Takes no memory.
 fn close_all<L: Link>(board: &mut Board<L>)
     requires passes { board.old.book.passes ≡ 2 }
     requires halted { is_halted board.old.book.state.going ≡ true }
     ensures stays { Stays board.old.book board.new.book }
     ensures none { NoneParked board.new.book.state }
+    ensures live { in_hand_count board.old.book.state ≡ 0 → HasNoLive board.new.book.state }
     ensures tells { (clients : List (List ℕ)) → AllTell clients board.old → AllTell clients board.new }
 {
     while let Some(name) = board.parked() {
@@ -415,13 +421,12 @@ fn close_all<L: Link>(board: &mut Board<L>)
     }
 }
 
-/// Lets go of each child that may be let go of. Takes no memory.
+/// Lets go of each child that may be let go of: of each one where no connection is live. Takes no memory.
 fn retire_all<L: Link>(board: &mut Board<L>)
     requires passes { board.old.book.passes ≡ 2 }
     requires halted { is_halted board.old.book.state.going ≡ true }
     ensures stays { Stays board.old.book board.new.book }
-    ensures live { HasNoLive board.old.book.state → HasNoLive board.new.book.state }
-    ensures empty { HasNoLive board.old.book.state → AllEmpty board.new.book.state }
+    ensures down { HasNoLive board.old.book.state → IsClosedDown board.new.book.state }
     ensures tells { (clients : List (List ℕ)) → AllTell clients board.old → AllTell clients board.new }
 {
     while let Some(child) = board.can_retire() {

@@ -8,7 +8,7 @@ ghost use Rattle.mpm_run.specs.FirstShape as spec;
 ghost use Rattle.mpm_script.specs.Clients.{clients_of};
 ghost use Rattle.conn_machine.specs.declared.event.Why.TheVariants as why;
 ghost use Rattle.conn_machine.specs.declared.state.Going.TheVariants.{Halted};
-ghost use Rattle.mpm_run.specs.Listen.{AllEmpty, HasNoLive, IsEnd, IsRunFrom, IsWholeRun};
+ghost use Rattle.mpm_run.specs.Listen.{HasClosedAll, IsClosedDown, IsEnd, IsRunFrom};
 ghost use Rattle.mpm_run.specs.Statuses as statuses;
 ghost use Rattle.mpm_run.specs.Statuses.{EndsFor, EndsFull, EndsRefused, EndsUnknown, EndsUnread, EndsUnwritten, EndsWell, HasPlayed, HasRun, IsCommand, IsRefusalOf, IsEndStatus, IsNoCommand, IsPlayed, IsStatus, IsStatusOf, Reports, ReportsAs, Writes, WritesAll, board_report, is_cut, seen_call, sink_seen};
 ghost use Rattle.mpm_run.specs.Tells.{AllReceive, EndedTell};
@@ -91,7 +91,8 @@ pub fn run<R: Threads + Wait + Sync, D: Store, K: Sink>(
     // A run that ended is a whole run of the machine from its opening state, of the whole script, and the output has its report.
     ensures served { result.status ≡ 0 → IsSomeAnd result.scripted (λ s. EndsWell (sink_seen (K.told out.old) (K.faults out.old)) (sink_seen (K.told out.new) (K.faults out.new)) s.board s.front) }
 
-    // Whatever the status, what is left of a run is of one of the script that was read.
+    // Whatever the status, what is left of a run is of one of the script that was read: it closed each connection that it took,
+    // and each child is gone.
     ensures kept { IfSome result.scripted (λ s. HasPlayed (seen_call words.now (D.told store.old) (D.counts store.old) (D.told store.new) (D.counts store.new) (K.told out.old) (K.faults out.old) (K.told out.new) (K.faults out.new) result.shown) s.board s.front) }
     ensures stopped { IfSome result.scripted (λ s. EndsFor s.board.book.state.going result.status) }
 
@@ -237,12 +238,12 @@ fn play<R: Wait, K: Sink>(rt: &R, alloc: Global, script: Script, out: &mut K) ->
     )
 }
 
-/// What a board shows of its run: each state on the way was sound; where nothing more could come each connection that was
-/// taken ended; and those that ended received a front of what their clients send. Does nothing.
+/// What a board shows of its run: each state on the way was sound; where no connection is live each one that was taken ended;
+/// and those that ended received a front of what their clients send. Does nothing.
 fn show_run<L: Link>(board: &Board<L>)
     requires { board.now.book.base ≡ opening 64 1 spec.first_shape }
     ensures run { IsRunFrom 64 1 spec.first_shape board.now }
-    ensures whole { board.now.book.state.going ≡ Halted why.FrontEnded → AllEmpty board.now.book.state → HasNoLive board.now.book.state → IsWholeRun 64 1 spec.first_shape board.now }
+    ensures closed { IsClosedDown board.now.book.state → HasClosedAll board.now }
     ensures receive { (clients : List (List ℕ)) → EndedTell clients board.now.ended → AllReceive clients board.now.ended }
 {
     events_keep_states_sound();

@@ -8,7 +8,7 @@ ghost use Rattle.board.specs.Book.{recorded};
 ghost use Rattle.board.specs.Faults.{IsRefusedFor};
 ghost use Rattle.board.specs.Fits.{IsSettled};
 ghost use Rattle.conn_state.specs.declared.turn.LastTurn.TheVariants as turn;
-ghost use Rattle.mpm_run.specs.Serve.{GoesOn, IsClosable, IsInHand, IsServed, LeavesGoing, MayLeave, OthersStay, Stays, answers_left, given_up, parked_count, signalled_count};
+ghost use Rattle.mpm_run.specs.Serve.{GoesOn, IsClosable, IsInHand, IsServed, LeavesGoing, MayLeave, OthersStay, Stays, answers_left, given_up, in_hand_count, parked_count, signalled_count};
 ghost use Rattle.mpm_run.specs.Tells.{AllTell, HasSame, TellsFrom};
 
 use board::{Board, BoardFault};
@@ -125,6 +125,7 @@ fn leave<L: Link>(board: &mut Board<L>, who: u32, conn: Conn<L>, exit: Exit)
     requires who { who < board.old.book.passes }
     requires may { MayLeave board.old.book conn exit }
     ensures goes { GoesOn board.old.book board.new.book }
+    ensures hand { in_hand_count board.new.book.state < in_hand_count board.old.book.state }
     ensures others { OthersStay who board.old.book board.new.book }
     ensures tells { (clients : List (List ℕ)) → AllTell clients board.old → TellsFrom clients conn.told → AllTell clients board.new }
 {
@@ -151,6 +152,7 @@ pub fn park<L: Link>(
     requires hand { IsInHand board.old.book.state conn }
     requires settled { IsSettled kind conn }
     ensures goes { GoesOn board.old.book board.new.book }
+    ensures hand { in_hand_count board.new.book.state < in_hand_count board.old.book.state }
     ensures others { OthersStay who board.old.book board.new.book }
     ensures ok { OnOk result (board.new.book.state.going ≡ board.old.book.state.going) }
     ensures parked { OnOk result (board.new.book ≡ recorded who (event.Park conn.name kind) board.old.book) }
@@ -175,6 +177,7 @@ pub fn give_up<L: Link>(board: &mut Board<L>, who: u32, conn: Conn<L>, fault: Bo
     requires why { IsRefusedFor fault board.old.book }
     ensures is { board.new.book ≡ given_up fault who conn.name board.old.book }
     ensures goes { GoesOn board.old.book board.new.book }
+    ensures hand { in_hand_count board.new.book.state < in_hand_count board.old.book.state }
     ensures others { OthersStay who board.old.book board.new.book }
     ensures going { LeavesGoing fault board.old.book.state.going board.new.book.state.going }
     ensures tells { (clients : List (List ℕ)) → AllTell clients board.old → TellsFrom clients conn.told → AllTell clients board.new }
@@ -195,6 +198,7 @@ pub fn close<L: Link>(board: &mut Board<L>, who: u32, conn: Conn<L>, cause: Caus
     requires may { IsClosable board.old.book.state cause conn }
     ensures closed { board.new.book ≡ recorded who (event.Close conn.name cause Direct) board.old.book }
     ensures stays { Stays board.old.book board.new.book }
+    ensures hand { in_hand_count board.new.book.state < in_hand_count board.old.book.state }
     ensures others { OthersStay who board.old.book board.new.book }
     ensures parked { parked_count board.new.book.state ≤ parked_count board.old.book.state }
     ensures tells { (clients : List (List ℕ)) → AllTell clients board.old → TellsFrom clients conn.told → AllTell clients board.new }

@@ -1,5 +1,7 @@
 use Rattle.std.proofs.Common.{ap, refl}
+use Rattle.conn_machine.specs.Table.{taken_row}
 use Rattle.board.specs.Board.{SeenBoard}
+use Rattle.mpm_run.proofs.HandLemmas.{hand-more}
 use Rattle.mpm_run.proofs.TakeLemmas.{takes-child, takes-slot, accept-allowed, has-taken}
 use Rattle.mpm_run.proofs.listen.accept.Goals as goal
 
@@ -12,6 +14,11 @@ pub unreachable-requires-in-Err-NoSlot : goal.unreachable-requires-in-Err-NoSlot
 unreachable-requires-in-Err-NoSlot g c =
     let why = rw c.in-Err-NoSlot.field-0-is at c.in-Err-NoSlot.ensures.why in
     takes-slot c.args.board.now.book.state _ refl c.requires.acceptable why.none_vacant
+
+pub returns-in-Ok-clause-hand : goal.returns-in-Ok-clause-hand
+returns-in-Ok-clause-hand g c =
+    hand-more c.args.board.now.book.state c.accept.new.self.book.state c.in-Ok.taken.name.slot (taken_row c.args.board.now.book.state)
+    (ap (λ (b : SeenBoard). b.book.state.rows) c.in-Ok.ensures.ok.new_is)
 
 pub returns-in-Ok-clause-held : goal.returns-in-Ok-clause-held
 returns-in-Ok-clause-held g c =

@@ -1,7 +1,7 @@
 use Rattle.std.proofs.Common.{ap, ◌∙◌, arith}
 use Rattle.conn_machine.specs.States.{is_halted}
 use Rattle.board.specs.Board.{SeenBoard}
-use Rattle.mpm_run.proofs.ListenLemmas.{stays-trans, stays-hold, fewer-parked, closes-held, tell-held}
+use Rattle.mpm_run.proofs.ListenLemmas.{stays-closed, fewer-parked, closes-held, none-left, tell-held}
 use Rattle.mpm_run.proofs.listen.close_all.Goals as goal
 
 pub close-requires-clause-may : goal.close-requires-clause-may
@@ -23,9 +23,8 @@ pub loop-name-preserved : goal.loop-name-preserved
 loop-name-preserved g c =
     record {
       stays =
-          stays-trans c.args.board.now.book c.hold-conn.new.self.book c.close.new.board.book
-          (stays-hold 0 c.in-Some.name c.args.board.now.book c.loop-name.board c.hold-conn.new.self _ c.loop-name.invariant.stays c.hold-conn.ensures.is)
-          c.close.ensures.stays;
+          stays-closed 0 c.in-Some.name c.args.board.now.book c.loop-name.board c.hold-conn.new.self c.close.new.board.book _
+          c.loop-name.invariant.stays c.hold-conn.ensures.is c.close.ensures.stays c.close.ensures.hand;
       tells = λ clients tells.
           let before = c.loop-name.invariant.tells clients tells in
           c.close.ensures.tells clients
@@ -35,3 +34,7 @@ loop-name-preserved g c =
 
 pub returns-clause-none : goal.returns-clause-none
 returns-clause-none g c = c.in_default.ensures
+
+pub returns-clause-live : goal.returns-clause-live
+returns-clause-live g c hand =
+    none-left c.args.board.now.book.state c.loop-name.board.book.state hand c.loop-name.invariant.stays.hand c.in_default.ensures

@@ -1,7 +1,7 @@
 use Rattle.std.proofs.Common.{ap, ◌∙◌, arith}
 use Rattle.board.specs.Book.{SeenBook}
 use Rattle.board.specs.Board.{SeenBoard}
-use Rattle.mpm_run.proofs.ListenLemmas.{stays-trans, stays-hold, fewer-parked, tell-held}
+use Rattle.mpm_run.proofs.ListenLemmas.{stays-closed, fewer-parked, tell-held}
 use Rattle.mpm_run.proofs.TimeLemmas.{late-waits, may-hold_late, closes-late, none-late}
 use Rattle.mpm_run.proofs.listen.close_overdue.Goals as goal
 
@@ -26,9 +26,8 @@ pub loop-name-preserved : goal.loop-name-preserved
 loop-name-preserved g c =
     record {
       stays =
-          stays-trans c.args.board.now.book c.hold-conn.new.self.book c.close.new.board.book
-          (stays-hold 0 c.in-Some.name c.args.board.now.book c.loop-name.board c.hold-conn.new.self _ c.loop-name.invariant.stays c.hold-conn.ensures.is)
-          c.close.ensures.stays;
+          stays-closed 0 c.in-Some.name c.args.board.now.book c.loop-name.board c.hold-conn.new.self c.close.new.board.book _
+          c.loop-name.invariant.stays c.hold-conn.ensures.is c.close.ensures.stays c.close.ensures.hand;
       moment =
           ap (λ (b : SeenBook). b.state.moment) c.close.ensures.closed
           ∙ ap (λ (b : SeenBoard). b.book.state.moment) c.hold-conn.ensures.is

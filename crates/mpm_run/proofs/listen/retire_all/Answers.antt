@@ -19,7 +19,12 @@ loop-child-preserved g c =
       tells = λ clients tells. tell-added clients 0 _ c.loop-child.board c.retire.new.self c.retire.ensures (c.loop-child.invariant.tells clients tells);
     }
 
-pub returns-clause-empty : goal.returns-clause-empty
-returns-clause-empty g c live =
-    all-gone c.loop-child.board.book.state c.show.ensures.sound (ap is_halted c.loop-child.invariant.stays.going ∙ c.requires.halted) c.in_default.ensures
-    (ap (list_any is_live) c.loop-child.invariant.rows ∙ live)
+pub returns-clause-down : goal.returns-clause-down
+returns-clause-down g c live =
+    let still = ap (list_any is_live) c.loop-child.invariant.rows ∙ live in
+    record {
+      live = still;
+      empty =
+          all-gone c.loop-child.board.book.state c.show.ensures.sound (ap is_halted c.loop-child.invariant.stays.going ∙ c.requires.halted)
+          c.in_default.ensures still;
+    }

@@ -1,9 +1,13 @@
 use Rattle.std.proofs.Common.{inl, inr, refl}
 use Rattle.mpm_script.specs.Clients.{clients_of}
 use Rattle.mpm_run.specs.Statuses.{EndsUnwritten, EndsWell, HasRun}
+use Rattle.mpm_run.proofs.HandLemmas.{opening-hand}
 use Rattle.mpm_run.proofs.RunLemmas.{opening-tells}
 use Rattle.mpm_run.proofs.EndLemmas.{has-end, has-clients, left-if, left-and}
 use Rattle.mpm_run.proofs.run_script.play.Goals as goal
+
+pub listen-requires-clause-hand : goal.listen-requires-clause-hand
+listen-requires-clause-hand g c κs within = opening-hand 64 1 c.first_shape.result c.in-Ok.board.book.state c.in-Ok.ensures.state
 
 pub returns-clause-kept : goal.returns-clause-kept
 returns-clause-kept g c =
@@ -11,13 +15,17 @@ returns-clause-kept g c =
     let tells = opening-tells clients 64 1 c.first_shape.result c.in-Ok.board c.show.ensures.agrees c.in-Ok.ensures.state c.in-Ok.ensures.ended in
     let told = c.listen.ensures.tells clients (record { each = λ link. (link.told, refl) }) (has-clients c.args.script c.in-Ok-Ok.front c.in-Ok-Ok.ensures) tells in
     left-if c.finish.result.scripted _ (λ s. HasRun clients s.board) c.finish.ensures.scripted
-    (record { run = c.show_run.ensures.run; receive = c.show_run.ensures.receive clients told.ended })
+    (record {
+      run = c.show_run.ensures.run;
+      closed = c.show_run.ensures.closed c.listen.ensures.stopped.down;
+      receive = c.show_run.ensures.receive clients told.ended;
+    })
 
 pub returns-clause-served : goal.returns-clause-served
 returns-clause-served g c good =
     left-and c.finish.result.scripted _ (λ s. EndsWell _ _ s.board s.front) c.finish.ensures.scripted
     (record {
-      end = has-end _ _ c.listen.new.board c.listen.new.front c.listen.ensures.stopped (c.finish.ensures.ended (inl good)) refl c.show-2.ensures.is c.show_run.ensures.whole;
+      end = has-end _ _ c.listen.new.board c.listen.new.front c.listen.ensures.stopped (c.finish.ensures.ended (inl good)) refl c.show-2.ensures.is c.show_run.ensures.run c.show_run.ensures.closed;
       none_cut = c.finish.ensures.none_cut (inl good);
       report = c.finish.ensures.reported good;
     })
@@ -26,7 +34,7 @@ pub returns-clause-unwritten : goal.returns-clause-unwritten
 returns-clause-unwritten g c unwritten =
     left-and c.finish.result.scripted _ (λ s. EndsUnwritten _ _ s.board s.front) c.finish.ensures.scripted
     (record {
-      end = has-end _ _ c.listen.new.board c.listen.new.front c.listen.ensures.stopped (c.finish.ensures.ended (inr unwritten)) refl c.show-2.ensures.is c.show_run.ensures.whole;
+      end = has-end _ _ c.listen.new.board c.listen.new.front c.listen.ensures.stopped (c.finish.ensures.ended (inr unwritten)) refl c.show-2.ensures.is c.show_run.ensures.run c.show_run.ensures.closed;
       none_cut = c.finish.ensures.none_cut (inr unwritten);
       failed = c.finish.ensures.unwritten unwritten;
     })

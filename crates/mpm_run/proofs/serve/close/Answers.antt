@@ -1,7 +1,7 @@
-use Rattle.std.proofs.Common.{subst, sym, ap, refl}
+use Rattle.std.proofs.Common.{ap}
 use Rattle.board.specs.Board.{SeenBoard}
-use Rattle.mpm_run.specs.Serve.{Stays}
-use Rattle.mpm_run.proofs.CloseLemmas.{signals-cleared, parked-after_close}
+use Rattle.mpm_run.proofs.HandLemmas.{hand-closed}
+use Rattle.mpm_run.proofs.CloseLemmas.{stays-ended, parked-after_close}
 use Rattle.mpm_run.proofs.TellLemmas.{tell-ended, tells-closed}
 use Rattle.mpm_run.proofs.PassLemmas.{others-recorded}
 use Rattle.mpm_run.proofs.serve.close.Goals as goal
@@ -12,14 +12,13 @@ returns-clause-closed g c =
 
 pub returns-clause-stays : goal.returns-clause-stays
 returns-clause-stays g c =
-    subst (λ (b : SeenBoard). Stays c.args.board.now.book b.book) (sym c.close.ensures)
-    (record {
-      base = refl;
-      passes = refl;
-      accepted = refl;
-      signals = signals-cleared c.args.board.now.book.state.signals c.end.result.name.slot;
-      going = refl;
-    })
+    stays-ended c.args.who c.args.board.now c.close.new.self c.args.conn.name c.end.result c.requires.may.row c.requires.may.found
+    c.requires.may.in_hand c.end.ensures.ends.name c.close.ensures
+
+pub returns-clause-hand : goal.returns-clause-hand
+returns-clause-hand g c =
+    hand-closed c.args.board.now.book.state c.close.new.self.book.state c.args.conn.name c.end.result.name c.requires.may.row c.requires.may.found
+    c.requires.may.in_hand c.end.ensures.ends.name (ap (λ (b : SeenBoard). b.book.state) c.close.ensures)
 
 pub returns-clause-others : goal.returns-clause-others
 returns-clause-others g c =

@@ -1,8 +1,13 @@
-use Rattle.std.proofs.Common.{subst, sym, ap, ◌∙◌}
+use Rattle.std.proofs.Common.{inl, Some, refl, subst, sym, ap, ◌∙◌, arith}
+use Rattle.conn_machine.specs.declared.event.Event.TheVariants as event
+use Rattle.conn_machine.specs.Table.{next}
 use Rattle.board.specs.Book.{SeenBook}
 use Rattle.conn_state.specs.Conn.{SeenConn}
 use Rattle.board.specs.Board.{SeenBoard}
+use Rattle.mpm_run.specs.Serve.{GoesOn}
 use Rattle.mpm_run.specs.Tells.{AllTell, TellsFrom}
+use Rattle.mpm_run.proofs.TellLemmas.{same-tells, tell-set}
+use Rattle.mpm_run.proofs.HandLemmas.{hand-parked}
 use Rattle.mpm_run.proofs.PassLemmas.{others-recorded}
 use Rattle.mpm_run.proofs.StepLemmas.{given_up-moment}
 use Rattle.mpm_run.proofs.serve.park.Goals as goal
@@ -10,6 +15,24 @@ use Rattle.mpm_run.proofs.serve.park.Goals as goal
 pub returns-in-Ok-clause-others : goal.returns-in-Ok-clause-others
 returns-in-Ok-clause-others g c =
     others-recorded c.args.who _ c.args.board.now.book c.park.new.self.book (ap (λ (b : SeenBoard). b.book) c.in-Ok.ensures.ok.new_is)
+
+pub returns-in-Ok-clause-goes : goal.returns-in-Ok-clause-goes
+returns-in-Ok-clause-goes g c =
+    let s = c.args.board.now.book.state in
+    let less = hand-parked s (next s (event.Park c.args.conn.name c.args.kind)) c.args.conn c.args.kind c.requires.hand refl in
+    subst (GoesOn c.args.board.now.book) (sym (ap (λ (b : SeenBoard). b.book) c.in-Ok.ensures.ok.new_is))
+    (record { base = refl; passes = refl; accepted = refl; signals = omega arith; hand = omega (arith, less); going = inl refl })
+
+pub returns-in-Ok-clause-tells : goal.returns-in-Ok-clause-tells
+returns-in-Ok-clause-tells g c clients tells told =
+    tell-set clients c.args.board.now c.park.new.self c.args.conn.name.slot (Some c.args.conn) c.in-Ok.ensures.parked
+    (ap (λ (b : SeenBoard). b.ended) c.in-Ok.ensures.ok.new_is)
+    (λ x is. same-tells clients c.args.conn x is told) tells
+
+pub returns-in-Ok-clause-hand : goal.returns-in-Ok-clause-hand
+returns-in-Ok-clause-hand g c =
+    hand-parked c.args.board.now.book.state c.park.new.self.book.state c.args.conn c.args.kind c.requires.hand
+    (ap (λ (b : SeenBoard). b.book.state) c.in-Ok.ensures.ok.new_is)
 
 pub returns-in-Err-clause-tells : goal.returns-in-Err-clause-tells
 returns-in-Err-clause-tells g c clients tells told =

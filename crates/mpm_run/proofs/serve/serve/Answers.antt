@@ -1,6 +1,6 @@
 use Rattle.std.proofs.Common.{ap, refl}
 use Rattle.board.specs.Board.{SeenBoard}
-use Rattle.mpm_run.proofs.StartLemmas.{may-start, served-started, queued-stays, started-stays, stays-goes, fewer-served, start-tells}
+use Rattle.mpm_run.proofs.StartLemmas.{may-start, served-started, starts, starts-goes, fewer-served, start-tells}
 use Rattle.mpm_run.proofs.PassLemmas.{others-recorded, others-more}
 use Rattle.mpm_run.proofs.TellLemmas.{tell-same}
 use Rattle.mpm_run.proofs.serve.serve.Goals as goal
@@ -19,11 +19,10 @@ converse-exit-requires-clause-served g c =
 
 pub returns-clause-goes : goal.returns-clause-goes
 returns-clause-goes g c =
-    let queued = queued-stays c.args.who c.args.name c.args.board.now c.queue.new.self c.in_ok-queue.ensures.ok.new_is in
-    let started = started-stays c.args.who c.args.name c.queue.new.self c.start-conn.new.self _ c.start-conn.ensures.is in
-    stays-goes c.args.board.now.book c.queue.new.self.book c.leave.new.board.book queued
-    (stays-goes c.queue.new.self.book c.start-conn.new.self.book c.leave.new.board.book started
-    (stays-goes c.start-conn.new.self.book c.converse-exit.new.board.book c.leave.new.board.book c.converse-exit.ensures.stays c.leave.ensures.goes))
+    starts-goes c.args.board.now.book c.start-conn.new.self.book c.converse-exit.new.board.book c.leave.new.board.book
+    (starts c.args.who c.args.name c.args.board.now c.queue.new.self c.start-conn.new.self _
+    (c.requires.allowed c.in_ok-queue.ensures.ok.was_open.going) c.in_ok-queue.ensures.ok.new_is c.start-conn.ensures.is)
+    c.converse-exit.ensures.stays c.leave.ensures.goes c.leave.ensures.hand
 
 pub returns-clause-others : goal.returns-clause-others
 returns-clause-others g c =
