@@ -37,11 +37,6 @@ pub record Keeps (old new : SeenBook) : Type 0 where
   pub passes : new.passes ≡ old.passes
   pub hand : in_hand_count new.state ≤ in_hand_count old.state
 
--- and takes connections, or was stopped for a full history
-pub record IsGoing (old new : SeenBook) : Type 0 where
-  pub keeps : Keeps old new
-  pub going : (new.state.going ≡ Serving) ⊎ (new.state.going ≡ Halted why.Full)
-
 -- what is seen of a front: the script that it was made of, what it tells, and its counts
 pub record SeenOutside : Type 0 where
   pub script : Option (List ScriptLine)
