@@ -31,7 +31,7 @@ use Rattle.mpm_run.specs.declared.listen.End.TheVariants as end
 
 -- ## What the listener keeps
 
--- the server is still the one that opened, with no more connections in hand
+-- the server is still the one that opened, with no more connections in hand than before
 pub record Keeps (old new : SeenBook) : Type 0 where
   pub base : new.base ≡ old.base
   pub passes : new.passes ≡ old.passes

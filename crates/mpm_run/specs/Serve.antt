@@ -92,7 +92,7 @@ parked_count s = count_by (λ r. is_parked r.place) s.rows
 abbrev pub in_hand_count : State → ℕ
 in_hand_count s = count_by is_in_hand s.rows
 
--- the server goes on as before, with no more signals and no more connections in hand, and took no connection
+-- the server goes on as before, with no more signals and no more connections in hand than before, and took no connection
 pub record Stays (old new : SeenBook) : Type 0 where
   pub base : new.base ≡ old.base
   pub passes : new.passes ≡ old.passes

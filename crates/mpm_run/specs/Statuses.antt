@@ -169,7 +169,7 @@ pub record HasPlayed (call : Call) (b : SeenBoard) (f : SeenFront) : Type 0 wher
   pub shows : call.shown ≡ None
   pub has_run : HasRun (clients_of f.script) b
 
--- how a run that stopped so may end: with 6 wherever memory lacked for its report
+-- how a run that stopped so may end: with 6 wherever memory lacked for its report, and where a connection was cut short
 abbrev pub EndsFor : Going → ℕ → Type 0
 EndsFor (Halted why.FrontEnded) status = (status ≡ 0) ⊎ (status ≡ 5) ⊎ (status ≡ 6)
 EndsFor (Halted why.Full) status = (status ≡ 7) ⊎ (status ≡ 6)

@@ -50,7 +50,7 @@ pub struct Rest {
 }
 
 /// Takes the connections that come, has them served, and stops when nothing more can come. The server stops before that for
-/// a wait that failed, and for a full history or want of memory where a call that the listener must make was refused for
+/// a wait that failed, for a full history, and for want of memory where a call that the listener must make was refused for
 /// that; then each connection that waits is closed. However it stops, no connection is live then, and each child is gone. How
 /// it ended is read off the board.
 pub fn listen<R: Wait, L: Link + Send, F: Front<L = L>, C: Clock>(

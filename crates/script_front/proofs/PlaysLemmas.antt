@@ -65,5 +65,5 @@ module _ (old new : SeenFront) (until : Option ℕ) (quiet : Bool) (ready : List
         rw none (ends goes (rw is (rw none at gives)) idle comes (rw is taken) (moves-end old new still is))
 
     pub plays-stays : (m : ℕ) → new ≡ with_clients still (with_begun old) → ready ≡ [] → m ≡ old.told.moment → quiet ≡ true → earlier until (next_moment (to_come old)) ≡ None
-        → Plays old new until quiet (woke.Woke m) ready
-    plays-stays m is none stands idle comes = rw (none, stands) (stays goes (rw none at gives-new is) idle comes (moves-still old new still is))
+        → (HasAllTaken new.told → 0 < length new.clients) → Plays old new until quiet (woke.Woke m) ready
+    plays-stays m is none stands idle comes some = rw (none, stands) (stays goes (rw none at gives-new is) idle comes some (moves-still old new still is))

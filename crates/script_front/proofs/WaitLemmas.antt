@@ -22,7 +22,7 @@ plays-given g (signals o s l m) = signals o s l (moves-given _ _ g _ _ m)
 plays-given g (served o s q m) = served o s q (moves-given _ _ g _ _ m)
 plays-given g (passes o s q n t m c) = passes o s q n t (moves-given _ _ g _ _ m) c
 plays-given g (ends o s q n t m) = ends o s q n (record { left = t.left; accepted = t.accepted }) (moves-given _ _ g _ _ m)
-plays-given g (stays o s q n m) = stays o s q n (moves-given _ _ g _ _ m)
+plays-given g (stays o s q n t m) = stays o s q n (λ all. t (record { left = all.left; accepted = all.accepted })) (moves-given _ _ g _ _ m)
 
 pub plays-put_down : (old mid new : SeenFront) (until : Option ℕ) (quiet : Bool) (answer : Woke) (ready : List ℕ) → new ≡ with_given new.told.given mid
     → Plays old mid until quiet answer ready → Plays old new until quiet answer ready
@@ -46,7 +46,7 @@ plays-went (signals o s l m) = went-still m
 plays-went (served o s q m) = went-still m
 plays-went (passes o s q n t m c) = record { script = m.script; happened = omega (arith, m.happened); moment_is = omega (arith, m.moment_is, t) }
 plays-went (ends o s q n t m) = went-still m
-plays-went (stays o s q n m) = went-still m
+plays-went (stays o s q n t m) = went-still m
 
 -- the answer is one that it may give there
 plays-answers : {old new : SeenFront} {until : Option ℕ} {quiet : Bool} {answer : Woke} {ready : List ℕ} → (0 < old.ends → HasAllTaken new.told)
@@ -57,7 +57,7 @@ plays-answers taken (signals o s l m) = (sym m.moment_is, tt, omega arith)
 plays-answers taken (served o s q m) = (sym m.moment_is, tt, omega arith)
 plays-answers taken (passes o s q n t m c) = (sym m.moment_is, tt, omega arith)
 plays-answers taken (ends o s q n t m) = (t, refl, omega arith)
-plays-answers taken (stays o s q n m) = (sym m.moment_is, tt, omega arith)
+plays-answers taken (stays o s q n t m) = (sym m.moment_is, tt, omega arith)
 
 -- no count fell
 never-fell : (ended : Bool) (n n' : ℕ) → RisesExactlyWhere ended n n' → n ≤ n'

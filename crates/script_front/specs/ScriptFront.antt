@@ -1,9 +1,12 @@
 -- The front that plays a script: what contracts see of it, and what its waits do.
-use Rattle.std.specs.Prelude.{◌≡◌, ℕ, suc, ◌+◌, ◌<◌, ◌≤◌, Bool, true, false, max, min, nat_le, if◌then◌else◌, List, [], ◌∷◌, drop, take, length, map, Option, None, Some}
+use Rattle.std.specs.Prelude.{◌≡◌, ℕ, suc, ◌+◌, ◌<◌, ◌≤◌, Bool, true, false, max, min, nat_le, if◌then◌else◌, List, [], ◌∷◌, drop, take, length, map, Option, None, Some, ⊤}
 use Rattle.mpm_script.specs.Clients.{clients_of, names_of}
-use Rattle.mpm_base.specs.Front.{FrontTold, HasAllTaken}
+use Rattle.mpm_base.specs.Front.{FrontTold, HasAllTaken, client_at}
+use Rattle.mpm_base.specs.ScriptLink.{SeenScriptLink, new_paced_link}
 use Rattle.script_front.specs.Signals.{SeenClient, Gives, after_lines, new_client}
 use Rattle.mpm_base.specs.declared.conn.ConnName.{ConnName}
+use Rattle.mpm_base.specs.declared.front.Arrival.{Arrival}
+use Rattle.mpm_base.specs.declared.front.Arrival.TheVariants as arrival
 use Rattle.mpm_base.specs.declared.front.Woke.{Woke}
 use Rattle.mpm_base.specs.declared.front.Woke.TheVariants as woke
 use Rattle.mpm_base.specs.declared.script_line.ScriptLine.{ScriptLine}
@@ -91,7 +94,8 @@ after_next count f clients = map (after_lines (take count (to_come f))) clients
 -- ## Any time
 
 -- what holds of every such front: it tells the connections of its script, of which those have arrived whose lines have
--- happened, and how many lines have not; each client has its name; and once it has waited the next line is an `at`
+-- happened, and how many lines have not; each client has its name; and once it has waited the next line is an `at`, where there
+-- is one
 pub record IsOfScript (f : SeenFront) : Type 0 where
   pub happened : f.happened ≤ length f.script
   pub left : f.told.left + f.happened ≡ length f.script
@@ -116,8 +120,8 @@ pub record GoesOn (f : SeenFront) : Type 0 where
   pub ends : f.ends ≡ 0
   pub next : lines_now (to_come f) ≡ 0
 
--- a wait does the first of these that fits. One thing isn't told, which links were closed: of those no signal is given, and
--- `ends` fits only once each was
+-- a wait does the first of these that fits. Which links were closed isn't told: so the clauses leave open which of the signals
+-- that are due fall away, and, where all was taken of some connections, whether it ends or stays
 pub data Plays (old new : SeenFront) (until : Option ℕ) (quiet : Bool) : Woke → List ℕ → Type 0 where
   -- once it has answered Ended it does so again
   over : 0 < old.ends → Moves old new 0 old.told.moment → new.clients ≡ old.clients → Plays old new until quiet woke.Ended []
@@ -130,7 +134,7 @@ pub data Plays (old new : SeenFront) (until : Option ℕ) (quiet : Bool) : Woke 
   -- where a connection is being served no time passes
   served : GoesOn old → Gives 256 old.clients old.told.watched new.clients [] → quiet ≡ false → Moves old new 0 old.told.moment
       → Plays old new until quiet (woke.Woke old.told.moment) []
-  -- it goes on to the moment of the next `at`, or to `until`, whichever is earlier; what happens by then happens
+  -- it goes on to the moment of the next `at`, or to `until`, whichever is earlier, and never back; what happens by then happens
   passes : {m to : ℕ} {still : List SeenClient} → GoesOn old → Gives 256 old.clients old.told.watched still [] → quiet ≡ true
       → earlier until (next_moment (to_come old)) ≡ Some m → to ≡ max old.told.moment m → Moves old new (lines_by to (to_come old)) to
       → new.clients ≡ after_next (lines_by to (to_come old)) old still → Plays old new until quiet (woke.Woke to) []
@@ -139,4 +143,12 @@ pub data Plays (old new : SeenFront) (until : Option ℕ) (quiet : Bool) : Woke 
       → HasAllTaken new.told → Moves old new 0 old.told.moment → Plays old new until quiet woke.Ended []
   -- it waits for its links to be taken or closed
   stays : GoesOn old → Gives 256 old.clients old.told.watched new.clients [] → quiet ≡ true → earlier until (next_moment (to_come old)) ≡ None
-      → Moves old new 0 old.told.moment → Plays old new until quiet (woke.Woke old.told.moment) []
+      → (HasAllTaken new.told → 0 < length new.clients) → Moves old new 0 old.told.moment → Plays old new until quiet (woke.Woke old.told.moment) []
+
+-- ## An accept
+
+-- a link is handed out as that of its client, with no call that is to fail, and its bytes and room come little by little
+abbrev pub HandsPaced : SeenFront → Arrival SeenScriptLink → Type 0
+HandsPaced f (arrival.Some link) = link ≡ new_paced_link f.told.accepted (client_at f.told.clients f.told.accepted) [] []
+HandsPaced f arrival.None = ⊤
+HandsPaced f arrival.Failed = ⊤

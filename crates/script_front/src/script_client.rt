@@ -1,5 +1,5 @@
 //! A client of a script, as the front of the script knows it.
-ghost use Rattle.std.specs.Prelude.{◌≡◌, ◌<◌, true, [], bytes_eq, length, map};
+ghost use Rattle.std.specs.Prelude.{◌≡◌, ◌<◌, true, false, [], bytes_eq, length, map};
 ghost use Rattle.script_front.specs.Signals.{Gives, after_act, after_line, after_lines, new_client, silenced, watched_client};
 
 use mpm_base::{ClientAct, ConnName, Octets, Ready, ScriptLine, Wire};
@@ -145,6 +145,8 @@ pub(crate) fn give(clients: &mut [ScriptClient], watched: &[Option<ConnName>], r
 }
 
 /// Whether the link of each client was closed.
-pub(crate) fn are_closed(clients: &[ScriptClient]) -> bool {
+pub(crate) fn are_closed(clients: &[ScriptClient]) -> bool
+    ensures { result ≡ false → 0 < length clients.now }
+{
     clients.iter().all(|client| client.is_closed())
 }

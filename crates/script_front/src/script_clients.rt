@@ -1,5 +1,5 @@
 //! The clients of a script, as its front knows them.
-ghost use Rattle.std.specs.Prelude.{◌≡◌, None, Some, [], ◌∷◌, ◌++◌, length, map, slice_set, IfOk, IfSome, IfNone, OnOk, OnErr};
+ghost use Rattle.std.specs.Prelude.{◌≡◌, ◌<◌, false, None, Some, [], ◌∷◌, ◌++◌, length, map, slice_set, IfOk, IfSome, IfNone, OnOk, OnErr};
 ghost use Rattle.mpm_script.specs.Clients.{clients_of, made_by, names_of};
 ghost use Rattle.script_front.specs.ScriptFront.{unwatched};
 ghost use Rattle.script_front.specs.Signals.{Gives, after_lines, after_watch_of, new_client};
@@ -124,7 +124,9 @@ impl ScriptClients {
     }
 
     /// Whether each link was closed.
-    pub(crate) fn are_closed(&self) -> bool {
+    pub(crate) fn are_closed(&self) -> bool
+        ensures { result ≡ false → 0 < length self.now.clients }
+    {
         are_closed(self.clients.as_slice())
     }
 }

@@ -1,9 +1,9 @@
 //! The front that plays a script.
-ghost use Rattle.std.specs.Prelude.{◌≡◌, ◌<◌, ◌≤◌, max, nat_lt, true, false, Some, [], drop, IfOk};
+ghost use Rattle.std.specs.Prelude.{◌≡◌, ◌<◌, ◌≤◌, max, nat_lt, true, false, Some, [], drop, length, IfOk};
 ghost use Rattle.mpm_base.specs.Count.{Rises};
 ghost use Rattle.mpm_base.specs.Front.{Accepts, HasAllTaken, PutsDown, StandsStill, Waits, Watches, accept_failed, is_handed};
 ghost use Rattle.script_front.specs.PlayedFront.{KeepsRest, counts_of, gone_to, with_begun, with_clients, with_end, with_given, with_lines};
-ghost use Rattle.script_front.specs.ScriptFront.{IsOfScript, Plays, lines_now, new_front, to_come};
+ghost use Rattle.script_front.specs.ScriptFront.{HandsPaced, IsOfScript, Plays, lines_now, new_front, to_come};
 ghost use Rattle.script_front.specs.Signals.{Gives, after_watch_of};
 ghost use Rattle.mpm_base.specs.ScriptLink.{SeenScriptLink};
 
@@ -64,9 +64,9 @@ impl Model for ScriptFront {
 }
 
 impl ScriptFront {
-    /// The front of the script. No line has happened. Lines that aren't built yet do nothing when they happen, and a line
-    /// that names a client means each connection of that name; a script that was read has neither such lines nor two
-    /// connections of one name.
+    /// The front of the script. No line has happened. `drop`, `fail`, `command` and the lines of the site do nothing when they
+    /// happen, and a line that names a client means each connection of that name; a script that was read has neither such
+    /// lines nor two connections of one name.
     pub fn make(alloc: Global, script: Script) -> Result<ScriptFront, NoMemory>
         ensures { IfOk result (λ front. front ≡ new_front script) }
     {
@@ -163,7 +163,8 @@ impl ScriptFront {
 
     /// Whether all lines have happened, each connection was handed out, and each link was closed.
     fn is_over(&self) -> bool
-        ensures { result ≡ true → HasAllTaken self.now.told }
+        ensures over { result ≡ true → HasAllTaken self.now.told }
+        ensures some { result ≡ false → HasAllTaken self.now.told → 0 < length self.now.clients }
     {
         self.happened == self.script.lines().len()
             && self.accepted == self.clients.count()
@@ -234,7 +235,7 @@ impl Front for ScriptFront {
 
     /// A signal is due for a watched link where a send, be it of no byte, room or the end came for it, until it is given;
     /// none is given in the wait in which that happened, and none of a link that was closed. The front ends only once each
-    /// link was closed.
+    /// link was closed. A moment `until` before the present one is as the present one.
     fn wait<R: Wait>(
         &mut self,
         rt: &R,
@@ -260,6 +261,7 @@ impl Front for ScriptFront {
         ensures accepts { Accepts (λ (l : SeenScriptLink). Some l.told) (λ (l : SeenScriptLink). l.counts) (Some self.old.told) (Some self.new.told) (counts_of self.old) (counts_of self.new) result }
         ensures some { is_handed result ≡ nat_lt self.old.told.accepted self.old.told.arrived }
         ensures never { accept_failed result ≡ false }
+        ensures link { HandsPaced self.old result }
         ensures rest { self.new ≡ record self.old { told = self.new.told } }
     {
         if self.accepted == self.arrived {

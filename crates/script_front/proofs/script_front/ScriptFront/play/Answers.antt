@@ -65,7 +65,7 @@ pub returns-then-is_over-clause-plays : goal.returns-then-is_over-clause-plays
 returns-then-is_over-clause-plays c =
     let at = goal.at.returns-then-is_over-clause-plays c in
     let begun = is at.After-signal in
-    let taken = subst (λ (f : SeenFront). HasAllTaken f.told) begun (c.is_over.ensures c.if-is_over.true) in
+    let taken = subst (λ (f : SeenFront). HasAllTaken f.told) begun (c.is_over.ensures.over c.if-is_over.true) in
     plays-ends c.args.self.now c.end-then-is_over.new.self c.args.until c.args.quiet _ _ (goes at.After-signal) (gives at.After-signal)
     (c.end-then-is_over.ensures.state ∙ ap with_end begun) (none at.After-earlier-next) c.if-not-quiet.false (comes at.After-earlier-next begun ∙ c.in_default.is)
     (record { left = taken.left; accepted = taken.accepted })
@@ -76,4 +76,4 @@ returns-clause-plays c =
     let begun = is at.After-signal in
     let stands = ap (λ (f : SeenFront). f.told.moment) (c.self-3.view_is ∙ begun) in
     plays-stays c.args.self.now c.signal.new.self c.args.until c.args.quiet _ _ (goes at.After-signal) (gives at.After-signal) _ begun (none at.After-earlier-next) stands
-    c.if-not-quiet.false (comes at.After-earlier-next begun ∙ c.in_default.is)
+    c.if-not-quiet.false (comes at.After-earlier-next begun ∙ c.in_default.is) (c.is_over.ensures.some c.if-is_over.false)
