@@ -1,6 +1,6 @@
 -- The choice of a child: the number that `pick_of` gives is picked, no other number is, and a walk over
 -- the list that keeps the best child so far ends at it.
-use Rattle.std.proofs.Common.{◌≡◌, ℕ, ◌+◌, ◌<◌, ◌≤◌, Bool, true, false, ◌&&◌, ◌||◌, ◌==◌, nat_lt, List, [], ◌∷◌, ◌++◌, map, filter, length, take, get_or, Option, None, Some, All, Contains, IfSome, IsNone, ◌↔◌, refl, sym, ◌∙◌, ap, subst, arith}
+use Rattle.std.proofs.Common.{◌≡◌, ℕ, ◌+◌, ◌<◌, ◌≤◌, Bool, true, false, ◌==◌, List, [], ◌∷◌, ◌++◌, map, filter, length, take, get_or, Option, None, Some, All, Contains, ◌↔◌, refl, sym, ◌∙◌, ap, subst, arith}
 use Rattle.std.specs.Option.{option_map_or, option_map}
 use Rattle.std.proofs.lemmas.Bool.{and_parts, and_from}
 use Rattle.std.proofs.lemmas.Bool.Decides.{nat_tests}
@@ -9,7 +9,8 @@ pub use Rattle.std.proofs.lemmas.List.{take_all}
 use Rattle.std.proofs.lemmas.List.Elements.{All-weaker, All-push, All-contains, All-contains_itself, Contains-append_left, Contains-push}
 use Rattle.admission.specs.declared.ChildCount.{ChildCount}
 use Rattle.admission.specs.Admission.{has_room, is_candidate, candidates, greatest, most_idle, pick_of}
-use Rattle.admission.specs.Picked.{IsPicked, goes_before}
+use Rattle.admission.specs.Picked.{IsPicked}
+use Rattle.admission.specs.PickedInside.{goes_before}
 use Rattle.admission.proofs.ListLemmas.{in_map, in_filter, All-kept, All-made, filter-none, none_pass, map_of_nothing, greatest_bounds, greatest_is_in, least_is_least, least_of_nothing, equal_test, test_equal}
 
 -- ---- which of two children goes before the other

@@ -1,2 +1,3 @@
 pub mod Admission
 pub mod Picked
+pub mod PickedInside

@@ -1,12 +1,8 @@
 -- What it means that a number is the one of the child that takes the next connection, and which of two
 -- children goes before the other. Neither says how the child is found.
-use Rattle.std.specs.Prelude.{◌≡◌, ℕ, ◌≤◌, Bool, true, ◌&&◌, ◌||◌, ◌==◌, nat_lt, List, All, Contains}
+use Rattle.std.specs.Prelude.{◌≡◌, ℕ, ◌≤◌, true, List, All, Contains}
 use Rattle.admission.specs.declared.ChildCount.{ChildCount}
 use Rattle.admission.specs.Admission.{has_room, is_candidate}
-
--- a has more idle workers than b, or as many and a lower number
-abbrev pub goes_before : ChildCount → ChildCount → Bool
-goes_before a b = nat_lt b.idle a.idle || (a.idle == b.idle && nat_lt a.child b.child)
 
 -- k is the number of a child of the list that runs and has room; no other that runs and has room has
 -- more idle workers, and none with as many has a lower number

@@ -3,8 +3,8 @@ use Rattle.std.proofs.Common.{◌≡◌, ◌≢◌, ℕ, zero, suc, ◌+◌, ◌
 use Rattle.std.proofs.lemmas.Bool.{eqb-true, eqb-false, eq-eqb, ne_eqb}
 use Rattle.std.proofs.lemmas.Option.{none-some, same_Some, slice_get_within}
 use Rattle.mpm_base.specs.declared.conn.ConnName.{ConnName}
-use Rattle.conn_slots.specs.Slots.{Slot, item_in, item_of, IsLive, IsNext, without}
-use Rattle.conn_slots.specs.Changes.{Change, puts, takes, writes, CanBe, changed, Leads, NeverLiveAgain, WasNeverLive}
+use Rattle.conn_slots.specs.Slots.{Slot, item_in, item_of, IsLive, IsNextName, without_item}
+use Rattle.conn_slots.specs.Changes.{Change, puts, takes, writes, CanBe, after_change, ChangesLead, NeverLiveAgain, WasNeverLive}
 
 module _ {X : Type 0} where
   -- what stands at a place after a write to it, and at another place
@@ -73,7 +73,7 @@ module _ {T : Type 0} where
     pub set : new ≡ set old place is
     pub follows : Follows was is
 
-  replaces : (slots : List (Slot T)) (c : Change T) → CanBe slots c → Replaces slots (changed slots c)
+  replaces : (slots : List (Slot T)) (c : Change T) → CanBe slots c → Replaces slots (after_change slots c)
   replaces slots (puts name x) h = record {
     place = name.slot;
     was = record { life = name.life; item = None };
@@ -122,21 +122,21 @@ module _ {T : Type 0} where
 
   -- a passed name is passed for ever
   passed_after : (slots : List (Slot T)) (changes : List (Change T)) (later : List (Slot T)) (name : ConnName) →
-      Leads slots changes later → IsPassed slots name → IsPassed later name
+      ChangesLead slots changes later → IsPassed slots name → IsPassed later name
   passed_after slots [] later name l p = rw l p
   passed_after slots (c ∷ cs) later name l p =
-      passed_after (changed slots c) cs later name l.1 (passed_stays slots (changed slots c) name (replaces slots c l.0) p)
+      passed_after (after_change slots c) cs later name l.1 (passed_stays slots (after_change slots c) name (replaces slots c l.0) p)
 
   passed_never_live : (slots : List (Slot T)) (name : ConnName) → IsPassed slots name → NeverLiveAgain slots name
   passed_never_live slots name p =
       λ changes later l. passed_is_dead later name (passed_after slots changes later name l p)
 
   -- a name whose item was taken is never live again
-  pub taken_never_live : (slots : List (Slot T)) (name : ConnName) → IsLive slots name → NeverLiveAgain (without slots name) name
+  pub taken_never_live : (slots : List (Slot T)) (name : ConnName) → IsLive slots name → NeverLiveAgain (without_item slots name) name
   taken_never_live slots name live =
       let s = live_slot slots name live in
       let within = slice_get_within slots name.slot _ s.1 in
-      passed_never_live (without slots name) name (record {
+      passed_never_live (without_item slots name) name (record {
         slot = slot (name.life + 1) None;
         there = slice_get-set_same slots name.slot _ within;
         above = omega arith;
@@ -149,25 +149,25 @@ module _ {T : Type 0} where
 
   -- a live name stays live, or is passed
   live_after : (slots : List (Slot T)) (changes : List (Change T)) (later : List (Slot T)) (name : ConnName) →
-      Leads slots changes later → IsLive slots name → IsLive later name ⊎ IsPassed later name
+      ChangesLead slots changes later → IsLive slots name → IsLive later name ⊎ IsPassed later name
   live_after slots [] later name l h = inl (rw l h)
   live_after slots (c ∷ cs) later name l h =
       let live = live_slot slots name h in
-      let f = slot_follows slots (changed slots c) name.slot _ (replaces slots c l.0) live.1 in
-      on (nat_eq f.0.life name.life) f.0 refl f.1 f.2.no_fall (f.2.keeps refl) (live_after (changed slots c) cs later name l.1)
+      let f = slot_follows slots (after_change slots c) name.slot _ (replaces slots c l.0) live.1 in
+      on (nat_eq f.0.life name.life) f.0 refl f.1 f.2.no_fall (f.2.keeps refl) (live_after (after_change slots c) cs later name l.1)
     where
-      on : (b : Bool) (t : Slot T) → nat_eq t.life name.life ≡ b → slice_get (changed slots c) name.slot ≡ Some t →
+      on : (b : Bool) (t : Slot T) → nat_eq t.life name.life ≡ b → slice_get (after_change slots c) name.slot ≡ Some t →
           name.life ≤ t.life → (t.life ≡ name.life → IsSome t.item) →
-          (IsLive (changed slots c) name → IsLive later name ⊎ IsPassed later name) → IsLive later name ⊎ IsPassed later name
+          (IsLive (after_change slots c) name → IsLive later name ⊎ IsPassed later name) → IsLive later name ⊎ IsPassed later name
       on true t same e no_fall keeps again =
           let count : t.life ≡ name.life = eqb-true t.life name.life same in
-          again (live_at (changed slots c) name t e count (keeps count))
+          again (live_at (after_change slots c) name t e count (keeps count))
       on false t other e no_fall keeps again =
           let differ : t.life ≢ name.life = eqb-false t.life name.life other in
-          inr (passed_after (changed slots c) cs later name l.1 (record { slot = t; there = e; above = omega arith }))
+          inr (passed_after (after_change slots c) cs later name l.1 (record { slot = t; there = e; above = omega arith }))
 
   -- the next name of a vacant slot had no item before
-  pub next_never_live : (slots : List (Slot T)) (name : ConnName) → IsNext slots name → WasNeverLive slots name
+  pub next_never_live : (slots : List (Slot T)) (name : ConnName) → IsNextName slots name → WasNeverLive slots name
   next_never_live slots name n earlier changes l = on (item_of earlier name) refl
     where
       no_longer : IsLive slots name ⊎ IsPassed slots name → ⊥

@@ -3,7 +3,7 @@ use Rattle.std.proofs.Common.{◌≡◌, ◌≢◌, ℕ, ◌+◌, Bool, true, fa
 use Rattle.std.proofs.lemmas.Bool.{eqb-true, eqb-false, eq-eqb}
 use Rattle.std.proofs.lemmas.Option.{slice_get_within}
 use Rattle.mpm_base.specs.declared.conn.ConnName.{ConnName}
-use Rattle.conn_slots.specs.Slots.{Slot, item_in, item_of, IsLive, IsNext, with_item, without, Updates}
+use Rattle.conn_slots.specs.Slots.{Slot, item_in, item_of, IsLive, IsNextName, with_item, without_item, UpdatesItem}
 use Rattle.conn_slots.proofs.LawLemmas.{slice_get-set_same, slice_get-set_other, live_slot, item_at}
 
 abbrev conn_name : ℕ → ℕ → ConnName
@@ -35,8 +35,8 @@ module _ {T : Type 0} where
           item_at (set slots name.slot is) other is (rw same new) ∙ none.1
           ∙ sym (item_at slots other was (rw same there) ∙ none.0)
 
-  pub put_updates : (slots : List (Slot T)) (name : ConnName) (x : T) → IsNext slots name →
-      Updates slots (with_item slots name x) name (Some x)
+  pub put_updates : (slots : List (Slot T)) (name : ConnName) (x : T) → IsNextName slots name →
+      UpdatesItem slots (with_item slots name x) name (Some x)
   put_updates slots name x next =
       let is : Slot T = record { life = name.life; item = Some x } in record {
         changed =
@@ -46,12 +46,12 @@ module _ {T : Type 0} where
             (λ life ne. (none_in _ life (λ _. refl), none_in is life (λ e. absurd (ne (sym e)))));
       }
 
-  pub take_updates : (slots : List (Slot T)) (name : ConnName) → IsLive slots name → Updates slots (without slots name) name None
+  pub take_updates : (slots : List (Slot T)) (name : ConnName) → IsLive slots name → UpdatesItem slots (without_item slots name) name None
   take_updates slots name live =
       let s = live_slot slots name live in
       let is : Slot T = record { life = name.life + 1; item = None } in record {
         changed =
-            item_at (without slots name) name is (slice_get-set_same slots name.slot is (slice_get_within slots name.slot _ s.1))
+            item_at (without_item slots name) name is (slice_get-set_same slots name.slot is (slice_get_within slots name.slot _ s.1))
             ∙ none_in is name.life (λ _. refl);
         others = others_kept slots name _ is s.1
             (λ life ne. (none_in _ life (λ e. absurd (ne (sym e))), none_in is life (λ _. refl)));

@@ -1,7 +1,7 @@
 -- What calls make of a table of slots, one after another, and which names never have an item again.
 use Rattle.std.specs.Prelude.{◌≡◌, List, [], ◌∷◌, None}
 use Rattle.mpm_base.specs.declared.conn.ConnName.{ConnName}
-use Rattle.conn_slots.specs.Slots.{Slot, item_of, IsLive, IsNext, with_item, without}
+use Rattle.conn_slots.specs.Slots.{Slot, item_of, IsLive, IsNextName, with_item, without_item}
 
 -- a change of the table: an item put under a name, taken from it, or written over the one that it has
 pub data Change (T : Type 0) : Type 0 where
@@ -12,29 +12,29 @@ pub data Change (T : Type 0) : Type 0 where
 module _ {T : Type 0} where
   -- an item is put under the next name of a vacant slot, and taken or written under a live name
   abbrev pub CanBe : List (Slot T) → Change T → Type 0
-  CanBe slots (puts name _) = IsNext slots name
+  CanBe slots (puts name _) = IsNextName slots name
   CanBe slots (takes name) = IsLive slots name
   CanBe slots (writes name _) = IsLive slots name
 
   -- the table after a change
-  abbrev pub changed : List (Slot T) → Change T → List (Slot T)
-  changed slots (puts name x) = with_item slots name x
-  changed slots (takes name) = without slots name
-  changed slots (writes name x) = with_item slots name x
+  abbrev pub after_change : List (Slot T) → Change T → List (Slot T)
+  after_change slots (puts name x) = with_item slots name x
+  after_change slots (takes name) = without_item slots name
+  after_change slots (writes name x) = with_item slots name x
 
   -- these changes, in order, lead from the first table to the second
-  abbrev pub Leads : List (Slot T) → List (Change T) → List (Slot T) → Type 0
-  Leads from [] to = to ≡ from
-  Leads from (c ∷ cs) to = CanBe from c × Leads (changed from c) cs to
+  abbrev pub ChangesLead : List (Slot T) → List (Change T) → List (Slot T) → Type 0
+  ChangesLead from [] to = to ≡ from
+  ChangesLead from (c ∷ cs) to = CanBe from c × ChangesLead (after_change from c) cs to
 
   -- whatever changes follow, the name has no item
   abbrev pub NeverLiveAgain : List (Slot T) → ConnName → Type 0
   NeverLiveAgain slots name =
-      (changes : List (Change T)) (later : List (Slot T)) → Leads slots changes later →
+      (changes : List (Change T)) (later : List (Slot T)) → ChangesLead slots changes later →
       item_of later name ≡ None
 
   -- whatever changes led here, the name had no item before them
   abbrev pub WasNeverLive : List (Slot T) → ConnName → Type 0
   WasNeverLive slots name =
-      (earlier : List (Slot T)) (changes : List (Change T)) → Leads earlier changes slots →
+      (earlier : List (Slot T)) (changes : List (Change T)) → ChangesLead earlier changes slots →
       item_of earlier name ≡ None

@@ -1,4 +1,4 @@
 pub mod Changes
-pub mod Inside
+pub mod Layout
 pub mod Lending
 pub mod Slots

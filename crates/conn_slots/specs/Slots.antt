@@ -16,16 +16,16 @@ pub record Slot (T : Type 0) : Type 0 where
 
 module _ {T : Type 0} where
   -- the slot has no item, and a life for one more
-  abbrev pub is_vacant : Slot T → Bool
-  is_vacant s = is_none s.item && nat_lt s.life most_lives
+  abbrev pub is_vacant_slot : Slot T → Bool
+  is_vacant_slot s = is_none s.item && nat_lt s.life most_lives
 
   -- n slots that were never used
-  abbrev pub unused : ℕ → List (Slot T)
-  unused n = replicate n (record { life = 0; item = None })
+  abbrev pub unused_slot : ℕ → List (Slot T)
+  unused_slot n = replicate n (record { life = 0; item = None })
 
   -- how many slots can be given an item
   abbrev pub vacant_count : List (Slot T) → ℕ
-  vacant_count slots = count_by is_vacant slots
+  vacant_count slots = count_by is_vacant_slot slots
 
   -- the item that a slot has in this life
   abbrev pub item_in : ℕ → Slot T → Option T
@@ -40,18 +40,18 @@ module _ {T : Type 0} where
   IsLive slots name = IsSome (item_of slots name)
 
   -- the name is the next one of a slot that has no item
-  abbrev pub IsNext : List (Slot T) → ConnName → Type 0
-  IsNext slots name = slice_get slots name.slot ≡ Some (record { life = name.life; item = None })
+  abbrev pub IsNextName : List (Slot T) → ConnName → Type 0
+  IsNextName slots name = slice_get slots name.slot ≡ Some (record { life = name.life; item = None })
 
   -- the table with this item under the name
   abbrev pub with_item : List (Slot T) → ConnName → T → List (Slot T)
   with_item slots name x = slice_set slots name.slot (record { life = name.life; item = Some x })
 
   -- the table after the item of a live name was taken
-  abbrev pub without : List (Slot T) → ConnName → List (Slot T)
-  without slots name = slice_set slots name.slot (record { life = name.life + 1; item = None })
+  abbrev pub without_item : List (Slot T) → ConnName → List (Slot T)
+  without_item slots name = slice_set slots name.slot (record { life = name.life + 1; item = None })
 
   -- the map has this at the name, and at every other name what it had
-  pub record Updates (old new : List (Slot T)) (name : ConnName) (item : Option T) : Type 0 where
+  pub record UpdatesItem (old new : List (Slot T)) (name : ConnName) (item : Option T) : Type 0 where
     pub changed : item_of new name ≡ item
     pub others : (other : ConnName) → other ≢ name → item_of new other ≡ item_of old other

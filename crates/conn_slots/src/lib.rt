@@ -9,8 +9,8 @@
 ghost use Rattle.std.specs.Prelude.{◌≡◌, ◌+◌, ◌≤◌, ◌↔◌, Some, None, is_some, IsTrue, IsSome, IfSome, OnSome, IfNone, IsErr, IfOk, IfErr, OnErr, position};
 ghost use Rattle.std.specs.Option.{option_copied_mut};
 ghost use Rattle.std.specs.Borrow.{sem};
-ghost use Rattle.conn_slots.specs.Slots.{vacant_count, is_vacant, item_of, IsLive, IsNext, with_item, without, unused, Updates};
-ghost use Rattle.conn_slots.specs.Inside.{seen, IsWithinLives};
+ghost use Rattle.conn_slots.specs.Slots.{vacant_count, is_vacant_slot, item_of, IsLive, IsNextName, with_item, without_item, unused_slot, UpdatesItem};
+ghost use Rattle.conn_slots.specs.Layout.{seen_slot, IsWithinLives};
 ghost use Rattle.conn_slots.specs.declared.Entry.{Entry};
 ghost use Rattle.conn_slots.specs.Changes.{NeverLiveAgain, WasNeverLive};
 
@@ -43,9 +43,9 @@ impl<T> Model for Slots<T> {
 
     ghost Value = { List (Slot T) };
 
-    ghost use Rattle.conn_slots.specs.Inside.{seen, IsTable};
+    ghost use Rattle.conn_slots.specs.Layout.{seen_slot, IsTable};
 
-    ghost view = { λ s. map seen s.entries.items };
+    ghost view = { λ s. map seen_slot s.entries.items };
 
     ghost invariant = { λ s. IsTable s.entries.items };
 }
@@ -54,14 +54,14 @@ impl<T> Entry<T> {
     ghost use Rattle.conn_slots.specs.Lending.{lends_entry};
 
     fn is_vacant(&self) -> bool
-        ensures { result ≡ is_vacant (seen self.now) }
+        ensures { result ≡ is_vacant_slot (seen_slot self.now) }
     {
         self.item.is_none() && self.life < MOST_LIVES
     }
 
     // Puts an item into the vacant entry, and answers its life.
     fn fill(&mut self, item: T) -> u32
-        requires { IsTrue (is_vacant (seen self.old)) }
+        requires { IsTrue (is_vacant_slot (seen_slot self.old)) }
         ensures life { result ≡ self.old.life }
         ensures filled { self.new ≡ record self.old { item = Some item } }
         ensures vacant { self.old.item ≡ None }
@@ -100,7 +100,7 @@ impl<T> Entry<T> {
 
 // The place of the first vacant entry.
 fn vacant_place<T>(entries: &[Entry<T>]) -> Option<usize>
-    ensures { result ≡ position (λ (e : Entry T). is_vacant (seen e)) entries.now }
+    ensures { result ≡ position (λ (e : Entry T). is_vacant_slot (seen_slot e)) entries.now }
 {
     entries.iter().position(|entry| entry.is_vacant())
 }
@@ -112,7 +112,7 @@ impl<T> Slots<T> {
     pub fn make(alloc: Global, n: u32) -> Result<Slots<T>, NoMemory>
         requires some { 1 ≤ n }
         requires few { n ≤ 8192 }
-        ensures { IfOk result (λ slots. slots ≡ unused n) }
+        ensures { IfOk result (λ slots. slots ≡ unused_slot n) }
     {
         let Ok(mut entries) = Vec::with_capacity(alloc, n as usize) else {
             return Err(NoMemory);
@@ -129,9 +129,9 @@ impl<T> Slots<T> {
     /// Puts the item into a vacant slot, and answers its name, which no item had before. Where no slot is
     /// vacant the item comes back.
     pub fn put(&mut self, item: T) -> Result<ConnName, T>
-        ensures next { IfOk result (λ name. IsNext self.old name) }
+        ensures next { IfOk result (λ name. IsNextName self.old name) }
         ensures stored { IfOk result (λ name. self.new ≡ with_item self.old name item) }
-        ensures updates { IfOk result (λ name. Updates self.old self.new name (Some item)) }
+        ensures updates { IfOk result (λ name. UpdatesItem self.old self.new name (Some item)) }
         ensures never_before { IfOk result (λ name. WasNeverLive self.old name) }
 
         ensures full { IsErr result ↔ (vacant_count self.old ≡ 0) }
@@ -151,8 +151,8 @@ impl<T> Slots<T> {
     /// Takes the item of a live name, which is never live again.
     pub fn take(&mut self, name: ConnName) -> Option<T>
         ensures item { result ≡ item_of self.old name }
-        ensures emptied { OnSome result (self.new ≡ without self.old name) }
-        ensures updates { Updates self.old self.new name None }
+        ensures emptied { OnSome result (self.new ≡ without_item self.old name) }
+        ensures updates { UpdatesItem self.old self.new name None }
         ensures never_again { OnSome result (NeverLiveAgain self.new name) }
         ensures unchanged { IfNone result (self.new ≡ self.old) }
     {

@@ -1,5 +1,5 @@
-pub mod FileLemmas
+pub mod BeforeShutLemmas
+pub mod DigitLemmas
 pub mod ListLemmas
-pub mod LookupLemmas
-pub mod NamesLemmas
+pub mod OutcomeLemmas
 pub mod RootRequestLemmas

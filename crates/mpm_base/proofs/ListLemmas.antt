@@ -7,7 +7,8 @@ use Rattle.std.proofs.lemmas.List.{drop_more, drop_all, get_or-take, length-take
 use Rattle.std.proofs.lemmas.List.Elements.{All-head, All-tail}
 use Rattle.std.proofs.lemmas.List.Sums.{prefix_len_passes, prefix_len_stops}
 use Rattle.std.proofs.lemmas.Slice.Eq.{starts_is}
-use Rattle.mpm_base.specs.RootRequest.{Stops, IsProperFront}
+use Rattle.mpm_base.specs.RootRequest.{IsProperFront}
+use Rattle.mpm_base.specs.StopsInside.{Stops}
 
 -- two cuts of one list: the first is within the second front, or past it
 pub two_cuts : {A : Type 0} (a b c d : List A) → a ++ b ≡ c ++ d

@@ -3,7 +3,9 @@ use Rattle.std.proofs.Common.{◌≡◌, ◌≢◌, ℕ, ◌<◌, ◌≤◌, ◌
 use Rattle.std.specs.List.{AllPass}
 use Rattle.std.proofs.lemmas.List.{append-nil, append_cancel_left}
 use Rattle.std.proofs.lemmas.List.Elements.{All-head, All-cons, All-nil}
-use Rattle.mpm_base.specs.RootRequest.{is_host_byte, IsHost, BeginsRequest, before_host, after_host, request_of, IsProperFront, IsHostStarted, IsStarted, Stops}
+use Rattle.mpm_base.specs.RootRequest.{is_host_byte, IsHost, BeginsRequest, before_host, after_host, request_of, IsProperFront, IsStarted}
+use Rattle.mpm_base.specs.RootRequestInside.{IsHostStarted}
+use Rattle.mpm_base.specs.StopsInside.{Stops}
 use Rattle.std.proofs.lemmas.Bool.{false≢true}
 use Rattle.mpm_base.proofs.ListLemmas.{two_cuts, one_run, back_passes, same_passes}
 

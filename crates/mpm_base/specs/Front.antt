@@ -1,6 +1,7 @@
 -- A front is where connections, signals and time come from. What it tells of itself, its counts, and what each call does to
 -- them.
 use Rattle.std.specs.Prelude.{◌≡◌, ℕ, ◌<◌, ◌≤◌, Bool, true, false, not, List, [], ◌∷◌, ◌++◌, length, Option, None, Some, option_map, IfSome, slice_set, slice_index_or, ⊤}
+use Rattle.std.specs.List.{flat_map}
 use Rattle.mpm_base.specs.Count.{next_count, RisesWhere, RisesExactlyWhere}
 use Rattle.mpm_base.specs.Link.{LinkTold, LinkCounts, OnlyFaults, fresh_link}
 use Rattle.mpm_base.specs.declared.conn.ConnName.{ConnName}
@@ -9,14 +10,14 @@ use Rattle.mpm_base.specs.declared.front.Arrival.TheVariants as arrival
 use Rattle.mpm_base.specs.declared.front.Woke.{Woke}
 use Rattle.mpm_base.specs.declared.front.Woke.TheVariants as woke
 
--- what the waits of a front gave: the slots, and the moments
-pub record Given : Type 0 where
+-- a wait of a front: the slots that it gave, and its answer
+pub record WaitTold : Type 0 where
   pub slots : List ℕ
-  pub moments : List ℕ
+  pub answer : Woke
 
 -- what a front that tells has done and has before it: what the client of each connection sends, of those that have arrived
 -- and of those that will; how many have arrived, and how many of these were handed out; under which name each was watched;
--- how many things are still to happen; the moment at which it stands; and what its waits gave, unless memory lacked for it
+-- how many things are still to happen; the moment at which it stands; and its waits, in order
 pub record FrontTold : Type 0 where
   pub clients : List (List ℕ)
   pub arrived : ℕ
@@ -24,7 +25,7 @@ pub record FrontTold : Type 0 where
   pub watched : List (Option ConnName)
   pub left : ℕ
   pub moment : ℕ
-  pub given : Option Given
+  pub waits : List WaitTold
 
 -- counts that each front keeps, whether it tells or not: of failed waits, of failed accepts, and of waits that answered Ended
 pub record FrontCounts : Type 0 where
@@ -39,21 +40,27 @@ TellsOn Goes (Some t) told' = (t' : FrontTold) × (told' ≡ Some t') × Goes t 
 
 -- ## A wait
 
+-- the wait answered that nothing comes any more
 abbrev pub is_ended : Woke → Bool
 is_ended (woke.Woke m) = false
 is_ended woke.Ended = true
 is_ended woke.Failed = false
 
+-- the wait failed
 abbrev pub wait_failed : Woke → Bool
 wait_failed (woke.Woke m) = false
 wait_failed woke.Ended = false
 wait_failed woke.Failed = true
 
--- the moment that the answer gives
+-- the moment that the answer gives, where it gives one
 abbrev pub moments_in : Woke → List ℕ
 moments_in (woke.Woke m) = m ∷ []
 moments_in woke.Ended = []
 moments_in woke.Failed = []
+
+-- the moments that the waits gave, in order
+abbrev pub moments_of : List WaitTold → List ℕ
+moments_of waits = flat_map (λ wait. moments_in wait.answer) waits
 
 -- all has happened, and each connection was handed out
 pub record HasAllTaken (t : FrontTold) : Type 0 where
@@ -66,17 +73,8 @@ IsAnswerOf (woke.Woke m) t = m ≡ t.moment
 IsAnswerOf woke.Ended t = HasAllTaken t
 IsAnswerOf woke.Failed t = ⊤
 
--- the slots and the moment were put down
-abbrev pub given_more : List ℕ → Woke → Given → Given
-given_more ready answer g = record { slots = g.slots ++ ready; moments = g.moments ++ moments_in answer }
-
--- what the waits gave is known from then on as before, and of this one too; or no more, where memory lacked
-abbrev pub PutsDown : List ℕ → Woke → Option Given → Option Given → Type 0
-PutsDown ready answer given None = ⊤
-PutsDown ready answer given (Some g') = Some g' ≡ option_map (given_more ready answer) given
-
 -- what a front that tells does in a wait: connections and time come, and nothing goes back
-pub record Waited (answer : Woke) (ready : List ℕ) (t t' : FrontTold) : Type 0 where
+pub record GoesForward (answer : Woke) (ready : List ℕ) (t t' : FrontTold) : Type 0 where
   pub clients : t'.clients ≡ t.clients
   pub arrived : t.arrived ≤ t'.arrived
   pub accepted : t'.accepted ≡ t.accepted
@@ -84,7 +82,7 @@ pub record Waited (answer : Woke) (ready : List ℕ) (t t' : FrontTold) : Type 0
   pub left : t'.left ≤ t.left
   pub moment : t.moment ≤ t'.moment
   pub answers : IsAnswerOf answer t'
-  pub given : PutsDown ready answer t.given t'.given
+  pub waits : t'.waits ≡ t.waits ++ record { slots = ready; answer = answer } ∷ []
 
 -- nothing comes any more
 pub record StandsStill (t t' : FrontTold) : Type 0 where
@@ -105,7 +103,7 @@ pub record IsOver (told told' : Option FrontTold) (ready : List ℕ) : Type 0 wh
 
 -- what a wait answered and gave, and left of the front
 pub record Waits (told told' : Option FrontTold) (counts counts' : FrontCounts) (answer : Woke) (ready : List ℕ) : Type 0 where
-  pub tells : TellsOn (Waited answer ready) told told'
+  pub tells : TellsOn (GoesForward answer ready) told told'
   pub over : 0 < counts.ends → IsOver told told' ready
   pub awake : GivesOnlyAwake answer ready
   pub few : length ready ≤ 256
@@ -136,11 +134,13 @@ Hands link_told link_counts told (arrival.Some link) = IsHandedOut told (link_to
 Hands link_told link_counts told arrival.None = IfSome told (λ t. t.accepted ≡ t.arrived)
 Hands link_told link_counts told arrival.Failed = ⊤
 
+-- the accept handed a link out
 abbrev pub is_handed : {L : Type 0} → Arrival L → Bool
 is_handed (arrival.Some link) = true
 is_handed arrival.None = false
 is_handed arrival.Failed = false
 
+-- the accept failed
 abbrev pub accept_failed : {L : Type 0} → Arrival L → Bool
 accept_failed (arrival.Some link) = false
 accept_failed arrival.None = false

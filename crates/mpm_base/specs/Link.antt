@@ -59,6 +59,7 @@ GivesNext got.Failed buffer t = ⊤
 abbrev pub IsSomeOf : ℕ → ℕ → Type 0
 IsSomeOf n room = (n ≤ room) × (0 < room → 0 < n)
 
+-- what a read gave is some of the buffer
 abbrev pub FitsBuffer : Got → ℕ → Type 0
 FitsBuffer (got.Got n) room = IsSomeOf n room
 FitsBuffer got.End room = ⊤
@@ -102,6 +103,7 @@ after_write (sent.Put n) bytes t = record t { sent = t.sent ++ take n bytes }
 after_write sent.NotReady bytes t = t
 after_write sent.Failed bytes t = t
 
+-- what a write took is some of the piece
 abbrev pub FitsPiece : Sent → ℕ → Type 0
 FitsPiece (sent.Put n) room = IsSomeOf n room
 FitsPiece sent.NotReady room = ⊤

@@ -1,6 +1,6 @@
 -- The one form of request that is read so far: a GET of "/" by HTTP/1.1 whose one field is Host (RFC 9112,
 -- sections 3 and 5; RFC 9110, section 7.2).
-use Rattle.std.specs.Prelude.{◌≡◌, ℕ, ◌<◌, ◌≤◌, Bool, false, ◌||◌, ◌==◌, List, [], ◌∷◌, ◌++◌, length, codes, ⊤}
+use Rattle.std.specs.Prelude.{◌≡◌, ℕ, ◌<◌, ◌≤◌, Bool, ◌||◌, ◌==◌, List, ◌++◌, length, codes}
 use Rattle.std.specs.Char.{is_ascii_alphanumeric}
 use Rattle.std.specs.List.{AllPass}
 
@@ -46,12 +46,3 @@ pub record IsProperFront (xs front : List ℕ) : Type 0 where
 -- the bytes are a proper front of such a request, so that more bytes make them one
 abbrev pub IsStarted : List ℕ → Type 0
 IsStarted bytes = (host : List ℕ) × IsHost host × IsProperFront (request_of host) bytes
-
--- the same of a host and what stands behind it
-abbrev pub IsHostStarted : List ℕ → Type 0
-IsHostStarted bytes = (host : List ℕ) × IsHost host × IsProperFront (host ++ after_host) bytes
-
--- the list is empty, or its first byte fails the test
-abbrev pub Stops : (ℕ → Bool) → List ℕ → Type 0
-Stops test [] = ⊤
-Stops test (b ∷ bytes) = test b ≡ false

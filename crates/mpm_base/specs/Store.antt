@@ -1,5 +1,5 @@
 -- A store is a folder of files by name. Where it tells them, they change at a call of `renew` alone.
-use Rattle.std.specs.Prelude.{◌≡◌, ℕ, ◌<◌, ◌≤◌, Bool, true, false, List, [], ◌∷◌, ◌++◌, map, filter, length, All, IsUtf8, nat_eq, if◌then◌else◌, IfSome, Option, None, Some, option_map, Result, Ok, Err, ⊤}
+use Rattle.std.specs.Prelude.{◌≡◌, ℕ, ◌<◌, ◌≤◌, Bool, true, false, List, [], ◌∷◌, ◌++◌, map, filter, length, All, IsUtf8, nat_eq, if◌then◌else◌, IfSome, Option, None, Some, option_map, Result, Ok, Err, ⊤, IfOk}
 use Rattle.std.specs.List.{starts_with}
 use Rattle.std.specs.Str.{bytes_eq}
 use Rattle.mpm_base.specs.Count.{NeverFalls, RisesWhere}
@@ -28,8 +28,8 @@ later_editions [] = []
 later_editions (edition ∷ editions) = editions
 
 -- what the store tells once it went to its next edition; at the last one it stays
-abbrev pub renewed : StoreTold → StoreTold
-renewed t = record { files = next_files t.files t.later; later = later_editions t.later }
+abbrev pub after_renew : StoreTold → StoreTold
+after_renew t = record { files = next_files t.files t.later; later = later_editions t.later }
 
 -- the bytes of the first file of that name
 abbrev pub bytes_of : List ℕ → List File → Option (List ℕ)
@@ -52,6 +52,7 @@ is_refusal fault.Many = true
 is_refusal fault.Failed = false
 is_refusal fault.NoMemory = false
 
+-- a call of the store failed
 abbrev pub is_failure : StoreFault → Bool
 is_failure fault.Missing = false
 is_failure (fault.Large size) = false
@@ -59,6 +60,7 @@ is_failure fault.Many = false
 is_failure fault.Failed = true
 is_failure fault.NoMemory = false
 
+-- the answer is a fault that passes the test
 abbrev pub answers_with : {T : Type 0} → (StoreFault → Bool) → Result T StoreFault → Bool
 answers_with test (Ok x) = false
 answers_with test (Err e) = test e
@@ -93,14 +95,24 @@ MayList known most (Err fault.Many) = IfSome known (λ all. most < length all)
 MayList known most (Err fault.Failed) = ⊤
 MayList known most (Err fault.NoMemory) = ⊤
 
--- what a listing of at most so many names below a folder answered, and left of the store
+-- what a listing of at most so many names below a folder answered, each of which lies there, and left of the store
 pub record ListsNames (told told' : Option StoreTold) (counts counts' : StoreCounts) (folder : List ℕ) (most : ℕ) (answer : Result (List (List ℕ)) StoreFault) : Type 0 where
   pub told_stays : told' ≡ told
   pub counted : CountsAsk counts counts' answer
   pub may : MayList (option_map (λ t. names_under folder t.files) told) most answer
+  pub below : IfOk answer (All (λ name. lies_under folder name ≡ true))
 
 -- what a call of `renew` left of the store
 pub record Renews (told told' : Option StoreTold) (counts counts' : StoreCounts) : Type 0 where
-  pub told_is : told' ≡ option_map renewed told
+  pub told_is : told' ≡ option_map after_renew told
   pub faults : NeverFalls counts.faults counts'.faults
   pub refusals : NeverFalls counts.refusals counts'.refusals
+
+-- the answer tells what the files are: it is neither that the call failed nor that memory lacked
+abbrev pub IsOutcome : {T : Type 0} → Result T StoreFault → Type 0
+IsOutcome (Ok x) = ⊤
+IsOutcome (Err fault.Missing) = ⊤
+IsOutcome (Err (fault.Large size)) = ⊤
+IsOutcome (Err fault.Many) = ⊤
+IsOutcome (Err fault.Failed) = ⊥
+IsOutcome (Err fault.NoMemory) = ⊥

@@ -4,16 +4,16 @@ use crate::conn::Moment;
 
 /// Says which moment it is.
 ///
-/// What a clock tells of itself (`told`) is there only where the object tells it: the list of its answers. It may stop to
-/// tell where memory lacks for the list.
+/// What a clock tells of itself (`told`) is there only where the object tells it: each call, the moment that it was told and
+/// its answer. One that tells does so to its end.
 pub trait Clock {
     ghost use Rattle.std.specs.Prelude.{Option, List, ℕ};
     ghost use Rattle.mpm_base.specs.Clock.{Answers};
 
-    /// Its answers, in order.
-    ghost told: { Self → Option (List ℕ) };
+    /// Its calls, in order: the moment that each was told, and its answer.
+    ghost told: { Self → Option (List (ℕ × ℕ)) };
 
     /// The moment that it is, where the front stands at the moment `at`.
     fn now(&mut self, at: Moment) -> Moment
-        ensures { Answers (told self.old) (told self.new) result };
+        ensures { Answers (told self.old) (told self.new) at result };
 }

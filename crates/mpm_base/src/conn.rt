@@ -1,8 +1,12 @@
 //! How a connection is named, why it waits, and why it ends.
+ghost use Rattle.std.specs.Prelude.{◌≡◌, ◌<◌};
+ghost use Rattle.mpm_base.specs.Cause.{cause_number};
 
-/// A moment: milliseconds since 1970-01-01 00:00:00 UTC. The greatest is 253,402,300,799,999, the last of
-/// the year 9999.
+/// A moment: milliseconds since 1970-01-01 00:00:00 UTC. The greatest is `GREATEST_MOMENT`.
 pub type Moment = u64;
+
+/// The last moment of the year 9999.
+pub const GREATEST_MOMENT: Moment = 253_402_300_799_999;
 
 /// The name of a connection: its slot in the table, and how often that slot was used before.
 #[derive(Clone, Copy, Debug, PartialEq, Eq)]
@@ -49,6 +53,26 @@ pub enum Cause {
     Stopped,
     /// Memory was wanted and not found.
     NoMemory,
+}
+
+impl Cause {
+    /// The place of the cause, from 0, in their order.
+    pub fn number(self) -> u8
+        ensures is { result ≡ cause_number self }
+        ensures small { result < 9 }
+    {
+        match self {
+            Cause::ClientDone => 0,
+            Cause::LastSent => 1,
+            Cause::KeepAliveLate => 2,
+            Cause::ReadLate => 3,
+            Cause::WriteLate => 4,
+            Cause::Retiring => 5,
+            Cause::LinkFailed => 6,
+            Cause::Stopped => 7,
+            Cause::NoMemory => 8,
+        }
+    }
 }
 
 /// How the link of an ended connection was left.

@@ -30,7 +30,7 @@ pub enum Arrival<L> {
 /// Where connections, signals and time come from.
 ///
 /// What a front tells of itself (`told`) is there only where the object tells it: the front of a script does, one over
-/// sockets does not. Its counts are there for every front.
+/// sockets does not. One that tells does so to its end. Its counts are there for every front.
 pub trait Front {
     ghost use Rattle.std.specs.Prelude.{◌≡◌, List, Option};
     ghost use Rattle.mpm_base.specs.Front.{FrontTold, FrontCounts, Waits, Accepts, Watches};
@@ -39,7 +39,7 @@ pub trait Front {
     /// The links that it hands out.
     type L: Link + Send;
 
-    /// What has come and what will, what was taken, and what its waits gave.
+    /// What has come and what will, what was taken, and its waits.
     ghost told: { Self → Option FrontTold };
 
     /// The script that it was made of, where it was made of one. No call changes it.

@@ -3,61 +3,49 @@
 //! The traits `Store`, `Sink`, `Link`, `Front` and `Clock` say what the machine may rely on of a folder of files, of an
 //! output, of a connection's socket, of the place where connections, signals and time come from, and of a clock: what
 //! was read, written, handed out and answered, where the object tells it, and when a call may fail. Their definitions
-//! stand in `specs/`, one file for each trait.
+//! stand in `specs/`, one file for each trait. `stand_ins` has objects in memory that keep these traits.
 //!
 //! `ScriptLine` is a line of a script, as a front may tell it; `mpm_script` reads scripts, and `script_front` plays them.
 //! `host_of` and `is_started` tell the one form of request that is read so far (`specs/RootRequest.antt`).
 #![tactic(auto)]
 
 mod addr;
-mod calls;
 mod clock;
 mod conn;
-mod files;
+mod digits;
 mod front;
+pub mod laws;
 mod link;
-mod link_counters;
-mod mem_sink;
-mod mem_store;
 mod memory;
 mod note;
 mod octets;
-mod plain_link;
-mod plain_store;
 mod ready;
 mod root_request;
 mod script_line;
-mod script_link;
+mod sequence;
 mod shape;
 mod sink;
 mod store;
 #[cfg(test)]
 mod tests;
-mod wire;
 mod words;
 
 pub use addr::Addr;
-pub use calls::Calls;
 pub use clock::Clock;
-pub use conn::{Ask, Cause, ConnName, Kind, Moment, Tail};
-pub use files::Files;
+pub use conn::{Ask, Cause, ConnName, GREATEST_MOMENT, Kind, Moment, Tail};
+pub use digits::decimal_value;
 pub use front::{Arrival, Front, Woke};
 pub use link::{Got, Link, Sent};
-pub use mem_sink::{MemSink, PlainSink};
-pub use mem_store::MemStore;
 pub use memory::NoMemory;
 pub use note::{Note, Notes, Snapshot};
 pub use octets::Octets;
-pub use plain_link::PlainLink;
-pub use plain_store::PlainStore;
 pub use ready::Ready;
 pub use root_request::{
     AFTER_HOST, BEFORE_HOST, LONGEST_HOST, host_of, is_host_byte, is_started, one_request,
 };
 pub use script_line::{ClientAct, CommandWord, LinkCall, ScriptLine, SiteLine};
-pub use script_link::ScriptLink;
+pub use sequence::Sequence;
 pub use shape::Shape;
 pub use sink::{Put, Sink};
 pub use store::{File, Names, Store, StoreFault};
-pub use wire::Wire;
 pub use words::Words;

@@ -1,11 +1,9 @@
 //! What the table notes of a response when it is decided, and what a status page shows.
-ghost use Rattle.std.specs.Prelude.{◌≡◌, ◌==◌, [], ◌∷◌, ◌++◌, ◌<◌, ◌^◌, length, OnOk, OnErr, slice_get, option_map};
+ghost use Rattle.std.specs.Prelude.{◌≡◌};
 ghost use Rattle.mpm_base.specs.Notes.{says_last};
 
-use crate::memory::NoMemory;
 use crate::octets::Octets;
-use std::alloc::Global;
-use std::marker::Model;
+use crate::sequence::Sequence;
 
 /// The numbers and letters of a status page.
 #[derive(Debug, Drop)]
@@ -44,63 +42,9 @@ pub struct Note {
 }
 
 /// A list of notes, as contracts see it, in the order of the responses.
-#[derive(Debug, Drop)]
-pub struct Notes {
-    items: Vec<Note>,
-}
+pub type Notes = Sequence<Note>;
 
-impl Model for Notes {
-    ghost use Rattle.std.specs.Prelude.{List};
-    ghost use Rattle.mpm_base.specs.declared.note.Note.{Note};
-
-    ghost Value = { List Note };
-
-    ghost view = { λ n. n.items.items };
-}
-
-impl Notes {
-    /// The empty list, which takes no memory.
-    pub fn make(alloc: Global) -> Notes
-        ensures { result ≡ [] }
-    {
-        Notes {
-            items: Vec::new(alloc),
-        }
-    }
-
-    /// Puts a note at the end. Where memory lacks nothing changes, and the note is dropped.
-    pub fn add(&mut self, note: Note) -> Result<(), NoMemory>
-        ensures ok { OnOk result (self.new ≡ self.old ++ note ∷ []) }
-        ensures err { OnErr result (self.new ≡ self.old) }
-    {
-        match self.items.push(note) {
-            Ok(()) => Ok(()),
-            Err(_) => Err(NoMemory),
-        }
-    }
-
-    /// Drops all notes, and keeps their room.
-    pub fn clear(&mut self)
-        ensures { self.new ≡ [] }
-    {
-        self.items.clear();
-    }
-
-    /// How many notes there are.
-    pub fn len(&self) -> usize
-        ensures is { result ≡ length self.now }
-        ensures small { result < 2 ^ 63 }
-    {
-        self.items.len()
-    }
-
-    /// Whether there is no note.
-    pub fn is_empty(&self) -> bool
-        ensures { result ≡ (length self.now == 0) }
-    {
-        self.items.is_empty()
-    }
-
+impl Sequence<Note> {
     /// Whether the last note says that it is the last response; false where there is none.
     pub fn says_last(&self) -> bool
         ensures { result ≡ says_last self.now }
@@ -109,12 +53,5 @@ impl Notes {
             Some(note) => note.last,
             None => false,
         }
-    }
-
-    /// The notes, in order.
-    pub fn as_slice(&self) -> &[Note]
-        ensures { result.now ≡ self.now }
-    {
-        self.items.as_slice()
     }
 }

@@ -1,40 +1,21 @@
 //! A growing list of bytes.
-ghost use Rattle.std.specs.Prelude.{◌≡◌, ◌==◌, [], ◌++◌, length, IfOk, OnOk, OnErr};
+ghost use Rattle.std.specs.Prelude.{◌≡◌, ◌++◌, decimal, IfOk, OnOk, OnErr};
 
 use crate::memory::NoMemory;
+use crate::sequence::Sequence;
+use itoa::Buffer;
 use std::alloc::Global;
-use std::marker::Model;
 
 /// A list of bytes, as contracts see it.
-#[derive(Debug, Drop)]
-pub struct Octets {
-    items: Vec<u8>,
-}
+pub type Octets = Sequence<u8>;
 
-impl Model for Octets {
-    ghost use Rattle.std.specs.Prelude.{List, ℕ};
-
-    ghost Value = { List ℕ };
-
-    ghost view = { λ o. o.items.items };
-}
-
-impl Octets {
-    /// The empty list, which takes no memory.
-    pub fn make(alloc: Global) -> Octets
-        ensures { result ≡ [] }
-    {
-        Octets {
-            items: Vec::new(alloc),
-        }
-    }
-
+impl Sequence<u8> {
     /// A copy of the bytes.
     pub fn of(alloc: Global, bytes: &[u8]) -> Result<Octets, NoMemory>
         ensures { IfOk result (λ octets. octets ≡ bytes.now) }
     {
         match Vec::from_slice(alloc, bytes) {
-            Ok(items) => Ok(Octets { items }),
+            Ok(items) => Ok(Sequence { items }),
             Err(_) => Err(NoMemory),
         }
     }
@@ -50,24 +31,12 @@ impl Octets {
         }
     }
 
-    /// How many bytes there are.
-    pub fn len(&self) -> usize
-        ensures { result ≡ length self.now }
+    /// Puts the decimal digits of the number at the end. Where memory lacks nothing changes.
+    pub fn add_number(&mut self, number: u64) -> Result<(), NoMemory>
+        ensures ok { OnOk result (self.new ≡ self.old ++ decimal number) }
+        ensures err { OnErr result (self.new ≡ self.old) }
     {
-        self.items.len()
-    }
-
-    /// Whether there is no byte.
-    pub fn is_empty(&self) -> bool
-        ensures { result ≡ (length self.now == 0) }
-    {
-        self.items.is_empty()
-    }
-
-    /// The bytes, in order.
-    pub fn as_slice(&self) -> &[u8]
-        ensures { result.now ≡ self.now }
-    {
-        self.items.as_slice()
+        let mut buffer = Buffer::new();
+        self.add(buffer.format(number).as_bytes())
     }
 }

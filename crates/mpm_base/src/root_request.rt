@@ -4,7 +4,9 @@
 //! `specs/RootRequest.antt`.
 ghost use Rattle.std.specs.Prelude.{◌≡◌, ℕ, List, ◌↔◌, ◌⊎◌, ◌++◌, IsTrue, IfSome, IfNone};
 ghost use Rattle.std.specs.List.{AllPass, prefix_len};
-ghost use Rattle.mpm_base.specs.RootRequest.{is_host_byte, IsHost, after_host, request_of, IsRootRequest, BeginsRequest, Stops, IsProperFront, IsHostStarted, IsStarted};
+ghost use Rattle.mpm_base.specs.RootRequest.{is_host_byte, IsHost, after_host, request_of, IsRootRequest, BeginsRequest, IsProperFront, IsStarted};
+ghost use Rattle.mpm_base.specs.RootRequestInside.{IsHostStarted};
+ghost use Rattle.mpm_base.specs.StopsInside.{Stops};
 
 /// What stands before the host of a request.
 pub const BEFORE_HOST: &[u8] = b"GET / HTTP/1.1\r\nHost: ";

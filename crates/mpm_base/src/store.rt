@@ -1,10 +1,9 @@
 //! A folder of files by name.
-ghost use Rattle.std.specs.Prelude.{◌≡◌, ◌==◌, [], ◌∷◌, ◌++◌, length, Option, OnOk, OnErr, slice_get, option_map};
+ghost use Rattle.std.specs.Prelude.{Option};
 
-use crate::memory::NoMemory;
 use crate::octets::Octets;
+use crate::sequence::Sequence;
 use std::alloc::Global;
-use std::marker::Model;
 use thiserror::Error;
 
 /// A file: its name, which is UTF-8, and its bytes.
@@ -15,61 +14,7 @@ pub struct File {
 }
 
 /// A list of names of files, as contracts see it.
-#[derive(Debug, Drop)]
-pub struct Names {
-    items: Vec<Octets>,
-}
-
-impl Model for Names {
-    ghost use Rattle.std.specs.Prelude.{List, ℕ};
-
-    ghost Value = { List (List ℕ) };
-
-    ghost view = { λ n. n.items.items };
-}
-
-impl Names {
-    /// The empty list, which takes no memory.
-    pub fn make(alloc: Global) -> Names
-        ensures { result ≡ [] }
-    {
-        Names {
-            items: Vec::new(alloc),
-        }
-    }
-
-    /// Puts a name at the end. Where memory lacks nothing changes, and the name is dropped.
-    pub fn add(&mut self, name: Octets) -> Result<(), NoMemory>
-        ensures ok { OnOk result (self.new ≡ self.old ++ name ∷ []) }
-        ensures err { OnErr result (self.new ≡ self.old) }
-    {
-        match self.items.push(name) {
-            Ok(()) => Ok(()),
-            Err(_) => Err(NoMemory),
-        }
-    }
-
-    /// How many names there are.
-    pub fn len(&self) -> usize
-        ensures { result ≡ length self.now }
-    {
-        self.items.len()
-    }
-
-    /// Whether there is no name.
-    pub fn is_empty(&self) -> bool
-        ensures { result ≡ (length self.now == 0) }
-    {
-        self.items.is_empty()
-    }
-
-    /// The name at a place, counted from 0.
-    pub fn get(&self, place: usize) -> Option<&Octets>
-        ensures { option_map (λ name. name.now) result ≡ slice_get self.now place }
-    {
-        self.items.get(place)
-    }
-}
+pub type Names = Sequence<Octets>;
 
 /// Why a store gives no bytes or no names.
 #[derive(Clone, Copy, Debug, PartialEq, Eq, Error)]

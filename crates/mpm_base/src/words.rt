@@ -3,6 +3,7 @@ ghost use Rattle.std.specs.Prelude.{◌≡◌, ◌==◌, [], ◌∷◌, ◌++◌
 ghost use Rattle.std.specs.String.{string_bytes};
 
 use crate::memory::NoMemory;
+use crate::sequence::Sequence;
 use std::alloc::Global;
 use std::marker::Model;
 
@@ -10,7 +11,7 @@ use std::marker::Model;
 #[derive(Debug, Drop)]
 pub struct Words {
     alloc: Global,
-    items: Vec<String>,
+    texts: Sequence<String>,
 }
 
 impl Model for Words {
@@ -19,7 +20,7 @@ impl Model for Words {
 
     ghost Value = { List (List ℕ) };
 
-    ghost view = { λ w. map string_bytes w.items.items };
+    ghost view = { λ w. map string_bytes w.texts };
 }
 
 impl Words {
@@ -29,7 +30,7 @@ impl Words {
     {
         Words {
             alloc,
-            items: Vec::new(alloc),
+            texts: Sequence::make(alloc),
         }
     }
 
@@ -41,31 +42,28 @@ impl Words {
         let Ok(text) = String::from_str(self.alloc, word) else {
             return Err(NoMemory);
         };
-        match self.items.push(text) {
-            Ok(()) => Ok(()),
-            Err(_) => Err(NoMemory),
-        }
+        self.texts.push(text)
     }
 
     /// How many words there are.
     pub fn len(&self) -> usize
         ensures { result ≡ length self.now }
     {
-        self.items.len()
+        self.texts.len()
     }
 
     /// Whether there is no word.
     pub fn is_empty(&self) -> bool
         ensures { result ≡ (length self.now == 0) }
     {
-        self.items.is_empty()
+        self.texts.is_empty()
     }
 
     /// The word at a place, counted from 0.
     pub fn get(&self, place: usize) -> Option<&str>
         ensures { option_map (λ word. word.now) result ≡ slice_get self.now place }
     {
-        match self.items.get(place) {
+        match self.texts.get(place) {
             Some(word) => Some(word.as_str()),
             None => None,
         }

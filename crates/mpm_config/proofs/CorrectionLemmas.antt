@@ -6,7 +6,8 @@ use Rattle.std.proofs.lemmas.Bool.Decides.{nat_tests}
 use Rattle.mpm_config.specs.declared.numbers.Numbers.{Numbers}
 use Rattle.mpm_config.specs.declared.directive.Quantity.TheVariants.{ServerLimit, ThreadLimit, MinSpareThreads, AsyncRequestWorkerFactor, Timeout, KeepAliveTimeout, MaxKeepAliveRequests}
 use Rattle.mpm_config.specs.Numbers.{IsInRange}
-use Rattle.mpm_config.specs.Correction.{AllReady, order, corrected}
+use Rattle.mpm_config.specs.Correction.{order, after_corrections}
+use Rattle.mpm_config.specs.CorrectionInside.{AllReady}
 use Rattle.mpm_config.specs.Shape.{shape_of_numbers, IsInBounds}
 
 -- a number that is raised to a bound, lowered to one, made 1 where it is 0, made a multiple
@@ -83,7 +84,7 @@ workers_bounds w t limit a b k =
       omega (arith, div_below (down (whole (up w t) t) (limit * t)) t 33 a (omega arith)),
     )
 
-pub in_bounds : (n : Numbers) → IsInRange n → IsInBounds (shape_of_numbers (corrected n))
+pub in_bounds : (n : Numbers) → IsInRange n → IsInBounds (shape_of_numbers (after_corrections n))
 in_bounds n h =
     let limit = h ThreadLimit in
     let servers = h ServerLimit in

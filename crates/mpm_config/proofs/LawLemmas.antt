@@ -12,9 +12,9 @@ use Rattle.mpm_config.specs.declared.setting.Setting.TheVariants as sets
 use Rattle.mpm_config.specs.declared.setting.Wrong.{Wrong}
 use Rattle.mpm_config.specs.declared.setting.Wrong.TheVariants as wrong
 use Rattle.mpm_config.specs.Form.{form_of}
-use Rattle.mpm_config.specs.Line.{Line, Rise, continues, front, joined, logical}
+use Rattle.mpm_config.specs.Line.{Line, Rise, continues, front, join_next, logical}
 use Rattle.mpm_config.specs.Numbers.{with_number}
-use Rattle.mpm_config.specs.Reading.{Progress, after_line, after_lines, and_then, assigns, closed, hides, in_hiding, in_sight, opened, opened_by, settings_of, IsAtLine}
+use Rattle.mpm_config.specs.Reading.{Progress, after_line, after_lines, and_then, assigns, close_section, hides, in_hiding, in_sight, open_section, open_by_guard, settings_of, IsAtLine}
 use Rattle.mpm_config.specs.Setting.{Assignment, assignment}
 use Rattle.mpm_config.specs.Settings.{Settings, with_setting, IsSameDirective}
 
@@ -53,10 +53,10 @@ choice P true r s a b = a
 choice P false r s a b = b
 
 -- to open or close a section sets nothing
-opened_sets : (n : ℕ) (shown : Bool) (p : Progress) → IfOk (opened n shown p) (λ q. q.settings ≡ p.settings)
+opened_sets : (n : ℕ) (shown : Bool) (p : Progress) → IfOk (open_section n shown p) (λ q. q.settings ≡ p.settings)
 opened_sets n shown p = choice (λ r. IfOk r (λ q. q.settings ≡ p.settings)) (nat_lt (length p.sections) 8) _ _ refl tt
 
-closed_sets : (n : ℕ) (p : Progress) → IfOk (closed n p) (λ q. q.settings ≡ p.settings)
+closed_sets : (n : ℕ) (p : Progress) → IfOk (close_section n p) (λ q. q.settings ≡ p.settings)
 closed_sets n p = choice (λ r. IfOk r (λ q. q.settings ≡ p.settings)) (length p.sections == 0) _ _ tt refl
 
 hiding_sets : (p : Progress) (l : Line) (f : Form) → IfOk (in_hiding p l f) (λ q. q.settings ≡ p.settings)
@@ -75,11 +75,11 @@ rise_from : (m n : ℕ) (ls : List Line) → m ≤ n → Rise n ls → Rise m ls
 rise_from m n [] h r = tt
 rise_from m n (l ∷ ls) h r = (omega (arith, r.0), r.1)
 
-joined_rise : (n : ℕ) (piece : List ℕ) (ls : List Line) → Rise (n + 1) ls → Rise n (joined n piece ls)
+joined_rise : (n : ℕ) (piece : List ℕ) (ls : List Line) → Rise (n + 1) ls → Rise n (join_next n piece ls)
 joined_rise n piece [] r = (omega arith, tt)
 joined_rise n piece (l ∷ ls) r = (omega arith, rise_from (n + 1) (l.number + 1) ls (omega (arith, r.0)) r.1)
 
-piece_rise : (t : Bool) (n : ℕ) (p : List ℕ) (ls : List Line) → Rise (n + 1) ls → Rise n (if t then joined n (front p) ls else record { number = n; bytes = p } ∷ ls)
+piece_rise : (t : Bool) (n : ℕ) (p : List ℕ) (ls : List Line) → Rise (n + 1) ls → Rise n (if t then join_next n (front p) ls else record { number = n; bytes = p } ∷ ls)
 piece_rise true n p ls r = joined_rise n (front p) ls r
 piece_rise false n p ls r = (omega arith, r)
 
@@ -88,14 +88,14 @@ lines_rise n [] = tt
 lines_rise n (p ∷ ps) = piece_rise (continues p) n p (logical (n + 1) ps) (lines_rise (n + 1) ps)
 
 -- a line is refused by its own number
-opened_own : (n : ℕ) (shown : Bool) (p : Progress) → IfErr (opened n shown p) (IsAtLine n)
+opened_own : (n : ℕ) (shown : Bool) (p : Progress) → IfErr (open_section n shown p) (IsAtLine n)
 opened_own n shown p = choice (λ r. IfErr r (IsAtLine n)) (nat_lt (length p.sections) 8) _ _ tt refl
 
-opened_by_own : (n : ℕ) (guard : Option Bool) (p : Progress) → IfErr (opened_by n guard p) (IsAtLine n)
+opened_by_own : (n : ℕ) (guard : Option Bool) (p : Progress) → IfErr (open_by_guard n guard p) (IsAtLine n)
 opened_by_own n None p = refl
 opened_by_own n (Some shown) p = opened_own n shown p
 
-closed_own : (n : ℕ) (p : Progress) → IfErr (closed n p) (IsAtLine n)
+closed_own : (n : ℕ) (p : Progress) → IfErr (close_section n p) (IsAtLine n)
 closed_own n p = choice (λ r. IfErr r (IsAtLine n)) (length p.sections == 0) _ _ refl tt
 
 assigns_own : (n : ℕ) (p : Progress) (a : Result Assignment Wrong) → IfErr (assigns n p a) (IsAtLine n)

@@ -5,8 +5,8 @@ use Rattle.std.specs.Str.Lines.{lines, lines_of_parts, strip_carriage_return}
 use Rattle.std.proofs.lemmas.List.Sums.{fails_before_first}
 use Rattle.std.proofs.lemmas.List.Splits.{slice_split_first, slice_split_none, length-slice_split}
 use Rattle.std.proofs.lemmas.Bool.Decides.{nat_tests}
-use Rattle.mpm_config.specs.Value.{cut, Parts}
-use Rattle.mpm_config.specs.Line.{Line, continues, front, joined, logical}
+use Rattle.mpm_config.specs.Value.{parts_around, Parts}
+use Rattle.mpm_config.specs.Line.{Line, continues, front, join_next, logical}
 
 -- a line feed
 abbrev pub feed : ℕ → Bool
@@ -41,14 +41,14 @@ test_none : (t : Bool) (q : Parts) → None ≡ (if t then Some q else None) →
 test_none true q e = absurd (cc)
 test_none false q e = refl
 
-pub cut_some : (xs : List ℕ) (p : Parts) → Some p ≡ cut 10 xs → lines xs ≡ strip_carriage_return p.before ∷ lines p.after
+pub cut_some : (xs : List ℕ) (p : Parts) → Some p ≡ parts_around 10 xs → lines xs ≡ strip_carriage_return p.before ∷ lines p.after
 cut_some xs p e =
     let t = test_some (nat_lt (position_or_len feed xs) (length xs)) p (record { before = before_first feed xs; after = after_first feed xs }) e in
     let test : nat_lt (position_or_len feed xs) (length xs) ≡ true = t.0 in
     let h : position_or_len feed xs < length xs = grind (arith, nat_tests) in
     subst (λ (q : Parts). lines xs ≡ strip_carriage_return q.before ∷ lines q.after) t.1 (lines_first xs h)
 
-pub cut_none : (xs : List ℕ) → 0 < length xs → None ≡ cut 10 xs → lines xs ≡ xs ∷ []
+pub cut_none : (xs : List ℕ) → 0 < length xs → None ≡ parts_around 10 xs → lines xs ≡ xs ∷ []
 cut_none xs h e =
     let test : nat_lt (position_or_len feed xs) (length xs) ≡ false = test_none _ _ e in
     let k : length xs ≤ position_or_len feed xs = grind (arith, nat_tests) in
@@ -64,15 +64,15 @@ lines_some xs h = some_of (nat_lt (position_or_len feed xs) (length xs)) refl
 
 -- nothing joined with the first logical line leaves it as it is
 nothing_joined : (t : Bool) (n : ℕ) (p : List ℕ) (ls : List Line)
-    → joined n [] (if t then joined n (front p) ls else record { number = n; bytes = p } ∷ ls) ≡ (if t then joined n (front p) ls else record { number = n; bytes = p } ∷ ls)
+    → join_next n [] (if t then join_next n (front p) ls else record { number = n; bytes = p } ∷ ls) ≡ (if t then join_next n (front p) ls else record { number = n; bytes = p } ∷ ls)
 nothing_joined true n p [] = refl
 nothing_joined true n p (l ∷ ls) = refl
 nothing_joined false n p ls = refl
 
-begins_of : (n : ℕ) (ps : List (List ℕ)) (qs : List (List ℕ)) (q : List ℕ) → ps ≡ q ∷ qs → logical n ps ≡ joined n [] (logical n ps)
+begins_of : (n : ℕ) (ps : List (List ℕ)) (qs : List (List ℕ)) (q : List ℕ) → ps ≡ q ∷ qs → logical n ps ≡ join_next n [] (logical n ps)
 begins_of n ps qs q e = rw e (sym (nothing_joined (continues q) n q (logical (n + 1) qs)))
 
-pub begins : (n : ℕ) (xs : List ℕ) → 0 < length xs → logical n (lines xs) ≡ joined n [] (logical (n + 0) (lines xs))
+pub begins : (n : ℕ) (xs : List ℕ) → 0 < length xs → logical n (lines xs) ≡ join_next n [] (logical (n + 0) (lines xs))
 begins n xs h =
     let some = lines_some xs h in
     rw add-zero (begins_of n (lines xs) some.1 some.0 some.2)

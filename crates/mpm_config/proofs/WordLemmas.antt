@@ -6,8 +6,8 @@ use Rattle.std.proofs.lemmas.Str.{IsCharBoundary-after_ascii}
 use Rattle.std.specs.List.{position_or_len, before_first}
 use Rattle.std.proofs.lemmas.Bool.Decides.{nat_tests}
 use Rattle.std.proofs.lemmas.Grind.{common_steps}
-use Rattle.mpm_config.specs.Value.{cut, Parts}
-use Rattle.mpm_config.specs.Words.{Word, Closed, Unclosed, is_blank, words, in_word, in_quotes, lengthened}
+use Rattle.mpm_config.specs.Value.{parts_around, Parts}
+use Rattle.mpm_config.specs.Words.{Word, Closed, Unclosed, is_blank, words, in_word, in_quotes, with_first_byte}
 
 -- the first place is not past the end
 pub position-le : (p : ℕ → Bool) (xs : List ℕ) → position_or_len p xs ≤ length xs
@@ -20,7 +20,7 @@ position-or p xs = grind (arith, nat_tests, position-le p xs)
 -- one more byte of a word without quotes
 bare_step : (t : Bool) (b : ℕ) (bs : List ℕ) (n : ℕ) (ws : List Word) → (t ≡ true → words (b ∷ bs) ≡ words bs)
     → ws ≡ Closed (take n bs) ∷ words (drop n bs)
-    → (if t then Closed [] ∷ words bs else lengthened b ws) ≡ Closed (take (cond (not t) (1 + n) 0) (b ∷ bs)) ∷ words (drop (cond (not t) (1 + n) 0) (b ∷ bs))
+    → (if t then Closed [] ∷ words bs else with_first_byte b ws) ≡ Closed (take (cond (not t) (1 + n) 0) (b ∷ bs)) ∷ words (drop (cond (not t) (1 + n) 0) (b ∷ bs))
 bare_step true b bs n ws w e = ap (λ l. Closed [] ∷ l) (sym (w refl))
 bare_step false b bs n ws w e = rw (e, one-add) refl
 
@@ -39,13 +39,13 @@ quoted (Some p) = Closed p.before ∷ words p.after
 
 longer : (t : Bool) (b : ℕ) (bs : List ℕ) (n : ℕ) (ws : List Word)
     → ws ≡ quoted (if t then Some (record { before = take n bs; after = drop (n + 1) bs }) else None)
-    → lengthened b ws ≡ quoted (if t then Some (record { before = take (1 + n) (b ∷ bs); after = drop (1 + n + 1) (b ∷ bs) }) else None)
+    → with_first_byte b ws ≡ quoted (if t then Some (record { before = take (1 + n) (b ∷ bs); after = drop (1 + n + 1) (b ∷ bs) }) else None)
 longer true b bs n ws e = rw e (simp (one-add, add-one))
 longer false b bs n ws e = rw e refl
 
 quote_step : (t : Bool) (b : ℕ) (bs : List ℕ) (n : ℕ) (ws : List Word)
     → ws ≡ quoted (if nat_lt n (length bs) then Some (record { before = take n bs; after = drop (n + 1) bs }) else None)
-    → (if t then Closed [] ∷ words bs else lengthened b ws)
+    → (if t then Closed [] ∷ words bs else with_first_byte b ws)
     ≡ quoted (if nat_lt (cond (not t) (1 + n) 0) (length (b ∷ bs)) then Some (record { before = take (cond (not t) (1 + n) 0) (b ∷ bs); after = drop (cond (not t) (1 + n) 0 + 1) (b ∷ bs) }) else None)
 quote_step true b bs n ws e =
     let first : nat_lt 0 (suc (length bs)) ≡ true = grind (arith, nat_tests) in
@@ -54,7 +54,7 @@ quote_step false b bs n ws e =
     let same : nat_lt (1 + n) (suc (length bs)) ≡ nat_lt n (length bs) = grind (arith, nat_tests) in
     rw same (longer (nat_lt n (length bs)) b bs n ws e)
 
-pub quoted_words : (xs : List ℕ) → in_quotes xs ≡ quoted (cut 34 xs)
+pub quoted_words : (xs : List ℕ) → in_quotes xs ≡ quoted (parts_around 34 xs)
 quoted_words [] = refl
 quoted_words (b ∷ bs) = quote_step (b == 34) b bs (position_or_len (λ c. c == 34) bs) (in_quotes bs) (quoted_words bs)
 

@@ -1,12 +1,11 @@
 -- The ten corrections, in their order: which number each corrects, where it applies, and what the number becomes.
-use Rattle.std.specs.Prelude.{ℕ, ◌+◌, ◌-◌, ◌*◌, ◌/◌, ◌%◌, ◌<◌, ◌^◌, ◌==◌, nat_lt, if◌then◌else◌, List, [], ◌∷◌, ◌++◌, Option, Some, None, option_map, unwrap_or, slice_get}
+use Rattle.std.specs.Prelude.{ℕ, ◌+◌, ◌-◌, ◌*◌, ◌/◌, ◌%◌, ◌==◌, nat_lt, if◌then◌else◌, List, [], ◌∷◌, ◌++◌, Option, Some, None, option_map, unwrap_or, slice_get}
 use Rattle.std.specs.Option.{option_to_list, option_map_or}
 use Rattle.mpm_config.specs.declared.numbers.Numbers.{Numbers}
 use Rattle.mpm_config.specs.declared.directive.Quantity.{Quantity}
 use Rattle.mpm_config.specs.declared.directive.Quantity.TheVariants.{ThreadsPerChild, MaxRequestWorkers, StartServers, MinSpareThreads, MaxSpareThreads, MaxKeepAliveRequests}
 use Rattle.mpm_config.specs.declared.correction.Correction.{Correction}
 use Rattle.mpm_config.specs.declared.correction.Correction.TheVariants.{NoThreads, ThreadsAboveLimit, WorkersBelowThreads, WorkersNoMultiple, WorkersAboveProduct, NoServers, ServersAboveQuotient, NoSpare, SpareBelowSum, RequestsAboveLimit}
-use Rattle.mpm_config.specs.declared.correction.TheConstants.{MOST_RESPONSES}
 use Rattle.mpm_config.specs.Directive.{quantity_name}
 use Rattle.mpm_config.specs.Numbers.{number_at, with_number}
 use Rattle.mpm_config.specs.Warning.{Notice, warning_bytes}
@@ -53,45 +52,33 @@ becomes NoServers n = if n.start_servers == 0 then Some 1 else None
 becomes ServersAboveQuotient n = if nat_lt (n.max_workers / n.threads) n.start_servers then Some (n.max_workers / n.threads) else None
 becomes NoSpare n = if n.min_spare == 0 then Some 1 else None
 becomes SpareBelowSum n = if nat_lt n.max_spare (n.min_spare + n.threads) then Some (n.min_spare + n.threads) else None
-becomes RequestsAboveLimit n = if nat_lt MOST_RESPONSES n.most then Some MOST_RESPONSES else None
+becomes RequestsAboveLimit n = if nat_lt 65535 n.most then Some 65535 else None
 
 -- the numbers after a correction
-abbrev pub fixed : Correction → Numbers → Numbers
-fixed c n = with_number n (quantity_of c) (unwrap_or (becomes c n) (number_at n (quantity_of c)))
+abbrev pub after_correction : Correction → Numbers → Numbers
+after_correction c n = with_number n (quantity_of c) (unwrap_or (becomes c n) (number_at n (quantity_of c)))
 
 -- what a correction tells, where it applies
-abbrev pub noticed : Correction → Numbers → Option Notice
-noticed c n = option_map (λ m. record { correction = place_of c; before = number_at n (quantity_of c); after = m }) (becomes c n)
+abbrev pub notice_of : Correction → Numbers → Option Notice
+notice_of c n = option_map (λ m. record { correction = place_of c; before = number_at n (quantity_of c); after = m }) (becomes c n)
 
 -- the numbers after some corrections, one after the other
 abbrev pub corrected_by : List Correction → Numbers → Numbers
 corrected_by [] n = n
-corrected_by (c ∷ cs) n = corrected_by cs (fixed c n)
+corrected_by (c ∷ cs) n = corrected_by cs (after_correction c n)
 
 -- what these corrections tell
 abbrev pub notices_by : List Correction → Numbers → List Notice
 notices_by [] n = []
-notices_by (c ∷ cs) n = option_to_list (noticed c n) ++ notices_by cs (fixed c n)
+notices_by (c ∷ cs) n = option_to_list (notice_of c n) ++ notices_by cs (after_correction c n)
 
 -- the corrected numbers, and what an operator is told of them
-abbrev pub corrected : Numbers → Numbers
-corrected n = corrected_by order n
+abbrev pub after_corrections : Numbers → Numbers
+after_corrections n = corrected_by order n
 
+-- what is told of the corrections, in their order
 abbrev pub notices : Numbers → List Notice
 notices n = notices_by order n
-
--- the numbers by which a correction divides are not 0, and those that it computes fit
-abbrev pub IsReady : Correction → Numbers → Type 0
-IsReady WorkersNoMultiple n = 0 < n.threads
-IsReady WorkersAboveProduct n = n.server_limit * n.threads < 2 ^ 32
-IsReady ServersAboveQuotient n = 0 < n.threads
-IsReady SpareBelowSum n = n.min_spare + n.threads < 2 ^ 32
-IsReady c n = Unit {0}
-
--- what each of some corrections needs holds as they are made one after the other
-abbrev pub AllReady : List Correction → Numbers → Type 0
-AllReady [] n = Unit {0}
-AllReady (c ∷ cs) n = IsReady c n × AllReady cs (fixed c n)
 
 -- the name of the number that the correction of a number corrects
 abbrev pub corrected_name_of : ℕ → List ℕ

@@ -4,7 +4,6 @@ use Rattle.std.specs.Char.{to_ascii_lowercase}
 use Rattle.std.specs.Str.{bytes_eq}
 use Rattle.mpm_config.specs.declared.directive.Directive.{Directive}
 use Rattle.mpm_config.specs.declared.directive.Directive.TheVariants.{Number, KeepAlive, Listen, ControlListen, DocumentRoot, DirectoryIndex, ServerName}
-use Rattle.mpm_config.specs.declared.directive.Spelling.{Spelling}
 use Rattle.mpm_config.specs.declared.directive.Quantity.{Quantity}
 use Rattle.mpm_config.specs.declared.directive.Quantity.TheVariants as number
 
@@ -36,6 +35,7 @@ pub record Name : Type 0 where
   pub text : List ℕ
   pub directive : Directive
 
+-- the first spelling of a directive
 abbrev pub first_name : Quantity → Name
 first_name q = record { text = quantity_name q; directive = Number q }
 
@@ -74,7 +74,3 @@ directive_among ns word = option_map (λ n. n.directive) (find (λ n. is_same_wo
 -- the directive that a word names
 abbrev pub directive_of : List ℕ → Option Directive
 directive_of word = directive_among names word
-
--- what the code's table says, as a name
-abbrev pub spelled : Spelling → Name
-spelled s = record { text = s.name.now; directive = s.directive }

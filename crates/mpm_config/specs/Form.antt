@@ -14,14 +14,14 @@ abbrev pub is_present : List ℕ → Bool
 is_present name = bytes_eq name (codes "mpm_event_module") || bytes_eq name (codes "core_module")
 
 -- whether a guard with an exclamation mark holds; without a name it is none
-abbrev pub negated : List ℕ → Option Bool
-negated [] = None
-negated (b ∷ bs) = Some (not (is_present (b ∷ bs)))
+abbrev pub unless_present : List ℕ → Option Bool
+unless_present [] = None
+unless_present (b ∷ bs) = Some (not (is_present (b ∷ bs)))
 
 -- whether a guard holds; an exclamation mark is 33
 abbrev pub guard_of : List ℕ → Option Bool
 guard_of [] = None
-guard_of (b ∷ bs) = if b == 33 then negated bs else Some (is_present (b ∷ bs))
+guard_of (b ∷ bs) = if b == 33 then unless_present bs else Some (is_present (b ∷ bs))
 
 -- the guard of an opening: exactly one name
 abbrev pub guard : List Word → Option Bool
@@ -39,14 +39,14 @@ arguments [] = None
 arguments (b ∷ bs) = if is_blank b then None else after_kind (words (b ∷ bs))
 
 -- what closes a section has no further word
-abbrev pub closing : List Word → Form
-closing [] = Closing
-closing (w ∷ ws) = ClosingWithWord
+abbrev pub section_closing : List Word → Form
+section_closing [] = Closing
+section_closing (w ∷ ws) = ClosingWithWord
 
 -- what stands between < and >; a slash is 47
 abbrev pub of_inside : List ℕ → Form
 of_inside [] = OtherSection
-of_inside (b ∷ bs) = if b == 47 then option_map_or closing (arguments bs) OtherSection
+of_inside (b ∷ bs) = if b == 47 then option_map_or section_closing (arguments bs) OtherSection
     else option_map_or (λ ws. Opening (guard ws)) (arguments (b ∷ bs)) OtherSection
 
 -- what stands before the > (62) that only blanks follow

@@ -16,13 +16,13 @@ abbrev pub front : List ℕ → List ℕ
 front piece = take (length piece - 1) piece
 
 -- a piece joined with the line after it, if there is one
-abbrev pub joined : ℕ → List ℕ → List Line → List Line
-joined n piece [] = record { number = n; bytes = piece } ∷ []
-joined n piece (l ∷ ls) = record { number = n; bytes = piece ++ l.bytes } ∷ ls
+abbrev pub join_next : ℕ → List ℕ → List Line → List Line
+join_next n piece [] = record { number = n; bytes = piece } ∷ []
+join_next n piece (l ∷ ls) = record { number = n; bytes = piece ++ l.bytes } ∷ ls
 
 -- the lines from one on: it is joined with the next where it continues
 abbrev pub with_piece : ℕ → List ℕ → List Line → List Line
-with_piece n piece ls = if continues piece then joined n (front piece) ls else record { number = n; bytes = piece } ∷ ls
+with_piece n piece ls = if continues piece then join_next n (front piece) ls else record { number = n; bytes = piece } ∷ ls
 
 -- the logical lines of some lines, of which the first has that number
 abbrev pub logical : ℕ → List (List ℕ) → List Line

@@ -1,5 +1,5 @@
 -- The configuration of a text: its logical lines are read in order, each in the sections that are open before it.
-use Rattle.std.specs.Prelude.{◌≡◌, ℕ, ◌-◌, ◌==◌, nat_lt, min, if◌then◌else◌, Bool, true, not, List, [], ◌∷◌, ◌++◌, length, take, slice_get, Option, Some, None, Result, Ok, Err, MatchResult}
+use Rattle.std.specs.Prelude.{◌≡◌, ℕ, ◌-◌, ◌==◌, nat_lt, min, if◌then◌else◌, Bool, true, not, List, [], ◌∷◌, ◌++◌, length, take, slice_get, Option, Some, None, Result, Ok, Err}
 use Rattle.std.specs.List.{list_any, position_or_len}
 use Rattle.std.specs.Str.Lossy.{utf8_valid_len}
 use Rattle.mpm_config.specs.declared.fault.ConfFault.{ConfFault}
@@ -10,7 +10,7 @@ use Rattle.mpm_config.specs.declared.reader.Section.{Section}
 use Rattle.mpm_config.specs.declared.setting.Wrong.{Wrong}
 use Rattle.mpm_config.specs.declared.setting.Wrong.TheVariants.{Name, Value}
 use Rattle.mpm_config.specs.Config.{Configuration}
-use Rattle.mpm_config.specs.Correction.{corrected, notices}
+use Rattle.mpm_config.specs.Correction.{after_corrections, notices}
 use Rattle.mpm_config.specs.Form.{form_of}
 use Rattle.mpm_config.specs.Line.{Line, logical_lines}
 use Rattle.mpm_config.specs.Setting.{Assignment, assignment}
@@ -31,17 +31,17 @@ abbrev pub greatest_depth : ℕ
 greatest_depth = 8
 
 -- a section opens in a line
-abbrev pub opened : ℕ → Bool → Progress → Result Progress ConfFault
-opened n shown p = if nat_lt (length p.sections) greatest_depth then Ok (record p { sections = p.sections ++ record { line = n; shown = shown } ∷ [] }) else Err (TooDeep n)
+abbrev pub open_section : ℕ → Bool → Progress → Result Progress ConfFault
+open_section n shown p = if nat_lt (length p.sections) greatest_depth then Ok (record p { sections = p.sections ++ record { line = n; shown = shown } ∷ [] }) else Err (TooDeep n)
 
 -- a section opens by its guard
-abbrev pub opened_by : ℕ → Option Bool → Progress → Result Progress ConfFault
-opened_by n None p = Err (BadSection n)
-opened_by n (Some shown) p = opened n shown p
+abbrev pub open_by_guard : ℕ → Option Bool → Progress → Result Progress ConfFault
+open_by_guard n None p = Err (BadSection n)
+open_by_guard n (Some shown) p = open_section n shown p
 
 -- the innermost section closes
-abbrev pub closed : ℕ → Progress → Result Progress ConfFault
-closed n p = if length p.sections == 0 then Err (BadSection n) else Ok (record p { sections = take (length p.sections - 1) p.sections })
+abbrev pub close_section : ℕ → Progress → Result Progress ConfFault
+close_section n p = if length p.sections == 0 then Err (BadSection n) else Ok (record p { sections = take (length p.sections - 1) p.sections })
 
 -- a directive sets what it sets
 abbrev pub assigns : ℕ → Progress → Result Assignment Wrong → Result Progress ConfFault
@@ -52,16 +52,16 @@ assigns n p (Err Value) = Err (BadValue n)
 -- a line where all open sections are shown
 abbrev pub in_sight : Progress → Line → Form → Result Progress ConfFault
 in_sight p l Blank = Ok p
-in_sight p l (Opening guard) = opened_by l.number guard p
-in_sight p l Closing = closed l.number p
+in_sight p l (Opening guard) = open_by_guard l.number guard p
+in_sight p l Closing = close_section l.number p
 in_sight p l ClosingWithWord = Err (BadSection l.number)
 in_sight p l OtherSection = Err (BadSection l.number)
 in_sight p l Directive = assigns l.number p (assignment l.bytes)
 
 -- a line in a part that is skipped, where only sections count and no guard is asked
 abbrev pub in_hiding : Progress → Line → Form → Result Progress ConfFault
-in_hiding p l (Opening guard) = opened l.number true p
-in_hiding p l Closing = closed l.number p
+in_hiding p l (Opening guard) = open_section l.number true p
+in_hiding p l Closing = close_section l.number p
 in_hiding p l ClosingWithWord = Err (BadSection l.number)
 in_hiding p l form = Ok p
 
@@ -93,14 +93,14 @@ abbrev pub text_len : List ℕ → ℕ
 text_len bytes = min (position_or_len (λ b. b == 0) bytes) (utf8_valid_len bytes)
 
 -- a configuration, and what an operator is told of it
-pub record Configured : Type 0 where
+pub record ConfigAndWarnings : Type 0 where
   pub config : Configuration
   pub warnings : List Notice
 
 -- the configuration of the settings of a whole text
-abbrev pub configured : Settings → Configured
-configured s = record {
-  config = record { written = s.numbers; current = corrected s.numbers; listen = s.listen; control = s.control; root = s.root; index = s.index };
+abbrev pub configuration_of : Settings → ConfigAndWarnings
+configuration_of s = record {
+  config = record { written = s.numbers; current = after_corrections s.numbers; listen = s.listen; control = s.control; root = s.root; index = s.index };
   warnings = notices s.numbers;
 }
 
@@ -109,8 +109,8 @@ abbrev pub text_settings : List ℕ → Result Settings ConfFault
 text_settings bytes = if nat_lt (text_len bytes) (length bytes) then Err (NotText (text_len bytes)) else settings_of start (logical_lines bytes)
 
 -- the configuration of a text, or its refusal
-abbrev pub config_of : List ℕ → Result Configured ConfFault
-config_of bytes = and_then (text_settings bytes) (λ s. Ok (configured s))
+abbrev pub config_of : List ℕ → Result ConfigAndWarnings ConfFault
+config_of bytes = and_then (text_settings bytes) (λ s. Ok (configuration_of s))
 
 -- the fault is that which was to be answered; want of memory alone is free
 abbrev pub Refuses : {A : Type 0} → Result A ConfFault → ConfFault → Type 0
@@ -129,11 +129,3 @@ IsAtLine n (BadValue m) = m ≡ n
 IsAtLine n (BadSection m) = m ≡ n
 IsAtLine n (TooDeep m) = m ≡ n
 IsAtLine n e = ⊥
-
--- an answer is what was to be answered, or its refusal
-abbrev pub IsAnswer : {A : Type 0} → Result A ConfFault → Result A ConfFault → Type 0
-IsAnswer {A} r answer = MatchResult answer (λ (a : A). r ≡ Ok a) (Refuses r)
-
--- after an answer stands what was to stand, or it is its refusal
-abbrev pub LeadsTo : {A : Type 0} → Result Progress ConfFault → Progress → Result A ConfFault → Type 0
-LeadsTo r new answer = MatchResult answer (λ _. r ≡ Ok new) (Refuses r)

@@ -7,9 +7,8 @@ use Rattle.mpm_config.specs.declared.setting.Setting.TheVariants as sets
 use Rattle.mpm_config.specs.declared.setting.Wrong.{Wrong}
 use Rattle.mpm_config.specs.declared.setting.Wrong.TheVariants.{Name, Value}
 use Rattle.mpm_config.specs.Directive.{directive_of}
-use Rattle.mpm_config.specs.Range.{IsAllowed}
+use Rattle.mpm_config.specs.Range.{port_range}
 use Rattle.mpm_config.specs.Value.{number, number_of, switch, address, is_folder, is_file}
-use Rattle.mpm_config.specs.declared.range.TheConstants.{PORT}
 use Rattle.mpm_config.specs.Words.{Word, Closed, words}
 
 -- what a value sets, where the directive may have it
@@ -17,15 +16,10 @@ abbrev pub setting_of : Directive → List ℕ → Option Setting
 setting_of (Number q) v = option_map (λ n. sets.Number q n) (number_of q v)
 setting_of KeepAlive v = option_map (λ b. sets.KeepAlive b) (switch v)
 setting_of Listen v = option_map (λ a. sets.Listen a) (address v)
-setting_of ControlListen v = option_map (λ p. sets.ControlListen p) (number PORT v)
+setting_of ControlListen v = option_map (λ p. sets.ControlListen p) (number port_range v)
 setting_of DocumentRoot v = if is_folder v then Some sets.DocumentRoot else None
 setting_of DirectoryIndex v = if is_file v then Some sets.DirectoryIndex else None
 setting_of ServerName v = Some sets.ServerName
-
--- a number that is set is one that its directive may have
-abbrev pub IsSettable : Setting → Type 0
-IsSettable (sets.Number q n) = IsAllowed q n
-IsSettable s = Unit {0}
 
 -- a setting, and the value that spells it
 pub record Assignment : Type 0 where
@@ -33,13 +27,13 @@ pub record Assignment : Type 0 where
   pub value : List ℕ
 
 -- what the value sets, or that the directive may not have it
-abbrev pub assigned : List ℕ → Option Setting → Result Assignment Wrong
-assigned v None = Err Value
-assigned v (Some s) = Ok (record { setting = s; value = v })
+abbrev pub assignment_of : List ℕ → Option Setting → Result Assignment Wrong
+assignment_of v None = Err Value
+assignment_of v (Some s) = Ok (record { setting = s; value = v })
 
 -- the words after the name of a directive: exactly one value
 abbrev pub of_words : Directive → List Word → Result Assignment Wrong
-of_words d (Closed v ∷ []) = assigned v (setting_of d v)
+of_words d (Closed v ∷ []) = assignment_of v (setting_of d v)
 of_words d ws = Err Value
 
 -- the words after a name

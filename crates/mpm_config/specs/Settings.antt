@@ -1,12 +1,10 @@
 -- What the directives of a text set.
 use Rattle.std.specs.Prelude.{◌≡◌, ℕ, List, [], ◌∷◌, Option, Some, None, codes}
-use Rattle.std.specs.Str.{IsUtf8}
 use Rattle.mpm_base.specs.declared.addr.Addr.{Addr}
 use Rattle.mpm_config.specs.declared.numbers.Numbers.{Numbers}
-use Rattle.mpm_config.specs.declared.range.TheConstants.{PORT}
 use Rattle.mpm_config.specs.declared.setting.Setting.{Setting}
 use Rattle.mpm_config.specs.declared.setting.Setting.TheVariants.{Number, KeepAlive, Listen, ControlListen, DocumentRoot, DirectoryIndex, ServerName}
-use Rattle.mpm_config.specs.Numbers.{initial_numbers, with_number, IsInRange}
+use Rattle.mpm_config.specs.Numbers.{initial_numbers, with_number}
 
 -- the numbers, the address to listen at, the port of the control line, the folder of the files and a folder's own file
 pub record Settings : Type 0 where
@@ -20,7 +18,7 @@ pub record Settings : Type 0 where
 abbrev pub initial_settings : Settings
 initial_settings = record {
   numbers = initial_numbers;
-  listen = record { host = 127 ∷ 0 ∷ 0 ∷ 1 ∷ []; port = PORT.default };
+  listen = record { host = 127 ∷ 0 ∷ 0 ∷ 1 ∷ []; port = 8080 };
   control = None;
   root = codes "htdocs";
   index = codes "index.html";
@@ -35,12 +33,6 @@ with_setting s v (ControlListen p) = record s { control = Some p }
 with_setting s v DocumentRoot = record s { root = v }
 with_setting s v DirectoryIndex = record s { index = v }
 with_setting s v ServerName = s
-
--- what settings keep
-pub record AreKept (numbers : Numbers) (root index : List ℕ) : Type 0 where
-  pub in_range : IsInRange numbers
-  pub root_text : IsUtf8 root
-  pub index_text : IsUtf8 index
 
 -- both settings are of one directive
 abbrev pub IsSameDirective : Setting → Setting → Type 0

@@ -1,5 +1,5 @@
 -- The shape of a generation, and its bounds.
-use Rattle.std.specs.Prelude.{ℕ, ◌/◌, ◌≤◌}
+use Rattle.std.specs.Prelude.{ℕ, ◌/◌, ◌≤◌, true}
 use Rattle.mpm_base.specs.declared.shape.Shape.{Shape}
 use Rattle.mpm_config.specs.declared.numbers.Numbers.{Numbers}
 
@@ -14,6 +14,19 @@ shape_of_numbers n = record {
   most = n.most;
   target = n.start_servers;
   children = n.max_workers / n.threads;
+}
+
+-- the shape of the empty configuration
+abbrev pub default_shape : Shape
+default_shape = record {
+  threads = 25;
+  factor = 200;
+  read_ms = 60000;
+  keep_ms = 5000;
+  keep = true;
+  most = 100;
+  target = 3;
+  children = 16;
 }
 
 -- from one number to another

@@ -8,8 +8,7 @@ use Rattle.mpm_base.specs.declared.addr.Addr.{Addr}
 use Rattle.mpm_config.specs.declared.directive.Quantity.{Quantity}
 use Rattle.mpm_config.specs.declared.directive.Quantity.TheVariants.{AsyncRequestWorkerFactor, KeepAliveTimeout}
 use Rattle.mpm_config.specs.declared.range.Range.{Range}
-use Rattle.mpm_config.specs.declared.range.TheConstants.{ASYNC_REQUEST_WORKER_FACTOR, KEEP_ALIVE_TIMEOUT, KEEP_ALIVE_MILLISECONDS, PORT, OCTET}
-use Rattle.mpm_config.specs.Range.{range_of, within}
+use Rattle.mpm_config.specs.Range.{range_of, millisecond_range, octet_range, port_range, number_in}
 use Rattle.mpm_config.specs.Directive.{is_same_word}
 
 -- 1 to `most` decimal digits
@@ -22,15 +21,16 @@ whole most v = if is_number most v then Some (digits_value 10 v) else None
 
 -- a whole number, of at most nine digits, in a range of the table
 abbrev pub number : Range → List ℕ → Option ℕ
-number r v = option_and_then (within r) (whole 9 v)
+number r v = option_and_then (number_in r) (whole 9 v)
 
 -- what stands before and after the first byte c
 pub record Parts : Type 0 where
   pub before : List ℕ
   pub after : List ℕ
 
-abbrev pub cut : ℕ → List ℕ → Option Parts
-cut c v = if nat_lt (position_or_len (λ b. b == c) v) (length v) then Some (record { before = before_first (λ b. b == c) v; after = after_first (λ b. b == c) v }) else None
+-- the bytes before and behind the first of that byte
+abbrev pub parts_around : ℕ → List ℕ → Option Parts
+parts_around c v = if nat_lt (position_or_len (λ b. b == c) v) (length v) then Some (record { before = before_first (λ b. b == c) v; after = after_first (λ b. b == c) v }) else None
 
 -- hundredths: one or two digits after the point
 abbrev pub decimals : List ℕ → Option ℕ
@@ -41,17 +41,18 @@ abbrev pub hundredths_of : List ℕ → Option Parts → Option ℕ
 hundredths_of v None = option_map (λ n. 100 * n) (whole 3 v)
 hundredths_of v (Some p) = option_and_then (λ n. option_map (λ m. 100 * n + m) (decimals p.after)) (whole 3 p.before)
 
+-- the hundredths that a value spells: digits, perhaps with a point and decimals
 abbrev pub hundredths : List ℕ → Option ℕ
-hundredths v = hundredths_of v (cut 46 v)
+hundredths v = hundredths_of v (parts_around 46 v)
 
 -- milliseconds: a number that ends in ms, or else seconds
 abbrev pub milliseconds : List ℕ → Option ℕ
 milliseconds v =
-    if bytes_eq (drop (length v - 2) v) (codes "ms") then number KEEP_ALIVE_MILLISECONDS (take (length v - 2) v) else number KEEP_ALIVE_TIMEOUT v
+    if bytes_eq (drop (length v - 2) v) (codes "ms") then number millisecond_range (take (length v - 2) v) else number (range_of KeepAliveTimeout) v
 
 -- the number of a directive
 abbrev pub number_of : Quantity → List ℕ → Option ℕ
-number_of AsyncRequestWorkerFactor v = option_and_then (within ASYNC_REQUEST_WORKER_FACTOR) (hundredths v)
+number_of AsyncRequestWorkerFactor v = option_and_then (number_in (range_of AsyncRequestWorkerFactor)) (hundredths v)
 number_of KeepAliveTimeout v = milliseconds v
 number_of q v = number (range_of q) v
 
@@ -64,16 +65,17 @@ abbrev pub octets : List ℕ → Option (List ℕ)
 octets v =
     option_and_then (λ (p : Parts). option_and_then (λ (q : Parts). option_and_then (λ (r : Parts).
     option_and_then (λ a. option_and_then (λ b. option_and_then (λ c. option_map (λ d. a ∷ b ∷ c ∷ d ∷ [])
-    (number OCTET r.after)) (number OCTET r.before)) (number OCTET q.before)) (number OCTET p.before))
-    (cut 46 q.after)) (cut 46 p.after)) (cut 46 v)
+    (number octet_range r.after)) (number octet_range r.before)) (number octet_range q.before)) (number octet_range p.before))
+    (parts_around 46 q.after)) (parts_around 46 p.after)) (parts_around 46 v)
 
 -- a port, or an address, a colon (58) and a port; without an address it is that of this machine alone
 abbrev pub address_of : List ℕ → Option Parts → Option Addr
-address_of v None = option_map (λ port. record { host = 127 ∷ 0 ∷ 0 ∷ 1 ∷ []; port = port }) (number PORT v)
-address_of v (Some p) = option_and_then (λ host. option_map (λ port. record { host = host; port = port }) (number PORT p.after)) (octets p.before)
+address_of v None = option_map (λ port. record { host = 127 ∷ 0 ∷ 0 ∷ 1 ∷ []; port = port }) (number port_range v)
+address_of v (Some p) = option_and_then (λ host. option_map (λ port. record { host = host; port = port }) (number port_range p.after)) (octets p.before)
 
+-- the address that a value spells: a port, or four numbers and a port
 abbrev pub address : List ℕ → Option Addr
-address v = address_of v (cut 58 v)
+address v = address_of v (parts_around 58 v)
 
 -- 1 to 255 bytes
 abbrev pub is_short : List ℕ → Bool

@@ -11,26 +11,26 @@ pub data Word : Type 0 where
   Unclosed : Word
 
 -- the first word has a further byte at its front
-abbrev pub lengthened : ℕ → List Word → List Word
-lengthened b [] = []
-lengthened b (Closed w ∷ ws) = Closed (b ∷ w) ∷ ws
-lengthened b (Unclosed ∷ ws) = Unclosed ∷ ws
+abbrev pub with_first_byte : ℕ → List Word → List Word
+with_first_byte b [] = []
+with_first_byte b (Closed w ∷ ws) = Closed (b ∷ w) ∷ ws
+with_first_byte b (Unclosed ∷ ws) = Unclosed ∷ ws
 
 abbrev mutual
   -- the words of a line: blanks stand between them, and a quote (34) at the front of one goes with it to the next quote
   pub words : List ℕ → List Word
   words [] = []
-  words (b ∷ bs) = if is_blank b then words bs else (if b == 34 then in_quotes bs else lengthened b (in_word bs))
+  words (b ∷ bs) = if is_blank b then words bs else (if b == 34 then in_quotes bs else with_first_byte b (in_word bs))
 
   -- the words from within a word without quotes
   pub in_word : List ℕ → List Word
   in_word [] = Closed [] ∷ []
-  in_word (b ∷ bs) = if is_blank b then Closed [] ∷ words bs else lengthened b (in_word bs)
+  in_word (b ∷ bs) = if is_blank b then Closed [] ∷ words bs else with_first_byte b (in_word bs)
 
   -- the words from within a word in quotes
   pub in_quotes : List ℕ → List Word
   in_quotes [] = Unclosed ∷ []
-  in_quotes (b ∷ bs) = if b == 34 then Closed [] ∷ words bs else lengthened b (in_quotes bs)
+  in_quotes (b ∷ bs) = if b == 34 then Closed [] ∷ words bs else with_first_byte b (in_quotes bs)
 
 -- the bytes from the first on that is no blank
 abbrev pub from_blanks : List ℕ → List ℕ

@@ -35,7 +35,7 @@ impl Model for Config {
 }
 
 ghost use Rattle.mpm_config.specs.Config.{with_limits, IsConfiguration};
-ghost use Rattle.mpm_config.specs.Shape.{shape_of_numbers, IsInBounds};
+ghost use Rattle.mpm_config.specs.Shape.{default_shape, shape_of_numbers, IsInBounds};
 
 impl Config {
     /// What every configuration keeps, for callers that see it as one value. It does nothing.
@@ -63,6 +63,23 @@ pub fn shape_of(config: &Config) -> Shape
     ensures bounds { IsInBounds result }
 {
     let now = &config.now;
+    Shape {
+        threads: now.threads,
+        factor: now.factor,
+        read_ms: now.timeout_ms,
+        keep_ms: now.keep_ms,
+        keep: now.keep,
+        most: now.most,
+        target: now.start_servers,
+        children: now.max_workers / now.threads,
+    }
+}
+
+/// What the table of connections works by under the empty configuration.
+pub fn default_shape() -> Shape
+    ensures { result ≡ default_shape }
+{
+    let now = Numbers::initial();
     Shape {
         threads: now.threads,
         factor: now.factor,

@@ -1,6 +1,7 @@
 //! The ten corrections of numbers that do not go together.
 ghost use Rattle.std.specs.Prelude.{◌≡◌, Some, None, nat_lt, if◌then◌else◌, ◌++◌, ◌<◌, ◌≤◌, [], length, slice_get, IfOk, OnOk};
-ghost use Rattle.mpm_config.specs.Correction.{AllReady, becomes, corrected, corrected_by, corrected_name_of, fixed, notices, notices_by, notice_text, noticed, place_of, quantity_of, IsReady};
+ghost use Rattle.mpm_config.specs.Correction.{becomes, after_corrections, corrected_by, corrected_name_of, after_correction, notices, notices_by, notice_text, notice_of, place_of, quantity_of};
+ghost use Rattle.mpm_config.specs.CorrectionInside.{AllReady, IsReadyToCorrect};
 ghost use Rattle.mpm_config.specs.Numbers.{IsInRange};
 ghost use Rattle.mpm_config.specs.Warning.{warning_bytes};
 ghost use Rattle.mpm_config.specs.Directive.{quantity_name};
@@ -85,7 +86,7 @@ impl Correction {
 
     /// What that number becomes, where the correction applies.
     pub fn becomes(self, n: &Numbers) -> Option<u32>
-        requires { IsReady self n.now }
+        requires { IsReadyToCorrect self n.now }
         ensures { result ≡ becomes self n.now }
     {
         match self {
@@ -107,9 +108,9 @@ impl Correction {
 
     /// Makes the correction where it applies, and then tells it.
     pub fn fix(self, numbers: &mut Numbers) -> Option<Warning>
-        requires { IsReady self numbers.old }
-        ensures numbers { numbers.new ≡ fixed self numbers.old }
-        ensures notice { result ≡ noticed self numbers.old }
+        requires { IsReadyToCorrect self numbers.old }
+        ensures numbers { numbers.new ≡ after_correction self numbers.old }
+        ensures notice { result ≡ notice_of self numbers.old }
     {
         let quantity = self.quantity();
         let was = numbers.get(quantity);
@@ -144,7 +145,7 @@ fn tell_by(
 {
     for correction in corrections {
         if let Some(warning) = correction.fix(numbers) {
-            warnings.add(warning)?;
+            warnings.push(warning)?;
         }
     }
     Ok(())
@@ -153,7 +154,7 @@ fn tell_by(
 /// The numbers after the ten corrections.
 pub fn correct(written: &Numbers) -> Numbers
     requires { IsInRange written.now }
-    ensures { result ≡ corrected written.now }
+    ensures { result ≡ after_corrections written.now }
 {
     let mut numbers = *written;
     correct_by(&mut numbers, &ORDER);

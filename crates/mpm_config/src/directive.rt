@@ -1,6 +1,7 @@
 //! The directives of the language, and the names that stand for them.
 ghost use Rattle.std.specs.Prelude.{◌≡◌, List, map, find, option_map};
-ghost use Rattle.mpm_config.specs.Directive.{directive_of, directive_among, is_same_word, quantity_name, spelled, Name};
+ghost use Rattle.mpm_config.specs.Directive.{directive_of, directive_among, is_same_word, quantity_name, Name};
+ghost use Rattle.mpm_config.specs.DirectiveInside.{name_of};
 
 /// A directive whose value is a number.
 #[derive(Clone, Copy, Debug, PartialEq, Eq)]
@@ -161,7 +162,7 @@ fn first_among(word: &[u8], spellings: &[Spelling]) -> Option<Directive>
 
 /// The same, where the spellings are the code's form of those names.
 fn among(word: &[u8], spellings: &[Spelling]) -> Option<Directive>
-    ensures { (names : List Name) → map spelled spellings.now ≡ names → result ≡ directive_among names word.now }
+    ensures { (names : List Name) → map name_of spellings.now ≡ names → result ≡ directive_among names word.now }
 {
     first_among(word, spellings)
 }

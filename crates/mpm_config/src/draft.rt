@@ -1,7 +1,7 @@
 //! The settings of a text as it is read.
 ghost use Rattle.std.specs.Prelude.{◌≡◌, IfOk, OnOk};
-ghost use Rattle.mpm_config.specs.Reading.{configured, Configured};
-ghost use Rattle.mpm_config.specs.Setting.{IsSettable};
+ghost use Rattle.mpm_config.specs.Reading.{configuration_of, ConfigAndWarnings};
+ghost use Rattle.mpm_config.specs.SettingInside.{IsSettable};
 ghost use Rattle.mpm_config.specs.Settings.{initial_settings, with_setting};
 
 use crate::config::Config;
@@ -25,7 +25,8 @@ pub struct Draft {
 }
 
 impl Model for Draft {
-    ghost use Rattle.mpm_config.specs.Settings.{Settings, AreKept};
+    ghost use Rattle.mpm_config.specs.Settings.{Settings};
+    ghost use Rattle.mpm_config.specs.SettingsInside.{AreKept};
 
     ghost Value = { Settings };
 
@@ -70,7 +71,7 @@ impl Draft {
 
     /// The configuration of the settings, and its warnings.
     pub fn finish(self, alloc: Global) -> Result<(Config, Warnings), NoMemory>
-        ensures { IfOk result (λ r. record { config = r.0; warnings = r.1 } ≡ configured self) }
+        ensures { IfOk result (λ r. record { config = r.0; warnings = r.1 } ≡ configuration_of self) }
     {
         let Draft {
             numbers,

@@ -1,7 +1,7 @@
 //! What kind of line a line is: nothing, a section's opening or closing, or a directive.
 ghost use Rattle.std.specs.Prelude.{◌≡◌, ◌==◌, ◌&&◌, ◌+◌, ◌<◌, drop, length, option_map, slice_index};
 ghost use Rattle.std.specs.List.{list_all};
-ghost use Rattle.mpm_config.specs.Form.{arguments, before_end, closing, form_of, guard, guard_of, is_present, of_inside, of_section};
+ghost use Rattle.mpm_config.specs.Form.{arguments, before_end, section_closing, form_of, guard, guard_of, is_present, of_inside, of_section};
 ghost use Rattle.mpm_config.specs.Words.{is_blank, words};
 
 use crate::directive::is_word;
@@ -74,7 +74,7 @@ fn arguments(text: &str) -> Option<&str>
 
 /// The kind of a closing, by what follows its kind.
 fn closing(line: &str) -> Form
-    ensures { result ≡ closing (words line.now) }
+    ensures { result ≡ section_closing (words line.now) }
 {
     match first_word(line) {
         First::End => Form::Closing,

@@ -2,7 +2,7 @@
 //! each is there for what it ensures.
 ghost use Rattle.std.specs.Prelude.{◌≡◌, ℕ, true, List, [], ◌∷◌, ◌++◌, Ok, Err, IfOk, IfErr};
 ghost use Rattle.std.specs.Str.Lines.{lines};
-ghost use Rattle.mpm_config.specs.Correction.{corrected};
+ghost use Rattle.mpm_config.specs.Correction.{after_corrections};
 ghost use Rattle.mpm_config.specs.Line.{logical_lines, Line, Rise};
 ghost use Rattle.mpm_config.specs.Numbers.{IsInRange};
 ghost use Rattle.mpm_config.specs.Reading.{after_line, after_lines, and_then, hides, settings_of, IsAtLine, Progress};
@@ -36,5 +36,5 @@ pub fn first_refusal_decides()
 
 /// Numbers in their ranges are, once they are corrected, those of a shape in its bounds.
 pub fn corrected_numbers_are_in_bounds()
-    ensures { (n : Numbers) → IsInRange n → IsInBounds (shape_of_numbers (corrected n)) }
+    ensures { (n : Numbers) → IsInRange n → IsInBounds (shape_of_numbers (after_corrections n)) }
 {}

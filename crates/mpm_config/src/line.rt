@@ -3,13 +3,13 @@ ghost use Rattle.std.specs.Prelude.{◌≡◌, ◌==◌, ◌+◌, ◌-◌, ◌<�
 ghost use Rattle.std.specs.Str.Lines.{lines, strip_carriage_return};
 ghost use Rattle.std.specs.String.{string_bytes};
 ghost use Rattle.mpm_config.specs.Line.{continues, front, logical, Line};
-ghost use Rattle.mpm_config.specs.Value.{cut, Parts};
+ghost use Rattle.mpm_config.specs.Value.{parts_around, Parts};
 
 use mpm_base::NoMemory;
 
 /// What stands before and after the first line feed.
 fn at_line_end(text: &str) -> Option<(&str, &str)>
-    ensures { option_map (λ p. record { before = p.0.now; after = p.1.now }) result ≡ cut 10 text.now }
+    ensures { option_map (λ p. record { before = p.0.now; after = p.1.now }) result ≡ parts_around 10 text.now }
 {
     text.split_once('\n')
 }

@@ -1,5 +1,5 @@
 //! The table of numbers: of each directive whose value is a number, its default, its least and greatest
-//! value, and the unit in which it is written. Reader, definition and documentation speak from it.
+//! value, and the unit in which it is written. The definition has the same numbers (`specs/Range.antt`).
 ghost use Rattle.std.specs.Prelude.{◌≡◌};
 
 use crate::directive::Quantity;

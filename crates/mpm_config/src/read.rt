@@ -2,7 +2,8 @@
 ghost use Rattle.std.specs.Prelude.{◌≡◌, ◌==◌, ◌<◌, true, false, nat_lt, length, MatchResult, Ok};
 ghost use Rattle.std.specs.List.{position_or_len};
 ghost use Rattle.mpm_config.specs.Line.{logical_lines};
-ghost use Rattle.mpm_config.specs.Reading.{config_of, settings_of, start, text_len, Configured, IsAnswer, Refuses};
+ghost use Rattle.mpm_config.specs.Reading.{config_of, settings_of, start, text_len, ConfigAndWarnings, Refuses};
+ghost use Rattle.mpm_config.specs.ReadingInside.{IsAnswer};
 
 use crate::config::Config;
 use crate::draft::Draft;

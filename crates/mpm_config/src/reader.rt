@@ -1,6 +1,7 @@
 //! The reader of a text: its lines in order, each in the sections that are open before it.
 ghost use Rattle.std.specs.Prelude.{◌≡◌, ◌<◌, ◌≤◌, ◌-◌, [], IfOk, length, slice_get};
-ghost use Rattle.mpm_config.specs.Reading.{after_line, assigns, closed, hides, in_hiding, in_sight, opened, opened_by, settings_of, start, IsAnswer, LeadsTo};
+ghost use Rattle.mpm_config.specs.Reading.{after_line, assigns, close_section, hides, in_hiding, in_sight, open_section, open_by_guard, settings_of, start};
+ghost use Rattle.mpm_config.specs.ReadingInside.{IsAnswer, LeadsTo};
 ghost use Rattle.mpm_config.specs.Setting.{assignment};
 
 use crate::draft::Draft;
@@ -58,7 +59,7 @@ impl Reader {
 
     /// Opens a section.
     fn open(&mut self, line: u64, shown: bool) -> Result<(), ConfFault>
-        ensures { LeadsTo (opened line shown self.old) self.new result }
+        ensures { LeadsTo (open_section line shown self.old) self.new result }
     {
         if self.sections.len() >= GREATEST_DEPTH {
             return Err(ConfFault::TooDeep(line));
@@ -71,7 +72,7 @@ impl Reader {
 
     /// Opens a section by its guard.
     fn open_by(&mut self, line: u64, guard: Option<bool>) -> Result<(), ConfFault>
-        ensures { LeadsTo (opened_by line guard self.old) self.new result }
+        ensures { LeadsTo (open_by_guard line guard self.old) self.new result }
     {
         match guard {
             Some(shown) => self.open(line, shown),
@@ -81,7 +82,7 @@ impl Reader {
 
     /// Closes the innermost section.
     fn close(&mut self, line: u64) -> Result<(), ConfFault>
-        ensures { LeadsTo (closed line self.old) self.new result }
+        ensures { LeadsTo (close_section line self.old) self.new result }
     {
         match self.sections.pop() {
             Some(_) => Ok(()),

@@ -1,6 +1,7 @@
 //! What the line of a directive sets.
 ghost use Rattle.std.specs.Prelude.{◌≡◌, IfSome, IfOk, MatchResult, Ok, Err};
-ghost use Rattle.mpm_config.specs.Setting.{assignment, of_words, setting_of, Assignment, IsSettable};
+ghost use Rattle.mpm_config.specs.Setting.{assignment, of_words, setting_of, Assignment};
+ghost use Rattle.mpm_config.specs.SettingInside.{IsSettable};
 ghost use Rattle.mpm_config.specs.Words.{words};
 
 use crate::directive::{Directive, Quantity, named};

@@ -18,6 +18,12 @@ fn told(alloc: Global, warnings: &Warnings) -> Result<Octets, Fail> {
 const STOCK: &str =
     "<IfModule mpm_event_module>\n    StartServers             3\n    MinSpareThreads         75\n    MaxSpareThreads        250\n    ThreadsPerChild         25\n    MaxRequestWorkers      400\n    MaxConnectionsPerChild   0\n</IfModule>\n";
 
+/// The stock block with other numbers than the defaults.
+const CHANGED_STOCK: &str =
+    "<IfModule mpm_event_module>\n    StartServers             4\n    MinSpareThreads         76\n    MaxSpareThreads        251\n    ThreadsPerChild         20\n    MaxRequestWorkers      200\n    MaxConnectionsPerChild 1000\n</IfModule>\n";
+
+const LIMITS: &str = "LimitRequestLine 1000\nLimitRequestFieldSize 2000\nLimitRequestFields 50";
+
 #[test]
 fn numbers_are_read(rt: HostRuntime) -> Result<(), Fail> {
     let table = [
@@ -97,7 +103,26 @@ fn numbers_are_read(rt: HostRuntime) -> Result<(), Fail> {
         ),
         ("LimitRequestFields 0", Quantity::LimitRequestFields, 1_000),
         (
+            "GracefulShutdownTimeout 10",
+            Quantity::GracefulShutdownTimeout,
+            10_000,
+        ),
+        (LIMITS, Quantity::LimitRequestLine, 1_000),
+        (LIMITS, Quantity::LimitRequestFieldSize, 2_000),
+        (LIMITS, Quantity::LimitRequestFields, 50),
+        (CHANGED_STOCK, Quantity::StartServers, 4),
+        (CHANGED_STOCK, Quantity::MinSpareThreads, 76),
+        (CHANGED_STOCK, Quantity::MaxSpareThreads, 251),
+        (CHANGED_STOCK, Quantity::ThreadsPerChild, 20),
+        (CHANGED_STOCK, Quantity::MaxRequestWorkers, 200),
+        (CHANGED_STOCK, Quantity::MaxConnectionsPerChild, 1_000),
+        (
             "<IfModule !core_module>\nNonsense\n<IfModule>\n</Directory>\n<IfModule x\n</IfModule>\nTimeout 1\n</IFMODULE >",
+            Quantity::Timeout,
+            60_000,
+        ),
+        (
+            "<IfModule Core_Module>\nTimeout 1\n</IfModule>",
             Quantity::Timeout,
             60_000,
         ),
@@ -144,7 +169,15 @@ fn other_values_are_read(rt: HostRuntime) -> Result<(), Fail> {
     assert_eq!(rt; config.root.as_slice(), b"my files".as_slice());
     assert_eq!(rt; config.index.as_slice(), b"a\tb".as_slice());
     assert!(rt; !config.written.keep);
-    let (config, _warnings) = read_config(rt.alloc(), b"Listen 8080\nKeepAlive ON")?;
+    let (config, _warnings) = read_config(rt.alloc(), b"Listen 81")?;
+    assert_eq!(rt;
+        config.listen,
+        Addr {
+            host: [127, 0, 0, 1],
+            port: 81
+        }
+    );
+    let (config, _warnings) = read_config(rt.alloc(), b"KeepAlive ON")?;
     assert_eq!(rt;
         config.listen,
         Addr {
@@ -187,6 +220,10 @@ fn faults_are_named_with_their_line(rt: HostRuntime) -> Result<(), Fail> {
         ),
         (
             b"AsyncRequestWorkerFactor 1000".as_slice(),
+            ConfFault::BadValue(1),
+        ),
+        (
+            b"AsyncRequestWorkerFactor 0001.5".as_slice(),
             ConfFault::BadValue(1),
         ),
         (
@@ -395,6 +432,32 @@ fn ranges_end_where_they_should(rt: HostRuntime) -> Result<(), Fail> {
             let accepted = read_config(rt.alloc(), text.as_bytes()).is_ok();
             assert_eq!(rt; accepted, least <= number && number <= greatest, "{text}");
         }
+    }
+    Ok(())
+}
+
+/// The directive with a name of so many bytes.
+fn with_name(alloc: Global, directive: &[u8], length: usize) -> Result<Octets, Fail> {
+    let mut text = Octets::of(alloc, directive)?;
+    text.add(b" ")?;
+    for _ in 0..length {
+        text.add(b"a")?;
+    }
+    Ok(text)
+}
+
+#[test]
+fn names_have_at_most_255_bytes(rt: HostRuntime) -> Result<(), Fail> {
+    for directive in [b"DocumentRoot".as_slice(), b"DirectoryIndex".as_slice()] {
+        let long = with_name(rt.alloc(), directive, 255)?;
+        assert!(rt; read_config(rt.alloc(), long.as_slice()).is_ok());
+        let longer = with_name(rt.alloc(), directive, 256)?;
+        assert!(rt;
+            matches!(
+                read_config(rt.alloc(), longer.as_slice()),
+                Err(ConfFault::BadValue(1))
+            )
+        );
     }
     Ok(())
 }

@@ -3,28 +3,15 @@ ghost use Rattle.std.specs.Prelude.{◌≡◌, ◌==◌, position, ◌<◌, ◌�
 ghost use Rattle.std.specs.List.{list_all, list_any};
 ghost use Rattle.std.specs.Char.{is_ascii_digit};
 ghost use Rattle.std.specs.Str.Parse.{digits_value, AllDigits};
-ghost use Rattle.mpm_config.specs.Range.{within, IsAllowed, IsWellFormed, IsWithin};
-ghost use Rattle.mpm_config.specs.Value.{address, cut, decimals, hundredths, is_file, is_folder, is_number, is_short, milliseconds, number, number_of, octets, switch, whole, Parts};
+ghost use Rattle.mpm_config.specs.Range.{millisecond_range, octet_range, port_range, number_in, IsAllowed, IsNumberIn};
+ghost use Rattle.mpm_config.specs.RangeInside.{IsWellFormed};
+ghost use Rattle.mpm_config.specs.Value.{address, parts_around, decimals, hundredths, is_file, is_folder, is_number, is_short, milliseconds, number, number_of, octets, switch, whole, Parts};
 
 use crate::directive::{Quantity, is_word};
 use crate::range::{
     ASYNC_REQUEST_WORKER_FACTOR, KEEP_ALIVE_MILLISECONDS, KEEP_ALIVE_TIMEOUT, OCTET, PORT, Range,
 };
-use mpm_base::Addr;
-
-/// The number that decimal digits spell.
-fn decimal(digits: &[u8]) -> u32
-    requires few { length digits.now ≤ 9 }
-    requires digits { AllDigits 10 digits.now }
-    ensures value { result ≡ digits_value 10 digits.now }
-    ensures bound { result < 10 ^ length digits.now }
-{
-    let mut n = 0;
-    for digit in digits {
-        n = n * 10 + u32::from(*digit - b'0');
-    }
-    n
-}
+use mpm_base::{Addr, decimal_value};
 
 /// Whether each byte is a decimal digit.
 fn all_digits(value: &[u8]) -> bool
@@ -47,7 +34,7 @@ fn whole(value: &[u8], most: usize) -> Option<u32>
     ensures bound { IfSome result (λ n. n < 10 ^ most) }
 {
     if is_digits(value, most) {
-        Some(decimal(value))
+        Some(decimal_value(value) as u32)
     } else {
         None
     }
@@ -55,10 +42,10 @@ fn whole(value: &[u8], most: usize) -> Option<u32>
 
 impl Range {
     /// What a number is kept as, where it is in the range.
-    pub fn within(self, n: u32) -> Option<u32>
+    pub fn keep(self, n: u32) -> Option<u32>
         requires { IsWellFormed self }
-        ensures value { result ≡ within self n }
-        ensures kept { IfSome result (IsWithin self) }
+        ensures value { result ≡ number_in self n }
+        ensures kept { IfSome result (IsNumberIn self) }
     {
         if n < self.least || n > self.greatest {
             return None;
@@ -71,9 +58,9 @@ impl Range {
     pub fn number(self, value: &[u8]) -> Option<u32>
         requires { IsWellFormed self }
         ensures value { result ≡ number self value.now }
-        ensures kept { IfSome result (IsWithin self) }
+        ensures kept { IfSome result (IsNumberIn self) }
     {
-        self.within(whole(value, 9)?)
+        self.keep(whole(value, 9)?)
     }
 }
 
@@ -86,7 +73,7 @@ pub fn place_of(value: &[u8], byte: u8) -> Option<usize>
 
 /// What stands before and after the first such byte.
 fn cut(value: &[u8], at: u8) -> Option<(&[u8], &[u8])>
-    ensures { option_map (λ p. record { before = p.0.now; after = p.1.now }) result ≡ cut at value.now }
+    ensures { option_map (λ p. record { before = p.0.now; after = p.1.now }) result ≡ parts_around at value.now }
 {
     let place = place_of(value, at)?;
     Some((&value[..place], &value[place + 1..]))
@@ -121,7 +108,7 @@ fn hundredths(value: &[u8]) -> Option<u32>
 /// Milliseconds: a number that ends in `ms`, or else a number of seconds.
 fn milliseconds(value: &[u8]) -> Option<u32>
     ensures value { result ≡ milliseconds value.now }
-    ensures kept { IfSome result (IsWithin KEEP_ALIVE_MILLISECONDS) }
+    ensures kept { IfSome result (IsNumberIn millisecond_range) }
 {
     match value.strip_suffix(b"ms") {
         Some(front) => KEEP_ALIVE_MILLISECONDS.number(front),
@@ -144,7 +131,7 @@ pub fn switch(value: &[u8]) -> Option<bool>
 
 /// A part of an address.
 fn octet(value: &[u8]) -> Option<u8>
-    ensures { result ≡ number OCTET value.now }
+    ensures { result ≡ number octet_range value.now }
 {
     let n = OCTET.number(value)?;
     Some(n as u8)
@@ -152,7 +139,7 @@ fn octet(value: &[u8]) -> Option<u8>
 
 /// A port.
 pub fn port(value: &[u8]) -> Option<u16>
-    ensures { result ≡ number PORT value.now }
+    ensures { result ≡ number port_range value.now }
 {
     let n = PORT.number(value)?;
     Some(n as u16)
@@ -223,7 +210,7 @@ impl Quantity {
     {
         match self {
             Quantity::AsyncRequestWorkerFactor => {
-                ASYNC_REQUEST_WORKER_FACTOR.within(hundredths(value)?)
+                ASYNC_REQUEST_WORKER_FACTOR.keep(hundredths(value)?)
             }
             Quantity::KeepAliveTimeout => milliseconds(value),
             _ => self.range().number(value),

@@ -1,9 +1,9 @@
 //! The words of a line.
 ghost use Rattle.std.specs.Prelude.{◌≡◌, ◌<◌, ◌≤◌, ◌==◌, drop, false, length, option_map, position, slice_index};
 ghost use Rattle.std.specs.List.{before_first, position_or_len};
-ghost use Rattle.mpm_config.specs.First.{Shows};
+ghost use Rattle.mpm_config.specs.FirstInside.{Shows};
 ghost use Rattle.mpm_config.specs.Words.{from_blanks};
-ghost use Rattle.mpm_config.specs.Value.{cut, Parts};
+ghost use Rattle.mpm_config.specs.Value.{parts_around, Parts};
 ghost use Rattle.mpm_config.specs.Words.{in_quotes, in_word, is_blank, words};
 
 /// The first word of a line, and the rest of the line.
@@ -26,7 +26,7 @@ pub fn is_blank(byte: u8) -> bool
 
 /// What stands before and after the first quote.
 fn at_quote(text: &str) -> Option<(&str, &str)>
-    ensures { option_map (λ p. record { before = p.0.now; after = p.1.now }) result ≡ cut 34 text.now }
+    ensures { option_map (λ p. record { before = p.0.now; after = p.1.now }) result ≡ parts_around 34 text.now }
 {
     text.split_once('"')
 }

@@ -3,7 +3,7 @@ use Rattle.std.proofs.Common.{◌≡◌, ℕ, suc, inl, inr, Bool, true, List, [
 use Rattle.std.proofs.lemmas.Bool.{false≢true}
 use Rattle.std.proofs.lemmas.List.{append-nil}
 use Rattle.mpm_script.specs.BuiltLines.{AreBuilt, FirstUnbuilt}
-use Rattle.mpm_script.specs.Script.{BeginsWith, AreLines, AllAgree, agrees, is_repeated, is_backwards, is_unknown, IsScript, IsRefusedAt, IsBadLine, BeginsFailing, ScriptIs, IsAnswer}
+use Rattle.mpm_script.specs.Script.{BeginsWithLine, AreLines, AllAgree, agrees, is_repeated, is_backwards, is_unknown, IsScript, IsRefusedAt, IsBadLine, BeginsFailing, ScriptIs, IsSureAnswer}
 use Rattle.mpm_base.specs.declared.script_line.ScriptLine.{ScriptLine}
 use Rattle.mpm_base.specs.declared.script_line.ScriptLine.TheVariants as line
 use Rattle.mpm_script.specs.declared.script.ScriptFault.{ScriptFault}
@@ -16,7 +16,7 @@ use Rattle.mpm_script.proofs.SequenceLemmas.{OneLine, line_once, line_some, two_
 
 -- no line that agrees comes next
 abbrev pub NoNext : List ScriptLine → List ℕ → Type 0
-NoNext lines rest = (line : ScriptLine) (behind : List ℕ) → BeginsWith rest line behind → ¬ (agrees lines line ≡ true)
+NoNext lines rest = (line : ScriptLine) (behind : List ℕ) → BeginsWithLine rest line behind → ¬ (agrees lines line ≡ true)
 
 -- the lines are good, and none that agrees comes next
 pub record IsLongest (bytes : List ℕ) (lines : List ScriptLine) (rest : List ℕ) : Type 0 where
@@ -97,7 +97,7 @@ refused_reading : (bytes : List ℕ) (n : ℕ) (For : List ScriptLine → List �
     → NoNext h.lines h.rest → IsLongest bytes h.lines h.rest
 refused_reading bytes n For h none = record { are_lines = h.are_lines; agree = h.agree; no_next = none }
 
-reading : OneLine → (bytes : List ℕ) (answer : Result (List ScriptLine) ScriptFault) → ScriptIs bytes answer → IsAnswer answer
+reading : OneLine → (bytes : List ℕ) (answer : Result (List ScriptLine) ScriptFault) → ScriptIs bytes answer → IsSureAnswer answer
     → Reading bytes answer
 reading one bytes (Ok script) h i =
     record { lines = script; rest = []; longest = whole_reading bytes script h.0; says = (refl, refl, h.1) }
@@ -190,7 +190,7 @@ same_says one lines rest (Err (fault.NotYet n)) (Err (fault.NotYet m)) h k =
     ap (λ n. Err (fault.NotYet n)) (h.1 ∙ ap suc (one_place lines h.0 k.0 h.3 k.3) ∙ sym k.1)
 
 pub one_answer : OneLine → (bytes : List ℕ) (answer other : Result (List ScriptLine) ScriptFault)
-    → ScriptIs bytes answer → ScriptIs bytes other → IsAnswer answer → IsAnswer other → answer ≡ other
+    → ScriptIs bytes answer → ScriptIs bytes other → IsSureAnswer answer → IsSureAnswer other → answer ≡ other
 one_answer one bytes answer other h k i j =
     let first = reading one bytes answer h i in
     let second = reading one bytes other k j in

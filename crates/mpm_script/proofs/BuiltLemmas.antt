@@ -5,13 +5,13 @@ use Rattle.std.proofs.lemmas.Bool.{false≢true}
 use Rattle.std.proofs.lemmas.List.{append-nil, drop_more, take_more}
 use Rattle.mpm_script.specs.BuiltLines.{is_end, does, IsPipelined, IsBuilt, AreBuilt}
 use Rattle.mpm_script.specs.Clients.{sent_from, sent_from_line, sent_by}
-use Rattle.mpm_script.specs.Progress.{IsProgress, MayFollow, Leads, Breaks}
-use Rattle.mpm_script.specs.declared.pipelined.Progress.{Progress}
+use Rattle.mpm_script.specs.BuiltProgressInside.{IsProgress, BytesMayFollow, Leads, Breaks}
+use Rattle.mpm_script.specs.declared.built_requests.Progress.{Progress}
 use Rattle.mpm_base.specs.declared.script_line.ClientAct.{ClientAct}
 use Rattle.mpm_base.specs.declared.script_line.ClientAct.TheVariants as act
 use Rattle.mpm_base.specs.declared.script_line.ScriptLine.{ScriptLine}
 use Rattle.mpm_base.specs.declared.script_line.ScriptLine.TheVariants as line
-use Rattle.mpm_script.proofs.ProgressLemmas.{may_end}
+use Rattle.mpm_script.proofs.BuiltProgressLemmas.{may_end}
 
 -- ## What a client sends
 
@@ -52,7 +52,7 @@ sent_at_end name (line.Site site) later ends = absurd (false≢true ends)
 -- where the client came before these last ones of the lines: what it sends in them may follow exactly where all is pipelined
 pub record Sends (name : List ℕ) (lines last : List ScriptLine) (progress : Progress) : Type 0 where
   pub is_progress : IsProgress progress
-  pub follows : MayFollow progress (sent_by name last) ↔ IsPipelined (sent_by name lines)
+  pub follows : BytesMayFollow progress (sent_by name last) ↔ IsPipelined (sent_by name lines)
 
 pub sends_more : (name : List ℕ) (lines last : List ScriptLine) (line : ScriptLine) (rest : List ScriptLine) (progress next : Progress)
     → last ≡ line ∷ rest → does is_end name line ≡ false → Sends name lines last progress
@@ -64,8 +64,8 @@ sends_more name lines last line rest progress next e open_line sends leads =
     record {
       is_progress = leads.is_progress;
       follows = (
-        λ h. sends.follows.0 (subst (MayFollow progress) (sym sent) (step.1 h)),
-        λ h. step.0 (subst (MayFollow progress) sent (sends.follows.1 h)),
+        λ h. sends.follows.0 (subst (BytesMayFollow progress) (sym sent) (step.1 h)),
+        λ h. step.0 (subst (BytesMayFollow progress) sent (sends.follows.1 h)),
       );
     }
 
@@ -75,18 +75,18 @@ pub sends_broken : (name : List ℕ) (lines last : List ScriptLine) (line : Scri
 sends_broken name lines last line rest progress e open_line sends breaks h =
     let sent : sent_by name last ≡ sent_from_line name line [] ++ sent_by name rest =
     ap (sent_by name) e ∙ sent_in_line name line (sent_by name rest) open_line in
-    breaks (sent_by name rest) (subst (MayFollow progress) sent (sends.follows.1 h))
+    breaks (sent_by name rest) (subst (BytesMayFollow progress) sent (sends.follows.1 h))
 
 pub sends_ended : (name : List ℕ) (lines last : List ScriptLine) (line : ScriptLine) (rest : List ScriptLine) (progress : Progress)
     → last ≡ line ∷ rest → does is_end name line ≡ true → Sends name lines last progress → IsPipelined (sent_by name lines)
 sends_ended name lines last line rest progress e ends sends =
     let none : sent_by name last ≡ [] = ap (sent_by name) e ∙ sent_at_end name line (sent_by name rest) ends in
-    sends.follows.0 (subst (MayFollow progress) (sym none) (may_end progress sends.is_progress))
+    sends.follows.0 (subst (BytesMayFollow progress) (sym none) (may_end progress sends.is_progress))
 
 pub sends_all : (name : List ℕ) (lines last : List ScriptLine) (progress : Progress) → last ≡ [] → Sends name lines last progress
     → IsPipelined (sent_by name lines)
 sends_all name lines last progress e sends =
-    sends.follows.0 (subst (MayFollow progress) (sym (ap (sent_by name) e)) (may_end progress sends.is_progress))
+    sends.follows.0 (subst (BytesMayFollow progress) (sym (ap (sent_by name) e)) (may_end progress sends.is_progress))
 
 -- ## One line after the other
 

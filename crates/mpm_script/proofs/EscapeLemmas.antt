@@ -3,7 +3,8 @@ use Rattle.std.proofs.Common.{◌≡◌, ℕ, ◌+◌, ◌*◌, ◌<◌, List, [
 use Rattle.std.specs.Char.{digit_value}
 use Rattle.std.proofs.lemmas.Bool.{false≢true}
 use Rattle.std.proofs.lemmas.List.{append_assoc, append-nil, length-append}
-use Rattle.mpm_script.specs.Escapes.{is_plain, letter_value, IsEscape, letter, digits, SpellsByte, plain, escape, Spells, BeginsEscape, BeginsByte, WritesByte}
+use Rattle.mpm_script.specs.Escapes.{is_plain, letter_value, IsEscape, letter, digits, SpellsByte, plain, escape, Spells}
+use Rattle.mpm_script.specs.EscapesInside.{BeginsEscape, BeginsByte, WritesByte}
 
 -- the two digits behind an 'x'
 pub escape_of_digits : (text rest : List ℕ) → text ≡ 120 ∷ rest → (b : ℕ) (behind : List ℕ) → WritesByte rest b behind → BeginsEscape text b behind

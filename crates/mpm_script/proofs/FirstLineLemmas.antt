@@ -4,7 +4,7 @@ use Rattle.std.specs.List.{AllPass}
 use Rattle.std.proofs.lemmas.Bool.{eqb-true, not-false, false≢true}
 use Rattle.std.proofs.lemmas.List.{append-nil, length-append}
 use Rattle.std.proofs.lemmas.List.Elements.{All-head}
-use Rattle.mpm_base.specs.RootRequest.{Stops}
+use Rattle.mpm_base.specs.StopsInside.{Stops}
 use Rattle.mpm_script.specs.Script.{is_line_byte, Begins}
 use Rattle.mpm_base.proofs.ListLemmas.{back_passes, one_run}
 

@@ -2,11 +2,11 @@ pub mod AgreementLemmas
 pub mod AnswerLemmas
 pub mod BuiltFrontLemmas
 pub mod BuiltLemmas
+pub mod BuiltProgressLemmas
+pub mod BuiltSpotLemmas
 pub mod EscapeLemmas
 pub mod FirstLineLemmas
 pub mod LineLemmas
 pub mod LineWordLemmas
 pub mod OptionLemmas
-pub mod ProgressLemmas
 pub mod SequenceLemmas
-pub mod SpotLemmas

@@ -7,10 +7,10 @@ use Rattle.std.specs.Str.Parse.{digits_value}
 use Rattle.std.proofs.lemmas.Bool.{false≢true}
 use Rattle.std.proofs.lemmas.List.{append_cancel_left}
 use Rattle.std.proofs.lemmas.List.Elements.{All-head}
-use Rattle.mpm_base.specs.RootRequest.{Stops}
+use Rattle.mpm_base.specs.StopsInside.{Stops}
 use Rattle.mpm_script.specs.Escapes.{Spells}
 use Rattle.mpm_script.specs.ScriptLine.{is_name_byte, is_file_byte, IsNumber, act_word, IsBehindName, IsSiteLine, command_word, IsLine}
-use Rattle.mpm_script.specs.LineWords.{IsNamed, IsFiled, IsSpelledBehind}
+use Rattle.mpm_script.specs.LineWordsInside.{IsNamed, IsFiled, IsSpelledBehind}
 use Rattle.mpm_base.specs.declared.script_line.LinkCall.{LinkCall}
 use Rattle.mpm_base.specs.declared.script_line.LinkCall.TheVariants as call
 use Rattle.mpm_base.specs.declared.script_line.CommandWord.{CommandWord}

@@ -1,20 +1,18 @@
 -- The words of a script's lines: what one more digit does, and where a name ends.
-use Rattle.std.proofs.Common.{◌≡◌, ℕ, ◌+◌, ◌-◌, ◌*◌, ◌<◌, ◌≤◌, ◌^◌, Bool, true, List, [], ◌∷◌, ◌++◌, length, take, drop, get_or, refl, sym, ap, subst, ◌∙◌, arith}
+use Rattle.std.proofs.Common.{◌≡◌, ℕ, ◌+◌, ◌-◌, ◌<◌, Bool, true, List, [], ◌∷◌, ◌++◌, length, take, drop, get_or, refl, sym, ap, subst, ◌∙◌, arith}
 use Rattle.std.specs.Prelude.{codes}
-use Rattle.std.specs.Char.{is_ascii_digit, digit_value}
+use Rattle.std.specs.Char.{is_ascii_digit}
 use Rattle.std.specs.Int.{IsInRange}
 use Rattle.std.specs.List.{AllPass, prefix_len}
-use Rattle.std.specs.Str.Parse.{digits_value, AllDigits}
-use Rattle.std.proofs.Math.Nat.{pow-le-pow_right}
+use Rattle.std.specs.Str.Parse.{AllDigits}
 use Rattle.std.proofs.lemmas.Bool.{false≢true}
 use Rattle.std.proofs.lemmas.Bool.Decides.{nat_tests}
-use Rattle.std.proofs.lemmas.Int.Digits.{digits_value_more, digits_value-lt}
 use Rattle.std.proofs.lemmas.List.{append_cancel_left}
 use Rattle.std.proofs.lemmas.List.Elements.{All-head, All-tail}
-use Rattle.std.proofs.lemmas.Str.Parse.{digit_at, numerals_by_value, tells_by_index, digits_value-take-le}
-use Rattle.mpm_base.specs.RootRequest.{Stops}
-use Rattle.mpm_script.specs.ScriptLine.{is_name_byte, is_file_byte, IsNumber}
-use Rattle.mpm_script.specs.LineWords.{IsNamed, IsFiled}
+use Rattle.std.proofs.lemmas.Str.Parse.{numerals_by_value, tells_by_index}
+use Rattle.mpm_base.specs.StopsInside.{Stops}
+use Rattle.mpm_script.specs.ScriptLine.{is_name_byte, is_file_byte}
+use Rattle.mpm_script.specs.LineWordsInside.{IsNamed, IsFiled}
 use Rattle.mpm_base.proofs.ListLemmas.{run_passes, run_stops}
 
 -- ---- numbers
@@ -22,31 +20,10 @@ use Rattle.mpm_base.proofs.ListLemmas.{run_passes, run_stops}
 digit_range : (d : ℕ) → is_ascii_digit d ≡ true → IsInRange 48 57 d
 digit_range d h = grind (arith, nat_tests)
 
-digit_is : (d : ℕ) → 48 ≤ d → d ≤ 57 → digit_value d ≡ d - 48
-digit_is d h k = grind (arith, nat_tests)
-
-all_digits : (ds : List ℕ) → AllPass is_ascii_digit ds → AllDigits 10 ds
+pub all_digits : (ds : List ℕ) → AllPass is_ascii_digit ds → AllDigits 10 ds
 all_digits ds pass =
     let by_place = numerals_by_value (λ xs. (i : ℕ) → i < length xs → IsInRange 48 57 (get_or xs i 0)) tells_by_index in
     by_place.to ds (λ i l. digit_range (get_or ds i 0) (pass i 0 l))
-
--- what one more digit of a number does
-pub record Step (ds : List ℕ) (i n : ℕ) : Type 0 where
-  pub least : 48 ≤ get_or ds i 0
-  pub value : n * 10 + (get_or ds i 0 - 48) ≡ digits_value 10 (take (i + 1) ds)
-  pub small : n * 10 + (get_or ds i 0 - 48) < 1000000000000000
-
-pub step : (ds : List ℕ) (i n : ℕ) → IsNumber ds (digits_value 10 ds) → i < length ds → n ≡ digits_value 10 (take i ds) → Step ds i n
-step ds i n number within e =
-    let all = all_digits ds number.bytes in
-    let digit = digit_at ds i all within in
-    let is : digit_value (get_or ds i 0) ≡ get_or ds i 0 - 48 = digit_is (get_or ds i 0) digit.0 digit.1 in
-    let more = digits_value_more 10 ds i within in
-    let part = digits_value-take-le 10 ds (i + 1) (omega arith) in
-    let whole = digits_value-lt 10 ds all in
-    let power : 10 ^ length ds ≤ 10 ^ 15 = pow-le-pow_right (omega arith) number.fits in
-    let value : n * 10 + (get_or ds i 0 - 48) ≡ digits_value 10 (take (i + 1) ds) = omega arith in
-    record { least = digit.0; value = value; small = omega arith }
 
 -- ---- names
 

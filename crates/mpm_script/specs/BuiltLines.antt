@@ -17,6 +17,7 @@ pub record IsPipelined (bytes : List ℕ) : Type 0 where
   pub started : IsStarted rest
   pub whole : bytes ≡ flat_map request_of hosts ++ rest
 
+-- the client sends no more
 abbrev pub is_end : ClientAct → Bool
 is_end (act.Send bytes) = false
 is_end act.End = true

@@ -31,16 +31,3 @@ pub data SpellsByte : List ℕ → ℕ → Type 0 where
 abbrev pub Spells : List ℕ → List ℕ → Type 0
 Spells text [] = text ≡ []
 Spells text (b ∷ bytes) = (piece : List ℕ) × (rest : List ℕ) × SpellsByte piece b × (text ≡ piece ++ rest) × Spells rest bytes
-
--- the text begins with an escape's code, or with a piece, that stands for a byte
-abbrev pub BeginsEscape : List ℕ → ℕ → List ℕ → Type 0
-BeginsEscape text b rest = (code : List ℕ) × IsEscape code b × (text ≡ code ++ rest)
-
-abbrev pub BeginsByte : List ℕ → ℕ → List ℕ → Type 0
-BeginsByte text b rest = (piece : List ℕ) × SpellsByte piece b × (text ≡ piece ++ rest)
-
--- the text begins with the two digits of a byte
-abbrev pub WritesByte : List ℕ → ℕ → List ℕ → Type 0
-WritesByte text b rest =
-    (high : ℕ) × (low : ℕ) × (is_ascii_hexdigit high ≡ true) × (is_ascii_hexdigit low ≡ true)
-    × (b ≡ 16 * digit_value high + digit_value low) × (text ≡ high ∷ low ∷ rest)

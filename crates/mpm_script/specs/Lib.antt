@@ -1,7 +1,8 @@
 pub mod BuiltLines
+pub mod BuiltProgressInside
 pub mod Clients
 pub mod Escapes
-pub mod LineWords
-pub mod Progress
+pub mod EscapesInside
+pub mod LineWordsInside
 pub mod Script
 pub mod ScriptLine

@@ -20,7 +20,7 @@ pub record Begins (bytes text rest : List ℕ) : Type 0 where
   pub whole : bytes ≡ text ++ 10 ∷ rest
 
 -- the bytes begin with that line, and the rest stands behind it
-pub record BeginsWith (bytes : List ℕ) (line : ScriptLine) (rest : List ℕ) : Type 0 where
+pub record BeginsWithLine (bytes : List ℕ) (line : ScriptLine) (rest : List ℕ) : Type 0 where
   pub text : List ℕ
   pub begins : Begins bytes text rest
   pub is_line : IsLine text line
@@ -28,7 +28,7 @@ pub record BeginsWith (bytes : List ℕ) (line : ScriptLine) (rest : List ℕ) :
 -- the bytes are these lines, one behind the other, and then the rest
 abbrev pub AreLines : List ℕ → List ScriptLine → List ℕ → Type 0
 AreLines bytes [] rest = bytes ≡ rest
-AreLines bytes (line ∷ lines) rest = (behind : List ℕ) × BeginsWith bytes line behind × AreLines behind lines rest
+AreLines bytes (line ∷ lines) rest = (behind : List ℕ) × BeginsWithLine bytes line behind × AreLines behind lines rest
 
 -- ## What a line has to agree with
 
@@ -106,13 +106,13 @@ pub record IsRefusedAt (bytes : List ℕ) (number : ℕ) (For : List ScriptLine 
 -- more bytes come, and don't begin with a line, but for one that uses a name again
 pub record IsBadLine (before : List ScriptLine) (rest : List ℕ) : Type 0 where
   pub some : 0 < length rest
-  pub no_line : (line : ScriptLine) (behind : List ℕ) → BeginsWith rest line behind → is_repeated before line ≡ true
+  pub no_line : (line : ScriptLine) (behind : List ℕ) → BeginsWithLine rest line behind → is_repeated before line ≡ true
 
 -- the bytes begin with a line that fails the test
 pub record BeginsFailing (fails : List ScriptLine → ScriptLine → Bool) (before : List ScriptLine) (rest : List ℕ) : Type 0 where
   pub line : ScriptLine
   pub behind : List ℕ
-  pub begins : BeginsWith rest line behind
+  pub begins : BeginsWithLine rest line behind
   pub failing : fails before line ≡ true
 
 -- the bytes are a script, and its line of that number, from 1, is the first that isn't built yet
@@ -135,10 +135,10 @@ ScriptIs bytes (Err (fault.NotYet n)) = IsNotYetAt bytes n
 ScriptIs bytes (Err fault.NoMemory) = ⊤
 
 -- the answer isn't that memory lacked
-abbrev pub IsAnswer : Result (List ScriptLine) ScriptFault → Type 0
-IsAnswer (Ok script) = ⊤
-IsAnswer (Err (fault.BadLine n)) = ⊤
-IsAnswer (Err (fault.MomentBackwards n)) = ⊤
-IsAnswer (Err (fault.UnknownName n)) = ⊤
-IsAnswer (Err (fault.NotYet n)) = ⊤
-IsAnswer (Err fault.NoMemory) = ⊥
+abbrev pub IsSureAnswer : Result (List ScriptLine) ScriptFault → Type 0
+IsSureAnswer (Ok script) = ⊤
+IsSureAnswer (Err (fault.BadLine n)) = ⊤
+IsSureAnswer (Err (fault.MomentBackwards n)) = ⊤
+IsSureAnswer (Err (fault.UnknownName n)) = ⊤
+IsSureAnswer (Err (fault.NotYet n)) = ⊤
+IsSureAnswer (Err fault.NoMemory) = ⊥

@@ -4,6 +4,7 @@ use Rattle.std.specs.Char.{is_ascii_lowercase, is_ascii_digit}
 use Rattle.std.specs.List.{AllPass}
 use Rattle.std.specs.Str.Parse.{digits_value}
 use Rattle.mpm_script.specs.Escapes.{Spells}
+use Rattle.mpm_base.specs.Moment.{greatest_moment}
 use Rattle.mpm_base.specs.declared.script_line.LinkCall.{LinkCall}
 use Rattle.mpm_base.specs.declared.script_line.LinkCall.TheVariants as call
 use Rattle.mpm_base.specs.declared.script_line.CommandWord.{CommandWord}
@@ -44,10 +45,6 @@ pub record IsNumber (digits : List ℕ) (n : ℕ) : Type 0 where
   pub bytes : AllPass is_ascii_digit digits
   pub value : digits_value 10 digits ≡ n
 
--- the greatest moment, the last of the year 9999
-abbrev pub latest_moment : ℕ
-latest_moment = 253402300799999
-
 -- ## What happens to a link
 
 -- the word of the line
@@ -74,6 +71,7 @@ IsBehindName (act.Fail which n) text = (digits : List ℕ) × (text ≡ call_wor
 
 -- ## What happens to the site
 
+-- the text is that line of the site
 abbrev pub IsSiteLine : List ℕ → SiteLine → Type 0
 IsSiteLine text (site.Conf bytes) = (spelling : List ℕ) × (text ≡ codes "conf " ++ spelling) × Spells spelling bytes
 IsSiteLine text site.Clear = text ≡ codes "clear"
@@ -83,6 +81,7 @@ IsSiteLine text (site.Unfile name) = (text ≡ codes "unfile " ++ name) × IsFil
 
 -- ## Lines
 
+-- the word of a command
 abbrev pub command_word : CommandWord → List ℕ
 command_word word.Graceful = codes "graceful"
 command_word word.GracefulStop = codes "graceful-stop"
@@ -90,7 +89,7 @@ command_word word.Stop = codes "stop"
 
 -- the text is that line
 abbrev pub IsLine : List ℕ → ScriptLine → Type 0
-IsLine text (line.At m) = (digits : List ℕ) × (text ≡ codes "at " ++ digits) × IsNumber digits m × (m ≤ latest_moment)
+IsLine text (line.At m) = (digits : List ℕ) × (text ≡ codes "at " ++ digits) × IsNumber digits m × (m ≤ greatest_moment)
 IsLine text (line.Conn name) = (text ≡ codes "conn " ++ name) × IsName name
 IsLine text (line.Client name act) =
     (behind : List ℕ) × (text ≡ act_word act ++ (name ++ behind)) × IsName name × IsBehindName act behind

@@ -6,7 +6,7 @@ ghost use Rattle.mpm_script.specs.Clients.{sent_by, sent_from_line};
 ghost use Rattle.mpm_base.specs.declared.script_line.ScriptLine.{ScriptLine as Line};
 ghost use Rattle.mpm_base.specs.declared.script_line.ScriptLine.TheVariants.{Client};
 
-use crate::pipelined::{after_bytes, no_progress};
+use crate::built_requests::{after_bytes, no_progress};
 use mpm_base::{ClientAct, Moment, ScriptLine};
 
 // The latest moment that a line may set so far.

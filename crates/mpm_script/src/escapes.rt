@@ -1,7 +1,8 @@
 //! Texts that spell bytes, as the scripts have them. What a text spells stands in `specs/Escapes.antt`.
 ghost use Rattle.std.specs.Prelude.{◌≡◌, ◌+◌, ◌*◌, ◌<◌, ℕ, List, [], true, IfSome, IfNone, IfOk, MatchOption, SomeIff, length};
 ghost use Rattle.std.specs.Char.{is_ascii_hexdigit, digit_value};
-ghost use Rattle.mpm_script.specs.Escapes.{is_plain, letter_value, Spells, BeginsEscape, BeginsByte, WritesByte};
+ghost use Rattle.mpm_script.specs.Escapes.{is_plain, letter_value, Spells};
+ghost use Rattle.mpm_script.specs.EscapesInside.{BeginsEscape, BeginsByte, WritesByte};
 
 use mpm_base::{NoMemory, Octets};
 use std::alloc::Global;

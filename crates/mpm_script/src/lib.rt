@@ -4,19 +4,22 @@
 //! only where there is none it refuses the first line that isn't built yet. `one_answer` says that bytes have one answer as
 //! a script, `one_line` that a text is one line at most, and `is_pipelined` tells requests of the known form, one behind
 //! the other. Which text is which line stands in `specs/ScriptLine.antt`, which lines are a script in `specs/Script.antt`,
-//! what its clients send in `specs/Clients.antt`, and which lines are built in `specs/BuiltLines.antt`.
+//! and what its clients send in `specs/Clients.antt`.
+//!
+//! The files whose names begin with `built`, and `tests/built.rt`, say which lines are built. They go when every line is
+//! (`specs/BuiltLines.antt`).
 #![tactic(auto)]
 
 mod agreement;
 mod built_lines;
+mod built_requests;
 mod escapes;
 mod line_reader;
 mod line_words;
-mod pipelined;
 mod script;
 #[cfg(test)]
-mod tests_built;
+mod tests;
 
+pub use built_requests::is_pipelined;
 pub use line_reader::one_line;
-pub use pipelined::is_pipelined;
 pub use script::{Script, ScriptFault, one_answer, read_script};

@@ -3,7 +3,9 @@ ghost use Rattle.std.specs.Prelude.{◌≡◌, ℕ, List, ◌↔◌, IsTrue, IfS
 ghost use Rattle.std.specs.List.{prefix_len};
 ghost use Rattle.std.specs.Str.Parse.{digits_value};
 ghost use Rattle.mpm_script.specs.ScriptLine.{is_name_byte, is_file_byte, IsName, IsFileName, IsNumber};
-ghost use Rattle.mpm_script.specs.LineWords.{IsNamed, IsFiled};
+ghost use Rattle.mpm_script.specs.LineWordsInside.{IsNamed, IsFiled};
+
+use mpm_base::decimal_value;
 
 const LONGEST_NAME: usize = 16;
 
@@ -17,7 +19,7 @@ pub(crate) fn number(text: &[u8]) -> Option<u64>
     ensures none { IfNone result ((n : ℕ) → ¬ IsNumber text.now n) }
 {
     if is_digits(text) {
-        Some(decimal(text))
+        Some(decimal_value(text))
     } else {
         None
     }
@@ -27,18 +29,6 @@ fn is_digits(text: &[u8]) -> bool
     ensures { IsTrue result ↔ IsNumber text.now (digits_value 10 text.now) }
 {
     !text.is_empty() && text.len() <= MOST_DIGITS && text.iter().all(u8::is_ascii_digit)
-}
-
-// The number that decimal digits spell.
-fn decimal(digits: &[u8]) -> u64
-    requires { IsNumber digits.now (digits_value 10 digits.now) }
-    ensures { result ≡ digits_value 10 digits.now }
-{
-    let mut n = 0;
-    for digit in digits {
-        n = n * 10 + u64::from(*digit - b'0');
-    }
-    n
 }
 
 fn is_name_byte(byte: u8) -> bool

@@ -22,8 +22,10 @@ text_page s =
 abbrev pub html_head : List ℕ
 html_head = codes "<html><head><title>Server Status</title></head><body><pre>" ++ 10 ∷ []
 
+-- the last line of the page
 abbrev pub html_foot : List ℕ
 html_foot = codes "</pre></body></html>" ++ 10 ∷ []
 
+-- the plain text, preformatted, between the two lines
 abbrev pub html_page : Snapshot → List ℕ
 html_page s = html_head ++ text_page s ++ html_foot

@@ -17,7 +17,7 @@ pub fn page_auto(alloc: Global, s: &Snapshot) -> Result<Octets, NoMemory>
     ensures { IfOk result (λ page. page ≡ text_page s.now) }
 {
     let mut page = Octets::make(alloc);
-    add_text(alloc, &mut page, s)?;
+    add_text(&mut page, s)?;
     Ok(page)
 }
 
@@ -29,29 +29,31 @@ pub fn page_html(alloc: Global, s: &Snapshot) -> Result<Octets, NoMemory>
         alloc,
         b"<html><head><title>Server Status</title></head><body><pre>\n",
     )?;
-    add_text(alloc, &mut page, s)?;
+    add_text(&mut page, s)?;
     page.add(b"</pre></body></html>\n")?;
     Ok(page)
 }
 
-fn add_text(alloc: Global, page: &mut Octets, s: &Snapshot) -> Result<(), NoMemory>
+fn add_text(page: &mut Octets, s: &Snapshot) -> Result<(), NoMemory>
     ensures { OnOk result (page.new ≡ page.old ++ text_page s.now) }
 {
-    add_number(alloc, page, "Generation", s.generation)?;
-    add_number(alloc, page, "BusyWorkers", s.busy)?;
-    add_number(alloc, page, "IdleWorkers", s.idle)?;
-    add_number(alloc, page, "ConnsTotal", s.total)?;
-    add_number(alloc, page, "ConnsAsyncWriting", s.writing)?;
-    add_number(alloc, page, "ConnsAsyncKeepAlive", s.keep_alive)?;
-    add_number(alloc, page, "ConnsAsyncClosing", s.closing)?;
+    add_count(page, "Generation", s.generation)?;
+    add_count(page, "BusyWorkers", s.busy)?;
+    add_count(page, "IdleWorkers", s.idle)?;
+    add_count(page, "ConnsTotal", s.total)?;
+    add_count(page, "ConnsAsyncWriting", s.writing)?;
+    add_count(page, "ConnsAsyncKeepAlive", s.keep_alive)?;
+    add_count(page, "ConnsAsyncClosing", s.closing)?;
     add_line(page, "Scoreboard", s.letters.as_slice())
 }
 
-fn add_number(alloc: Global, page: &mut Octets, name: &str, value: u32) -> Result<(), NoMemory>
+fn add_count(page: &mut Octets, name: &str, value: u32) -> Result<(), NoMemory>
     ensures { OnOk result (page.new ≡ page.old ++ line name.now (decimal value)) }
 {
-    let digits = value.to_string(alloc)?;
-    add_line(page, name, digits.as_bytes())
+    page.add(name.as_bytes())?;
+    page.add(b": ")?;
+    page.add_number(value as u64)?;
+    page.add(b"\n")
 }
 
 fn add_line(page: &mut Octets, name: &str, value: &[u8]) -> Result<(), NoMemory>

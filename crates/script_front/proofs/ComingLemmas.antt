@@ -6,7 +6,7 @@ use Rattle.std.proofs.lemmas.List.{at_drop_more, at_drop_all}
 use Rattle.std.proofs.lemmas.List.Recursion.{is_count_by}
 use Rattle.std.proofs.lemmas.List.Sums.{count_by-le-length}
 use Rattle.mpm_script.specs.Clients.{names_of}
-use Rattle.script_front.specs.PlayedFront.{happens_by, is_at, is_conn}
+use Rattle.script_front.specs.PlayedFrontInside.{happens_by, is_at, is_conn}
 use Rattle.script_front.specs.ScriptFront.{lines_by, lines_now}
 use Rattle.mpm_base.specs.declared.script_line.ScriptLine.{ScriptLine}
 use Rattle.mpm_base.specs.declared.script_line.ScriptLine.TheVariants as line

@@ -2,9 +2,9 @@
 use Rattle.std.proofs.Common.{◌≡◌, ◌==◌, ℕ, ◌<◌, ◌⊎◌, inl, inr, Bool, true, false, max, List, [], ◌∷◌, length, Option, None, Some, refl, arith}
 use Rattle.std.proofs.lemmas.Bool.Decides.{nat_tests}
 use Rattle.mpm_base.specs.Front.{HasAllTaken}
-use Rattle.script_front.specs.PlayedFront.{gone_to, with_begun, with_clients, with_end, with_lines}
-use Rattle.script_front.specs.ScriptFront.{GoesOn, Moves, Plays, SeenFront, begins, earlier, ends, lines_by, lines_now, next_moment, over, passes, served, signals, stays, to_come}
-use Rattle.script_front.specs.Signals.{Gives, SeenClient}
+use Rattle.script_front.specs.PlayedFrontInside.{gone_to, with_begun, with_clients, with_end, with_lines}
+use Rattle.script_front.specs.ScriptFront.{IsUnderWay, Moves, Plays, SeenFront, begins, earlier, ends, lines_by, lines_now, next_moment, over, passes, served, signals, stays, to_come}
+use Rattle.script_front.specs.Signals.{Gives, SeenClient, all_closed}
 use Rattle.mpm_base.specs.declared.front.Woke.TheVariants as woke
 
 -- no slot was given, or some was
@@ -40,7 +40,7 @@ module _ (old new : SeenFront) (until : Option ℕ) (quiet : Bool) (ready : List
   plays-begins m is none stands lasts first some =
       rw (none, stands) (begins lasts first some (moves-lines old new (lines_now (to_come old)) is) (rw is refl))
 
-  module _ (still : List SeenClient) (goes : GoesOn old) (gives : Gives 256 old.clients old.told.watched still ready) where
+  module _ (still : List SeenClient) (goes : IsUnderWay old) (gives : Gives 256 old.clients old.told.watched still ready) where
     gives-new : new ≡ with_clients still (with_begun old) → Gives 256 old.clients old.told.watched new.clients ready
     gives-new is = rw is gives
 
@@ -60,10 +60,10 @@ module _ (old new : SeenFront) (until : Option ℕ) (quiet : Bool) (ready : List
         rw (none, stands) (passes goes (rw none at gives) idle comes refl (moves-gone old new still (max old.told.moment next) is) (rw is refl))
 
     pub plays-ends : new ≡ with_end (with_clients still (with_begun old)) → ready ≡ [] → quiet ≡ true → earlier until (next_moment (to_come old)) ≡ None → HasAllTaken old.told
-        → Plays old new until quiet woke.Ended ready
-    plays-ends is none idle comes taken =
-        rw none (ends goes (rw is (rw none at gives)) idle comes (rw is taken) (moves-end old new still is))
+        → all_closed still ≡ true → Plays old new until quiet woke.Ended ready
+    plays-ends is none idle comes taken closed =
+        rw none (ends goes (rw is (rw none at gives)) idle comes (rw is taken) (rw is closed) (moves-end old new still is))
 
     pub plays-stays : (m : ℕ) → new ≡ with_clients still (with_begun old) → ready ≡ [] → m ≡ old.told.moment → quiet ≡ true → earlier until (next_moment (to_come old)) ≡ None
-        → (HasAllTaken new.told → 0 < length new.clients) → Plays old new until quiet (woke.Woke m) ready
+        → (HasAllTaken new.told → all_closed new.clients ≡ false) → Plays old new until quiet (woke.Woke m) ready
     plays-stays m is none stands idle comes some = rw (none, stands) (stays goes (rw none at gives-new is) idle comes some (moves-still old new still is))

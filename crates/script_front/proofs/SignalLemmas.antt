@@ -1,13 +1,13 @@
 -- What lines, a watch and the signals of a wait leave of the clients.
-use Rattle.std.proofs.Common.{◌≡◌, ℕ, zero, suc, ◌+◌, ◌-◌, ◌<◌, ◌≤◌, inl, inr, Bool, true, false, if◌then◌else◌, bytes_eq, List, [], ◌∷◌, ◌++◌, length, get_or, set, take, drop, map, Option, None, Some, ap, sym, refl, ◌∙◌, append_assoc, append-nil, take-append-drop, arith}
+use Rattle.std.proofs.Common.{◌≡◌, ℕ, zero, suc, ◌+◌, ◌-◌, ◌<◌, ◌≤◌, inl, inr, Bool, true, false, not, ◌&&◌, if◌then◌else◌, bytes_eq, List, [], ◌∷◌, ◌++◌, length, get_or, set, take, drop, map, Option, None, Some, ap, sym, refl, ◌∙◌, append_assoc, append-nil, take-append-drop, arith}
 use Rattle.std.proofs.lemmas.Grind.{drop_more_same}
-use Rattle.std.proofs.lemmas.List.{at_drop_more, drop-set-lt, drop_all, drop_more, get_or_default, length_push, set-get_or, take_all, take_more_set}
+use Rattle.std.proofs.lemmas.List.{at_drop_more, drop-set-lt, drop_all, drop_more, length_push, take_all, take_more_set}
 use Rattle.mpm_base.specs.declared.conn.ConnName.{ConnName}
 use Rattle.mpm_base.specs.declared.script_line.ClientAct.{ClientAct}
 use Rattle.mpm_base.specs.declared.script_line.ClientAct.TheVariants as act
 use Rattle.mpm_base.specs.declared.script_line.ScriptLine.{ScriptLine}
 use Rattle.mpm_base.specs.declared.script_line.ScriptLine.TheVariants as line
-use Rattle.script_front.specs.Signals.{Gives, SeenClient, after_act, after_line, after_lines, after_watch_of, closed, done, full, given, idle, new_client, silenced, watched_client}
+use Rattle.script_front.specs.Signals.{Gives, Looks, SeenClient, after_act, client_after_line, client_after_lines, after_watch_of, done, full, given, gone, idle, new_client, without_signal, watched_client}
 
 -- ## Each client keeps its name
 
@@ -29,18 +29,18 @@ act-name act.Drop client = refl
 act-name (act.Room room) client = refl
 act-name (act.Fail which number) client = refl
 
-line-name : (line : ScriptLine) (client : SeenClient) → (after_line line client).name ≡ client.name
+line-name : (line : ScriptLine) (client : SeenClient) → (client_after_line line client).name ≡ client.name
 line-name (line.At m) client = refl
 line-name (line.Conn name) client = refl
 line-name (line.Client name act) client = either-name (bytes_eq name client.name) (after_act act client) client (act-name act client)
 line-name (line.Command word) client = refl
 line-name (line.Site site) client = refl
 
-lines-name : (lines : List ScriptLine) (client : SeenClient) → (after_lines lines client).name ≡ client.name
+lines-name : (lines : List ScriptLine) (client : SeenClient) → (client_after_lines lines client).name ≡ client.name
 lines-name [] client = refl
-lines-name (line ∷ lines) client = lines-name lines (after_line line client) ∙ line-name line client
+lines-name (line ∷ lines) client = lines-name lines (client_after_line line client) ∙ line-name line client
 
-pub names-lines : (lines : List ScriptLine) (clients : List SeenClient) → names (map (after_lines lines) clients) ≡ names clients
+pub names-lines : (lines : List ScriptLine) (clients : List SeenClient) → names (map (client_after_lines lines) clients) ≡ names clients
 names-lines lines [] = refl
 names-lines lines (client ∷ clients) = rw (lines-name lines client) (ap (λ rest. client.name ∷ rest) (names-lines lines clients))
 
@@ -49,19 +49,30 @@ names-watch number [] = refl
 names-watch zero (client ∷ clients) = refl
 names-watch (suc number) (client ∷ clients) = ap (λ rest. client.name ∷ rest) (names-watch number clients)
 
+looks-name : {client found : SeenClient} → Looks client found → found.name ≡ client.name
+looks-name looks = ap (λ (client : SeenClient). client.name) looks.found_is
+
 pub names-gives : {room : ℕ} {clients clients' : List SeenClient} {ns : List (Option ConnName)} {slots : List ℕ} → Gives room clients ns clients' slots → names clients' ≡ names clients
 names-gives full = refl
 names-gives done = refl
-names-gives (idle {client = client} still gives) = ap (λ rest. client.name ∷ rest) (names-gives gives)
-names-gives (given {client = client} due gives) = ap (λ rest. client.name ∷ rest) (names-gives gives)
-names-gives (closed {client = client} due gives) = ap (λ rest. client.name ∷ rest) (names-gives gives)
+names-gives (idle {client = client} looks still gives) = rw (looks-name looks) (ap (λ rest. client.name ∷ rest) (names-gives gives))
+names-gives (given {client = client} looks due unclosed gives) = rw (looks-name looks) (ap (λ rest. client.name ∷ rest) (names-gives gives))
+names-gives (gone {client = client} looks due shut gives) = rw (looks-name looks) (ap (λ rest. client.name ∷ rest) (names-gives gives))
+
+-- no more slots are given than there is room for
+pub gives-few : {room : ℕ} {clients clients' : List SeenClient} {ns : List (Option ConnName)} {slots : List ℕ} → Gives room clients ns clients' slots → length slots ≤ room
+gives-few full = omega arith
+gives-few done = omega arith
+gives-few (idle looks still gives) = gives-few gives
+gives-few (given looks due unclosed gives) = omega (arith, gives-few gives)
+gives-few (gone looks due shut gives) = gives-few gives
 
 -- ## Lines and a watch
 
 -- one line more
 pub lines_more : (lines : List ScriptLine) (i : ℕ) (line : ScriptLine) (client : SeenClient) → i < length lines
-    → after_lines (drop i lines) client ≡ after_lines (drop (i + 1) lines) (after_line (get_or lines i line) client)
-lines_more lines i line client h = at_drop_more (λ lines. after_lines lines client) lines i line h
+    → client_after_lines (drop i lines) client ≡ client_after_lines (drop (i + 1) lines) (client_after_line (get_or lines i line) client)
+lines_more lines i line client h = at_drop_more (λ lines. client_after_lines lines client) lines i line h
 
 -- a client was changed as a watch of its link does
 pub watch-set : (clients : List SeenClient) (number : ℕ) (x : SeenClient) → number < length clients → x ≡ get_or clients number x
@@ -125,35 +136,43 @@ gives-step clients now ns i ready added x x' n on l k is named one =
     }
 
 -- its link isn't watched
-pub gives-unwatched : (clients now : List SeenClient) (ns : List (Option ConnName)) (i : ℕ) (ready : List ℕ)
-    → GivesOn clients now ns i ready → i < length now → i < length ns → get_or ns i None ≡ None → GivesOn clients now ns (i + 1) ready
-gives-unwatched clients now ns i ready on l k none =
-    let x = get_or now i (new_client []) in
-    let one : GivesOne (drop (i + 1) clients) (drop (i + 1) ns) ready x None x [] = λ later slots gives. idle (inl refl) (rw (append-nil ready) at gives) in
-    let step : GivesOn clients (set now i x) ns (i + 1) (ready ++ []) = gives-step clients now ns i ready [] x x None on l k (get_or_default now i (new_client []) x l) none one in
-    rw (set-get_or now i (new_client []), append-nil ready) at step
+pub gives-unwatched : (clients now : List SeenClient) (ns : List (Option ConnName)) (i : ℕ) (ready : List ℕ) (x found : SeenClient)
+    → GivesOn clients now ns i ready → i < length now → i < length ns → x ≡ get_or now i x → get_or ns i None ≡ None → Looks x found
+    → GivesOn clients (set now i found) ns (i + 1) ready
+gives-unwatched clients now ns i ready x found on l k is none looks =
+    let one : GivesOne (drop (i + 1) clients) (drop (i + 1) ns) ready x None found [] = λ later slots gives. idle looks (inl refl) (rw (append-nil ready) at gives) in
+    let step : GivesOn clients (set now i found) ns (i + 1) (ready ++ []) = gives-step clients now ns i ready [] x found None on l k is none one in
+    rw (append-nil ready) at step
 
 -- its signal is given
-pub gives-given : (clients now : List SeenClient) (ns : List (Option ConnName)) (i : ℕ) (ready : List ℕ) (x : SeenClient) (name : ConnName)
+pub gives-given : (clients now : List SeenClient) (ns : List (Option ConnName)) (i : ℕ) (ready : List ℕ) (x found : SeenClient) (name : ConnName)
     → GivesOn clients now ns i ready → i < length now → i < length ns → x ≡ get_or now i x → get_or ns i None ≡ Some name → length ready < 256
-    → x.due ≡ true → GivesOn clients (set now i (silenced x)) ns (i + 1) (ready ++ name.slot ∷ [])
-gives-given clients now ns i ready x name on l k is named few due =
-    let room : 256 - length ready ≡ suc (256 - length (ready ++ name.slot ∷ [])) = omega (arith, length_push ready name.slot, few) in
-    gives-step clients now ns i ready (name.slot ∷ []) x (silenced x) (Some name) on l k is named (λ later slots gives. rw room (given due gives))
+    → Looks x found → true ≡ (found.due && not found.closed) → GivesOn clients (set now i (without_signal found)) ns (i + 1) (ready ++ name.slot ∷ [])
+gives-given clients now ns i ready x found name on l k is named few looks signals =
+    gives-step clients now ns i ready (name.slot ∷ []) x (without_signal found) (Some name) on l k is named (go found.due found.closed refl refl)
+  where
+    go : (due shut : Bool) → found.due ≡ due → found.closed ≡ shut → GivesOne (drop (i + 1) clients) (drop (i + 1) ns) ready x (Some name) (without_signal found) (name.slot ∷ [])
+    go true false due unclosed =
+        let room : 256 - length ready ≡ suc (256 - length (ready ++ name.slot ∷ [])) = omega (arith, length_push ready name.slot, few) in
+        λ later slots gives. rw room (given looks due unclosed gives)
+    go true true due shut = absurd (let no : true ≡ false = signals ∙ rw (due, shut) refl in cc no)
+    go false shut due s = absurd (let no : true ≡ false = signals ∙ rw due refl in cc no)
 
-silent : (x : SeenClient) → x.due ≡ false → silenced x ≡ x
+silent : (x : SeenClient) → x.due ≡ false → without_signal x ≡ x
 silent x still = ap (λ due. let y : SeenClient = record x { due = due } in y) (sym still)
 
 -- it is watched and its signal isn't given: none is due, or its link was closed
-pub gives-none : (clients now : List SeenClient) (ns : List (Option ConnName)) (i : ℕ) (ready : List ℕ) (x : SeenClient) (name : ConnName)
+pub gives-none : (clients now : List SeenClient) (ns : List (Option ConnName)) (i : ℕ) (ready : List ℕ) (x found : SeenClient) (name : ConnName)
     → GivesOn clients now ns i ready → i < length now → i < length ns → x ≡ get_or now i x → get_or ns i None ≡ Some name → length ready < 256
-    → GivesOn clients (set now i (silenced x)) ns (i + 1) ready
-gives-none clients now ns i ready x name on l k is named few =
-    let step : GivesOn clients (set now i (silenced x)) ns (i + 1) (ready ++ []) = gives-step clients now ns i ready [] x (silenced x) (Some name) on l k is named (go x.due refl) in
+    → Looks x found → false ≡ (found.due && not found.closed) → GivesOn clients (set now i (without_signal found)) ns (i + 1) ready
+gives-none clients now ns i ready x found name on l k is named few looks silence =
+    let step : GivesOn clients (set now i (without_signal found)) ns (i + 1) (ready ++ []) =
+    gives-step clients now ns i ready [] x (without_signal found) (Some name) on l k is named (go found.due found.closed refl refl) in
     rw (append-nil ready) at step
   where
-    go : (due : Bool) → x.due ≡ due → GivesOne (drop (i + 1) clients) (drop (i + 1) ns) ready x (Some name) (silenced x) []
-    go false still = λ later slots gives. rw (silent x still) (idle (inr still) (rw (append-nil ready) at gives))
-    go true due =
+    go : (due shut : Bool) → found.due ≡ due → found.closed ≡ shut → GivesOne (drop (i + 1) clients) (drop (i + 1) ns) ready x (Some name) (without_signal found) []
+    go false shut still s = λ later slots gives. rw (silent found still) (idle looks (inr still) (rw (append-nil ready) at gives))
+    go true true due shut =
         let room : 256 - length ready ≡ suc (255 - length ready) = omega (arith, few) in
-        λ later slots gives. rw room (closed due (rw (append-nil ready, room) at gives))
+        λ later slots gives. rw room (gone looks due shut (rw (append-nil ready, room) at gives))
+    go true false due unclosed = absurd (let no : false ≡ true = silence ∙ rw (due, unclosed) refl in cc no)

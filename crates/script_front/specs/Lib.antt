@@ -1,3 +1,5 @@
 pub mod PlayedFront
+pub mod PlayedFrontInside
+pub mod ScriptClock
 pub mod ScriptFront
 pub mod Signals

@@ -1,9 +1,9 @@
 -- The front that plays a script: what contracts see of it, and what its waits do.
 use Rattle.std.specs.Prelude.{◌≡◌, ℕ, suc, ◌+◌, ◌<◌, ◌≤◌, Bool, true, false, max, min, nat_le, if◌then◌else◌, List, [], ◌∷◌, drop, take, length, map, Option, None, Some, ⊤}
 use Rattle.mpm_script.specs.Clients.{clients_of, names_of}
-use Rattle.mpm_base.specs.Front.{FrontTold, HasAllTaken, client_at}
-use Rattle.mpm_base.specs.ScriptLink.{SeenScriptLink, new_paced_link}
-use Rattle.script_front.specs.Signals.{SeenClient, Gives, after_lines, new_client}
+use Rattle.mpm_base.specs.Front.{FrontTold, HasAllTaken, WaitTold, client_at}
+use Rattle.stand_ins.specs.ScriptLink.{SeenScriptLink, new_paced_link}
+use Rattle.script_front.specs.Signals.{SeenClient, Gives, client_after_lines, all_closed, new_client}
 use Rattle.mpm_base.specs.declared.conn.ConnName.{ConnName}
 use Rattle.mpm_base.specs.declared.front.Arrival.{Arrival}
 use Rattle.mpm_base.specs.declared.front.Arrival.TheVariants as arrival
@@ -22,11 +22,15 @@ pub record SeenFront : Type 0 where
   pub told : FrontTold
   pub ends : ℕ
 
+-- a wait of it, from the slots that it gave and its answer
+abbrev pub wait_told : List ℕ × Woke → WaitTold
+wait_told wait = record { slots = wait.0; answer = wait.1 }
+
 -- ## Before the first wait
 
 -- a connection that was not watched yet
-abbrev pub unwatched : List ℕ → Option ConnName
-unwatched name = None
+abbrev pub no_name_yet : List ℕ → Option ConnName
+no_name_yet name = None
 
 -- no line has happened
 abbrev pub new_front : List ScriptLine → SeenFront
@@ -40,10 +44,10 @@ new_front lines =
         clients = clients_of lines;
         arrived = 0;
         accepted = 0;
-        watched = map unwatched (names_of lines);
+        watched = map no_name_yet (names_of lines);
         left = length lines;
         moment = 0;
-        given = Some (record { slots = []; moments = [] });
+        waits = [];
       };
       ends = 0;
     }
@@ -89,7 +93,7 @@ earlier (Some m) (Some other) = Some (min m other)
 
 -- the clients after so many further lines
 abbrev pub after_next : ℕ → SeenFront → List SeenClient → List SeenClient
-after_next count f clients = map (after_lines (take count (to_come f))) clients
+after_next count f clients = map (client_after_lines (take count (to_come f))) clients
 
 -- ## Any time
 
@@ -116,12 +120,12 @@ pub record Moves (old new : SeenFront) (count moment : ℕ) : Type 0 where
   pub moment_is : new.told.moment ≡ moment
 
 -- it hasn't answered Ended, and no line stands before the next `at`
-pub record GoesOn (f : SeenFront) : Type 0 where
+pub record IsUnderWay (f : SeenFront) : Type 0 where
   pub ends : f.ends ≡ 0
   pub next : lines_now (to_come f) ≡ 0
 
--- a wait does the first of these that fits. Which links were closed isn't told: so the clauses leave open which of the signals
--- that are due fall away, and, where all was taken of some connections, whether it ends or stays
+-- a wait does the first of these that fits. A signal falls away, and a wait ends, exactly where the clients then have their links
+-- marked as closed
 pub data Plays (old new : SeenFront) (until : Option ℕ) (quiet : Bool) : Woke → List ℕ → Type 0 where
   -- once it has answered Ended it does so again
   over : 0 < old.ends → Moves old new 0 old.told.moment → new.clients ≡ old.clients → Plays old new until quiet woke.Ended []
@@ -129,21 +133,21 @@ pub data Plays (old new : SeenFront) (until : Option ℕ) (quiet : Bool) : Woke 
   begins : old.ends ≡ 0 → old.begun ≡ false → 0 < lines_now (to_come old) → Moves old new (lines_now (to_come old)) old.told.moment
       → new.clients ≡ after_next (lines_now (to_come old)) old old.clients → Plays old new until quiet (woke.Woke old.told.moment) []
   -- it gives the signals that are due, as far as there is room
-  signals : {ready : List ℕ} → GoesOn old → Gives 256 old.clients old.told.watched new.clients ready → 0 < length ready
+  signals : {ready : List ℕ} → IsUnderWay old → Gives 256 old.clients old.told.watched new.clients ready → 0 < length ready
       → Moves old new 0 old.told.moment → Plays old new until quiet (woke.Woke old.told.moment) ready
   -- where a connection is being served no time passes
-  served : GoesOn old → Gives 256 old.clients old.told.watched new.clients [] → quiet ≡ false → Moves old new 0 old.told.moment
+  served : IsUnderWay old → Gives 256 old.clients old.told.watched new.clients [] → quiet ≡ false → Moves old new 0 old.told.moment
       → Plays old new until quiet (woke.Woke old.told.moment) []
   -- it goes on to the moment of the next `at`, or to `until`, whichever is earlier, and never back; what happens by then happens
-  passes : {m to : ℕ} {still : List SeenClient} → GoesOn old → Gives 256 old.clients old.told.watched still [] → quiet ≡ true
+  passes : {m to : ℕ} {still : List SeenClient} → IsUnderWay old → Gives 256 old.clients old.told.watched still [] → quiet ≡ true
       → earlier until (next_moment (to_come old)) ≡ Some m → to ≡ max old.told.moment m → Moves old new (lines_by to (to_come old)) to
       → new.clients ≡ after_next (lines_by to (to_come old)) old still → Plays old new until quiet (woke.Woke to) []
   -- nothing comes any more
-  ends : GoesOn old → Gives 256 old.clients old.told.watched new.clients [] → quiet ≡ true → earlier until (next_moment (to_come old)) ≡ None
-      → HasAllTaken new.told → Moves old new 0 old.told.moment → Plays old new until quiet woke.Ended []
+  ends : IsUnderWay old → Gives 256 old.clients old.told.watched new.clients [] → quiet ≡ true → earlier until (next_moment (to_come old)) ≡ None
+      → HasAllTaken new.told → all_closed new.clients ≡ true → Moves old new 0 old.told.moment → Plays old new until quiet woke.Ended []
   -- it waits for its links to be taken or closed
-  stays : GoesOn old → Gives 256 old.clients old.told.watched new.clients [] → quiet ≡ true → earlier until (next_moment (to_come old)) ≡ None
-      → (HasAllTaken new.told → 0 < length new.clients) → Moves old new 0 old.told.moment → Plays old new until quiet (woke.Woke old.told.moment) []
+  stays : IsUnderWay old → Gives 256 old.clients old.told.watched new.clients [] → quiet ≡ true → earlier until (next_moment (to_come old)) ≡ None
+      → (HasAllTaken new.told → all_closed new.clients ≡ false) → Moves old new 0 old.told.moment → Plays old new until quiet (woke.Woke old.told.moment) []
 
 -- ## An accept
 

@@ -8,7 +8,6 @@
 
 mod client_texts;
 mod coming_lines;
-mod given_log;
 mod script_client;
 mod script_clients;
 mod script_clock;

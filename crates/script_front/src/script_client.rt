@@ -1,13 +1,14 @@
 //! A client of a script, as the front of the script knows it.
-ghost use Rattle.std.specs.Prelude.{◌≡◌, ◌<◌, true, false, [], bytes_eq, length, map};
-ghost use Rattle.script_front.specs.Signals.{Gives, after_act, after_line, after_lines, new_client, silenced, watched_client};
+ghost use Rattle.std.specs.Prelude.{◌≡◌, ◌&&◌, not, [], bytes_eq, length, map};
+ghost use Rattle.script_front.specs.Signals.{Gives, Looks, after_act, client_after_line, client_after_lines, all_closed, new_client, without_signal, watched_client};
 
-use mpm_base::{ClientAct, ConnName, Octets, Ready, ScriptLine, Wire};
+use mpm_base::{ClientAct, ConnName, Octets, Ready, ScriptLine};
+use stand_ins::Wire;
 use std::marker::Model;
 use std::sync::Arc;
 
 /// A client of a script: its name, what the front shares with its link, whether a byte of it has come, whether it sends no
-/// more, and whether a signal is due for its link.
+/// more, whether a signal is due for its link, and whether that was found closed.
 #[derive(Drop)]
 pub(crate) struct ScriptClient {
     name: Octets,
@@ -15,6 +16,7 @@ pub(crate) struct ScriptClient {
     came: bool,
     ended: bool,
     due: bool,
+    closed: bool,
 }
 
 impl Model for ScriptClient {
@@ -22,7 +24,7 @@ impl Model for ScriptClient {
 
     ghost Value = { SeenClient };
 
-    ghost view = { λ c. record { name = c.name; came = c.came; ended = c.ended; due = c.due } };
+    ghost view = { λ c. record { name = c.name; came = c.came; ended = c.ended; due = c.due; closed = c.closed } };
 }
 
 impl ScriptClient {
@@ -36,6 +38,7 @@ impl ScriptClient {
             came: false,
             ended: false,
             due: false,
+            closed: false,
         }
     }
 
@@ -46,9 +49,18 @@ impl ScriptClient {
         name == self.name.as_slice()
     }
 
-    /// Whether its link was closed.
-    fn is_closed(&self) -> bool {
-        self.wire.closed()
+    /// Whether its link was found closed.
+    fn is_closed(&self) -> bool
+        ensures { result ≡ self.now.closed }
+    {
+        self.closed
+    }
+
+    /// Looks whether its link was closed. Once it was found so it stays so.
+    fn look(&mut self)
+        ensures { Looks self.old self.new }
+    {
+        self.closed = self.closed || self.wire.closed();
     }
 
     /// The act happens. What a client sends behind its end does nothing, and neither does a second end.
@@ -80,7 +92,7 @@ impl ScriptClient {
 
     /// The line happens, which acts on it only where it names it.
     fn hear(&mut self, line: &ScriptLine)
-        ensures { self.new ≡ after_line line.now self.old }
+        ensures { self.new ≡ client_after_line line.now self.old }
     {
         if let ScriptLine::Client(name, act) = line {
             if self.is_named(name.as_slice()) {
@@ -92,7 +104,7 @@ impl ScriptClient {
     /// The lines happen, one after the other.
     #[tactic(auto, using(crate::proofs::SignalLemmas::lines_more))]
     fn hear_all(&mut self, lines: &[ScriptLine])
-        ensures { self.new ≡ after_lines lines.now self.old }
+        ensures { self.new ≡ client_after_lines lines.now self.old }
     {
         for line in lines {
             self.hear(line);
@@ -106,12 +118,12 @@ impl ScriptClient {
         self.due = self.came || self.ended;
     }
 
-    /// Whether a signal is given now: one that is due, unless the link was closed. It is due no more.
+    /// Whether a signal is given now: one that is due, unless the link was found closed. It is due no more.
     fn take_signal(&mut self) -> bool
-        ensures due { result ≡ true → self.old.due ≡ true }
-        ensures state { self.new ≡ silenced self.old }
+        ensures is { result ≡ (self.old.due && not self.old.closed) }
+        ensures state { self.new ≡ without_signal self.old }
     {
-        let given = self.due && !self.wire.closed();
+        let given = self.due && !self.closed;
         self.due = false;
         given
     }
@@ -119,14 +131,15 @@ impl ScriptClient {
 
 /// These lines happen to each of the clients.
 pub(crate) fn happen(lines: &[ScriptLine], clients: &mut [ScriptClient])
-    ensures { clients.new ≡ map (after_lines lines.now) clients.old }
+    ensures { clients.new ≡ map (client_after_lines lines.now) clients.old }
 {
     for client in clients.iter_mut() {
         client.hear_all(lines);
     }
 }
 
-/// Gives the slots of those watched links for which a signal is due, as far as there is room; the others stay due.
+/// Gives the slots of those watched links for which a signal is due and which weren't closed, as far as there is room; the others
+/// stay due.
 pub(crate) fn give(clients: &mut [ScriptClient], watched: &[Option<ConnName>], ready: &mut Ready)
     requires each { length clients.old ≡ length watched.now }
     requires none { ready.old ≡ [] }
@@ -136,17 +149,19 @@ pub(crate) fn give(clients: &mut [ScriptClient], watched: &[Option<ConnName>], r
         if ready.is_full() {
             return;
         }
+        let client = &mut clients[place];
+        client.look();
         if let Some(name) = watch {
-            if clients[place].take_signal() {
+            if client.take_signal() {
                 ready.add(name.slot);
             }
         }
     }
 }
 
-/// Whether the link of each client was closed.
+/// Whether the link of each client was found closed.
 pub(crate) fn are_closed(clients: &[ScriptClient]) -> bool
-    ensures { result ≡ false → 0 < length clients.now }
+    ensures { result ≡ all_closed clients.now }
 {
     clients.iter().all(|client| client.is_closed())
 }

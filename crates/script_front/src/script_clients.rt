@@ -1,12 +1,13 @@
 //! The clients of a script, as its front knows them.
 ghost use Rattle.std.specs.Prelude.{◌≡◌, ◌<◌, false, None, Some, [], ◌∷◌, ◌++◌, length, map, slice_set, IfOk, IfSome, IfNone, OnOk, OnErr};
 ghost use Rattle.mpm_script.specs.Clients.{clients_of, made_by, names_of};
-ghost use Rattle.script_front.specs.ScriptFront.{unwatched};
-ghost use Rattle.script_front.specs.Signals.{Gives, after_lines, after_watch_of, new_client};
+ghost use Rattle.script_front.specs.ScriptFront.{no_name_yet};
+ghost use Rattle.script_front.specs.Signals.{Gives, client_after_lines, after_watch_of, all_closed, new_client};
 
 use crate::client_texts::sent_by;
 use crate::script_client::{ScriptClient, are_closed, give, happen};
-use mpm_base::{ConnName, NoMemory, Octets, Ready, ScriptLine, Wire};
+use mpm_base::{ConnName, NoMemory, Octets, Ready, ScriptLine};
+use stand_ins::Wire;
 use std::alloc::Global;
 use std::collections::VecDeque;
 use std::marker::Model;
@@ -42,7 +43,7 @@ impl ScriptClients {
     pub(crate) fn make(alloc: Global, lines: &[ScriptLine]) -> Result<ScriptClients, NoMemory>
         ensures waiting { IfOk result (λ clients. clients.waiting ≡ clients_of lines.now) }
         ensures clients { IfOk result (λ clients. clients.clients ≡ map new_client (names_of lines.now)) }
-        ensures watched { IfOk result (λ clients. clients.watched ≡ map unwatched (names_of lines.now)) }
+        ensures watched { IfOk result (λ clients. clients.watched ≡ map no_name_yet (names_of lines.now)) }
     {
         let mut clients = ScriptClients {
             awaited: VecDeque::new(alloc),
@@ -108,12 +109,12 @@ impl ScriptClients {
 
     /// These lines happen to the clients that they name.
     pub(crate) fn happen(&mut self, lines: &[ScriptLine])
-        ensures { self.new ≡ record self.old { clients = map (after_lines lines.now) self.old.clients } }
+        ensures { self.new ≡ record self.old { clients = map (client_after_lines lines.now) self.old.clients } }
     {
         happen(lines, self.clients.as_mut_slice());
     }
 
-    /// Gives the slots of those watched links for which a signal is due, as far as there is room.
+    /// Gives the slots of those watched links for which a signal is due and which weren't closed, as far as there is room.
     pub(crate) fn give(&mut self, ready: &mut Ready)
         requires each { length self.old.clients ≡ length self.old.watched }
         requires none { ready.old ≡ [] }
@@ -123,9 +124,9 @@ impl ScriptClients {
         give(self.clients.as_mut_slice(), self.names.as_slice(), ready);
     }
 
-    /// Whether each link was closed.
+    /// Whether each link was found closed.
     pub(crate) fn are_closed(&self) -> bool
-        ensures { result ≡ false → 0 < length self.now.clients }
+        ensures { result ≡ all_closed self.now.clients }
     {
         are_closed(self.clients.as_slice())
     }

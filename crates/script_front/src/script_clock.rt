@@ -1,49 +1,55 @@
 //! The clock that goes with the front of a script.
-ghost use Rattle.std.specs.Prelude.{◌≡◌, Option, Some, [], ◌∷◌, ◌++◌, OnOk, OnErr};
+ghost use Rattle.std.specs.Prelude.{◌≡◌, Some, [], ◌∷◌, ◌++◌};
 ghost use Rattle.mpm_base.specs.Clock.{Answers};
+ghost use Rattle.script_front.specs.ScriptClock.{AreEchoes};
 
+use http_server::Log;
 use mpm_base::{Clock, Moment};
-use std::alloc::Global;
 use std::marker::Model;
 
 /// The clock of a script: it is the moment at which the front stands.
-#[derive(Debug, Drop)]
+#[derive(Drop)]
 pub struct ScriptClock {
-    // None once memory lacked for an answer.
-    answers: Option<Vec<Moment>>,
+    // Kept for clauses alone: it takes no memory.
+    calls: Log<Moment, Moment>,
 }
 
 impl Model for ScriptClock {
-    ghost use Rattle.std.specs.Prelude.{Option, List, ℕ, option_map};
+    ghost use Rattle.std.specs.Prelude.{List, ℕ};
 
-    ghost Value = { Option (List ℕ) };
+    ghost Value = { List (ℕ × ℕ) };
 
-    ghost view = { λ c. option_map (λ answers. answers.items) c.answers };
+    ghost view = { λ c. c.calls.items };
+
+    ghost use Rattle.script_front.specs.ScriptClock.{AreEchoes};
+
+    ghost invariant = { λ c. AreEchoes c.calls.items };
 }
 
 impl ScriptClock {
-    /// A clock that has not answered yet. Takes no memory.
-    pub fn make(alloc: Global) -> ScriptClock
-        ensures { result ≡ Some [] }
+    /// A clock that has not answered yet.
+    pub fn make() -> ScriptClock
+        ensures { result ≡ [] }
     {
-        ScriptClock {
-            answers: Some(Vec::new(alloc)),
-        }
+        ScriptClock { calls: Log::new() }
+    }
+
+    /// What holds of every such clock.
+    pub fn show(&self)
+        ensures { AreEchoes self.now }
+    {
+        let _ = &self.calls;
     }
 }
 
 impl Clock for ScriptClock {
-    ghost told = { λ c. c };
+    ghost told = { λ c. Some c };
 
     fn now(&mut self, at: Moment) -> Moment
-        ensures told { Answers self.old self.new result }
+        ensures told { Answers (Some self.old) (Some self.new) at result }
         ensures same { result ≡ at }
     {
-        if let Some(answers) = &mut self.answers {
-            if answers.push(at).is_err() {
-                self.answers = None;
-            }
-        }
+        self.calls = self.calls.and(&at, &at);
         at
     }
 }

@@ -1,19 +1,19 @@
 //! The front that plays a script.
 ghost use Rattle.std.specs.Prelude.{◌≡◌, ◌<◌, ◌≤◌, max, nat_lt, true, false, Some, [], drop, length, IfOk};
 ghost use Rattle.mpm_base.specs.Count.{Rises};
-ghost use Rattle.mpm_base.specs.Front.{Accepts, HasAllTaken, PutsDown, StandsStill, Waits, Watches, accept_failed, is_handed};
-ghost use Rattle.script_front.specs.PlayedFront.{KeepsRest, counts_of, gone_to, with_begun, with_clients, with_end, with_given, with_lines};
+ghost use Rattle.mpm_base.specs.Front.{Accepts, HasAllTaken, StandsStill, Waits, Watches, accept_failed, is_handed};
+ghost use Rattle.script_front.specs.PlayedFront.{counts_of};
+ghost use Rattle.script_front.specs.PlayedFrontInside.{KeepsRest, gone_to, with_begun, with_clients, with_end, with_lines, with_wait};
 ghost use Rattle.script_front.specs.ScriptFront.{HandsPaced, IsOfScript, Plays, lines_now, new_front, to_come};
-ghost use Rattle.script_front.specs.Signals.{Gives, after_watch_of};
-ghost use Rattle.mpm_base.specs.ScriptLink.{SeenScriptLink};
+ghost use Rattle.script_front.specs.Signals.{Gives, after_watch_of, all_closed};
+ghost use Rattle.stand_ins.specs.ScriptLink.{SeenScriptLink};
 
 use crate::coming_lines::{arrivals, earlier, lines_by, lines_now, next_lines, next_moment};
-use crate::given_log::GivenLog;
 use crate::script_clients::ScriptClients;
-use mpm_base::{
-    Arrival, Calls, ConnName, Front, Moment, NoMemory, Ready, ScriptLine, ScriptLink, Woke,
-};
+use http_server::Log;
+use mpm_base::{Arrival, ConnName, Front, Moment, NoMemory, Ready, ScriptLine, Woke};
 use mpm_script::Script;
+use stand_ins::{Calls, ScriptLink};
 use std::alloc::Global;
 use std::marker::Model;
 use std::sync::Wait;
@@ -29,14 +29,14 @@ pub struct ScriptFront {
     arrived: usize,
     accepted: usize,
     clients: ScriptClients,
-    // None once memory lacked for what a wait gave.
-    given: Option<GivenLog>,
+    // Kept for clauses alone: it takes no memory.
+    waits: Log<Ready, Woke>,
     ends: u64,
 }
 
 impl Model for ScriptFront {
-    ghost use Rattle.std.specs.Prelude.{◌-◌, length};
-    ghost use Rattle.script_front.specs.ScriptFront.{SeenFront};
+    ghost use Rattle.std.specs.Prelude.{◌-◌, length, map};
+    ghost use Rattle.script_front.specs.ScriptFront.{SeenFront, wait_told};
 
     ghost Value = { SeenFront };
 
@@ -55,7 +55,7 @@ impl Model for ScriptFront {
         watched = f.clients.watched;
         left = length f.script - f.happened;
         moment = f.moment;
-        given = f.given;
+        waits = map wait_told f.waits.items;
       };
       ends = f.ends;
     } };
@@ -80,7 +80,7 @@ impl ScriptFront {
             arrived: 0,
             accepted: 0,
             clients,
-            given: Some(GivenLog::make(alloc)),
+            waits: Log::new(),
             ends: 0,
         })
     }
@@ -161,10 +161,10 @@ impl ScriptFront {
         self.moment = to;
     }
 
-    /// Whether all lines have happened, each connection was handed out, and each link was closed.
+    /// Whether all lines have happened, each connection was handed out, and each link was found closed.
     fn is_over(&self) -> bool
-        ensures over { result ≡ true → HasAllTaken self.now.told }
-        ensures some { result ≡ false → HasAllTaken self.now.told → 0 < length self.now.clients }
+        ensures over { result ≡ true → HasAllTaken self.now.told × (all_closed self.now.clients ≡ true) }
+        ensures unclosed { result ≡ false → HasAllTaken self.now.told → all_closed self.now.clients ≡ false }
     {
         self.happened == self.script.lines().len()
             && self.accepted == self.clients.count()
@@ -182,7 +182,7 @@ impl ScriptFront {
     }
 
     /// What a wait does and answers.
-    fn play(&mut self, until: Option<Moment>, quiet: bool, ready: &mut Ready) -> Woke
+    fn wake(&mut self, until: Option<Moment>, quiet: bool, ready: &mut Ready) -> Woke
         requires { ready.old ≡ [] }
         ensures plays { Plays self.old self.new until quiet result ready.new }
         ensures rest { KeepsRest result self.old self.new }
@@ -211,16 +211,11 @@ impl ScriptFront {
         Woke::Woke(self.moment)
     }
 
-    /// Puts down what a wait gave and answered, or nothing more where memory lacks.
-    fn put_down(&mut self, ready: &[u32], answer: Woke)
-        ensures state { self.new ≡ with_given self.new.told.given self.old }
-        ensures given { PutsDown ready.now answer self.old.told.given self.new.told.given }
+    /// Puts a wait down, with the slots that it gave and its answer.
+    fn put_down(&mut self, ready: &Ready, answer: Woke)
+        ensures { self.new ≡ with_wait ready.now answer self.old }
     {
-        if let Some(given) = &mut self.given {
-            if given.add(ready, answer).is_err() {
-                self.given = None;
-            }
-        }
+        self.waits = self.waits.and(ready, &answer);
     }
 }
 
@@ -250,8 +245,8 @@ impl Front for ScriptFront {
         let _ = rt;
         self.show();
         ready.clear();
-        let answer = self.play(until, quiet, ready);
-        self.put_down(ready.slots(), answer);
+        let answer = self.wake(until, quiet, ready);
+        self.put_down(ready, answer);
         self.show();
         answer
     }

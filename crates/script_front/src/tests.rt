@@ -2,9 +2,10 @@
 use crate::script_front::ScriptFront;
 use mpm_base::{
     Arrival, ClientAct, CommandWord, ConnName, Front, Got, Link, Moment, NoMemory, Octets, Ready,
-    ScriptLine, ScriptLink, Sent, Woke,
+    ScriptLine, Sent, Woke,
 };
 use mpm_script::Script;
+use stand_ins::ScriptLink;
 use std::alloc::Global;
 use std::process::Abort;
 use std::sync::Wait;

@@ -3,28 +3,28 @@ use Rattle.std.proofs.Common.{◌≡◌, ◌≢◌, ℕ, ◌<◌, ◌≤◌, min
 use Rattle.std.specs.Option.{option_map_or, IfSome}
 use Rattle.std.proofs.lemmas.Bool.{lt-leb, leb-false}
 use Rattle.std.proofs.lemmas.Option.{same_Some}
-use Rattle.timeout_queues.specs.Waiting.{Parked, least}
+use Rattle.timeout_queues.specs.Waiting.{ParkedName, earliest}
 
-pub least_push : (ns : List ℕ) (n : ℕ) → least (ns ++ n ∷ []) ≡ Some (option_map_or (λ m. min m n) (least ns) n)
+pub least_push : (ns : List ℕ) (n : ℕ) → earliest (ns ++ n ∷ []) ≡ Some (option_map_or (λ m. min m n) (earliest ns) n)
 least_push [] n = refl
-least_push (m ∷ ms) n = on (least ms) (least_push ms n)
+least_push (m ∷ ms) n = on (earliest ms) (least_push ms n)
   where
-    on : (o : Option ℕ) → least (ms ++ n ∷ []) ≡ Some (option_map_or (λ k. min k n) o n) →
-        Some (option_map_or (min m) (least (ms ++ n ∷ [])) m) ≡ Some (min (option_map_or (min m) o m) n)
+    on : (o : Option ℕ) → earliest (ms ++ n ∷ []) ≡ Some (option_map_or (λ k. min k n) o n) →
+        Some (option_map_or (min m) (earliest (ms ++ n ∷ [])) m) ≡ Some (min (option_map_or (min m) o m) n)
     on None e = rw e refl
     on (Some k) e = rw e (ap Some (omega arith))
 
-abbrev deadlines : List Parked → List ℕ
-deadlines ps = map (λ (p : Parked). p.deadline) ps
+abbrev deadlines : List ParkedName → List ℕ
+deadlines ps = map (λ (p : ParkedName). p.deadline) ps
 
-abbrev late : ℕ → List Parked → List Parked
-late now ps = filter (λ (p : Parked). nat_le p.deadline now) ps
+abbrev late : ℕ → List ParkedName → List ParkedName
+late now ps = filter (λ (p : ParkedName). nat_le p.deadline now) ps
 
 -- nothing is late where the least deadline, if there is one, is after the moment
-none_late : (now : ℕ) (ps : List Parked) → IfSome (least (deadlines ps)) (λ d. now < d) → late now ps ≡ []
+none_late : (now : ℕ) (ps : List ParkedName) → IfSome (earliest (deadlines ps)) (λ d. now < d) → late now ps ≡ []
 none_late now [] above = refl
 none_late now (p ∷ ps) above =
-    let both = parts (least (deadlines ps)) above in
+    let both = parts (earliest (deadlines ps)) above in
     let later : nat_le p.deadline now ≡ false = lt-leb p.deadline now both.0 in
     rw later (none_late now ps both.1)
   where
@@ -32,18 +32,18 @@ none_late now (p ∷ ps) above =
     parts None h = (h, tt)
     parts (Some m) h = (omega arith, omega arith)
 
-pub none_late_at : (now : ℕ) (ps : List Parked) (o : Option ℕ) → least (deadlines ps) ≡ o → IfSome o (λ d. now < d) → late now ps ≡ []
+pub none_late_at : (now : ℕ) (ps : List ParkedName) (o : Option ℕ) → earliest (deadlines ps) ≡ o → IfSome o (λ d. now < d) → late now ps ≡ []
 none_late_at now ps o e above = none_late now ps (rw e above)
 
 -- something is late where the least deadline is at or before the moment
-pub some_late : (now : ℕ) (ps : List Parked) (d : ℕ) → least (deadlines ps) ≡ Some d → d ≤ now → late now ps ≢ []
+pub some_late : (now : ℕ) (ps : List ParkedName) (d : ℕ) → earliest (deadlines ps) ≡ Some d → d ≤ now → late now ps ≢ []
 some_late now [] d e below none = absurd (cc)
 some_late now (p ∷ ps) d e below none =
-    on (nat_le p.deadline now) refl none (least (deadlines ps)) refl (same_Some _ d e) (some_late now ps)
+    on (nat_le p.deadline now) refl none (earliest (deadlines ps)) refl (same_Some _ d e) (some_late now ps)
   where
     on : (b : Bool) → nat_le p.deadline now ≡ b → cond b (p ∷ late now ps) (late now ps) ≡ [] →
-        (o : Option ℕ) → least (deadlines ps) ≡ o → option_map_or (min p.deadline) o p.deadline ≡ d →
-        ((m : ℕ) → least (deadlines ps) ≡ Some m → m ≤ now → late now ps ≢ []) → ⊥
+        (o : Option ℕ) → earliest (deadlines ps) ≡ o → option_map_or (min p.deadline) o p.deadline ≡ d →
+        ((m : ℕ) → earliest (deadlines ps) ≡ Some m → m ≤ now → late now ps ≢ []) → ⊥
     on true t n o l m again = absurd (cc)
     on false t n None l m again = let after = leb-false p.deadline now t in omega arith
     on false t n (Some k) l m again = let after = leb-false p.deadline now t in again k l (omega arith) n

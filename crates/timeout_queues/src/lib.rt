@@ -9,7 +9,7 @@ ghost use Rattle.std.specs.Prelude.{◌≡◌, ◌≤◌, ◌↔◌, ◌⊎◌, 
 ghost use Rattle.std.specs.Bool.{OnTrue, OnFalse};
 ghost use Rattle.std.specs.Option.{option_map_or};
 ghost use Rattle.timeout_queues.specs.declared.Due.{Due};
-ghost use Rattle.timeout_queues.specs.Waiting.{nothing_parked, IsFree, parked_of, parked_as, with_parked, without, Updates, overdue_at, least_deadline, IsOverdue, deadline_of};
+ghost use Rattle.timeout_queues.specs.Waiting.{nothing_parked, IsFree, parked_of, parked_as, with_parked, without_name, Updates, overdue_at, least_deadline, IsOverdue, deadline_of};
 
 #[cfg(test)]
 mod tests;
@@ -40,13 +40,13 @@ struct Due {
 
 impl Model for Queues {
     ghost use Rattle.std.specs.Prelude.{List, Option, ◌≤◌, map, length};
-    ghost use Rattle.timeout_queues.specs.Waiting.{Parked};
+    ghost use Rattle.timeout_queues.specs.Waiting.{ParkedName};
 
-    ghost Value = { List (Option Parked) };
+    ghost Value = { List (Option ParkedName) };
 
-    ghost use Rattle.timeout_queues.specs.Inside.{seen};
+    ghost use Rattle.timeout_queues.specs.Entries.{parked_in};
 
-    ghost view = { λ q. map seen q.slots.items };
+    ghost view = { λ q. map parked_in q.slots.items };
 
     ghost invariant = { λ q. length q.slots.items ≤ 8192 };
 }
@@ -83,7 +83,7 @@ impl Queues {
     /// Takes a parked name out, and says whether it was parked.
     pub fn unpark(&mut self, name: ConnName) -> bool
         ensures found { result ≡ is_some (parked_of self.old name) }
-        ensures unparked { OnTrue result (self.new ≡ without self.old name) }
+        ensures unparked { OnTrue result (self.new ≡ without_name self.old name) }
         ensures unchanged { OnFalse result (self.new ≡ self.old) }
         ensures updates { Updates self.old self.new name None }
     {

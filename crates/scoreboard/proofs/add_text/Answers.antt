@@ -3,6 +3,6 @@ use Rattle.scoreboard.proofs.add_text.Goals as goal
 
 pub returns : goal.returns
 returns c =
-    joined_eight c.add_line.result _ _ _ _ _ _ _ _ _ _ _ _ _ _ _ _ _ c.in_ok-add_number.ensures c.in_ok-add_number-2.ensures
-    c.in_ok-add_number-3.ensures c.in_ok-add_number-4.ensures c.in_ok-add_number-5.ensures c.in_ok-add_number-6.ensures
-    c.in_ok-add_number-7.ensures (rw c.as_slice.ensures at c.add_line.ensures)
+    joined_eight c.add_line.result _ _ _ _ _ _ _ _ _ _ _ _ _ _ _ _ _ c.in_ok-add_count.ensures c.in_ok-add_count-2.ensures
+    c.in_ok-add_count-3.ensures c.in_ok-add_count-4.ensures c.in_ok-add_count-5.ensures c.in_ok-add_count-6.ensures
+    c.in_ok-add_count-7.ensures (rw c.as_slice.ensures at c.add_line.ensures)

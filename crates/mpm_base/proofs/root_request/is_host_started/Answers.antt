@@ -1,7 +1,7 @@
 use Rattle.std.proofs.Common.{◌++◌, length, sym, subst, ap, ◌∙◌, inl, inr, arith}
 use Rattle.std.proofs.lemmas.Bool.{eqb-true, eqb-false}
 use Rattle.std.proofs.lemmas.List.{append-nil, nil_from_length}
-use Rattle.mpm_base.specs.RootRequest.{IsHostStarted}
+use Rattle.mpm_base.specs.RootRequestInside.{IsHostStarted}
 use Rattle.mpm_base.proofs.RootRequestLemmas.{end_follows, started_in_host, started_behind_host}
 use Rattle.mpm_base.proofs.root_request.is_host_started.Goals as goal
 

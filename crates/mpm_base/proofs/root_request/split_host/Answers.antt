@@ -1,7 +1,8 @@
 use Rattle.std.proofs.Common.{sym, subst, arith}
 use Rattle.std.specs.List.{AllPass}
 use Rattle.std.proofs.lemmas.List.Sums.{prefix_len-le-length}
-use Rattle.mpm_base.specs.RootRequest.{is_host_byte, Stops}
+use Rattle.mpm_base.specs.RootRequest.{is_host_byte}
+use Rattle.mpm_base.specs.StopsInside.{Stops}
 use Rattle.mpm_base.proofs.ListLemmas.{run_passes, run_stops}
 use Rattle.mpm_base.proofs.root_request.split_host.Goals as goal
 

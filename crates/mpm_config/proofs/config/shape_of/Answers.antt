@@ -3,12 +3,12 @@ use Rattle.std.proofs.Common.{arith, subst, sym}
 use Rattle.mpm_config.specs.declared.numbers.Numbers.{Numbers}
 use Rattle.mpm_config.specs.Numbers.{IsInRange}
 use Rattle.mpm_config.specs.Shape.{shape_of_numbers, IsInBounds}
-use Rattle.mpm_config.specs.Correction.{corrected}
+use Rattle.mpm_config.specs.Correction.{after_corrections}
 use Rattle.mpm_config.proofs.CorrectionLemmas.{in_bounds}
 use Rattle.mpm_config.proofs.config.shape_of.Goals as goal
 use Rattle.std.proofs.Common.{◌≡◌}
 
-bounds_of : (written now : Numbers) → IsInRange written → now ≡ corrected written → IsInBounds (shape_of_numbers now)
+bounds_of : (written now : Numbers) → IsInRange written → now ≡ after_corrections written → IsInBounds (shape_of_numbers now)
 bounds_of written now h e = subst (λ n. IsInBounds (shape_of_numbers n)) (sym e) (in_bounds written h)
 
 pub nonzero_div-result : goal.nonzero_div-result

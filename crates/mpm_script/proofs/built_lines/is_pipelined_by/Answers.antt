@@ -1,7 +1,7 @@
 use Rattle.std.proofs.Common.{◌+◌, drop, refl, sym, subst, ◌∙◌}
 use Rattle.std.proofs.lemmas.Bool.{false≢true}
 use Rattle.std.proofs.lemmas.List.{drop_all}
-use Rattle.mpm_script.specs.Progress.{Leads, Breaks}
+use Rattle.mpm_script.specs.BuiltProgressInside.{Leads, Breaks}
 use Rattle.mpm_script.proofs.BuiltLemmas.{item_first, sends_more, sends_broken, sends_ended, sends_all}
 use Rattle.mpm_script.proofs.built_lines.is_pipelined_by.Goals as goal
 

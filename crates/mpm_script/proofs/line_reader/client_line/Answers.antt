@@ -2,7 +2,7 @@
 use Rattle.std.proofs.Common.{ℕ, List, [], Option, subst}
 use Rattle.std.specs.Prelude.{codes}
 use Rattle.mpm_script.specs.ScriptLine.{IsLine}
-use Rattle.mpm_script.specs.LineWords.{IsNamed}
+use Rattle.mpm_script.specs.LineWordsInside.{IsNamed}
 use Rattle.mpm_base.specs.declared.script_line.LinkCall.{LinkCall}
 use Rattle.mpm_base.specs.declared.script_line.ClientAct.{ClientAct}
 use Rattle.mpm_base.specs.declared.script_line.ClientAct.TheVariants as act

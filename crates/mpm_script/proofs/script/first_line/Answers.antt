@@ -3,7 +3,7 @@ use Rattle.std.specs.List.{AllPass}
 use Rattle.std.proofs.lemmas.List.{nil_from_length}
 use Rattle.std.proofs.lemmas.List.Sums.{prefix_len-le-length}
 use Rattle.mpm_script.specs.Script.{is_line_byte}
-use Rattle.mpm_base.specs.RootRequest.{Stops}
+use Rattle.mpm_base.specs.StopsInside.{Stops}
 use Rattle.mpm_base.proofs.ListLemmas.{run_passes, run_stops}
 use Rattle.mpm_script.proofs.FirstLineLemmas.{no_line_end, line_end}
 use Rattle.mpm_script.proofs.script.first_line.Goals as goal

@@ -1,6 +1,6 @@
 use Rattle.std.proofs.Common.{◌≡◌, sym, ◌∙◌, rules}
 use Rattle.std.specs.List.{count_by}
-use Rattle.script_front.specs.PlayedFront.{is_conn}
+use Rattle.script_front.specs.PlayedFrontInside.{is_conn}
 use Rattle.script_front.proofs.ComingLemmas.{names-count}
 use Rattle.script_front.proofs.coming_lines.arrivals.Goals as goal
 

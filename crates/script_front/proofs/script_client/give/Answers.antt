@@ -1,6 +1,6 @@
-use Rattle.std.proofs.Common.{◌<◌, length, ap, ◌∙◌, arith}
+use Rattle.std.proofs.Common.{◌<◌, length, subst, sym, ◌∙◌, arith}
 use Rattle.std.proofs.lemmas.Bool.Decides.{nat_tests}
-use Rattle.script_front.specs.Signals.{SeenClient}
+use Rattle.script_front.specs.Signals.{Looks, SeenClient}
 use Rattle.script_front.proofs.SignalLemmas.{gives-done, gives-full, gives-given, gives-none, gives-start, gives-unwatched}
 use Rattle.script_front.proofs.script_client.give.Goals as goal
 use Rattle.script_front.proofs.script_client.give.Goals.{in-Some+then-take_signal, in-Some+else-take_signal, in_default}
@@ -20,18 +20,18 @@ loop-place-preserved c =
     let i = c.loop-place.place in
     let few : length c.loop-place.ready < 256 = grind (arith, nat_tests) in
     let within : i < length now = omega (arith, c.loop-place-test.true, c.loop-place.auto.clients, c.requires.each) in
+    let x = c.index-clients-place in
+    let looks = subst (λ (y : SeenClient). Looks y c.look.new.self) (sym x.is) c.look.ensures in
     elim c.match-watch.branch [
       | in-Some+then-take_signal w ↦
-          let x = w.index-clients-place in
-          rw (w.clients-is, w.ready-is, w.take_signal.ensures.state, ← x.is, w.add.ensures)
-          (gives-given c.args.clients.now now ns i loop.ready x.result w.in-Some.name loop.invariant within c.loop-place-test.true x.is w.in-Some.is few (ap (λ (y : SeenClient). y.due) x.is ∙ w.take_signal.ensures.due w.if-take_signal.true))
+          rw (w.clients-is, w.ready-is, w.take_signal.ensures.state, w.add.ensures)
+          (gives-given c.args.clients.now now ns i loop.ready x.result _ w.in-Some.name loop.invariant within c.loop-place-test.true x.is w.in-Some.is few looks (sym w.if-take_signal.true ∙ w.take_signal.ensures.is))
       | in-Some+else-take_signal w ↦
-          let x = w.index-clients-place in
-          rw (w.clients-is, w.ready-is, w.take_signal.ensures.state, ← x.is)
-          (gives-none c.args.clients.now now ns i loop.ready x.result w.in-Some.name loop.invariant within c.loop-place-test.true x.is w.in-Some.is few)
+          rw (w.clients-is, w.ready-is, w.take_signal.ensures.state)
+          (gives-none c.args.clients.now now ns i loop.ready x.result _ w.in-Some.name loop.invariant within c.loop-place-test.true x.is w.in-Some.is few looks (sym w.if-take_signal.false ∙ w.take_signal.ensures.is))
       | in_default w ↦
           rw (w.clients-is, w.ready-is)
-          (gives-unwatched c.args.clients.now now ns i loop.ready loop.invariant within c.loop-place-test.true w.in_default.is)
+          (gives-unwatched c.args.clients.now now ns i loop.ready x.result _ loop.invariant within c.loop-place-test.true x.is w.in_default.is looks)
     ]
 
 pub returns : goal.returns

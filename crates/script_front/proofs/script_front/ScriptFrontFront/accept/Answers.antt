@@ -1,7 +1,7 @@
 use Rattle.std.proofs.Common.{◌≡◌, ◌+◌, length, ap, refl, arith, ◌∙◌}
 use Rattle.mpm_base.specs.Count.{next_count}
 use Rattle.mpm_base.specs.Link.{fresh_link}
-use Rattle.mpm_base.specs.ScriptLink.{SeenScriptLink}
+use Rattle.stand_ins.specs.ScriptLink.{SeenScriptLink}
 use Rattle.script_front.proofs.PlayedLemmas.{next-taken, none-waits, played-accept}
 use Rattle.script_front.proofs.script_front.ScriptFrontFront.accept.Goals as goal
 

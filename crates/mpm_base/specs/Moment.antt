@@ -1,0 +1,6 @@
+-- Moments: milliseconds since 1970-01-01 00:00:00 UTC.
+use Rattle.std.specs.Prelude.{ℕ}
+
+-- the greatest moment, the last of the year 9999
+abbrev pub greatest_moment : ℕ
+greatest_moment = 253402300799999

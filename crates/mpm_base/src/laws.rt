@@ -1,0 +1,28 @@
+//! Laws of the outside: what follows for each store and each link from the clauses of their traits. Each is the contract of
+//! a function that does nothing.
+ghost use Rattle.std.specs.Prelude.{◌≡◌, ℕ, ◌<◌, Bool, List, Option, Some, Result};
+ghost use Rattle.mpm_base.specs.Link.{LinkTold, fresh_link, after_read, after_shut};
+ghost use Rattle.mpm_base.specs.Store.{StoreTold, StoreCounts, ReadsFile, ListsNames, IsOutcome};
+ghost use Rattle.mpm_base.specs.declared.link.Got.{Got};
+ghost use Rattle.mpm_base.specs.declared.store.StoreFault.{StoreFault};
+
+/// Of one store that tells its files, two reads of a file have one outcome, and so have two listings of a folder: where
+/// neither call failed, nor memory lacked, they answer the same.
+pub fn told_stores_have_one_outcome()
+    ensures read { (told : StoreTold) (told' told'' : Option StoreTold) (c c' d d' : StoreCounts) (name : List ℕ) (most : ℕ)
+        (one other : Result (List ℕ) StoreFault) → ReadsFile (Some told) told' c c' name most one → ReadsFile (Some told) told'' d d' name most other
+        → IsOutcome one → IsOutcome other → one ≡ other }
+    ensures names { (told : StoreTold) (told' told'' : Option StoreTold) (c c' d d' : StoreCounts) (folder : List ℕ) (most : ℕ)
+        (one other : Result (List (List ℕ)) StoreFault) → ListsNames (Some told) told' c c' folder most one → ListsNames (Some told) told'' d d' folder most other
+        → IsOutcome one → IsOutcome other → one ≡ other }
+{}
+
+/// What a link tells of the bytes before its half-close is what was received until then: it is all that was received
+/// while the link wasn't half-closed, and no half-close and no later read changes it.
+pub fn bytes_before_a_half_close_stay()
+    ensures fresh { (number : ℕ) (bytes : List ℕ) → (fresh_link number bytes).before_shut ≡ (fresh_link number bytes).received }
+    ensures grows { (answer : Got) (told : LinkTold) → told.shuts ≡ 0 → told.before_shut ≡ told.received
+        → (after_read answer told).before_shut ≡ (after_read answer told).received }
+    ensures shut { (answer : Bool) (told : LinkTold) → (after_shut answer told).before_shut ≡ told.before_shut }
+    ensures stays { (answer : Got) (told : LinkTold) → 0 < told.shuts → (after_read answer told).before_shut ≡ told.before_shut }
+{}

@@ -1,0 +1,8 @@
+-- What helps to prove, and no public contract reaches, of: What the table of numbers says of each directive whose value is a number.
+use Rattle.std.specs.Prelude.{◌*◌, ◌^◌, ◌<◌, ◌≤◌}
+use Rattle.mpm_config.specs.declared.range.Range.{Range}
+
+-- a line of the table that is well formed: what 0 is taken as is in the range, and what is kept fits 32 bits
+pub record IsWellFormed (r : Range) : Type 0 where
+  pub zero : r.zero ≤ r.greatest
+  pub fits : r.greatest * r.unit < 2 ^ 32

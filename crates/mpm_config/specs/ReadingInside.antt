@@ -1,0 +1,12 @@
+-- What helps to prove, and no public contract reaches, of: The configuration of a text: its logical lines are read in order, each in the sections that are open before it.
+use Rattle.std.specs.Prelude.{◌≡◌, Result, Ok, MatchResult}
+use Rattle.mpm_config.specs.declared.fault.ConfFault.{ConfFault}
+use Rattle.mpm_config.specs.Reading.{Progress, Refuses}
+
+-- an answer is what was to be answered, or its refusal
+abbrev pub IsAnswer : {A : Type 0} → Result A ConfFault → Result A ConfFault → Type 0
+IsAnswer {A} r answer = MatchResult answer (λ (a : A). r ≡ Ok a) (Refuses r)
+
+-- after an answer stands what was to stand, or it is its refusal
+abbrev pub LeadsTo : {A : Type 0} → Result Progress ConfFault → Progress → Result A ConfFault → Type 0
+LeadsTo r new answer = MatchResult answer (λ _. r ≡ Ok new) (Refuses r)

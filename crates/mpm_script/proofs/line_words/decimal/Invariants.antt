@@ -1,7 +1,0 @@
--- The number of the digits so far.
-use Rattle.std.proofs.Common.{◌≡◌, take}
-use Rattle.std.specs.Str.Parse.{digits_value}
-use Rattle.mpm_script.proofs.line_words.decimal.Given as goal
-
-abbrev pub invariant-loop-digit : goal.invariant-loop-digit
-invariant-loop-digit l = l.n ≡ digits_value 10 (take l.digit-index l.digits)

@@ -1,6 +1,0 @@
-use Rattle.std.proofs.Common.{take}
-use Rattle.mpm_script.specs.Progress.{Leads}
-use Rattle.mpm_script.proofs.pipelined.after_bytes.Given as goal
-
-abbrev pub invariant-loop-byte : goal.invariant-loop-byte
-invariant-loop-byte l = Leads l.fn.progress (take l.byte-index l.bytes) l.reached

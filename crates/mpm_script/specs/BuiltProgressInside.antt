@@ -1,0 +1,72 @@
+-- How far the bytes of a client came through requests of the known form, and which bytes may follow.
+use Rattle.std.specs.Prelude.{◌≡◌, ℕ, ◌+◌, ◌<◌, ◌≤◌, Bool, false, nat_le, List, ◌∷◌, ◌++◌, length, drop, ◌↔◌, ◌⊎◌}
+use Rattle.std.specs.List.{AllPass, AllByRecursion, flat_map}
+use Rattle.mpm_base.specs.RootRequest.{is_host_byte, IsHost, before_host, after_host, request_of, IsStarted}
+use Rattle.mpm_script.specs.declared.built_requests.Progress.{Progress}
+use Rattle.mpm_script.specs.declared.built_requests.Spot.{Spot}
+use Rattle.mpm_script.specs.declared.built_requests.Spot.TheVariants as spot
+
+-- the place is one of a request, or its end
+abbrev pub IsSpot : Spot → Type 0
+IsSpot (spot.BeforeHost n) = n < 22
+IsSpot (spot.InHost n) = n ≤ 255
+IsSpot (spot.BehindHost n) = n ≤ 4
+
+-- the end of a request
+abbrev pub is_whole : Spot → Bool
+is_whole (spot.BeforeHost n) = false
+is_whole (spot.InHost n) = false
+is_whole (spot.BehindHost n) = nat_le 4 n
+
+-- these bytes make the request whole that has come to that place
+abbrev pub Completes : Spot → List ℕ → Type 0
+Completes (spot.BeforeHost n) bytes = (host : List ℕ) × IsHost host × (bytes ≡ drop n before_host ++ (host ++ after_host))
+Completes (spot.InHost n) bytes =
+    (host : List ℕ) × (0 < n + length host) × (n + length host ≤ 255) × AllPass is_host_byte host × (bytes ≡ host ++ after_host)
+Completes (spot.BehindHost n) bytes = bytes ≡ drop n after_host
+
+-- the byte takes the request from one place to the other
+abbrev pub Advances : Spot → ℕ → Spot → Type 0
+Advances spot b next = (bytes : List ℕ) → Completes spot (b ∷ bytes) ↔ Completes next bytes
+
+-- after so many requests: some further ones, which are at most 99 with those, and then a proper front of one
+pub record IsPipelinedAfter (requests : ℕ) (bytes : List ℕ) : Type 0 where
+  pub hosts : List (List ℕ)
+  pub rest : List ℕ
+  pub few : requests + length hosts ≤ 99
+  pub are_hosts : AllByRecursion IsHost hosts
+  pub started : IsStarted rest
+  pub whole : bytes ≡ flat_map request_of hosts ++ rest
+
+-- the bytes don't make the started request whole, and begin what does
+pub record StaysWithin (spot : Spot) (bytes : List ℕ) : Type 0 where
+  pub more : List ℕ
+  pub some : 0 < length more
+  pub completes : Completes spot (bytes ++ more)
+
+-- the bytes make the started request whole, and then go on, after so many requests before it
+pub record GoesPast (requests : ℕ) (spot : Spot) (bytes : List ℕ) : Type 0 where
+  pub end : List ℕ
+  pub rest : List ℕ
+  pub completes : Completes spot end
+  pub whole : bytes ≡ end ++ rest
+  pub pipelined : IsPipelinedAfter (requests + 1) rest
+
+-- at most 99 requests are whole, and the next one isn't
+pub record IsProgress (progress : Progress) : Type 0 where
+  pub few : progress.requests ≤ 99
+  pub is_spot : IsSpot progress.spot
+  pub open_spot : is_whole progress.spot ≡ false
+
+-- with these bytes behind those so far there are at most 99 requests, and then a proper front of one
+abbrev pub BytesMayFollow : Progress → List ℕ → Type 0
+BytesMayFollow progress bytes = StaysWithin progress.spot bytes ⊎ GoesPast progress.requests progress.spot bytes
+
+-- the bytes take the client that far: what may follow them is what may follow then
+pub record Leads (progress : Progress) (bytes : List ℕ) (next : Progress) : Type 0 where
+  pub is_progress : IsProgress next
+  pub follows : (more : List ℕ) → BytesMayFollow progress (bytes ++ more) ↔ BytesMayFollow next more
+
+-- the bytes may not follow, whatever comes behind them
+abbrev pub Breaks : Progress → List ℕ → Type 0
+Breaks progress bytes = (more : List ℕ) → ¬ BytesMayFollow progress (bytes ++ more)

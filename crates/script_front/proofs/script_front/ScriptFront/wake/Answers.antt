@@ -1,0 +1,80 @@
+use Rattle.std.proofs.Common.{◌≡◌, ℕ, ◌<◌, inl, inr, List, [], max, length, ap, sym, subst, ◌∙◌, arith}
+use Rattle.mpm_base.specs.Front.{HasAllTaken}
+use Rattle.script_front.specs.PlayedFrontInside.{gone_to, with_begun, with_clients, with_end}
+use Rattle.script_front.specs.ScriptFront.{IsUnderWay, SeenFront, earlier, next_moment, to_come}
+use Rattle.script_front.specs.Signals.{Gives}
+use Rattle.script_front.proofs.PlaysLemmas.{plays-begins, plays-ends, plays-over, plays-passes, none-of, plays-signals, plays-stays, some-of}
+use Rattle.script_front.proofs.script_front.ScriptFront.wake.Goals as goal
+use Rattle.script_front.proofs.script_front.ScriptFront.wake.Goals.{After-signal, After-earlier-next, then-not-quiet-via-then-not-quiet, then-not-quiet-via-else-not-quiet+then-not-is_empty}
+
+pub returns-then-self-gt0-clause-plays : goal.returns-then-self-gt0-clause-plays
+returns-then-self-gt0-clause-plays c =
+    let view = c.self.view_is in
+    let ends : 0 < c.args.self.now.ends = omega (arith, c.if-self-gt0.true, ap (λ (f : SeenFront). f.ends) view) in
+    let begun = sym (ap (λ (f : SeenFront). f.begun) view) ∙ (c.self.invariant.over c.if-self-gt0.true).0 in
+    plays-over c.args.self.now c.end.new.self c.args.until c.args.quiet _ c.end.ensures.state c.requires begun ends
+
+pub returns-then-begin-clause-plays : goal.returns-then-begin-clause-plays
+returns-then-begin-clause-plays c =
+    let begins = c.begin.ensures.begins c.if-begin.true in
+    let lasts : c.args.self.now.ends ≡ 0 = omega (arith, c.if-self-gt0.false, ap (λ (f : SeenFront). f.ends) c.self.view_is) in
+    let stands = ap (λ (f : SeenFront). f.told.moment) (c.self-2.view_is ∙ begins.2) in
+    plays-begins c.args.self.now c.begin.new.self c.args.until c.args.quiet _ _ begins.2 c.requires stands lasts begins.0 begins.1
+
+-- ## Behind the signals
+
+goes : (c : After-signal) → IsUnderWay c.args.self.now
+goes c = record {
+  ends = omega (arith, c.if-self-gt0.false, ap (λ (f : SeenFront). f.ends) c.self.view_is);
+  next = (c.begin.ensures.goes_on c.if-begin.false).0;
+}
+
+gives : (c : After-signal) → Gives 256 c.args.self.now.clients c.args.self.now.told.watched c.signal.new.self.clients c.signal.new.ready
+gives c = rw (c.begin.ensures.goes_on c.if-begin.false).1 at c.signal.ensures.gives
+
+is : (c : After-signal) → c.signal.new.self ≡ with_clients c.signal.new.self.clients (with_begun c.args.self.now)
+is c = c.signal.ensures.state ∙ ap (with_clients c.signal.new.self.clients) (c.begin.ensures.goes_on c.if-begin.false).1
+
+none : (c : After-earlier-next) → c.signal.new.ready ≡ []
+none c = sym c.slots.ensures.is ∙ none-of _ c.if-not-is_empty.ensures
+
+comes : (c : After-earlier-next) → c.signal.new.self ≡ with_clients c.signal.new.self.clients (with_begun c.args.self.now)
+    → earlier c.args.until (next_moment (to_come c.args.self.now)) ≡ c.earlier-next.result
+comes c begun = sym (c.earlier-next.ensures ∙ ap (earlier c.args.until) (c.next_moment.ensures ∙ ap next_moment (c.to_come.ensures ∙ ap to_come begun)))
+
+pub returns-then-not-quiet-clause-plays : goal.returns-then-not-quiet-clause-plays
+returns-then-not-quiet-clause-plays c =
+    let at = (goal.at.returns-then-not-quiet-clause-plays c).After-signal in
+    let stands = ap (λ (f : SeenFront). f.told.moment) (c.self-3.view_is ∙ is at) in
+    plays-signals c.args.self.now c.signal.new.self c.args.until c.args.quiet _ _ (goes at) (gives at) _ (is at) stands (elim c.then-not-quiet.branch [
+      | then-not-quiet-via-then-not-quiet w ↦ inl w.if-not-quiet.true
+      | then-not-quiet-via-else-not-quiet+then-not-is_empty w ↦ inr (subst (λ (slots : List ℕ). 0 < length slots) w.slots.ensures.is (some-of _ w.if-not-is_empty.ensures))
+    ])
+
+pub returns-in-Some-clause-plays : goal.returns-in-Some-clause-plays
+returns-in-Some-clause-plays c =
+    let at = goal.at.returns-in-Some-clause-plays c in
+    let begun = is at.After-signal in
+    let next = c.in-Some.moment in
+    let gone = c.go_to.ensures ∙ ap (λ (f : SeenFront). gone_to (max f.told.moment next) f) begun in
+    let stands = ap (λ (f : SeenFront). f.told.moment) (c.self-in-Some.view_is ∙ gone) in
+    plays-passes c.args.self.now c.go_to.new.self c.args.until c.args.quiet _ _ (goes at.After-signal) (gives at.After-signal) next _ gone (none at.After-earlier-next) stands
+    c.if-not-quiet.false (comes at.After-earlier-next begun ∙ c.in-Some.is)
+
+pub returns-then-is_over-clause-plays : goal.returns-then-is_over-clause-plays
+returns-then-is_over-clause-plays c =
+    let at = goal.at.returns-then-is_over-clause-plays c in
+    let begun = is at.After-signal in
+    let over = c.is_over.ensures.over c.if-is_over.true in
+    let taken = subst (λ (f : SeenFront). HasAllTaken f.told) begun over.0 in
+    plays-ends c.args.self.now c.end-then-is_over.new.self c.args.until c.args.quiet _ _ (goes at.After-signal) (gives at.After-signal)
+    (c.end-then-is_over.ensures.state ∙ ap with_end begun) (none at.After-earlier-next) c.if-not-quiet.false (comes at.After-earlier-next begun ∙ c.in_default.is)
+    (record { left = taken.left; accepted = taken.accepted }) over.1
+
+pub returns-clause-plays : goal.returns-clause-plays
+returns-clause-plays c =
+    let at = goal.at.returns-clause-plays c in
+    let begun = is at.After-signal in
+    let stands = ap (λ (f : SeenFront). f.told.moment) (c.self-3.view_is ∙ begun) in
+    plays-stays c.args.self.now c.signal.new.self c.args.until c.args.quiet _ _ (goes at.After-signal) (gives at.After-signal) _ begun (none at.After-earlier-next) stands
+    c.if-not-quiet.false (comes at.After-earlier-next begun ∙ c.in_default.is) (c.is_over.ensures.unclosed c.if-is_over.false)

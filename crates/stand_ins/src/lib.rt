@@ -1,0 +1,28 @@
+//! What stands in for the outside in memory: links, sinks and stores.
+//!
+//! `PlainLink`, `PlainSink` and `PlainStore` never fail; `ScriptLink`, `MemSink` and `MemStore` fail at the calls whose
+//! numbers they are given. Each does what its trait of `mpm_base` says, and exactly what its own clauses say. Their
+//! definitions stand in `specs/`, one file for each type. `Wire` is what the front of a script and one of its links tell
+//! each other.
+#![tactic(auto)]
+
+mod calls;
+mod files;
+mod link_counters;
+mod mem_sink;
+mod mem_store;
+mod plain_link;
+mod plain_store;
+mod script_link;
+#[cfg(test)]
+mod tests;
+mod wire;
+
+pub use calls::Calls;
+pub use files::Files;
+pub use mem_sink::{MemSink, PlainSink};
+pub use mem_store::MemStore;
+pub use plain_link::PlainLink;
+pub use plain_store::PlainStore;
+pub use script_link::ScriptLink;
+pub use wire::Wire;

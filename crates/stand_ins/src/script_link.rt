@@ -1,0 +1,287 @@
+//! A link in memory some of whose calls fail, and whose bytes may come little by little.
+ghost use Rattle.std.specs.Prelude.{◌≡◌, ◌≤◌, true, false, Some, length, is_some};
+ghost use Rattle.mpm_base.specs.Link.{Reads, Writes, Shuts, Closes, GivesNext, FitsBuffer, FitsPiece, read_failed, after_read, after_write, after_shut, after_close};
+ghost use Rattle.stand_ins.specs.Calls.{next_is_listed};
+ghost use Rattle.stand_ins.specs.PlainLink.{buffer_after_read, read_answer};
+ghost use Rattle.stand_ins.specs.ScriptLink.{new_script_link, new_paced_link, script_read_answer, script_link_after_read, TakesWholeUnless, script_link_after_write};
+ghost use Rattle.mpm_base.specs.declared.link.Sent.TheVariants as sent;
+
+use crate::calls::Calls;
+use crate::link_counters::LinkCounters;
+use crate::plain_link::PlainLink;
+use crate::wire::Wire;
+use mpm_base::{Got, Link, Octets, Sent};
+use std::alloc::Global;
+use std::marker::Model;
+use std::sync::Arc;
+
+/// A link whose client sends certain bytes, and whose listed reads and writes fail. Either all has come and there is room
+/// for all that is written, or a front says how much has come and how much it may take.
+#[derive(Debug, Drop)]
+pub struct ScriptLink {
+    inner: PlainLink,
+    wire: Option<Arc<Wire>>,
+    counters: LinkCounters,
+    read_calls: u64,
+    write_calls: u64,
+    bad_reads: Calls,
+    bad_writes: Calls,
+}
+
+impl Model for ScriptLink {
+    ghost use Rattle.std.specs.Prelude.{is_some};
+    ghost use Rattle.stand_ins.specs.ScriptLink.{SeenScriptLink};
+
+    ghost Value = { SeenScriptLink };
+
+    ghost view = { λ l. record {
+      told = l.inner.told;
+      counts = l.counters;
+      ends = l.inner.ends;
+      paced = is_some l.wire;
+      reads = l.read_calls;
+      writes = l.write_calls;
+      fail_reads = l.bad_reads;
+      fail_writes = l.bad_writes;
+    } };
+}
+
+impl ScriptLink {
+    /// A link of that number whose client sent the bytes `coming`, and no more where `ends`, and which has room for all
+    /// that is written to it. The reads and the writes of the listed numbers fail; every call counts, whatever it
+    /// answers.
+    pub fn make(
+        alloc: Global,
+        rank: u64,
+        coming: Octets,
+        ends: bool,
+        fail_reads: Calls,
+        fail_writes: Calls,
+    ) -> ScriptLink
+        ensures { result ≡ new_script_link rank coming ends fail_reads fail_writes }
+    {
+        ScriptLink {
+            inner: PlainLink::make(alloc, rank, coming, ends),
+            wire: None,
+            counters: LinkCounters::make(),
+            read_calls: 0,
+            write_calls: 0,
+            bad_reads: fail_reads,
+            bad_writes: fail_writes,
+        }
+    }
+
+    /// A link of that number whose client sends the bytes `coming` in all. The front that has the wire says how many of
+    /// them came, whether the end has, and for how many bytes there is room.
+    pub fn paced(
+        alloc: Global,
+        rank: u64,
+        coming: Octets,
+        wire: Arc<Wire>,
+        fail_reads: Calls,
+        fail_writes: Calls,
+    ) -> ScriptLink
+        ensures { result ≡ new_paced_link rank coming fail_reads fail_writes }
+    {
+        ScriptLink {
+            inner: PlainLink::make(alloc, rank, coming, false),
+            wire: Some(wire),
+            counters: LinkCounters::make(),
+            read_calls: 0,
+            write_calls: 0,
+            bad_reads: fail_reads,
+            bad_writes: fail_writes,
+        }
+    }
+
+    /// The bytes of the client that no read gave yet.
+    pub fn left(&self) -> &[u8]
+        ensures { result.now ≡ self.now.told.coming }
+    {
+        self.inner.left()
+    }
+
+    /// The bytes that its reads gave.
+    pub fn received(&self) -> &[u8]
+        ensures { result.now ≡ self.now.told.received }
+    {
+        self.inner.received()
+    }
+
+    /// The bytes that its writes took.
+    pub fn sent(&self) -> &[u8]
+        ensures { result.now ≡ self.now.told.sent }
+    {
+        self.inner.sent()
+    }
+
+    /// How often it was half-closed.
+    pub fn shuts(&self) -> u64
+        ensures { result ≡ self.now.told.shuts }
+    {
+        self.inner.shuts()
+    }
+
+    /// How often it was closed.
+    pub fn closes(&self) -> u64
+        ensures { result ≡ self.now.told.closes }
+    {
+        self.inner.closes()
+    }
+
+    /// The number that it was made with.
+    pub fn rank(&self) -> u64
+        ensures { result ≡ self.now.told.rank }
+    {
+        self.inner.rank()
+    }
+
+    /// How many calls failed.
+    pub fn faults(&self) -> u64
+        ensures { result ≡ self.now.counts.faults }
+    {
+        self.counters.faults()
+    }
+}
+
+/// Reads what came by now, and finds the end only where it has come and no byte is left.
+fn read_came(inner: &mut PlainLink, wire: &Wire, buffer: &mut [u8]) -> Got
+    ensures told { inner.new.told ≡ after_read result inner.old.told }
+    ensures ends { inner.new.ends ≡ inner.old.ends }
+    ensures gives { GivesNext result buffer.new inner.old.told }
+    ensures fits { FitsBuffer result (length buffer.new) }
+    ensures buffer { buffer.new ≡ buffer_after_read result inner.old.told.coming buffer.old }
+    ensures never { read_failed result ≡ false }
+{
+    let left = inner.left().len();
+    let given = inner.received().len() as u64;
+    let here = wire.came().saturating_sub(given).min(left as u64) as usize;
+    if here == 0 {
+        if left == 0 && wire.ended() {
+            return Got::End;
+        }
+        return Got::NotReady;
+    }
+    let room = here.min(buffer.len());
+    inner.read(&mut buffer[..room])
+}
+
+/// Reads all that is left where there is no wire, and else what came by now.
+fn read_by(inner: &mut PlainLink, wire: &Option<Arc<Wire>>, buffer: &mut [u8]) -> Got
+    ensures told { inner.new.told ≡ after_read result inner.old.told }
+    ensures ends { inner.new.ends ≡ inner.old.ends }
+    ensures gives { GivesNext result buffer.new inner.old.told }
+    ensures fits { FitsBuffer result (length buffer.new) }
+    ensures buffer { buffer.new ≡ buffer_after_read result inner.old.told.coming buffer.old }
+    ensures never { read_failed result ≡ false }
+    ensures answer { is_some wire.now ≡ false → result ≡ read_answer inner.old.told.coming inner.old.ends (length buffer.old) }
+{
+    match wire {
+        Some(wire) => read_came(inner, wire, buffer),
+        None => inner.read(buffer),
+    }
+}
+
+/// For how many of so many bytes there is room.
+fn room_for(wire: &Option<Arc<Wire>>, taken: usize, size: usize) -> usize
+    ensures within { result ≤ size }
+    ensures all { is_some wire.now ≡ false → result ≡ size }
+{
+    match wire {
+        Some(wire) => {
+            let room = wire.limit().saturating_sub(taken as u64);
+            room.min(size as u64) as usize
+        }
+        None => size,
+    }
+}
+
+/// Says how many bytes the link took in all.
+fn tell_taken(wire: &Option<Arc<Wire>>, taken: usize) {
+    if let Some(wire) = wire {
+        wire.take(taken as u64);
+    }
+}
+
+/// Writes as much as there is room for. Answers Failed only where memory for it lacks.
+fn write_by(inner: &mut PlainLink, wire: &Option<Arc<Wire>>, bytes: &[u8]) -> Sent
+    ensures told { inner.new.told ≡ after_write result bytes.now inner.old.told }
+    ensures ends { inner.new.ends ≡ inner.old.ends }
+    ensures fits { FitsPiece result (length bytes.now) }
+    ensures answer { is_some wire.now ≡ false → TakesWholeUnless false result (length bytes.now) }
+{
+    let room = room_for(wire, inner.sent().len(), bytes.len());
+    if room == 0 && !bytes.is_empty() {
+        return Sent::NotReady;
+    }
+    if let Sent::Put(count) = inner.write(&bytes[..room]) {
+        tell_taken(wire, inner.sent().len());
+        return Sent::Put(count);
+    }
+    Sent::Failed
+}
+
+impl Link for ScriptLink {
+    ghost told = { λ l. Some l.told };
+
+    ghost counts = { λ l. l.counts };
+
+    /// Gives what came by now. Answers NotReady where there is none at this moment, End only where no byte is left and the
+    /// end has come, and Failed only where the call is listed.
+    fn read(&mut self, buffer: &mut [u8]) -> Got
+        ensures link { Reads (Some self.old.told) (Some self.new.told)
+            self.old.counts self.new.counts result buffer.new }
+        ensures failed { read_failed result ≡ next_is_listed self.old.fail_reads self.old.reads }
+        ensures answer { self.old.paced ≡ false → result ≡ script_read_answer self.old (length buffer.old) }
+        ensures buffer { buffer.new ≡ buffer_after_read result self.old.told.coming buffer.old }
+        ensures state { self.new ≡ script_link_after_read result self.old }
+    {
+        self.read_calls = self.read_calls.saturating_add(1);
+        if self.bad_reads.has(self.read_calls) {
+            self.counters.read(Got::Failed);
+            return Got::Failed;
+        }
+        let answer = read_by(&mut self.inner, &self.wire, buffer);
+        self.counters.read(answer);
+        answer
+    }
+
+    /// Takes as much of the piece as there is room for. Answers NotReady where there is none for a piece that is not
+    /// empty, and Failed where the call is listed, or memory for the piece lacks.
+    fn write(&mut self, bytes: &[u8]) -> Sent
+        ensures link { Writes (Some self.old.told) (Some self.new.told)
+            self.old.counts self.new.counts result bytes.now }
+        ensures failed { next_is_listed self.old.fail_writes self.old.writes ≡ true → result ≡ sent.Failed }
+        ensures answer { self.old.paced ≡ false → TakesWholeUnless (next_is_listed self.old.fail_writes self.old.writes) result (length bytes.now) }
+        ensures state { self.new ≡ script_link_after_write result bytes.now self.old }
+    {
+        self.write_calls = self.write_calls.saturating_add(1);
+        if self.bad_writes.has(self.write_calls) {
+            self.counters.write(Sent::Failed);
+            return Sent::Failed;
+        }
+        let answer = write_by(&mut self.inner, &self.wire, bytes);
+        self.counters.write(answer);
+        answer
+    }
+
+    fn shut(&mut self) -> bool
+        ensures link { Shuts (Some self.old.told) (Some self.new.told)
+            self.old.counts self.new.counts result }
+        ensures answer { result ≡ true }
+        ensures state { self.new ≡ record self.old { told = after_shut true self.old.told } }
+    {
+        self.inner.shut()
+    }
+
+    fn close(&mut self)
+        ensures link { Closes (Some self.old.told) (Some self.new.told)
+            self.old.counts self.new.counts }
+        ensures state { self.new ≡ record self.old { told = after_close self.old.told } }
+    {
+        self.inner.close();
+        if let Some(wire) = &self.wire {
+            wire.close();
+        }
+    }
+}
