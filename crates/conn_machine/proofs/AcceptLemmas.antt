@@ -9,8 +9,9 @@ use Rattle.conn_machine.specs.declared.child.Child.{Child}
 use Rattle.conn_machine.specs.declared.child.ChildPhase.{ChildPhase}
 use Rattle.conn_machine.specs.declared.child.ChildPhase.TheVariants.{Empty, Running, Stopping}
 use Rattle.conn_machine.specs.declared.state.State.{State}
-use Rattle.conn_machine.specs.Rows.{carried, open_count}
-use Rattle.conn_machine.specs.Children.{child_at, is_empty, is_running, is_in_bounds, within}
+use Rattle.conn_machine.specs.Rows.{carried_count, open_count}
+use Rattle.conn_machine.specs.Children.{child_at, is_empty, is_running, is_in_bounds, is_between}
+use Rattle.mpm_base.specs.Moment.{greatest_moment}
 use Rattle.conn_machine.specs.Table.{picked_child, taken_row}
 use Rattle.conn_machine.specs.Sound.{IsSound}
 use Rattle.conn_machine.specs.Laws.{idle_in, IsChosen}
@@ -49,20 +50,21 @@ fifth_of a b c d e f g all =
 -- numbers that a configuration may give allow a response
 some_response : (shape : Shape) → is_in_bounds shape ≡ true → 0 < shape.most
 some_response shape bounds =
-    let most = fifth_of (within 1 64 shape.threads) (within 1 10000 shape.factor) (within 1000 65535000 shape.read_ms) (within 1 65535000 shape.keep_ms)
-    (within 1 65535 shape.most) (within 1 32 shape.children) (within 1 shape.children shape.target) bounds in
+    let most = fifth_of (is_between 1 64 shape.threads) (is_between 1 10000 shape.factor) (is_between 1000 65535000 shape.read_ms) (is_between 1 65535000 shape.keep_ms)
+    (is_between 1 65535 shape.most) (is_between 1 32 shape.children) (is_between 1 shape.children shape.target) bounds in
     leb-true 1 shape.most (and_parts (nat_le 1 shape.most) (nat_le shape.most 65535) most).0
 
 -- a row that is taken is fair
-pub fair-accept : (s : State) (r : Row) → IsSound s → IsChosen s (picked_child s) → IsFair s r (taken_row s r)
-fair-accept s r sound chosen =
+pub fair-accept : (s : State) (r : Row) → IsSound s → IsChosen s (picked_child s) → r.deadline ≤ greatest_moment
+    → IsFair s r (taken_row s r)
+fair-accept s r sound chosen within =
     let k = picked_child s in
     let child = child_at s.children k in
     let parts = and_parts (is_running child.phase && child.generation == s.newest)
     (nat_lt (100 * open_count s.rows k) (100 * child.shape.threads + child.shape.factor * idle_in s k)) chosen.admits in
     let runs = (and_parts (is_running child.phase) (child.generation == s.newest) parts.0).0 in
     let there = running_there child.phase runs in
-    let room = admits_one (open_count s.rows k) child.shape.threads child.shape.factor (carried s.rows k)
+    let room = admits_one (open_count s.rows k) child.shape.threads child.shape.factor (carried_count s.rows k)
     (ltb-true (100 * open_count s.rows k) (100 * child.shape.threads + child.shape.factor * idle_in s k) parts.1) in
     let most = some_response child.shape (sound.children.shapes k there) in
     record {
@@ -76,4 +78,5 @@ fair-accept s r sound chosen =
       kind = λ _. refl;
       request = λ _. record { new = λ _. refl; expected = tt };
       notes = λ _. record { fewer = λ _. most; few = omega arith; last = refl };
+      deadline = within;
     }

@@ -18,8 +18,8 @@ use Rattle.conn_machine.specs.declared.event.Entry.{Entry}
 use Rattle.conn_machine.specs.declared.state.State.{State}
 use Rattle.conn_machine.specs.Lists.{update}
 use Rattle.conn_machine.specs.Rows.{is_vacant, is_held, is_queued, is_working, is_live, is_lingering, lives_and}
-use Rattle.conn_machine.specs.States.{opening, unused_row, is_halted, is_signalled}
-use Rattle.conn_machine.specs.Table.{allowed, next, taken_row, after_accept, parked_row, may_wait, held_row, may_be_held, queued_row, may_be_queued, served_row, answered_row, after_answer, linger_cause_fits, lingering_row, end_fits, greatest_life, closed_row, after_close, after_command, may_accept, may_answer, may_close}
+use Rattle.conn_machine.specs.States.{opening_state, unused_row, is_halted, is_signalled}
+use Rattle.conn_machine.specs.Table.{is_allowed, next, taken_row, next_accept, parked_row, may_wait, held_row, may_be_held, queued_row, may_be_queued, served_row, answered_row, next_answer, linger_cause_fits, lingering_row, end_fits, greatest_life, closed_row, next_close, next_command, may_accept, may_answer, may_close}
 use Rattle.conn_machine.specs.Runs.{Run, after}
 use Rattle.conn_machine.specs.Events.{count_events, is_accept, is_close}
 use Rattle.conn_machine.proofs.AllowedLemmas.{accept-row}
@@ -97,33 +97,33 @@ not_live r true is vacant = vacant_live r vacant is
 not_live r false is vacant = refl
 
 -- Accept adds one
-accepts : (s : State) (slot : ℕ) → may_accept s slot ≡ true → lives (after_accept s slot) ≡ lives s + 1
+accepts : (s : State) (slot : ℕ) → may_accept s slot ≡ true → lives (next_accept s slot) ≡ lives s + 1
 accepts s slot may =
     let (r, at, vacant) = accept-row s slot may in
     comes s.rows slot r (taken_row s) at (not_live r (is_live r) refl vacant) refl
 
 -- Answer leaves as many
-answers : (s : State) (name : ConnName) (ask : Ask) → may_answer s name ≡ true → lives (after_answer s name ask) ≡ lives s
+answers : (s : State) (name : ConnName) (ask : Ask) → may_answer s name ≡ true → lives (next_answer s name ask) ≡ lives s
 answers s name ask may =
     stays (λ r. is_working r.place && not r.last) s.rows name (answered_row s ask) (and_parts (not (is_halted s.going)) _ may).1
     (λ r live. ap not (unused-in_phase _ r.place) ∙ live)
 
 -- Close takes one
 closes : (s : State) (name : ConnName) (why : Cause) (how : Tail) → may_close s name why how ≡ true
-    → lives (after_close s name) + 1 ≡ lives s
+    → lives (next_close s name) + 1 ≡ lives s
 closes s name why how may =
     let found = row_of_name (λ r. (is_held r.place || is_working r.place) && end_fits s why how r) s.rows name may in
     goes s.rows name.slot found.row closed_row found.found found.live (closed_row-live found.row)
 
 -- Command leaves as many
-commands : (s : State) (c : Commanded) → lives (after_command s c) ≡ lives s
+commands : (s : State) (c : Commanded) → lives (next_command s c) ≡ lives s
 commands s (Graceful shape) = refl
 commands s (Refused reason) = refl
 commands s (GracefulStop until) = refl
 commands s (Stop why) = refl
 
 -- an event that is allowed adds one where it is Accept, takes one where it is Close, and else leaves as many
-steps : (s : State) (e : Event) → allowed s e ≡ true
+steps : (s : State) (e : Event) → is_allowed s e ≡ true
     → lives (next s e) + cond (is_close e) 1 0 ≡ lives s + cond (is_accept e) 1 0
 steps s (event.Accept slot) may = omega (arith, accepts s slot may)
 steps s (event.Park name kind) may =
@@ -164,15 +164,15 @@ balanced s (e ∷ history) run =
     omega (arith, here, rest, count-cons is_accept e history, count-cons is_close e history)
 
 -- in a run from the opening state those that were accepted were closed or are live
-pub accepted_balanced : (slots children : ℕ) (shape : Shape) (history : List Entry) → Run (opening slots children shape) history
-    → count_events is_accept history ≡ count_events is_close history + lives (after (opening slots children shape) history)
+pub accepted_balanced : (slots children : ℕ) (shape : Shape) (history : List Entry) → Run (opening_state slots children shape) history
+    → count_events is_accept history ≡ count_events is_close history + lives (after (opening_state slots children shape) history)
 accepted_balanced slots children shape history run =
-    omega (arith, balanced (opening slots children shape) history run, count_none is_live unused_row refl slots)
+    omega (arith, balanced (opening_state slots children shape) history run, count_none is_live unused_row refl slots)
 
 -- ## The count that the state keeps
 
 -- a command counts none
-counted_command : (s : State) (c : Commanded) → (after_command s c).accepted ≡ s.accepted
+counted_command : (s : State) (c : Commanded) → (next_command s c).accepted ≡ s.accepted
 counted_command s (Graceful shape) = refl
 counted_command s (Refused reason) = refl
 counted_command s (GracefulStop until) = refl
@@ -221,6 +221,6 @@ from_none n greatest count is = omega (arith, is)
 
 -- from the opening state on it has counted all
 pub accepted_counted : (slots children : ℕ) (shape : Shape) (history : List Entry)
-    → (after (opening slots children shape) history).accepted ≡ min (count_events is_accept history) greatest_count
+    → (after (opening_state slots children shape) history).accepted ≡ min (count_events is_accept history) greatest_count
 accepted_counted slots children shape history =
-    from_none (count_events is_accept history) greatest_count _ (counts (opening slots children shape) history (omega arith))
+    from_none (count_events is_accept history) greatest_count _ (counts (opening_state slots children shape) history (omega arith))

@@ -8,7 +8,7 @@ use Rattle.mpm_base.specs.declared.conn.Cause.{Cause}
 use Rattle.mpm_base.specs.declared.conn.Tail.{Tail}
 use Rattle.conn_machine.specs.declared.row.Row.{Row}
 use Rattle.conn_machine.specs.declared.state.State.{State}
-use Rattle.conn_machine.specs.Rows.{is_vacant, is_held, is_parked, is_queued, is_working, is_lingering, is_named, row_where, row_passes, lives_and, carried}
+use Rattle.conn_machine.specs.Rows.{is_vacant, is_held, is_parked, is_queued, is_working, is_lingering, is_live_as, row_where, row_passes, lives_and, carried_count}
 use Rattle.conn_machine.specs.States.{is_serving, is_halted, is_signalled, child_of, pick_child}
 use Rattle.conn_machine.specs.Table.{is_vacant_at, may_accept, may_wait, may_park, may_be_held, may_hold, may_be_queued, may_queue, may_start, may_answer, linger_cause_fits, may_linger, end_fits, may_close}
 
@@ -40,7 +40,7 @@ lives_in test named (Some r) lives = lives_if test r (named r) lives
 -- the row of a live connection that passes a test
 pub lives-row : (test : Row → Bool) (rows : List Row) (name : ConnName) → lives_and test rows name ≡ true
     → Passes test rows name.slot
-lives-row test rows name lives = lives_in test (is_named name) (slice_get rows name.slot) lives
+lives-row test rows name lives = lives_in test (is_live_as name) (slice_get rows name.slot) lives
 
 -- what is denied is false
 not_true : (b : Bool) → not b ≡ true → b ≡ false
@@ -72,7 +72,7 @@ queue-row s name may =
     let both = and_parts (not (is_halted s.going) && is_signalled s name.slot) (lives_and (may_be_queued s) s.rows name) may in
     let (r, at, test) = lives-row (may_be_queued s) s.rows name both.1 in
     let fits =
-    (and_parts (is_parked r.place && not (is_lingering r)) (nat_lt (carried s.rows r.child) (child_of s r).shape.threads) test).0 in
+    (and_parts (is_parked r.place && not (is_lingering r)) (nat_lt (carried_count s.rows r.child) (child_of s r).shape.threads) test).0 in
     ((and_parts (not (is_halted s.going)) (is_signalled s name.slot) both.0).1, (r, at, fits))
 
 -- the row of Start is in the queue of the workers

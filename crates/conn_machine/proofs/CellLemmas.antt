@@ -8,7 +8,7 @@ use Rattle.std.specs.List.{find, list_any, range_with_len}
 use Rattle.conn_machine.specs.declared.row.Place.{Place}
 use Rattle.conn_machine.specs.declared.row.Place.TheVariants.{Vacant, Spent, Held, Parked, Queued, Working}
 use Rattle.conn_machine.specs.declared.row.Row.{Row}
-use Rattle.conn_machine.specs.Rows.{is_queued, is_working, is_in_cell, is_carried_by, carried, is_served_in, is_free_cell, lowest_free_cell}
+use Rattle.conn_machine.specs.Rows.{is_queued, is_working, is_in_cell, is_carried_by, carried_count, is_served_in, is_free_cell, lowest_free_cell}
 
 -- ## Counts
 
@@ -132,7 +132,7 @@ queued_at : (rows : List Row) (k slot : ℕ) (r : Row) → slice_get rows slot �
 queued_at rows k slot r found queued = count_by_at (is_queued_in k) rows slot r found queued
 
 -- the search for a cell ends in one that is free: were none, the child would carry a row too many
-cell_is_free : (rows : List Row) (k threads : ℕ) (o : Option ℕ) → 0 < count_by (is_queued_in k) rows → carried rows k ≤ threads
+cell_is_free : (rows : List Row) (k threads : ℕ) (o : Option ℕ) → 0 < count_by (is_queued_in k) rows → carried_count rows k ≤ threads
     → IsFoundAmong (is_free_cell rows k) 0 threads o → IsFree rows k threads (unwrap_or o threads)
 cell_is_free rows k threads None queued few none =
     let taken : (c : ℕ) → c < threads → 0 < count_by (is_served_in k c) rows =
@@ -149,7 +149,7 @@ cell_is_free rows k threads (Some c) queued few found = record {
 
 -- a row that is queued gets a free cell of its child
 pub free_cell : (rows : List Row) (k threads slot : ℕ) (r : Row) → slice_get rows slot ≡ Some r → is_queued_in k r ≡ true
-    → carried rows k ≤ threads → IsFree rows k threads (lowest_free_cell rows k threads)
+    → carried_count rows k ≤ threads → IsFree rows k threads (lowest_free_cell rows k threads)
 free_cell rows k threads slot r found queued few =
     cell_is_free rows k threads (find (is_free_cell rows k) (range_with_len 0 threads)) (queued_at rows k slot r found queued) few
     (found_among (is_free_cell rows k) 0 threads)

@@ -16,9 +16,9 @@ use Rattle.conn_machine.specs.declared.event.Event.{Event}
 use Rattle.conn_machine.specs.declared.event.Event.TheVariants as event
 use Rattle.conn_machine.specs.declared.state.State.{State}
 use Rattle.conn_machine.specs.Lists.{update}
-use Rattle.conn_machine.specs.Rows.{is_vacant, is_unused, is_held, is_queued, is_working, in_phase, is_live, is_lingering, is_named, row_where, row_passes, lives_and}
+use Rattle.conn_machine.specs.Rows.{is_vacant, is_unused, is_held, is_queued, is_working, in_phase, is_live, is_lingering, is_live_as, row_where, row_passes, lives_and}
 use Rattle.conn_machine.specs.States.{is_serving, is_halted, is_signalled, pick_child}
-use Rattle.conn_machine.specs.Table.{allowed, next, may_accept, after_accept, is_vacant_at, taken_row, may_wait, parked_row, may_be_held, held_row, may_be_queued, queued_row, served_row, may_answer, after_answer, note_for, answered_row, linger_cause_fits, lingering_row, greatest_life, closed_row, end_fits, after_command}
+use Rattle.conn_machine.specs.Table.{is_allowed, next, may_accept, next_accept, is_vacant_at, taken_row, may_wait, parked_row, may_be_held, held_row, may_be_queued, queued_row, served_row, may_answer, next_answer, note_for, answered_row, linger_cause_fits, lingering_row, greatest_life, closed_row, end_fits, next_command}
 
 -- what an event makes of a row: it is as it was; a live one goes on, or has one more response; a vacant one is taken; a live one
 -- is closed, so that its slot has a next life or is given no more
@@ -71,7 +71,7 @@ met_where test r true met = (refl, met)
 met_where test r false met = absurd (cc)
 
 -- a row that has the name and passes
-met_named : (name : ConnName) (test : Row → Bool) (r : Row) → (is_named name r ≡ true) × (test r ≡ true) → IsMet name test r
+met_named : (name : ConnName) (test : Row → Bool) (r : Row) → (is_live_as name r ≡ true) × (test r ≡ true) → IsMet name test r
 met_named name test r met =
     let parts = and_parts (is_live r) (r.life == name.life) met.0 in
     record { live = parts.0; life = eqb-true r.life name.life parts.1; passes = met.1 }
@@ -80,8 +80,8 @@ met_named name test r met =
 pub is_met : (name : ConnName) (test : Row → Bool) (rows : List Row) (r : Row) → lives_and test rows name ≡ true
     → slice_get rows name.slot ≡ Some r → IsMet name test r
 is_met name test rows r lives at =
-    met_named name test r (met_where test r (is_named name r)
-    (subst (λ (o : Option Row). option_map_or test (row_where (is_named name) o) false ≡ true) at lives))
+    met_named name test r (met_where test r (is_live_as name r)
+    (subst (λ (o : Option Row). option_map_or test (row_where (is_live_as name) o) false ≡ true) at lives))
 
 -- the row of the slot, where it passes
 met_at : (test : Row → Bool) (rows : List Row) (slot : ℕ) (r : Row) → row_passes test rows slot ≡ true → slice_get rows slot ≡ Some r
@@ -99,7 +99,7 @@ made_live name test rows change slot r' lives live life notes at =
     (λ r there. goes_on (is_met name test rows r lives there).live (live r) (life r) (notes r)) at
 
 -- an accept makes rows of the rows that stood there
-made_taken : (s : State) (i slot : ℕ) (r' : Row) → may_accept s i ≡ true → slice_get (after_accept s i).rows slot ≡ Some r'
+made_taken : (s : State) (i slot : ℕ) (r' : Row) → may_accept s i ≡ true → slice_get (next_accept s i).rows slot ≡ Some r'
     → IsMade s.rows slot r'
 made_taken s i slot r' may at =
     let vacant : is_vacant_at s i ≡ true =
@@ -124,7 +124,7 @@ change_answered s name ask r met =
 
 -- a response makes rows of the rows that stood there
 made_answered : (s : State) (name : ConnName) (ask : Ask) (slot : ℕ) (r' : Row) → may_answer s name ≡ true
-    → slice_get (after_answer s name ask).rows slot ≡ Some r' → IsMade s.rows slot r'
+    → slice_get (next_answer s name ask).rows slot ≡ Some r' → IsMade s.rows slot r'
 made_answered s name ask slot r' may at =
     let lives = (and_parts (not (is_halted s.going)) _ may).1 in
     made_by (answered_row s ask) s.rows name.slot slot r'
@@ -140,14 +140,14 @@ change_closed : (r : Row) → is_live r ≡ true → Change r (closed_row r)
 change_closed r live = change_either r _ _ (r.life == greatest_life) (spent live refl) (closed live refl)
 
 -- a command leaves the rows
-made_commanded : (s : State) (c : Commanded) (slot : ℕ) (r' : Row) → slice_get (after_command s c).rows slot ≡ Some r' → IsMade s.rows slot r'
+made_commanded : (s : State) (c : Commanded) (slot : ℕ) (r' : Row) → slice_get (next_command s c).rows slot ≡ Some r' → IsMade s.rows slot r'
 made_commanded s (Graceful shape) slot r' at = made_same s.rows slot r' at
 made_commanded s (Refused reason) slot r' at = made_same s.rows slot r' at
 made_commanded s (GracefulStop until) slot r' at = made_same s.rows slot r' at
 made_commanded s (Stop reason) slot r' at = made_same s.rows slot r' at
 
 -- each row after an allowed event was made of the row that stood there
-pub is_made : (s : State) (e : Event) (slot : ℕ) (r' : Row) → allowed s e ≡ true → slice_get (next s e).rows slot ≡ Some r' → IsMade s.rows slot r'
+pub is_made : (s : State) (e : Event) (slot : ℕ) (r' : Row) → is_allowed s e ≡ true → slice_get (next s e).rows slot ≡ Some r' → IsMade s.rows slot r'
 is_made s (event.Accept i) slot r' may at = made_taken s i slot r' may at
 is_made s (event.Park name kind) slot r' may at =
     made_live name (may_wait s.moment kind) s.rows (parked_row s kind) slot r' (and_parts (not (is_halted s.going)) _ may).1

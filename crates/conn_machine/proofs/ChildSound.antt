@@ -17,10 +17,11 @@ use Rattle.conn_machine.specs.declared.event.Commanded.{Commanded}
 use Rattle.conn_machine.specs.declared.event.Commanded.TheVariants.{Graceful, Refused, GracefulStop, Stop}
 use Rattle.conn_machine.specs.declared.state.State.{State}
 use Rattle.conn_machine.specs.Lists.{update}
-use Rattle.conn_machine.specs.Rows.{is_unused, is_live, is_live_in, is_lingering, carried, is_carried_by, open_count, is_open_in, is_served_in, is_queued, is_working}
+use Rattle.conn_machine.specs.Rows.{is_unused, is_live, is_live_in, is_lingering, carried_count, is_carried_by, open_count, is_open_in, is_served_in, is_queued, is_working}
 use Rattle.conn_machine.specs.Children.{child_at, is_empty, is_running, is_stopping, no_child, stopped_child, all_stopped, started_child, retired_child, is_in_bounds, running_count}
-use Rattle.conn_machine.specs.States.{child_of, greatest_moment, is_serving, is_halted, is_overdue, unused_row, opening}
-use Rattle.conn_machine.specs.Table.{may_tick, after_tick, after_ready, child_passes, may_start_child, after_start_child, may_retire, after_retire, greatest_generation, command_fits, may_command, after_command}
+use Rattle.conn_machine.specs.States.{child_of, is_serving, is_halted, is_overdue, unused_row, opening_state}
+use Rattle.mpm_base.specs.Moment.{greatest_moment}
+use Rattle.conn_machine.specs.Table.{may_tick, next_tick, next_ready, child_passes, may_start_child, next_start_child, may_retire, next_retire, greatest_generation, command_fits, may_command, next_command}
 use Rattle.conn_machine.specs.Sound.{IsGone, IsSound}
 use Rattle.conn_machine.proofs.SizeLemmas.{length-update}
 
@@ -91,7 +92,7 @@ carried_lives true Queued dead = absurd (cc)
 carried_lives true (Working cell phase) dead = absurd (cc)
 
 -- a child with no live row carries none
-carried_none : (rows : List Row) (k : ℕ) → list_any (is_live_in k) rows ≡ false → carried rows k ≡ 0
+carried_none : (rows : List Row) (k : ℕ) → list_any (is_live_in k) rows ≡ false → carried_count rows k ≡ 0
 carried_none rows k none =
     count_none (is_live_in k) (is_carried_by k) rows (λ r dead. carried_lives (r.child == k) r.place dead) none
 
@@ -121,6 +122,7 @@ sound-moment s signals' moment' sound within = record {
   notes = sound.notes;
   numbers = record {
     moment = within;
+    deadlines = sound.numbers.deadlines;
     arrivals = λ few. record {
       differ = (sound.numbers.arrivals few).differ;
       below = (sound.numbers.arrivals few).below;
@@ -129,11 +131,11 @@ sound-moment s signals' moment' sound within = record {
 }
 
 -- a signal leaves a sound state sound
-pub sound-ready : (s : State) (slot : ℕ) → IsSound s → IsSound (after_ready s slot)
+pub sound-ready : (s : State) (slot : ℕ) → IsSound s → IsSound (next_ready s slot)
 sound-ready s slot sound = sound-moment s (slice_set s.signals slot true) s.moment sound sound.numbers.moment
 
 -- so does the time that passes
-pub sound-tick : (s : State) (m : ℕ) → IsSound s → may_tick s m ≡ true → IsSound (after_tick s m)
+pub sound-tick : (s : State) (m : ℕ) → IsSound s → may_tick s m ≡ true → IsSound (next_tick s m)
 sound-tick s m sound may =
     let before = and_parts (not (is_halted s.going) && nat_lt s.moment m && nat_le m greatest_moment) (not (list_any (is_overdue s.moment) s.rows)) may in
     let within = and_parts (not (is_halted s.going) && nat_lt s.moment m) (nat_le m greatest_moment) before.0 in
@@ -165,8 +167,8 @@ like_at s c' slot r at live (inl none) =
 like_at s c' slot r at live (inr like) = like
 
 -- its workers carry no more than they may
-carries_few : (s : State) (k : ℕ) (c' : Child) → carried s.rows k ≤ (child_at s.children k).shape.threads
-    → (list_any (is_live_in k) s.rows ≡ false) ⊎ IsLike (child_at s.children k) c' → carried s.rows k ≤ c'.shape.threads
+carries_few : (s : State) (k : ℕ) (c' : Child) → carried_count s.rows k ≤ (child_at s.children k).shape.threads
+    → (list_any (is_live_in k) s.rows ≡ false) ⊎ IsLike (child_at s.children k) c' → carried_count s.rows k ≤ c'.shape.threads
 carries_few s k c' before (inl none) = omega (arith, carried_none s.rows k none)
 carries_few s k c' before (inr like) = rw like.shape before
 
@@ -206,6 +208,7 @@ sound-children s children' newest' shape' going' sound as_many bounds fits =
       notes = λ slot r at live. rw (like slot r at live).shape (sound.notes slot r at live);
       numbers = record {
         moment = sound.numbers.moment;
+        deadlines = sound.numbers.deadlines;
         arrivals = λ few. record {
           differ = (sound.numbers.arrivals few).differ;
           below = (sound.numbers.arrivals few).below;
@@ -236,7 +239,7 @@ sound-child s k change sound within fit =
 -- ---- StartChild and Retire
 
 -- a child starts in place of one that is gone
-pub sound-start_child : (s : State) (k : ℕ) → IsSound s → may_start_child s k ≡ true → IsSound (after_start_child s k)
+pub sound-start_child : (s : State) (k : ℕ) → IsSound s → may_start_child s k ≡ true → IsSound (next_start_child s k)
 sound-start_child s k sound may =
     let room = and_parts (is_serving s.going && child_passes (λ c. is_empty c.phase) s k) (nat_lt (running_count s.children) s.shape.children) may in
     let parts = and_parts (is_serving s.going) (child_passes (λ c. is_empty c.phase) s k) room.0 in
@@ -250,7 +253,7 @@ sound-start_child s k sound may =
     })
 
 -- a child that has no live row goes
-pub sound-retire : (s : State) (k : ℕ) → IsSound s → may_retire s k ≡ true → IsSound (after_retire s k)
+pub sound-retire : (s : State) (k : ℕ) → IsSound s → may_retire s k ≡ true → IsSound (next_retire s k)
 sound-retire s k sound may =
     let parts = and_parts (child_passes (λ c. is_stopping c.phase) s k) (not (list_any (is_live_in k) s.rows)) may in
     let stopping = passes-child (λ c. is_stopping c.phase) s.children k parts.0 in
@@ -302,7 +305,7 @@ sound-stopped s newest' shape' going' sound bounds =
     (λ k. rw (child_at-stopped s.children k) (fit_stopped s newest' going' k sound))
 
 -- a command stops the children, or changes nothing
-sound-commanded : (s : State) (c : Commanded) → IsSound s → command_fits s c ≡ true → IsSound (after_command s c)
+sound-commanded : (s : State) (c : Commanded) → IsSound s → command_fits s c ≡ true → IsSound (next_command s c)
 sound-commanded s (Graceful shape) sound fits =
     let bounds = and_parts (is_serving s.going && nat_lt s.newest greatest_generation) (is_in_bounds shape) fits in
     sound-stopped s (s.newest + 1) shape s.going sound bounds.1
@@ -311,7 +314,7 @@ sound-commanded s (GracefulStop until) sound fits = sound-stopped s s.newest s.s
 sound-commanded s (Stop reason) sound fits = sound-stopped s s.newest s.shape (Halted reason) sound sound.children.newest
 
 -- a command that is allowed keeps a sound state sound
-pub sound-command : (s : State) (c : Commanded) → IsSound s → may_command s c ≡ true → IsSound (after_command s c)
+pub sound-command : (s : State) (c : Commanded) → IsSound s → may_command s c ≡ true → IsSound (next_command s c)
 sound-command s c sound may = sound-commanded s c sound (and_parts (not (is_halted s.going)) (command_fits s c) may).1
 
 -- ---- the opening state
@@ -327,6 +330,12 @@ none_open : (n slot : ℕ) (r : Row) → slice_get (replicate n unused_row) slot
 none_open n slot r at live =
     let unused : is_live r ≡ false = ap is_live (sym (same_row n slot r unused_row at)) in
     absurd (cc)
+
+-- nor has one a deadline
+unused_deadline : (n slot : ℕ) (r : Row) → slice_get (replicate n unused_row) slot ≡ Some r → r.deadline ≤ greatest_moment
+unused_deadline n slot r at =
+    let none : r.deadline ≡ 0 = ap (λ (x : Row). x.deadline) (sym (same_row n slot r unused_row at)) in
+    omega (arith, none)
 
 -- nor does one pass a test that an unused row fails
 any_unused : (test : Row → Bool) (n : ℕ) → test unused_row ≡ false → list_any test (replicate n unused_row) ≡ false
@@ -344,7 +353,7 @@ child_at-opening (suc n) zero = refl
 child_at-opening (suc n) (suc k) = child_at-opening n k
 
 -- the opening state is sound
-pub sound-opening : (slots children : ℕ) (shape : Shape) → is_in_bounds shape ≡ true → IsSound (opening slots children shape)
+pub sound-opening : (slots children : ℕ) (shape : Shape) → is_in_bounds shape ≡ true → IsSound (opening_state slots children shape)
 sound-opening slots children shape bounds =
     record {
       carried = λ k. omega (arith, carried_none (replicate slots unused_row) k (live_unused k slots));
@@ -372,6 +381,7 @@ sound-opening slots children shape bounds =
       notes = λ slot r at live. absurd (none_open slots slot r at live);
       numbers = record {
         moment = omega arith;
+        deadlines = λ slot r at. unused_deadline slots slot r at;
         arrivals = λ few. record {
           differ = λ i j r other at at' live live' same. absurd (none_open slots i r at live);
           below = λ slot r at live. absurd (none_open slots slot r at live);

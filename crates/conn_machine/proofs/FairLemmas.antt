@@ -6,16 +6,17 @@ use Rattle.mpm_base.specs.Count.{greatest_count, next_count}
 use Rattle.conn_machine.specs.declared.row.Row.{Row}
 use Rattle.conn_machine.specs.declared.state.State.{State}
 use Rattle.conn_machine.specs.Lists.{update}
-use Rattle.conn_machine.specs.Rows.{is_live, is_live_in, carried, is_carried_by, open_count, is_open_in, is_served_in}
+use Rattle.conn_machine.specs.Rows.{is_live, is_live_in, carried_count, is_carried_by, open_count, is_open_in, is_served_in}
 use Rattle.conn_machine.specs.Children.{child_at, is_empty}
 use Rattle.conn_machine.specs.States.{child_of}
-use Rattle.conn_machine.specs.Sound.{EachLive, IsCarriable, IsAdmissible, IsGone, IsOfChild, CellIsBelow, KindFits, RequestFits, HasSoundNotes, ArrivalsDiffer, HasSoundArrivals, IsSound}
+use Rattle.mpm_base.specs.Moment.{greatest_moment}
+use Rattle.conn_machine.specs.Sound.{EachLive, IsCarriable, IsAdmissible, IsGone, IsOfChild, CellIsBelow, KindFits, RequestFits, HasSoundNotes, ArrivalsDiffer, HasSoundArrivals, HaveDeadlinesInRange, IsSound}
 use Rattle.conn_machine.proofs.UpdateLemmas.{IsUpdated, get_update, count_update, none_update}
 
 -- what the row that takes the place of another owes, in a sound state
 pub record IsFair (s : State) (r r' : Row) : Type 0 where
   pub carried : (k : ℕ) → is_carried_by k r' ≡ true
-      → (is_carried_by k r ≡ true) ⊎ (carried s.rows k < (child_at s.children k).shape.threads)
+      → (is_carried_by k r ≡ true) ⊎ (carried_count s.rows k < (child_at s.children k).shape.threads)
   pub admitted : (k : ℕ) → is_open_in k r' ≡ true
       → (is_open_in k r ≡ true)
       ⊎ (100 * (open_count s.rows k + 1)
@@ -27,6 +28,7 @@ pub record IsFair (s : State) (r r' : Row) : Type 0 where
   pub kind : is_live r' ≡ true → KindFits r'.place r'
   pub request : is_live r' ≡ true → RequestFits r'.place r'
   pub notes : is_live r' ≡ true → HasSoundNotes (child_of s r').shape.most r'
+  pub deadline : r'.deadline ≤ greatest_moment
 
 -- the row keeps its arrival
 pub record KeepsArrival (s : State) (accepted' : ℕ) (r r' : Row) : Type 0 where
@@ -51,7 +53,7 @@ carried_stays : (s : State) (slot : ℕ) (r : Row) (change : Row → Row) (signa
     → slice_get s.rows slot ≡ Some r → IsFair s r (change r) → IsCarriable (changed s slot change signals' accepted')
 carried_stays s slot r change signals' accepted' sound at fair k =
     let before = sound.carried k in
-    elim (count_update (is_carried_by k) s.rows slot r change (carried s.rows k < (child_at s.children k).shape.threads) at (fair.carried k)) [
+    elim (count_update (is_carried_by k) s.rows slot r change (carried_count s.rows k < (child_at s.children k).shape.threads) at (fair.carried k)) [
       | inl kept ↦ omega (arith, kept, before)
       | inr more ↦ omega (arith, more.0, more.1)
     ]
@@ -117,6 +119,18 @@ owners_stay : (s : State) (slot : ℕ) (r : Row) (change : Row → Row) (signals
 owners_stay s slot r change signals' accepted' sound at fair j x got live =
     let own = each_update (IsOfChild s) s.rows slot r change at sound.owners fair.owner j x got live in
     record { exists = own.exists; there = own.there; generation = own.generation }
+
+-- a row of the changed table has its deadline in range where the old rows had, and the changed one has
+deadline_by : (rows : List Row) (slot j : ℕ) (r' x : Row) → HaveDeadlinesInRange rows → r'.deadline ≤ greatest_moment
+    → IsUpdated rows slot r' j x → x.deadline ≤ greatest_moment
+deadline_by rows slot j r' x each own (inl here) = subst (λ (y : Row). y.deadline ≤ greatest_moment) (sym here.1) own
+deadline_by rows slot j r' x each own (inr old) = each j x old
+
+-- the deadlines stay in range
+deadlines_stay : (rows : List Row) (slot : ℕ) (r : Row) (change : Row → Row) → slice_get rows slot ≡ Some r → HaveDeadlinesInRange rows
+    → (change r).deadline ≤ greatest_moment → HaveDeadlinesInRange (update rows slot change)
+deadlines_stay rows slot r change at each own j x got =
+    deadline_by rows slot j (change r) x each own (get_update rows slot j r x change at got)
 
 -- two rows of the changed table, where the changed row keeps its arrival
 kept_differ : (s : State) (slot i j : ℕ) (r r' x y : Row) (accepted' : ℕ) → ArrivalsDiffer s.rows → slice_get s.rows slot ≡ Some r
@@ -213,6 +227,7 @@ fair_update s slot r change signals' accepted' sound at fair arrives = record {
   notes = each_update (λ x. HasSoundNotes (child_of s x).shape.most x) s.rows slot r change at sound.notes fair.notes;
   numbers = record {
     moment = sound.numbers.moment;
+    deadlines = deadlines_stay s.rows slot r change at sound.numbers.deadlines fair.deadline;
     arrivals = arrivals_stay s slot r change signals' accepted' sound at arrives;
   };
 }

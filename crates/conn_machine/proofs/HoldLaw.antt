@@ -22,8 +22,9 @@ use Rattle.conn_machine.specs.declared.state.State.{State}
 use Rattle.conn_machine.specs.Lists.{update}
 use Rattle.conn_machine.specs.Rows.{is_lingering, is_linger_kind, is_from, is_held, is_parked, is_working, has_note}
 use Rattle.conn_machine.specs.Children.{is_stopping}
-use Rattle.conn_machine.specs.States.{opening, unused_row, greatest_moment, is_halted, is_signalled, is_overdue, child_of}
-use Rattle.conn_machine.specs.Table.{allowed, next, taken_row, after_accept, may_wait, parked_row, after_park, held_row, signal_after_hold, after_hold, queued_row, after_queue, served_row, after_start, answered_row, after_answer, is_late_as, linger_cause_fits, lingering_row, linger_kind, after_linger, closed_row, after_close, after_ready, after_tick, after_command, may_accept, may_park, may_hold, may_queue, may_start, may_answer, may_linger, may_close, may_tick, may_command, command_fits}
+use Rattle.conn_machine.specs.States.{opening_state, unused_row, is_halted, is_signalled, is_overdue, child_of}
+use Rattle.mpm_base.specs.Moment.{greatest_moment}
+use Rattle.conn_machine.specs.Table.{is_allowed, next, taken_row, next_accept, may_wait, parked_row, next_park, held_row, signal_after_hold, next_hold, queued_row, next_queue, served_row, next_start, answered_row, next_answer, is_late_as, linger_cause_fits, lingering_row, linger_kind, next_linger, closed_row, next_close, next_ready, next_tick, next_command, may_accept, may_park, may_hold, may_queue, may_start, may_answer, may_linger, may_close, may_tick, may_command, command_fits}
 use Rattle.conn_machine.specs.Runs.{Run}
 use Rattle.conn_machine.specs.Events.{count_events, is_accept, is_hold, is_ready}
 use Rattle.conn_machine.proofs.AllowedLemmas.{accept-row, park-row, hold-row, queue-row, start-row, answer-row, linger-row, close-row}
@@ -57,7 +58,7 @@ abbrev late : State → Row → Bool
 late s r = nat_le r.deadline s.moment || is_halted s.going
 
 -- Accept gives three at most
-accepts : (s : State) (slot : ℕ) → may_accept s slot ≡ true → holds_left (after_accept s slot) ≤ holds_left s + 3
+accepts : (s : State) (slot : ℕ) → may_accept s slot ≡ true → holds_left (next_accept s slot) ≤ holds_left s + 3
 accepts s slot may =
     let (r, at, vacant) = accept-row s slot may in
     changed s slot r (taken_row s) false 3 at (omega arith)
@@ -116,14 +117,14 @@ parks-row s slot ShortLinger r at running fits =
 
 -- Park gives none
 parks : (s : State) (name : ConnName) (kind : Kind) → may_park s name kind ≡ true
-    → holds_left (after_park s name kind) ≤ holds_left s
+    → holds_left (next_park s name kind) ≤ holds_left s
 parks s name kind may =
     let (running, row) = park-row s name kind may in
     let (r, at, fits) = row in
     parks-row s name.slot kind r at running fits
 
 -- Hold takes one
-holds : (s : State) (name : ConnName) → may_hold s name ≡ true → 1 + holds_left (after_hold s name) ≤ holds_left s
+holds : (s : State) (name : ConnName) → may_hold s name ≡ true → 1 + holds_left (next_hold s name) ≤ holds_left s
 holds s name may =
     let slot = name.slot in
     let (r, at, fits) = hold-row s name may in
@@ -137,7 +138,7 @@ holds s name may =
     omega (arith, pays, weight-change (left s) s.rows s.signals slot r held_row b at)
 
 -- Queue gives none
-queues : (s : State) (name : ConnName) → may_queue s name ≡ true → holds_left (after_queue s name) ≤ holds_left s
+queues : (s : State) (name : ConnName) → may_queue s name ≡ true → holds_left (next_queue s name) ≤ holds_left s
 queues s name may =
     let slot = name.slot in
     let (came, row) = queue-row s name may in
@@ -148,7 +149,7 @@ queues s name may =
     omega (arith, changed s slot r queued_row false 0 at (omega (arith, old)))
 
 -- Start gives none
-starts : (s : State) (name : ConnName) → may_start s name ≡ true → holds_left (after_start s name) ≤ holds_left s
+starts : (s : State) (name : ConnName) → may_start s name ≡ true → holds_left (next_start s name) ≤ holds_left s
 starts s name may =
     let (r, at, queued) = start-row s name may in
     let b = is_signalled s name.slot in
@@ -157,7 +158,7 @@ starts s name may =
 
 -- Answer gives none
 answers : (s : State) (name : ConnName) (ask : Ask) → may_answer s name ≡ true
-    → holds_left (after_answer s name ask) ≤ holds_left s
+    → holds_left (next_answer s name ask) ≤ holds_left s
 answers s name ask may =
     let (r, at, works) = answer-row s name may in
     let b = is_signalled s name.slot in
@@ -192,7 +193,7 @@ linger-place s cause.NoMemory b r fits = absurd (cc)
 
 -- Linger gives none
 lingers : (s : State) (name : ConnName) (why : Cause) → may_linger s name why ≡ true
-    → holds_left (after_linger s name why) ≤ holds_left s
+    → holds_left (next_linger s name why) ≤ holds_left s
 lingers s name why may =
     let slot = name.slot in
     let (r, at, fits) = linger-row s name why may in
@@ -207,7 +208,7 @@ lingers s name why may =
 
 -- Close gives none
 closes : (s : State) (name : ConnName) (why : Cause) (how : Tail) → may_close s name why how ≡ true
-    → holds_left (after_close s name) ≤ holds_left s
+    → holds_left (next_close s name) ≤ holds_left s
 closes s name why how may =
     let slot = name.slot in
     let (r, at, there) = close-row s name why how may in
@@ -228,37 +229,37 @@ eases s s' same same' after more = rw (same, same') (weight-mono (left s') (left
         (late_later r.deadline s.moment s'.moment (is_halted s.going) (is_halted s'.going) after more)
 
 -- Tick gives none
-ticks : (s : State) (m : ℕ) → may_tick s m ≡ true → holds_left (after_tick s m) ≤ holds_left s
+ticks : (s : State) (m : ℕ) → may_tick s m ≡ true → holds_left (next_tick s m) ≤ holds_left s
 ticks s m may =
     let three = and_parts (not (is_halted s.going) && nat_lt s.moment m && nat_le m greatest_moment)
     (not (list_any (is_overdue s.moment) s.rows)) may in
     let two = and_parts (not (is_halted s.going) && nat_lt s.moment m) (nat_le m greatest_moment) three.0 in
     let later = ltb-true s.moment m (and_parts (not (is_halted s.going)) (nat_lt s.moment m) two.0).1 in
-    eases s (after_tick s m) refl refl (omega (arith, later)) (λ halted. halted)
+    eases s (next_tick s m) refl refl (omega (arith, later)) (λ halted. halted)
 
 -- a command changes no row, and what is late stays so
-commands-by : (s : State) (c : Commanded) → not (is_halted s.going) ≡ true → holds_left (after_command s c) ≤ holds_left s
-commands-by s (Graceful shape) running = eases s (after_command s (Graceful shape)) refl refl (omega arith) (λ halted. halted)
+commands-by : (s : State) (c : Commanded) → not (is_halted s.going) ≡ true → holds_left (next_command s c) ≤ holds_left s
+commands-by s (Graceful shape) running = eases s (next_command s (Graceful shape)) refl refl (omega arith) (λ halted. halted)
 commands-by s (Refused reason) running = omega arith
 commands-by s (GracefulStop until) running =
-    eases s (after_command s (GracefulStop until)) refl refl (omega arith) (λ halted. absurd (cc))
-commands-by s (Stop why) running = eases s (after_command s (Stop why)) refl refl (omega arith) (λ halted. refl)
+    eases s (next_command s (GracefulStop until)) refl refl (omega arith) (λ halted. absurd (cc))
+commands-by s (Stop why) running = eases s (next_command s (Stop why)) refl refl (omega arith) (λ halted. refl)
 
 -- Command gives none
-commands : (s : State) (c : Commanded) → may_command s c ≡ true → holds_left (after_command s c) ≤ holds_left s
+commands : (s : State) (c : Commanded) → may_command s c ≡ true → holds_left (next_command s c) ≤ holds_left s
 commands s c may =
     let running = (and_parts (not (is_halted s.going)) (command_fits s c) may).0 in
     commands-by s c running
 
 -- Ready gives one at most
-readies : (s : State) (slot : ℕ) → holds_left (after_ready s slot) ≤ holds_left s + 1
+readies : (s : State) (slot : ℕ) → holds_left (next_ready s slot) ≤ holds_left s + 1
 readies s slot =
     weight-signal (left s) (λ r b b'. chances_by-small (late s r) r.place r.from (rests r.from (is_lingering r)) b b') s.rows s.signals slot true
 
 -- ## Runs
 
 -- what is left pays for what the listener takes; what comes pays for one, and a new connection for three
-steps : (s : State) (e : Event) → allowed s e ≡ true
+steps : (s : State) (e : Event) → is_allowed s e ≡ true
     → cond (is_hold e) 1 0 + holds_left (next s e) ≤ holds_left s + cond (is_ready e) 1 0 + 3 * cond (is_accept e) 1 0
 steps s (event.Accept slot) may = omega (arith, accepts s slot may)
 steps s (event.Park name kind) may = omega (arith, parks s name kind may)
@@ -284,8 +285,8 @@ holds_paid s (e ∷ history) run =
     omega (arith, here, rest, count-cons is_hold e history, count-cons is_ready e history, count-cons is_accept e history)
 
 -- in a run from the opening state as many at most as came, and three for each connection
-pub holds_are_earned : (slots children : ℕ) (shape : Shape) (history : List Entry) → Run (opening slots children shape) history
+pub holds_are_earned : (slots children : ℕ) (shape : Shape) (history : List Entry) → Run (opening_state slots children shape) history
     → count_events is_hold history ≤ count_events is_ready history + 3 * count_events is_accept history
 holds_are_earned slots children shape history run =
-    let s = opening slots children shape in
+    let s = opening_state slots children shape in
     omega (arith, holds_paid s history run, weight-none (left s) unused_row refl slots slots)

@@ -14,10 +14,10 @@ use Rattle.conn_machine.specs.declared.event.Entry.{Entry}
 use Rattle.conn_machine.specs.declared.row.Row.{Row}
 use Rattle.conn_machine.specs.declared.state.State.{State}
 use Rattle.conn_machine.specs.Lists.{update}
-use Rattle.conn_machine.specs.Rows.{is_live_in, is_named, is_vacant, open_count, row_where}
+use Rattle.conn_machine.specs.Rows.{is_live_in, is_live_as, is_vacant, open_count, row_where}
 use Rattle.conn_machine.specs.Children.{child_at, is_running, is_stopping}
 use Rattle.conn_machine.specs.States.{is_serving, pick_child}
-use Rattle.conn_machine.specs.Table.{allowed, next, reply, is_vacant_at, life_at, picked_child, taken_row, taken_reply, child_passes, may_accept, may_retire, after_command}
+use Rattle.conn_machine.specs.Table.{is_allowed, next, reply, is_vacant_at, life_at, picked_child, taken_row, taken_reply, child_passes, may_accept, may_retire, next_command}
 use Rattle.conn_machine.specs.Runs.{after, Run}
 use Rattle.conn_machine.specs.Laws.{idle_in, IsChosen, IsTakenFor}
 use Rattle.conn_machine.proofs.PickLemmas.{pick_is_chosen}
@@ -31,13 +31,13 @@ run_after s [] rest run = run
 run_after s (e ∷ before) rest run = run_after (next s e.event) before rest run.2
 
 -- a history goes on from the state after its first entries
-after-append : (s : State) (before rest : List Entry) → after s (before ++ rest) ≡ after (after s before) rest
+pub after-append : (s : State) (before rest : List Entry) → after s (before ++ rest) ≡ after (after s before) rest
 after-append s [] rest = refl
 after-append s (e ∷ before) rest = after-append (next s e.event) before rest
 
 -- the state before an entry allows its event
 pub run-allowed : (s : State) (before rest : List Entry) (e : Entry) (event : Event) → Run s (before ++ e ∷ rest)
-    → e.event ≡ event → allowed (after s before) event ≡ true
+    → e.event ≡ event → is_allowed (after s before) event ≡ true
 run-allowed s before rest e event run is = rw (← is) (run_after s before (e ∷ rest) run).0
 
 -- and replies so
@@ -72,12 +72,12 @@ row_there test None passes = absurd (cc)
 row_there test (Some r) passes = (r, refl)
 
 -- a row that is found, and has the name, is the row of that name
-found_named : (name : ConnName) (o : Option Row) (r : Row) → o ≡ Some r → is_named name r ≡ true → row_where (is_named name) o ≡ Some r
+found_named : (name : ConnName) (o : Option Row) (r : Row) → o ≡ Some r → is_live_as name r ≡ true → row_where (is_live_as name) o ≡ Some r
 found_named name o r at named = rw (at, named) refl
 
 -- the row that is taken is live, with the life that the row of the slot had
 taken-named : (s : State) (slot : ℕ) (r : Row) → slice_get s.rows slot ≡ Some r
-    → is_named (record { slot = slot; life = life_at s.rows slot }) (taken_row s r) ≡ true
+    → is_live_as (record { slot = slot; life = life_at s.rows slot }) (taken_row s r) ≡ true
 taken-named s slot r at = rw at (eq-eqb r.life r.life refl)
 
 -- where there is a child that takes connections, the connection is taken for it
@@ -118,7 +118,7 @@ taken-chosen s before rest e slot run is =
 -- ---- the newest generation
 
 -- no command leads back to an older generation
-newest-commanded : (s : State) (c : Commanded) → s.newest ≤ (after_command s c).newest
+newest-commanded : (s : State) (c : Commanded) → s.newest ≤ (next_command s c).newest
 newest-commanded s (Graceful shape) = omega arith
 newest-commanded s (Refused reason) = omega arith
 newest-commanded s (GracefulStop until) = omega arith

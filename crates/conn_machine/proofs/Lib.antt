@@ -8,10 +8,13 @@ pub mod ChangeLaw
 pub mod ChildLemmas
 pub mod ChildSound
 pub mod FairLemmas
+pub mod FreshLaw
 pub mod HoldLaw
 pub mod LawLemmas
+pub mod LingerLaw
 pub mod ListLemmas
 pub mod NameLaw
+pub mod NamedLaw
 pub mod NoteLaw
 pub mod OwnerLaw
 pub mod PickLemmas

@@ -14,8 +14,8 @@ use Rattle.conn_machine.specs.declared.event.Event.TheVariants as event
 use Rattle.conn_machine.specs.declared.event.Entry.{Entry}
 use Rattle.conn_machine.specs.declared.state.State.{State}
 use Rattle.conn_machine.specs.Lists.{update}
-use Rattle.conn_machine.specs.Rows.{is_vacant, is_unused, is_held, is_working, is_live, is_named, row_where}
-use Rattle.conn_machine.specs.Table.{allowed, next, greatest_life, closed_row, end_fits}
+use Rattle.conn_machine.specs.Rows.{is_vacant, is_unused, is_held, is_working, is_live, is_live_as, row_where}
+use Rattle.conn_machine.specs.Table.{is_allowed, next, greatest_life, closed_row, end_fits}
 use Rattle.conn_machine.specs.Runs.{Run, after}
 use Rattle.conn_machine.specs.Laws.{is_alive}
 use Rattle.conn_machine.proofs.ChangeLaw.{Change, stays, goes_on, answered, taken, closed, spent, is_met, is_made}
@@ -63,7 +63,7 @@ past_stays life r r' (closed live up) (inr over) = spent_live r over live
 past_stays life r r' (spent live over) past = inr over
 
 -- a name that is gone is gone after every event
-gone_next : (s : State) (e : Event) (name : ConnName) → allowed s e ≡ true → IsGoneFrom name s.rows → IsGoneFrom name (next s e).rows
+gone_next : (s : State) (e : Event) (name : ConnName) → is_allowed s e ≡ true → IsGoneFrom name s.rows → IsGoneFrom name (next s e).rows
 gone_next s e name may gone r' at =
     let made = is_made s e name.slot r' may at in
     past_stays name.life made.old r' made.change (gone made.old made.at)
@@ -97,20 +97,20 @@ gone_update name (x ∷ rows) zero r' same at =
 gone_update name (x ∷ rows) (suc slot) r' same at = gone_update name rows slot r' same at
 
 -- a close takes the name away
-gone_closed : (s : State) (name : ConnName) (why : Cause) (how : Tail) → allowed s (event.Close name why how) ≡ true
+gone_closed : (s : State) (name : ConnName) (why : Cause) (how : Tail) → is_allowed s (event.Close name why how) ≡ true
     → IsGoneFrom name (next s (event.Close name why how)).rows
 gone_closed s name why how may r' at =
     gone_update name s.rows name.slot r'
     (λ r there. (is_met name (λ x. (is_held x.place || is_working x.place) && end_fits s why how x) s.rows r may there).life) at
 
 -- a row that went past the life isn't the name's
-pub past_named : (name : ConnName) (r : Row) → IsPast name.life r → is_named name r ≡ false
+pub past_named : (name : ConnName) (r : Row) → IsPast name.life r → is_live_as name r ≡ false
 past_named name r (inl later) = and_right (is_live r) (r.life == name.life) (ne_eqb r.life name.life (λ e. omega arith))
 past_named name r (inr over) = and_left (is_live r) (r.life == name.life) (ap (λ p. not (is_unused p)) over)
 
 -- no live row is found by the name of a row that went past its life
 gone_row : (name : ConnName) (o : Option Row) → ((r : Row) → o ≡ Some r → IsPast name.life r)
-    → option_map_or (λ r. true) (row_where (is_named name) o) false ≡ false
+    → option_map_or (λ r. true) (row_where (is_live_as name) o) false ≡ false
 gone_row name None gone = refl
 gone_row name (Some r) gone = rw (past_named name r (gone r refl)) refl
 
@@ -122,7 +122,7 @@ gone_dead s name gone = gone_row name (slice_get s.rows name.slot) gone
 pub closed_dead : (s : State) (before rest : List Entry) (e : Entry) (name : ConnName) (why : Cause) (how : Tail)
     → Run s (before ++ e ∷ rest) → e.event ≡ event.Close name why how → is_alive (after s (before ++ e ∷ rest)) name ≡ false
 closed_dead s [] rest e name why how run closes =
-    let may : allowed s (event.Close name why how) ≡ true = subst (λ (x : Event). allowed s x ≡ true) closes run.0 in
+    let may : is_allowed s (event.Close name why how) ≡ true = subst (λ (x : Event). is_allowed s x ≡ true) closes run.0 in
     let gone : IsGoneFrom name (next s e.event).rows =
     subst (λ (x : Event). IsGoneFrom name (next s x).rows) (sym closes) (gone_closed s name why how may) in
     gone_dead (after (next s e.event) rest) name (gone_after (next s e.event) rest name run.2 gone)

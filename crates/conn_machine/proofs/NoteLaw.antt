@@ -9,12 +9,12 @@ use Rattle.conn_machine.specs.declared.row.Row.{Row}
 use Rattle.conn_machine.specs.declared.event.Event.{Event}
 use Rattle.conn_machine.specs.declared.event.Entry.{Entry}
 use Rattle.conn_machine.specs.declared.state.State.{State}
-use Rattle.conn_machine.specs.Rows.{is_live, is_named, row_where, live_row}
-use Rattle.conn_machine.specs.Table.{allowed, next}
+use Rattle.conn_machine.specs.Rows.{is_live, is_live_as, row_where, live_row}
+use Rattle.conn_machine.specs.Table.{is_allowed, next}
 use Rattle.conn_machine.specs.Runs.{Run, after}
 use Rattle.mpm_base.specs.Notes.{says_last}
 use Rattle.conn_machine.specs.Sound.{IsSound}
-use Rattle.conn_machine.specs.Laws.{MayFollow, OnlyGrows}
+use Rattle.conn_machine.specs.Laws.{NotesMayFollow, OnlyGrows}
 use Rattle.conn_machine.proofs.ChangeLaw.{Change, stays, goes_on, answered, taken, closed, spent, is_made}
 use Rattle.conn_machine.proofs.NameLaw.{IsPast, past_stays, past_named, vacant_live}
 use Rattle.conn_machine.proofs.SoundLemmas.{keeps_sound}
@@ -34,8 +34,8 @@ grows_none : (notes : List Note) → OnlyGrows notes notes
 grows_none notes = record { more = []; grown = sym (append-nil notes); follows = tt }
 
 -- one more note may follow those that may, where the last of them isn't the last response
-follows_more : (last : Bool) (more : List Note) (note : Note) → MayFollow last more
-    → fold (λ (before : Bool) (n : Note). n.last) last more ≡ false → MayFollow last (more ++ note ∷ [])
+follows_more : (last : Bool) (more : List Note) (note : Note) → NotesMayFollow last more
+    → fold (λ (before : Bool) (n : Note). n.last) last more ≡ false → NotesMayFollow last (more ++ note ∷ [])
 follows_more true [] note follows undecided = absurd (cc)
 follows_more false [] note follows undecided = tt
 follows_more true (n ∷ more) note follows undecided = absurd follows
@@ -78,7 +78,7 @@ grown_or_past name old r r' change last (inl grown) = grown_by name old r r' cha
 grown_or_past name old r r' change last (inr past) = inr (past_stays name.life r r' change past)
 
 -- an event keeps the row of the slot the name's, or gone past its life
-grown_next : (s : State) (e : Event) (name : ConnName) (old : List Note) → IsSound s → allowed s e ≡ true → IsGrownIn name old s.rows
+grown_next : (s : State) (e : Event) (name : ConnName) (old : List Note) → IsSound s → is_allowed s e ≡ true → IsGrownIn name old s.rows
     → IsGrownIn name old (next s e).rows
 grown_next s e name old sound may grown r' at =
     let made = is_made s e name.slot r' may at in
@@ -93,17 +93,17 @@ grown_after s (e ∷ history) name old sound run grown =
     (grown_next s e.event name old sound run.0 grown)
 
 -- the same where the row is there, by whether it has the name
-named_if : (name : ConnName) (x r : Row) (named : Bool) → is_named name x ≡ named → (if named then Some x else None) ≡ Some r
-    → (Some x ≡ Some r) × (is_named name r ≡ true)
+named_if : (name : ConnName) (x r : Row) (named : Bool) → is_live_as name x ≡ named → (if named then Some x else None) ≡ Some r
+    → (Some x ≡ Some r) × (is_live_as name r ≡ true)
 named_if name x r true is at =
     let e : x ≡ r = cc in
-    (at, subst (λ (y : Row). is_named name y ≡ true) e is)
+    (at, subst (λ (y : Row). is_live_as name y ≡ true) e is)
 named_if name x r false is at = absurd (cc)
 
 -- the row that is found by its name is there, and has the name
-named_where : (name : ConnName) (o : Option Row) (r : Row) → row_where (is_named name) o ≡ Some r → (o ≡ Some r) × (is_named name r ≡ true)
+pub named_where : (name : ConnName) (o : Option Row) (r : Row) → row_where (is_live_as name) o ≡ Some r → (o ≡ Some r) × (is_live_as name r ≡ true)
 named_where name None r at = absurd (cc)
-named_where name (Some x) r at = named_if name x r (is_named name x) refl at
+named_where name (Some x) r at = named_if name x r (is_live_as name x) refl at
 
 -- a row that is found by the name has its own responses
 grown_first : (name : ConnName) (rows : List Row) (r : Row) → live_row rows name ≡ Some r → IsGrownIn name r.notes rows
@@ -116,7 +116,7 @@ grown_first name rows r lives x at =
     inl (subst (λ (y : Row). IsGrown name r.notes y) e own)
 
 -- a row that has the name, and is the name's or past its life, is the name's
-grown_named : (name : ConnName) (old : List Note) (r : Row) → is_named name r ≡ true → IsGrown name old r ⊎ IsPast name.life r
+grown_named : (name : ConnName) (old : List Note) (r : Row) → is_live_as name r ≡ true → IsGrown name old r ⊎ IsPast name.life r
     → OnlyGrows old r.notes
 grown_named name old r named (inl grown) = grown.grows
 grown_named name old r named (inr past) = absurd (cc (past_named name r past))

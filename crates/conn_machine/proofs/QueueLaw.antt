@@ -16,8 +16,8 @@ use Rattle.conn_machine.specs.declared.event.Entry.{Entry}
 use Rattle.conn_machine.specs.declared.state.State.{State}
 use Rattle.conn_machine.specs.Lists.{update}
 use Rattle.conn_machine.specs.Rows.{is_lingering, is_parked, row_passes}
-use Rattle.conn_machine.specs.States.{opening, unused_row, is_signalled}
-use Rattle.conn_machine.specs.Table.{allowed, next, taken_row, after_accept, parked_row, after_park, held_row, signal_after_hold, after_hold, queued_row, after_queue, served_row, after_start, answered_row, after_answer, lingering_row, after_linger, closed_row, after_close, after_command, may_accept, may_park, may_hold, may_queue, may_start, may_answer, may_linger, may_close}
+use Rattle.conn_machine.specs.States.{opening_state, unused_row, is_signalled}
+use Rattle.conn_machine.specs.Table.{is_allowed, next, taken_row, next_accept, parked_row, next_park, held_row, signal_after_hold, next_hold, queued_row, next_queue, served_row, next_start, answered_row, next_answer, lingering_row, next_linger, closed_row, next_close, next_command, may_accept, may_park, may_hold, may_queue, may_start, may_answer, may_linger, may_close}
 use Rattle.conn_machine.specs.Runs.{Run}
 use Rattle.conn_machine.specs.Events.{count_events, is_queue, is_ready}
 use Rattle.conn_machine.proofs.AllowedLemmas.{accept-row, park-row, hold-row, queue-row, start-row, answer-row, linger-row, close-row}
@@ -99,26 +99,26 @@ lowered s slot r change b at same less =
 -- ## The events
 
 -- Accept adds none
-accepts : (s : State) (slot : ℕ) → may_accept s slot ≡ true → waiting (after_accept s slot) ≤ waiting s
+accepts : (s : State) (slot : ℕ) → may_accept s slot ≡ true → waiting (next_accept s slot) ≤ waiting s
 accepts s slot may =
     let (r, at, vacant) = accept-row s slot may in
     omega (arith, cleared s slot r (taken_row s) at)
 
 -- Park adds none
-parks : (s : State) (name : ConnName) (kind : Kind) → may_park s name kind ≡ true → waiting (after_park s name kind) ≤ waiting s
+parks : (s : State) (name : ConnName) (kind : Kind) → may_park s name kind ≡ true → waiting (next_park s name kind) ≤ waiting s
 parks s name kind may =
     let (r, at, waits_so) = (park-row s name kind may).1 in
     omega (arith, kept s name.slot r (parked_row s kind) at refl)
 
 -- Hold adds none
-holds : (s : State) (name : ConnName) → may_hold s name ≡ true → waiting (after_hold s name) ≤ waiting s
+holds : (s : State) (name : ConnName) → may_hold s name ≡ true → waiting (next_hold s name) ≤ waiting s
 holds s name may =
     let (r, at, held) = hold-row s name may in
     lowered s name.slot r held_row (signal_after_hold s name.slot) at refl
     (λ set. (and_parts (is_signalled s name.slot) (not (row_passes is_lingering s.rows name.slot)) set).0)
 
 -- Queue takes one
-queues : (s : State) (name : ConnName) → may_queue s name ≡ true → 1 + waiting (after_queue s name) ≤ waiting s
+queues : (s : State) (name : ConnName) → may_queue s name ≡ true → 1 + waiting (next_queue s name) ≤ waiting s
 queues s name may =
     let (came, row) = queue-row s name may in
     let (r, at, fits) = row in
@@ -126,40 +126,40 @@ queues s name may =
     omega (arith, waits_by-set (is_lingering r) (is_signalled s name.slot) stays came, cleared s name.slot r queued_row at)
 
 -- Start adds none
-starts : (s : State) (name : ConnName) → may_start s name ≡ true → waiting (after_start s name) ≤ waiting s
+starts : (s : State) (name : ConnName) → may_start s name ≡ true → waiting (next_start s name) ≤ waiting s
 starts s name may =
     let (r, at, queued) = start-row s name may in
     omega (arith, kept s name.slot r (served_row s) at refl)
 
 -- Answer adds none
-answers : (s : State) (name : ConnName) (ask : Ask) → may_answer s name ≡ true → waiting (after_answer s name ask) ≤ waiting s
+answers : (s : State) (name : ConnName) (ask : Ask) → may_answer s name ≡ true → waiting (next_answer s name ask) ≤ waiting s
 answers s name ask may =
     let (r, at, works) = answer-row s name may in
     omega (arith, kept s name.slot r (answered_row s ask) at refl)
 
 -- Linger adds none
 lingers : (s : State) (name : ConnName) (why : Cause) → may_linger s name why ≡ true
-    → waiting (after_linger s name why) ≤ waiting s
+    → waiting (next_linger s name why) ≤ waiting s
 lingers s name why may =
     let (r, at, fits) = linger-row s name why may in
     hushed s name.slot r (lingering_row s why) true at refl
 
 -- Close adds none
 closes : (s : State) (name : ConnName) (why : Cause) (how : Tail) → may_close s name why how ≡ true
-    → waiting (after_close s name) ≤ waiting s
+    → waiting (next_close s name) ≤ waiting s
 closes s name why how may =
     let (r, at, there) = close-row s name why how may in
     omega (arith, cleared s name.slot r closed_row at)
 
 -- Command adds none
-commands : (s : State) (c : Commanded) → waiting (after_command s c) ≤ waiting s
+commands : (s : State) (c : Commanded) → waiting (next_command s c) ≤ waiting s
 commands s (Graceful shape) = omega arith
 commands s (Refused reason) = omega arith
 commands s (GracefulStop until) = omega arith
 commands s (Stop why) = omega arith
 
 -- what waits pays for what is handed to workers, and what comes pays for what waits
-steps : (s : State) (e : Event) → allowed s e ≡ true
+steps : (s : State) (e : Event) → is_allowed s e ≡ true
     → cond (is_queue e) 1 0 + waiting (next s e) ≤ waiting s + cond (is_ready e) 1 0
 steps s (event.Accept slot) may = omega (arith, accepts s slot may)
 steps s (event.Park name kind) may = omega (arith, parks s name kind may)
@@ -186,7 +186,7 @@ queues_paid s (e ∷ history) run =
     omega (arith, here, rest, count-cons is_queue e history, count-cons is_ready e history)
 
 -- in a run from the opening state as many at most as came
-pub queues_are_earned : (slots children : ℕ) (shape : Shape) (history : List Entry) → Run (opening slots children shape) history
+pub queues_are_earned : (slots children : ℕ) (shape : Shape) (history : List Entry) → Run (opening_state slots children shape) history
     → count_events is_queue history ≤ count_events is_ready history
 queues_are_earned slots children shape history run =
-    omega (arith, queues_paid (opening slots children shape) history run, weight-none waits unused_row refl slots slots)
+    omega (arith, queues_paid (opening_state slots children shape) history run, weight-none waits unused_row refl slots slots)

@@ -1,5 +1,5 @@
 -- The row of a slot or of a name whose test passed, and what a sound state says of a row.
-use Rattle.std.proofs.Common.{◌≡◌, ℕ, Bool, true, false, ◌&&◌, cond, List, Option, None, Some, slice_get, refl, subst}
+use Rattle.std.proofs.Common.{◌≡◌, ◌≤◌, ℕ, Bool, true, false, ◌&&◌, cond, List, Option, None, Some, slice_get, refl, subst}
 use Rattle.std.proofs.lemmas.Bool.{and_parts}
 use Rattle.std.specs.Option.{option_map_or}
 use Rattle.mpm_base.specs.declared.conn.ConnName.{ConnName}
@@ -9,8 +9,9 @@ use Rattle.conn_machine.specs.declared.row.Place.{Place}
 use Rattle.conn_machine.specs.declared.row.Place.TheVariants.{Vacant, Spent, Held, Parked, Queued, Working}
 use Rattle.conn_machine.specs.declared.row.Row.{Row}
 use Rattle.conn_machine.specs.declared.state.State.{State}
-use Rattle.conn_machine.specs.Rows.{is_live, is_held, is_parked, is_queued, is_working, is_lingering, is_named, row_where, row_passes, lives_and}
+use Rattle.conn_machine.specs.Rows.{is_live, is_held, is_parked, is_queued, is_working, is_lingering, is_live_as, row_where, row_passes, lives_and}
 use Rattle.conn_machine.specs.States.{child_of}
+use Rattle.mpm_base.specs.Moment.{greatest_moment}
 use Rattle.conn_machine.specs.Sound.{IsOfChild, CellIsBelow, KindFits, RequestFits, IsInService, IsHeldWell, is_from_linger, HasSoundNotes, IsSound}
 
 -- ## The row that was meant
@@ -40,16 +41,16 @@ row_of_slot test rows slot passes = has_row test rows slot (slice_get rows slot)
 
 -- a row whose life is the name's is live
 named_row : (test : Row → Bool) (rows : List Row) (name : ConnName) (r : Row) (b : Bool) → slice_get rows name.slot ≡ Some r
-    → is_named name r ≡ b → option_map_or test (cond b (Some r) None) false ≡ true → HasLiveRow test rows name.slot
+    → is_live_as name r ≡ b → option_map_or test (cond b (Some r) None) false ≡ true → HasLiveRow test rows name.slot
 named_row test rows name r true is named passes =
     record { row = r; found = is; live = (and_parts (is_live r) _ named).0; passes = passes }
 named_row test rows name r false is named passes = absurd (cc)
 
 -- what was read there, where the name is its own and it passes, is that live row
 has_live_row : (test : Row → Bool) (rows : List Row) (name : ConnName) (o : Option Row) → slice_get rows name.slot ≡ o
-    → option_map_or test (row_where (is_named name) o) false ≡ true → HasLiveRow test rows name.slot
+    → option_map_or test (row_where (is_live_as name) o) false ≡ true → HasLiveRow test rows name.slot
 has_live_row test rows name None is passes = absurd (cc)
-has_live_row test rows name (Some r) is passes = named_row test rows name r (is_named name r) is refl passes
+has_live_row test rows name (Some r) is passes = named_row test rows name r (is_live_as name r) is refl passes
 
 -- a connection that lives has a live row
 pub row_of_name : (test : Row → Bool) (rows : List Row) (name : ConnName) → lives_and test rows name ≡ true
@@ -65,6 +66,7 @@ pub record IsSoundRow (s : State) (r : Row) : Type 0 where
   pub kind : KindFits r.place r
   pub request : RequestFits r.place r
   pub notes : HasSoundNotes (child_of s r).shape.most r
+  pub deadline : r.deadline ≤ greatest_moment
 
 -- each live row of a sound state is sound
 pub sound_row : (s : State) (slot : ℕ) (r : Row) → IsSound s → slice_get s.rows slot ≡ Some r → is_live r ≡ true → IsSoundRow s r
@@ -75,6 +77,7 @@ sound_row s slot r sound found live =
       kind = sound.kinds slot r found live;
       request = sound.requests slot r found live;
       notes = sound.notes slot r found live;
+      deadline = sound.numbers.deadlines slot r found;
     }
 
 -- ## Places

@@ -6,7 +6,7 @@ use Rattle.std.proofs.lemmas.Bool.{eqb-true}
 use Rattle.std.specs.List.{range_with_len}
 use Rattle.conn_machine.specs.declared.event.Entry.{Entry}
 use Rattle.conn_machine.specs.declared.state.State.{State}
-use Rattle.conn_machine.specs.Table.{allowed, next, reply}
+use Rattle.conn_machine.specs.Table.{is_allowed, next, reply}
 use Rattle.conn_machine.specs.Runs.{after, Run, is_of_pass, entries_of, IsNumbered, IsInPassOrder, IsHistory}
 
 pub after-snoc : (s : State) (history : List Entry) (e : Entry) → after s (history ++ e ∷ []) ≡ next (after s history) e.event
@@ -14,7 +14,7 @@ after-snoc s [] e = refl
 after-snoc s (x ∷ history) e = after-snoc (next s x.event) history e
 
 pub run_snoc : (s : State) (history : List Entry) (e : Entry) → Run s history
-    → allowed (after s history) e.event ≡ true → e.reply ≡ reply (after s history) e.event → Run s (history ++ e ∷ [])
+    → is_allowed (after s history) e.event ≡ true → e.reply ≡ reply (after s history) e.event → Run s (history ++ e ∷ [])
 run_snoc s [] e run is_allowed replied = (is_allowed, replied, tt)
 run_snoc s (x ∷ history) e run is_allowed replied = (run.0, run.1, run_snoc (next s x.event) history e run.2 is_allowed replied)
 
@@ -76,7 +76,7 @@ order-snoc history e order ordinal p =
 
 -- a history that goes on by an entry which the state allows
 pub history-snoc : (base : State) (history : List Entry) (e : Entry) → IsHistory base history
-    → allowed (after base history) e.event ≡ true → e.reply ≡ reply (after base history) e.event
+    → is_allowed (after base history) e.event ≡ true → e.reply ≡ reply (after base history) e.event
     → e.ordinal ≡ length (entries_of e.pass history) → IsHistory base (history ++ e ∷ [])
 history-snoc base history e before is_allowed replied ordinal = record {
   run = run_snoc base history e before.run is_allowed replied;

@@ -1,5 +1,5 @@
 -- A row whose worker begins to serve it or decides a response, and one whose connection is closed, is fair.
-use Rattle.std.proofs.Common.{◌≡◌, ◌==◌, ℕ, ◌+◌, ◌<◌, Bool, true, false, not, ◌&&◌, ◌||◌, if◌then◌else◌, List, [], ◌∷◌, ◌++◌, length, count_by, Some, slice_get, refl, sym, ap, subst, inl, inr, length-append, arith}
+use Rattle.std.proofs.Common.{◌≡◌, ◌==◌, ℕ, ◌+◌, ◌<◌, ◌≤◌, Bool, true, false, not, ◌&&◌, ◌||◌, if◌then◌else◌, List, [], ◌∷◌, ◌++◌, length, count_by, Some, slice_get, refl, sym, ap, subst, inl, inr, length-append, arith}
 use Rattle.std.proofs.lemmas.Bool.{and_parts, and_from, or_parts, not-true, eqb-true, eqb-false, eq-eqb}
 use Rattle.std.proofs.lemmas.List.Sums.{fold-append}
 use Rattle.mpm_base.specs.declared.conn.Ask.{Ask}
@@ -13,6 +13,7 @@ use Rattle.conn_machine.specs.declared.state.State.{State}
 use Rattle.conn_machine.specs.Rows.{is_live, is_queued, is_working, in_phase, is_lingering, is_served_in}
 use Rattle.conn_machine.specs.Children.{is_running}
 use Rattle.conn_machine.specs.States.{child_of}
+use Rattle.mpm_base.specs.Moment.{greatest_moment}
 use Rattle.conn_machine.specs.Table.{cell_for, served_row, is_last_for, note_for, answered_row}
 use Rattle.conn_machine.specs.Sound.{CellIsBelow, KindFits, IsInService, HasSoundNotes, IsSound}
 use Rattle.conn_machine.proofs.FairLemmas.{IsFair}
@@ -46,6 +47,7 @@ fair-start s slot r all found sound live is =
       kind = λ _. record { stays = service.stays; from = service.from };
       request = λ _. tt;
       notes = λ _. record { fewer = sound.notes.fewer; few = sound.notes.few; last = sound.notes.last };
+      deadline = sound.deadline;
     }
 
 -- ## Answer
@@ -87,6 +89,7 @@ fair_noted s r note short p sound live undecided room =
       kind = λ _. record { stays = service.stays; from = service.from };
       request = λ _. tt;
       notes = λ _. notes_more (child_of s r).shape.most r note short (Working p.cell (phase_after note)) sound.notes undecided room;
+      deadline = sound.deadline;
     }
 
 -- the third of five tests
@@ -121,8 +124,8 @@ left_row spent r =
     else record r { life = r.life + 1; place = Vacant; notes = [] }
 
 -- a row without a connection is fair
-pub fair_left : (s : State) (r : Row) (spent : Bool) → IsFair s r (left_row spent r)
-fair_left s r true = record {
+pub fair_left : (s : State) (r : Row) (spent : Bool) → r.deadline ≤ greatest_moment → IsFair s r (left_row spent r)
+fair_left s r true within = record {
   carried = λ k is. absurd (never (r.child == k) is);
   admitted = λ k is. absurd (never_there (r.child == k) (not (is_lingering r)) is);
   cell = λ k c is. absurd (never (r.child == k) is);
@@ -131,8 +134,9 @@ fair_left s r true = record {
   kind = λ live. absurd (cc);
   request = λ live. absurd (cc);
   notes = λ live. absurd (cc);
+  deadline = within;
 }
-fair_left s r false = record {
+fair_left s r false within = record {
   carried = λ k is. absurd (never (r.child == k) is);
   admitted = λ k is. absurd (never_there (r.child == k) (not (is_lingering r)) is);
   cell = λ k c is. absurd (never (r.child == k) is);
@@ -141,6 +145,7 @@ fair_left s r false = record {
   kind = λ live. absurd (cc);
   request = λ live. absurd (cc);
   notes = λ live. absurd (cc);
+  deadline = within;
 }
 
 -- it keeps its arrival

@@ -11,15 +11,16 @@ use Rattle.conn_machine.specs.Lists.{update}
 use Rattle.conn_machine.specs.Children.{stopped_child}
 use Rattle.std.proofs.lemmas.Bool.{leb-true}
 use Rattle.std.specs.List.{list_any}
-use Rattle.conn_machine.specs.States.{greatest_moment, is_halted, is_overdue}
-use Rattle.conn_machine.specs.Table.{allowed, next, after_command}
+use Rattle.conn_machine.specs.States.{is_halted, is_overdue}
+use Rattle.mpm_base.specs.Moment.{greatest_moment}
+use Rattle.conn_machine.specs.Table.{is_allowed, next, next_command}
 
 pub length-update : {X : Type 0} (xs : List X) (i : ℕ) (change : X → X) → length (update xs i change) ≡ length xs
 length-update [] i change = refl
 length-update (x ∷ xs) zero change = refl
 length-update (x ∷ xs) (suc i) change = ap suc (length-update xs i change)
 
-rows_of-command : (s : State) (c : Commanded) → length (after_command s c).rows ≡ length s.rows
+rows_of-command : (s : State) (c : Commanded) → length (next_command s c).rows ≡ length s.rows
 rows_of-command s (Graceful shape) = refl
 rows_of-command s (Refused reason) = refl
 rows_of-command s (GracefulStop until) = refl
@@ -40,7 +41,7 @@ length-rows s (event.StartChild k) = refl
 length-rows s (event.Command c) = rows_of-command s c
 length-rows s (event.Retire k) = refl
 
-signals_of-command : (s : State) (c : Commanded) → length (after_command s c).signals ≡ length s.signals
+signals_of-command : (s : State) (c : Commanded) → length (next_command s c).signals ≡ length s.signals
 signals_of-command s (Graceful shape) = refl
 signals_of-command s (Refused reason) = refl
 signals_of-command s (GracefulStop until) = refl
@@ -61,7 +62,7 @@ length-signals s (event.StartChild k) = refl
 length-signals s (event.Command c) = signals_of-command s c
 length-signals s (event.Retire k) = refl
 
-children_of-command : (s : State) (c : Commanded) → length (after_command s c).children ≡ length s.children
+children_of-command : (s : State) (c : Commanded) → length (next_command s c).children ≡ length s.children
 children_of-command s (Graceful shape) = length-map s.children stopped_child
 children_of-command s (Refused reason) = refl
 children_of-command s (GracefulStop until) = length-map s.children stopped_child
@@ -86,7 +87,7 @@ length-children s (event.Retire k) = length-update s.children k _
 pub ruleset sizes_kept = (length-rows, length-signals, length-children)
 
 -- moments stay within their range
-moment_of-command : (s : State) (c : Commanded) → (after_command s c).moment ≡ s.moment
+moment_of-command : (s : State) (c : Commanded) → (next_command s c).moment ≡ s.moment
 moment_of-command s (Graceful shape) = refl
 moment_of-command s (Refused reason) = refl
 moment_of-command s (GracefulStop until) = refl
@@ -98,7 +99,7 @@ within_tick true true false d all = absurd (cc)
 within_tick true false c d all = absurd (cc)
 within_tick false b c d all = absurd (cc)
 
-pub moment-within : (s : State) (e : Event) → allowed s e ≡ true → s.moment ≤ greatest_moment → (next s e).moment ≤ greatest_moment
+pub moment-within : (s : State) (e : Event) → is_allowed s e ≡ true → s.moment ≤ greatest_moment → (next s e).moment ≤ greatest_moment
 moment-within s (event.Accept slot) may before = before
 moment-within s (event.Park name kind) may before = before
 moment-within s (event.Hold name) may before = before

@@ -3,12 +3,12 @@ use Rattle.std.proofs.Common.{◌≡◌, true}
 use Rattle.conn_machine.specs.declared.event.Event.{Event}
 use Rattle.conn_machine.specs.declared.event.Event.TheVariants as event
 use Rattle.conn_machine.specs.declared.state.State.{State}
-use Rattle.conn_machine.specs.Table.{allowed, next}
+use Rattle.conn_machine.specs.Table.{is_allowed, next}
 use Rattle.conn_machine.specs.Sound.{IsSound}
 use Rattle.conn_machine.proofs.RowSound.{sound-accept, sound-park, sound-hold, sound-queue, sound-start, sound-answer, sound-linger, sound-close}
 use Rattle.conn_machine.proofs.ChildSound.{sound-ready, sound-tick, sound-start_child, sound-command, sound-retire}
 
-pub keeps_sound : (s : State) (e : Event) → IsSound s → allowed s e ≡ true → IsSound (next s e)
+pub keeps_sound : (s : State) (e : Event) → IsSound s → is_allowed s e ≡ true → IsSound (next s e)
 keeps_sound s (event.Accept slot) sound may = sound-accept s slot sound may
 keeps_sound s (event.Park name kind) sound may = sound-park s name kind sound may
 keeps_sound s (event.Hold name) sound may = sound-hold s name sound may

@@ -3,14 +3,14 @@ use Rattle.std.proofs.Common.{◌≡◌, true, List, [], ◌∷◌, ◌++◌, sy
 use Rattle.conn_machine.specs.declared.event.Event.{Event}
 use Rattle.conn_machine.specs.declared.event.Entry.{Entry}
 use Rattle.conn_machine.specs.declared.state.State.{State}
-use Rattle.conn_machine.specs.Table.{allowed, next}
+use Rattle.conn_machine.specs.Table.{is_allowed, next}
 use Rattle.conn_machine.specs.Runs.{Run, after}
 use Rattle.conn_machine.specs.Sound.{IsSound}
 use Rattle.conn_machine.specs.Laws.{StaysSound}
 use Rattle.conn_machine.proofs.SoundLemmas.{keeps_sound}
 
 -- the state that an allowed event makes of a sound one is sound
-pub sound_step : (s s' : State) (e : Event) → allowed s e ≡ true → s' ≡ next s e → IsSound s → IsSound s'
+pub sound_step : (s s' : State) (e : Event) → is_allowed s e ≡ true → s' ≡ next s e → IsSound s → IsSound s'
 sound_step s s' e may made sound = subst IsSound (sym made) (keeps_sound s e sound may)
 
 -- after the first entries of a run from a sound state the state is sound

@@ -1,15 +1,17 @@
 -- A row that goes to wait, to the listener or to the workers, and one that goes to linger, is fair.
-use Rattle.std.proofs.Common.{◌≡◌, ◌⊎◌, ◌==◌, ℕ, ◌<◌, Bool, true, false, not, ◌&&◌, ◌||◌, nat_lt, nat_le, if◌then◌else◌, Option, None, Some, is_none, refl, sym, subst, ◌∙◌, inl, inr}
+use Rattle.std.proofs.Common.{◌≡◌, ◌⊎◌, ◌==◌, ℕ, ◌+◌, ◌<◌, ◌≤◌, Bool, true, false, not, ◌&&◌, ◌||◌, nat_lt, nat_le, if◌then◌else◌, Option, None, Some, is_none, refl, sym, subst, ◌∙◌, inl, inr}
+use Rattle.std.proofs.Math.Nat.{min-le_right}
 use Rattle.std.proofs.lemmas.Bool.{and_parts, or_cases, not-true, ltb-true, eqb-true}
 use Rattle.mpm_base.specs.declared.conn.Kind.{Kind}
 use Rattle.mpm_base.specs.declared.conn.Kind.TheVariants.{Reading, KeepAlive, Writing, Linger, ShortLinger}
 use Rattle.mpm_base.specs.declared.conn.Cause.{Cause}
 use Rattle.conn_machine.specs.declared.row.Row.{Row}
 use Rattle.conn_machine.specs.declared.state.State.{State}
-use Rattle.conn_machine.specs.Rows.{is_live, is_held, is_parked, is_working, is_from, is_lingering, is_linger_kind, has_note, carried}
+use Rattle.conn_machine.specs.Rows.{is_live, is_held, is_parked, is_working, is_from, is_lingering, is_linger_kind, has_note, carried_count}
 use Rattle.conn_machine.specs.Children.{child_at, is_stopping}
 use Rattle.conn_machine.specs.States.{child_of, is_halted}
-use Rattle.conn_machine.specs.Table.{may_wait, parked_row, may_be_held, held_row, may_be_queued, queued_row, lingering_row}
+use Rattle.mpm_base.specs.Moment.{greatest_moment}
+use Rattle.conn_machine.specs.Table.{may_wait, wait_until, linger_ms, parked_row, may_be_held, held_row, may_be_queued, queued_row, lingering_row}
 use Rattle.conn_machine.specs.Sound.{KindFits, RequestFits, WaitsFor, IsInService, ExpectsMore, ExpectedMore, is_from_linger}
 use Rattle.conn_machine.proofs.FairLemmas.{IsFair}
 use Rattle.conn_machine.proofs.RowLemmas.{IsSoundRow, IsParkedFor, parked_for, served_by, held_kind, held_well, in_service, never, still_open}
@@ -56,11 +58,11 @@ own_child r k is = eqb-true r.child k (and_parts (r.child == k) true is).0
 
 -- what a row that may be queued has
 queue_parts : (s : State) (r : Row) → may_be_queued s r ≡ true
-    → (is_parked r.place ≡ true) × (is_lingering r ≡ false) × (carried s.rows r.child < (child_of s r).shape.threads)
+    → (is_parked r.place ≡ true) × (is_lingering r ≡ false) × (carried_count s.rows r.child < (child_of s r).shape.threads)
 queue_parts s r may =
-    let room = and_parts (is_parked r.place && not (is_lingering r)) (nat_lt (carried s.rows r.child) (child_of s r).shape.threads) may in
+    let room = and_parts (is_parked r.place && not (is_lingering r)) (nat_lt (carried_count s.rows r.child) (child_of s r).shape.threads) may in
     let stays = and_parts (is_parked r.place) (not (is_lingering r)) room.0 in
-    (stays.0, not-true (is_lingering r) stays.1, ltb-true (carried s.rows r.child) (child_of s r).shape.threads room.1)
+    (stays.0, not-true (is_lingering r) stays.1, ltb-true (carried_count s.rows r.child) (child_of s r).shape.threads room.1)
 
 -- a queued row is fair
 pub fair-queue : (s : State) (r : Row) → IsSoundRow s r → is_live r ≡ true → may_be_queued s r ≡ true → IsFair s r (queued_row r)
@@ -71,7 +73,7 @@ fair-queue s r sound live may =
     let service = service_kind parked.kind r waits parts.1 in
     let more = same_expected parked.kind r (queued_row r) refl refl (expects s r parked sound) in
     record {
-      carried = λ k is. inr (subst (λ j. carried s.rows j < (child_at s.children j).shape.threads) (own_child r k is) parts.2);
+      carried = λ k is. inr (subst (λ j. carried_count s.rows j < (child_at s.children j).shape.threads) (own_child r k is) parts.2);
       admitted = λ k is. inl (still_open (r.child == k) (is_live r) (not (is_lingering r)) live is);
       cell = λ k c is. absurd (never (r.child == k) is);
       owner = λ _. record { exists = sound.owner.exists; there = sound.owner.there; generation = sound.owner.generation };
@@ -79,6 +81,7 @@ fair-queue s r sound live may =
       kind = λ _. record { stays = service.stays; from = service.from };
       request = λ _. subst (λ o. ExpectedMore o (queued_row r)) (sym waits.own) (λ _. more);
       notes = λ _. record { fewer = sound.notes.fewer; few = sound.notes.few; last = sound.notes.last };
+      deadline = sound.deadline;
     }
 
 -- ## Hold
@@ -111,6 +114,7 @@ fair-hold s signalled r sound live may =
         expected = subst (λ o. ExpectedMore o (held_row r)) (sym waits.own) (λ _. more);
       };
       notes = λ _. record { fewer = sound.notes.fewer; few = sound.notes.few; last = sound.notes.last };
+      deadline = sound.deadline;
     }
 
 -- ## Park
@@ -161,7 +165,7 @@ lingers_of true false c d all = absurd (cc)
 lingers_of false false c d all = absurd (cc)
 
 -- the row waits for what it may wait for
-park_kind : (s : State) (kind : Kind) (r : Row) → IsSoundRow s r → may_wait s.moment kind r ≡ true → WaitsFor kind (parked_row s kind r)
+pub park_kind : (s : State) (kind : Kind) (r : Row) → IsSoundRow s r → may_wait s.moment kind r ≡ true → WaitsFor kind (parked_row s kind r)
 park_kind s Reading r sound may = record { own = refl; lingers = sym (may_read s r sound may).stays }
 park_kind s KeepAlive r sound may = record { own = refl; lingers = sym (may_keep s r sound may).stays }
 park_kind s Writing r sound may = record { own = refl; lingers = sym (in_service s r (served_by r.place may) sound).stays }
@@ -185,6 +189,14 @@ park_request s Writing r sound may = tt
 park_request s Linger r sound may = tt
 park_request s ShortLinger r sound may = tt
 
+-- a wait is over at a moment
+wait_in_range : (s : State) (kind : Kind) (r : Row) → r.deadline ≤ greatest_moment → wait_until s kind r ≤ greatest_moment
+wait_in_range s Reading r within = min-le_right (s.moment + (child_of s r).shape.read_ms) greatest_moment
+wait_in_range s KeepAlive r within = min-le_right (s.moment + (child_of s r).shape.keep_ms) greatest_moment
+wait_in_range s Writing r within = min-le_right (s.moment + (child_of s r).shape.read_ms) greatest_moment
+wait_in_range s Linger r within = within
+wait_in_range s ShortLinger r within = within
+
 -- a parked row is fair
 pub fair-park : (s : State) (kind : Kind) (r : Row) → IsSoundRow s r → is_live r ≡ true → may_wait s.moment kind r ≡ true
     → IsFair s r (parked_row s kind r)
@@ -197,6 +209,7 @@ fair-park s kind r sound live may = record {
   kind = λ _. park_kind s kind r sound may;
   request = λ _. park_request s kind r sound may;
   notes = λ _. record { fewer = sound.notes.fewer; few = sound.notes.few; last = sound.notes.last };
+  deadline = wait_in_range s kind r sound.deadline;
 }
 
 -- ## Linger
@@ -222,4 +235,5 @@ fair-linger s why r sound = record {
   kind = λ _. record { own = refl; lingers = lingers_so r.short };
   request = λ _. nothing_more r.short (lingering_row s why r);
   notes = λ _. record { fewer = sound.notes.fewer; few = sound.notes.few; last = sound.notes.last };
+  deadline = min-le_right (s.moment + linger_ms r) greatest_moment;
 }

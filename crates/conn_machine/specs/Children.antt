@@ -5,16 +5,19 @@ use Rattle.conn_machine.specs.declared.child.ChildPhase.{ChildPhase}
 use Rattle.conn_machine.specs.declared.child.ChildPhase.TheVariants.{Empty, Running, Stopping}
 use Rattle.conn_machine.specs.declared.child.Child.{Child}
 
+-- the child is not there
 abbrev pub is_empty : ChildPhase → Bool
 is_empty Empty = true
 is_empty Running = false
 is_empty Stopping = false
 
+-- the child takes connections
 abbrev pub is_running : ChildPhase → Bool
 is_running Empty = false
 is_running Running = true
 is_running Stopping = false
 
+-- the child serves the connections that it has, and takes no more
 abbrev pub is_stopping : ChildPhase → Bool
 is_stopping Empty = false
 is_stopping Running = false
@@ -53,11 +56,11 @@ abbrev pub retired_child : Child → Child
 retired_child c = record c { phase = Empty; shape = record c.shape { threads = 0 } }
 
 -- the number lies between the two
-abbrev pub within : ℕ → ℕ → ℕ → Bool
-within low high n = nat_le low n && nat_le n high
+abbrev pub is_between : ℕ → ℕ → ℕ → Bool
+is_between low high n = nat_le low n && nat_le n high
 
 -- a configuration may give these numbers
 abbrev pub is_in_bounds : Shape → Bool
 is_in_bounds s =
-    within 1 64 s.threads && within 1 10000 s.factor && within 1000 65535000 s.read_ms && within 1 65535000 s.keep_ms
-    && within 1 65535 s.most && within 1 32 s.children && within 1 s.children s.target
+    is_between 1 64 s.threads && is_between 1 10000 s.factor && is_between 1000 65535000 s.read_ms && is_between 1 65535000 s.keep_ms
+    && is_between 1 65535 s.most && is_between 1 32 s.children && is_between 1 s.children s.target

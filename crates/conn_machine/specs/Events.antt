@@ -1,37 +1,78 @@
 -- Kinds of events, and how many entries of a history have one.
-use Rattle.std.specs.Prelude.{ℕ, Bool, true, false, List}
+use Rattle.std.specs.Prelude.{◌==◌, ℕ, Bool, true, false, ◌||◌, List, [], ◌∷◌}
 use Rattle.std.specs.List.{count_by}
+use Rattle.mpm_base.specs.declared.conn.Cause.{Cause}
+use Rattle.mpm_base.specs.declared.conn.Cause.TheVariants as cause
+use Rattle.conn_machine.specs.declared.event.Commanded.TheVariants.{Graceful, Refused}
 use Rattle.conn_machine.specs.declared.event.Event.{Event}
 use Rattle.conn_machine.specs.declared.event.Event.TheVariants as event
 use Rattle.conn_machine.specs.declared.event.Entry.{Entry}
+use Rattle.mpm_base.specs.Cause.{cause_number}
 
+-- a connection is taken
 abbrev pub is_accept : Event → Bool
 is_accept (event.Accept slot) = true
 is_accept other = false
 
+-- the listener takes a connection that waits
 abbrev pub is_hold : Event → Bool
 is_hold (event.Hold name) = true
 is_hold other = false
 
+-- a connection is handed to the workers of its child
 abbrev pub is_queue : Event → Bool
 is_queue (event.Queue name) = true
 is_queue other = false
 
+-- a response is decided
 abbrev pub is_answer : Event → Bool
 is_answer (event.Answer name ask) = true
 is_answer other = false
 
+-- a connection is closed
 abbrev pub is_close : Event → Bool
 is_close (event.Close name why how) = true
 is_close other = false
 
+-- something may have come for a slot
 abbrev pub is_ready : Event → Bool
 is_ready (event.Ready slot) = true
 is_ready other = false
 
+-- a child starts
 abbrev pub is_start_child : Event → Bool
 is_start_child (event.StartChild child) = true
 is_start_child other = false
+
+-- the moment rises
+abbrev pub is_tick : Event → Bool
+is_tick (event.Tick moment) = true
+is_tick other = false
+
+-- a command `graceful` was taken: a new generation begins
+abbrev pub is_graceful : Event → Bool
+is_graceful (event.Command (Graceful shape)) = true
+is_graceful other = false
+
+-- a command `graceful` was refused
+abbrev pub is_refused : Event → Bool
+is_refused (event.Command (Refused reason)) = true
+is_refused other = false
+
+-- an order: a command `graceful`, taken or refused
+abbrev pub is_order : Event → Bool
+is_order e = is_graceful e || is_refused e
+
+-- the event closes a connection for the cause
+abbrev pub is_close_for : Cause → Event → Bool
+is_close_for for (event.Close name why how) = cause_number why == cause_number for
+is_close_for for other = false
+
+-- the causes, in order
+abbrev pub causes : List Cause
+causes =
+    cause.ClientDone ∷ cause.LastSent ∷ cause.KeepAliveLate ∷ cause.ReadLate ∷ cause.WriteLate ∷ cause.Retiring
+    ∷ cause.LinkFailed ∷ cause.Stopped ∷ cause.NoMemory ∷ []
 
 -- how many entries have such an event
 abbrev pub count_events : (Event → Bool) → List Entry → ℕ

@@ -1,18 +1,23 @@
 -- What the laws of the machine say, in words of their own.
-use Rattle.std.specs.Prelude.{◌≡◌, ℕ, ◌+◌, ◌*◌, ◌-◌, ◌≤◌, Bool, true, false, ◌&&◌, ◌==◌, nat_lt, List, [], ◌∷◌, ◌++◌, Some, ⊤}
+use Rattle.std.specs.Prelude.{◌≡◌, ℕ, ◌+◌, ◌*◌, ◌-◌, ◌≤◌, Bool, true, false, ◌&&◌, ◌||◌, ◌==◌, nat_lt, List, [], ◌∷◌, ◌++◌, None, Some, slice_get, ⊤}
+use Rattle.std.specs.List.{list_any}
 use Rattle.mpm_base.specs.declared.conn.ConnName.{ConnName}
 use Rattle.mpm_base.specs.Notes.{says_last}
 use Rattle.mpm_base.specs.declared.note.Note.{Note}
+use Rattle.conn_machine.specs.declared.event.Event.{Event}
+use Rattle.conn_machine.specs.declared.event.Event.TheVariants as event
 use Rattle.conn_machine.specs.declared.event.Reply.{Reply}
 use Rattle.conn_machine.specs.declared.event.Reply.TheVariants.{Took}
 use Rattle.conn_machine.specs.declared.event.Entry.{Entry}
 use Rattle.conn_machine.specs.declared.state.State.{State}
+use Rattle.conn_machine.specs.declared.row.Place.TheVariants.{Held}
 use Rattle.conn_machine.specs.declared.row.Row.{Row}
-use Rattle.conn_machine.specs.Rows.{carried, open_count, live_row, lives_and}
+use Rattle.conn_machine.specs.Rows.{carried_count, open_count, live_row, lives_and}
 use Rattle.conn_machine.specs.Children.{child_at, is_running}
 use Rattle.conn_machine.specs.Events.{count_events, is_accept, is_hold, is_queue, is_ready}
-use Rattle.conn_machine.specs.Table.{after_accept}
-use Rattle.conn_machine.specs.Runs.{after}
+use Rattle.conn_machine.specs.Table.{next_accept}
+use Rattle.conn_machine.specs.States.{is_signalled}
+use Rattle.conn_machine.specs.Runs.{after, is_name}
 use Rattle.conn_machine.specs.Sound.{IsSound}
 
 -- after each first part of the history, the whole of it among them, the state is sound
@@ -31,7 +36,7 @@ is_alive s name = lives_and (λ r. true) s.rows name
 
 -- the workers of the child that carry nothing
 abbrev pub idle_in : State → ℕ → ℕ
-idle_in s k = (child_at s.children k).shape.threads - carried s.rows k
+idle_in s k = (child_at s.children k).shape.threads - carried_count s.rows k
 
 -- the child takes a further connection: it runs, is of the newest generation, and its open connections are below its limit
 abbrev pub admits_in : State → ℕ → Bool
@@ -53,18 +58,49 @@ pub record IsTakenFor (s : State) (slot : ℕ) (answer : Reply) : Type 0 where
   pub replied : answer ≡ Took name child s.newest
   pub in_slot : name.slot ≡ slot
   pub chosen : IsChosen s child
-  pub found : live_row (after_accept s slot).rows name ≡ Some row
+  pub found : live_row (next_accept s slot).rows name ≡ Some row
   pub of_child : row.child ≡ child
   pub of_generation : row.generation ≡ s.newest
 
+-- nothing but its deadline is left in the row of the connection that was there before
+pub record IsFreshRow (r : Row) : Type 0 where
+  pub held : r.place ≡ Held
+  pub never_waited : r.from ≡ None
+  pub not_begun : r.mid ≡ false
+  pub undecided : r.last ≡ false
+  pub not_refused : r.short ≡ false
+  pub in_service : r.cause ≡ None
+  pub no_response : r.notes ≡ []
+
+-- nor is the signal of its slot
+pub record StartsFresh (s : State) (slot : ℕ) : Type 0 where
+  pub row : Row
+  pub there : slice_get s.rows slot ≡ Some row
+  pub fresh : IsFreshRow row
+  pub no_signal : is_signalled s slot ≡ false
+
+-- the connection lingers for the cause and until the deadline that it had
+pub record LingersOn (old new : Row) : Type 0 where
+  pub deadline : new.deadline ≡ old.deadline
+  pub cause : new.cause ≡ old.cause
+
+-- the event closes the connection of that name
+abbrev pub closes_name : ConnName → Event → Bool
+closes_name name (event.Close closed why how) = is_name closed name
+closes_name name other = false
+
+-- the connection of that name is live in the state, or one of the entries closed it
+abbrev pub is_alive_or_closed : State → List Entry → ConnName → Bool
+is_alive_or_closed s entries name = is_alive s name || list_any (λ e. closes_name name e.event) entries
+
 -- these notes may follow, where the one before them says so much: none follows one that says that it is the last
-abbrev pub MayFollow : Bool → List Note → Type 0
-MayFollow last [] = ⊤
-MayFollow true (note ∷ notes) = ⊥
-MayFollow false (note ∷ notes) = MayFollow note.last notes
+abbrev pub NotesMayFollow : Bool → List Note → Type 0
+NotesMayFollow last [] = ⊤
+NotesMayFollow true (note ∷ notes) = ⊥
+NotesMayFollow false (note ∷ notes) = NotesMayFollow note.last notes
 
 -- a connection has its responses and perhaps further ones, and none after one that is the last
 pub record OnlyGrows (old new : List Note) : Type 0 where
   pub more : List Note
   pub grown : new ≡ old ++ more
-  pub follows : MayFollow (says_last old) more
+  pub follows : NotesMayFollow (says_last old) more

@@ -1,7 +1,10 @@
 pub mod Children
 pub mod Events
+pub mod Folds
+pub mod FoldsInside
 pub mod Laws
 pub mod Lists
+pub mod Made
 pub mod Rows
 pub mod Runs
 pub mod Sound

@@ -14,6 +14,7 @@ use Rattle.conn_machine.specs.declared.row.Row.{Row}
 
 -- ## Places
 
+-- the place has no connection, and may have one
 abbrev pub is_vacant : Place → Bool
 is_vacant Vacant = true
 is_vacant Spent = false
@@ -31,6 +32,7 @@ is_unused (Parked kind) = false
 is_unused Queued = false
 is_unused (Working cell phase) = false
 
+-- the listener has the connection of the place
 abbrev pub is_held : Place → Bool
 is_held Vacant = false
 is_held Spent = false
@@ -39,6 +41,7 @@ is_held (Parked kind) = false
 is_held Queued = false
 is_held (Working cell phase) = false
 
+-- the connection of the place waits, for whatever
 abbrev pub is_parked : Place → Bool
 is_parked Vacant = false
 is_parked Spent = false
@@ -47,6 +50,7 @@ is_parked (Parked kind) = true
 is_parked Queued = false
 is_parked (Working cell phase) = false
 
+-- the connection of the place is on its way to a worker
 abbrev pub is_queued : Place → Bool
 is_queued Vacant = false
 is_queued Spent = false
@@ -55,6 +59,7 @@ is_queued (Parked kind) = false
 is_queued Queued = true
 is_queued (Working cell phase) = false
 
+-- a worker serves the connection of the place
 abbrev pub is_working : Place → Bool
 is_working Vacant = false
 is_working Spent = false
@@ -91,6 +96,7 @@ is_linger_kind Writing = false
 is_linger_kind Linger = true
 is_linger_kind ShortLinger = true
 
+-- a number for each kind
 abbrev pub kind_number : Kind → ℕ
 kind_number Reading = 0
 kind_number KeepAlive = 1
@@ -134,8 +140,8 @@ abbrev pub row_passes : (Row → Bool) → List Row → ℕ → Bool
 row_passes test rows slot = option_map_or test (slice_get rows slot) false
 
 -- the row is live, with the life of that name
-abbrev pub is_named : ConnName → Row → Bool
-is_named name r = is_live r && r.life == name.life
+abbrev pub is_live_as : ConnName → Row → Bool
+is_live_as name r = is_live r && r.life == name.life
 
 -- the row, where it passes the test
 abbrev pub row_where : (Row → Bool) → Option Row → Option Row
@@ -144,7 +150,7 @@ row_where test (Some r) = if test r then Some r else None
 
 -- the row of the connection of that name, where it lives
 abbrev pub live_row : List Row → ConnName → Option Row
-live_row rows name = row_where (is_named name) (slice_get rows name.slot)
+live_row rows name = row_where (is_live_as name) (slice_get rows name.slot)
 
 -- the connection of that name lives, and its row passes the test
 abbrev pub lives_and : (Row → Bool) → List Row → ConnName → Bool
@@ -157,8 +163,8 @@ abbrev pub is_carried_by : ℕ → Row → Bool
 is_carried_by k r = r.child == k && (is_queued r.place || is_working r.place)
 
 -- how many rows the workers of the child carry
-abbrev pub carried : List Row → ℕ → ℕ
-carried rows k = count_by (is_carried_by k) rows
+abbrev pub carried_count : List Row → ℕ → ℕ
+carried_count rows k = count_by (is_carried_by k) rows
 
 -- an open connection of the child: a lingering one isn't
 abbrev pub is_open_in : ℕ → Row → Bool

@@ -12,7 +12,7 @@ use Rattle.conn_machine.specs.declared.event.Reply.{Reply}
 use Rattle.conn_machine.specs.declared.event.Reply.TheVariants.{Done, Took, Cell, Noted}
 use Rattle.conn_machine.specs.declared.event.Entry.{Entry}
 use Rattle.conn_machine.specs.declared.state.State.{State}
-use Rattle.conn_machine.specs.Table.{allowed, next, reply}
+use Rattle.conn_machine.specs.Table.{is_allowed, next, reply}
 
 -- ## Runs
 
@@ -24,10 +24,11 @@ after s (e ∷ entries) = after (next s e.event) entries
 -- from the state on, each entry's event is allowed where it stands, and has its reply
 abbrev pub Run : State → List Entry → Type 0
 Run s [] = ⊤
-Run s (e ∷ entries) = (allowed s e.event ≡ true) × (e.reply ≡ reply s e.event) × Run (next s e.event) entries
+Run s (e ∷ entries) = (is_allowed s e.event ≡ true) × (e.reply ≡ reply s e.event) × Run (next s e.event) entries
 
 -- ## The order of a pass
 
+-- the entry is of the pass
 abbrev pub is_of_pass : ℕ → Entry → Bool
 is_of_pass p e = e.pass == p
 
@@ -51,6 +52,7 @@ pub record IsHistory (base : State) (history : List Entry) : Type 0 where
 
 -- ## The load
 
+-- the event decides a status page
 abbrev pub asks_page : Event → Bool
 asks_page (event.Accept slot) = false
 asks_page (event.Park name kind) = false
@@ -103,6 +105,7 @@ has_after had (event.Retire k) answer = had
 abbrev pub row_of : ℕ → List Entry → Option ConnName
 row_of p history = fold (λ had e. has_after had e.event e.reply) None (entries_of p history)
 
+-- the two names are one
 abbrev pub is_name : ConnName → ConnName → Bool
 is_name a b = a.slot == b.slot && a.life == b.life
 
@@ -142,7 +145,7 @@ may_make p had weight (event.Retire k) = p == 0
 pub record IsNextOf (p : ℕ) (base : State) (history : List Entry) (e : Entry) : Type 0 where
   pub pass : e.pass ≡ p
   pub ordinal : e.ordinal ≡ length (entries_of p history)
-  pub is_allowed : allowed (after base history) e.event ≡ true
+  pub is_allowed : is_allowed (after base history) e.event ≡ true
   pub replied : e.reply ≡ reply (after base history) e.event
   pub role : may_make p (row_of p history) (load history) e.event ≡ true
 

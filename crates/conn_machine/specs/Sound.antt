@@ -10,9 +10,10 @@ use Rattle.conn_machine.specs.declared.row.Place.TheVariants.{Vacant, Spent, Hel
 use Rattle.conn_machine.specs.declared.row.Row.{Row}
 use Rattle.conn_machine.specs.declared.child.Child.{Child}
 use Rattle.conn_machine.specs.declared.state.State.{State}
-use Rattle.conn_machine.specs.Rows.{is_live, is_live_in, is_lingering, is_linger_kind, is_from, has_note, carried, open_count, is_served_in}
+use Rattle.conn_machine.specs.Rows.{is_live, is_live_in, is_lingering, is_linger_kind, is_from, has_note, carried_count, open_count, is_served_in}
 use Rattle.conn_machine.specs.Children.{child_at, is_empty, is_running, is_in_bounds}
-use Rattle.conn_machine.specs.States.{child_of, greatest_moment, is_serving}
+use Rattle.conn_machine.specs.States.{child_of, is_serving}
+use Rattle.mpm_base.specs.Moment.{greatest_moment}
 
 -- each live row has the property
 abbrev pub EachLive : (Row → Type 0) → List Row → Type 0
@@ -22,7 +23,7 @@ EachLive P rows = (slot : ℕ) (r : Row) → slice_get rows slot ≡ Some r → 
 
 -- the connections that its workers carry are no more than its workers
 abbrev pub IsCarriable : State → Type 0
-IsCarriable s = (k : ℕ) → carried s.rows k ≤ (child_at s.children k).shape.threads
+IsCarriable s = (k : ℕ) → carried_count s.rows k ≤ (child_at s.children k).shape.threads
 
 -- a connection is taken only below the limit, which is greatest where every worker is idle; so its open connections, with
 -- the one that was taken last, are less than one above it
@@ -38,6 +39,7 @@ pub record IsNewest (s : State) (c : Child) : Type 0 where
   pub generation : c.generation ≡ s.newest
   pub serving : is_serving s.going ≡ true
 
+-- the child is of the newest generation where it runs, and the server takes connections then
 abbrev pub RunsNewest : State → Type 0
 RunsNewest s = (k : ℕ) → is_running (child_at s.children k).phase ≡ true → IsNewest s (child_at s.children k)
 
@@ -106,14 +108,14 @@ KindFits (Working cell phase) r = IsInService r
 -- ## Rows that wait for a request
 
 -- the row goes on after a response
-pub record GoesOn (r : Row) : Type 0 where
+pub record IsBetweenRequests (r : Row) : Type 0 where
   pub undecided : r.last ≡ false
   pub noted : has_note r ≡ true
 
 -- what a row that waits for this, and doesn't linger, has besides
 abbrev pub ExpectsMore : Kind → Row → Type 0
 ExpectsMore Reading r = r.last ≡ false
-ExpectsMore KeepAlive r = GoesOn r
+ExpectsMore KeepAlive r = IsBetweenRequests r
 ExpectsMore Writing r = ⊤
 ExpectsMore Linger r = ⊤
 ExpectsMore ShortLinger r = ⊤
@@ -158,13 +160,21 @@ pub record HasSoundArrivals (s : State) : Type 0 where
   pub differ : ArrivalsDiffer s.rows
   pub below : EachLive (λ r. r.arrival < s.accepted) s.rows
 
--- the moment is in range, and the arrivals are numbered while their count can still rise
+-- ## Moments
+
+-- each row's deadline is a moment, also one that a connection left behind
+abbrev pub HaveDeadlinesInRange : List Row → Type 0
+HaveDeadlinesInRange rows = (slot : ℕ) (r : Row) → slice_get rows slot ≡ Some r → r.deadline ≤ greatest_moment
+
+-- the moment and the deadlines are in range, and the arrivals are numbered while their count can still rise
 pub record HasSoundNumbers (s : State) : Type 0 where
   pub moment : s.moment ≤ greatest_moment
+  pub deadlines : HaveDeadlinesInRange s.rows
   pub arrivals : s.accepted < greatest_count → HasSoundArrivals s
 
 -- ## A sound state
 
+-- a state is sound where all of this holds
 pub record IsSound (s : State) : Type 0 where
   pub carried : IsCarriable s
   pub admitted : IsAdmissible s

@@ -1,6 +1,7 @@
 -- What is said of a state of the machine.
 use Rattle.std.specs.Prelude.{◌==◌, ℕ, ◌+◌, ◌-◌, Bool, true, false, ◌&&◌, List, [], map, min, nat_le, replicate, Option, None, Some, slice_index_or}
 use Rattle.std.specs.List.{enumerate_from}
+use Rattle.mpm_base.specs.Moment.{greatest_moment}
 use Rattle.mpm_base.specs.declared.shape.Shape.{Shape}
 use Rattle.admission.specs.declared.ChildCount.{ChildCount}
 use Rattle.admission.specs.Admission.{pick_of}
@@ -10,22 +11,20 @@ use Rattle.conn_machine.specs.declared.child.Child.{Child}
 use Rattle.conn_machine.specs.declared.state.Going.{Going}
 use Rattle.conn_machine.specs.declared.state.Going.TheVariants.{Serving, Ending, Halted}
 use Rattle.conn_machine.specs.declared.state.State.{State}
-use Rattle.conn_machine.specs.Rows.{carried, open_count, is_parked}
+use Rattle.conn_machine.specs.Rows.{carried_count, open_count, is_parked}
 use Rattle.conn_machine.specs.Children.{child_at, is_running, no_child}
-
--- the last moment of the year 9999, in milliseconds
-abbrev pub greatest_moment : ℕ
-greatest_moment = 253402300799999
 
 -- so many milliseconds after the moment, as far as moments go
 abbrev pub later : ℕ → ℕ → ℕ
 later moment ms = min (moment + ms) greatest_moment
 
+-- the server takes connections
 abbrev pub is_serving : Going → Bool
 is_serving Serving = true
 is_serving (Ending until) = false
 is_serving (Halted why) = false
 
+-- the server has stopped
 abbrev pub is_halted : Going → Bool
 is_halted Serving = false
 is_halted (Ending until) = false
@@ -48,7 +47,7 @@ child_of s r = child_at s.children r.child
 
 -- the workers of the child that carry nothing
 abbrev pub idle_count : State → ℕ × Child → ℕ
-idle_count s p = p.1.shape.threads - carried s.rows p.0
+idle_count s p = p.1.shape.threads - carried_count s.rows p.0
 
 -- what the choice of a child looks at: it must run and be of the newest generation
 abbrev pub child_count : State → ℕ × Child → ChildCount
@@ -62,6 +61,7 @@ child_count s p =
       count = open_count s.rows p.0;
     }
 
+-- what the choice of a child looks at, of each child
 abbrev pub child_counts : State → List ChildCount
 child_counts s = map (child_count s) (enumerate_from 0 s.children)
 
@@ -92,8 +92,8 @@ unused_row =
     }
 
 -- the state in which a server opens
-abbrev pub opening : ℕ → ℕ → Shape → State
-opening slots children shape =
+abbrev pub opening_state : ℕ → ℕ → Shape → State
+opening_state slots children shape =
     record {
       rows = replicate slots unused_row;
       children = replicate children no_child;

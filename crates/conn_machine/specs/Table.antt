@@ -3,6 +3,7 @@
 use Rattle.std.specs.Prelude.{◌==◌, ℕ, ◌+◌, ◌/◌, Bool, true, false, not, ◌&&◌, ◌||◌, List, [], ◌∷◌, ◌++◌, length, nat_lt, nat_le, if◌then◌else◌, Option, None, Some, is_some, is_none, slice_get, slice_set}
 use Rattle.std.specs.Option.{option_map_or, unwrap_or}
 use Rattle.std.specs.List.{list_any}
+use Rattle.mpm_base.specs.Cause.{cause_number}
 use Rattle.mpm_base.specs.Count.{next_count}
 use Rattle.mpm_base.specs.declared.conn.ConnName.{ConnName}
 use Rattle.mpm_base.specs.declared.conn.Kind.{Kind}
@@ -29,9 +30,10 @@ use Rattle.conn_machine.specs.declared.event.Reply.TheVariants.{Done, Took, Cell
 use Rattle.conn_machine.specs.declared.state.Going.TheVariants.{Ending, Halted}
 use Rattle.conn_machine.specs.declared.state.State.{State}
 use Rattle.conn_machine.specs.Lists.{update}
-use Rattle.conn_machine.specs.Rows.{is_vacant, is_held, is_parked, is_queued, is_working, in_phase, is_from, is_live, is_lingering, is_live_in, has_note, row_passes, lives_and, carried, lowest_free_cell}
+use Rattle.conn_machine.specs.Rows.{is_vacant, is_held, is_parked, is_queued, is_working, in_phase, is_from, is_live, is_lingering, is_live_in, has_note, row_passes, lives_and, carried_count, lowest_free_cell}
 use Rattle.conn_machine.specs.Children.{is_empty, is_running, is_stopping, child_at, all_stopped, running_count, started_child, retired_child, is_in_bounds}
-use Rattle.conn_machine.specs.States.{greatest_moment, later, is_serving, is_halted, is_over, is_signalled, child_of, pick_child, is_overdue}
+use Rattle.conn_machine.specs.States.{later, is_serving, is_halted, is_over, is_signalled, child_of, pick_child, is_overdue}
+use Rattle.mpm_base.specs.Moment.{greatest_moment}
 
 -- ## Accept: a connection is taken into a vacant slot, for the child that the rule of admission names
 
@@ -39,6 +41,7 @@ use Rattle.conn_machine.specs.States.{greatest_moment, later, is_serving, is_hal
 abbrev pub is_vacant_at : State → ℕ → Bool
 is_vacant_at s slot = row_passes (λ r. is_vacant r.place) s.rows slot
 
+-- the server takes connections, the slot is vacant, and a child admits one
 abbrev pub may_accept : State → ℕ → Bool
 may_accept s slot = is_serving s.going && is_vacant_at s slot && is_some (pick_child s)
 
@@ -46,6 +49,7 @@ may_accept s slot = is_serving s.going && is_vacant_at s slot && is_some (pick_c
 abbrev pub picked_child : State → ℕ
 picked_child s = unwrap_or (pick_child s) 0
 
+-- the row of a connection that was just taken: held, with nothing left of the one before
 abbrev pub taken_row : State → Row → Row
 taken_row s r =
     record {
@@ -63,8 +67,9 @@ taken_row s r =
       notes = [];
     }
 
-abbrev pub after_accept : State → ℕ → State
-after_accept s slot =
+-- the state after Accept: the row is held for the child picked, and its signal goes
+abbrev pub next_accept : State → ℕ → State
+next_accept s slot =
     record s {
       rows = update s.rows slot (taken_row s);
       signals = slice_set s.signals slot false;
@@ -75,6 +80,7 @@ after_accept s slot =
 abbrev pub life_at : List Row → ℕ → ℕ
 life_at rows slot = option_map_or (λ r. r.life) (slice_get rows slot) 0
 
+-- the reply: the name, the child and the generation of the connection
 abbrev pub taken_reply : State → ℕ → Reply
 taken_reply s slot =
     Took (record { slot = slot; life = life_at s.rows slot }) (picked_child s) (child_at s.children (picked_child s)).generation
@@ -89,6 +95,7 @@ may_wait moment Writing r = is_working r.place
 may_wait moment Linger r = is_held r.place && is_lingering r && is_from Linger r && nat_lt moment r.deadline
 may_wait moment ShortLinger r = is_held r.place && is_lingering r && is_from ShortLinger r && nat_lt moment r.deadline
 
+-- the server has not stopped, and the row may wait for this
 abbrev pub may_park : State → ConnName → Kind → Bool
 may_park s name kind = not (is_halted s.going) && lives_and (may_wait s.moment kind) s.rows name
 
@@ -108,12 +115,14 @@ mid_after Writing r = r.mid
 mid_after Linger r = r.mid
 mid_after ShortLinger r = r.mid
 
+-- the row that waits, for this and until its deadline
 abbrev pub parked_row : State → Kind → Row → Row
 parked_row s kind r =
     record r { place = Parked kind; from = Some kind; deadline = wait_until s kind r; mid = mid_after kind r }
 
-abbrev pub after_park : State → ConnName → Kind → State
-after_park s name kind = record s { rows = update s.rows name.slot (parked_row s kind) }
+-- the state after Park
+abbrev pub next_park : State → ConnName → Kind → State
+next_park s name kind = record s { rows = update s.rows name.slot (parked_row s kind) }
 
 -- ## Hold: the listener takes a connection, to close it or to drain it
 
@@ -127,9 +136,11 @@ may_be_held s signalled r =
     || (is_lingering r && signalled)
     || is_halted s.going)
 
+-- the row of that name is there, and may be held
 abbrev pub may_hold : State → ConnName → Bool
 may_hold s name = lives_and (may_be_held s (is_signalled s name.slot)) s.rows name
 
+-- the row that the listener has
 abbrev pub held_row : Row → Row
 held_row r = record r { place = Held }
 
@@ -137,8 +148,9 @@ held_row r = record r { place = Held }
 abbrev pub signal_after_hold : State → ℕ → Bool
 signal_after_hold s slot = is_signalled s slot && not (row_passes is_lingering s.rows slot)
 
-abbrev pub after_hold : State → ConnName → State
-after_hold s name =
+-- the state after Hold: the signal of a lingering row goes
+abbrev pub next_hold : State → ConnName → State
+next_hold s name =
     record s {
       rows = update s.rows name.slot held_row;
       signals = slice_set s.signals name.slot (signal_after_hold s name.slot);
@@ -146,23 +158,28 @@ after_hold s name =
 
 -- ## Queue: a connection is handed to the workers of its child
 
+-- the row waits and does not linger, and a worker of its child is free
 abbrev pub may_be_queued : State → Row → Bool
 may_be_queued s r =
-    is_parked r.place && not (is_lingering r) && nat_lt (carried s.rows r.child) (child_of s r).shape.threads
+    is_parked r.place && not (is_lingering r) && nat_lt (carried_count s.rows r.child) (child_of s r).shape.threads
 
+-- the server has not stopped, and the row of that name is signalled and may be queued
 abbrev pub may_queue : State → ConnName → Bool
 may_queue s name =
     not (is_halted s.going) && is_signalled s name.slot && lives_and (may_be_queued s) s.rows name
 
+-- the row on its way to a worker
 abbrev pub queued_row : Row → Row
 queued_row r = record r { place = Queued }
 
-abbrev pub after_queue : State → ConnName → State
-after_queue s name =
+-- the state after Queue: the signal goes
+abbrev pub next_queue : State → ConnName → State
+next_queue s name =
     record s { rows = update s.rows name.slot queued_row; signals = slice_set s.signals name.slot false }
 
 -- ## Start: a worker begins to serve
 
+-- the row of that name is queued
 abbrev pub may_start : State → ConnName → Bool
 may_start s name = lives_and (λ r. is_queued r.place) s.rows name
 
@@ -175,17 +192,21 @@ abbrev pub phase_at_start : Row → Phase
 phase_at_start r =
     if is_from Writing r && r.mid then (if r.last then phase.Close else phase.Write) else phase.Read
 
+-- the row that a worker serves, in its cell and phase
 abbrev pub served_row : State → Row → Row
 served_row s r = record r { place = Working (cell_for s r) (phase_at_start r) }
 
-abbrev pub after_start : State → ConnName → State
-after_start s name = record s { rows = update s.rows name.slot (served_row s) }
+-- the state after Start
+abbrev pub next_start : State → ConnName → State
+next_start s name = record s { rows = update s.rows name.slot (served_row s) }
 
+-- the cell in which the row of the slot is served
 abbrev pub cell_at : State → ℕ → ℕ
 cell_at s slot = option_map_or (cell_for s) (slice_get s.rows slot) 0
 
 -- ## Answer: a response is decided
 
+-- the server has not stopped, and the row of that name is served and has no last response
 abbrev pub may_answer : State → ConnName → Bool
 may_answer s name =
     not (is_halted s.going) && lives_and (λ r. is_working r.place && not r.last) s.rows name
@@ -218,12 +239,15 @@ with_note note short r =
       notes = r.notes ++ note ∷ [];
     }
 
+-- the row with a further note, whose response is begun
 abbrev pub answered_row : State → Ask → Row → Row
 answered_row s ask r = with_note (note_for s ask r) ask.refused r
 
-abbrev pub after_answer : State → ConnName → Ask → State
-after_answer s name ask = record s { rows = update s.rows name.slot (answered_row s ask) }
+-- the state after Answer
+abbrev pub next_answer : State → ConnName → Ask → State
+next_answer s name ask = record s { rows = update s.rows name.slot (answered_row s ask) }
 
+-- whether the response of the slot is the last one
 abbrev pub noted_at : State → ℕ → Ask → Bool
 noted_at s slot ask = option_map_or (is_last_for s ask) (slice_get s.rows slot) false
 
@@ -246,6 +270,7 @@ linger_cause_fits s cause.LinkFailed signalled r = false
 linger_cause_fits s cause.Stopped signalled r = false
 linger_cause_fits s cause.NoMemory signalled r = false
 
+-- the row of that name does not linger, and the cause fits
 abbrev pub may_linger : State → ConnName → Cause → Bool
 may_linger s name why =
     lives_and (λ r. not (is_lingering r) && linger_cause_fits s why (is_signalled s name.slot) r) s.rows name
@@ -254,9 +279,11 @@ may_linger s name why =
 abbrev pub linger_ms : Row → ℕ
 linger_ms r = if r.short then 2000 else 30000
 
+-- the queue in which a row lingers
 abbrev pub linger_kind : Row → Kind
 linger_kind r = if r.short then ShortLinger else Linger
 
+-- the row that lingers, for the cause
 abbrev pub lingering_row : State → Cause → Row → Row
 lingering_row s why r =
     record r {
@@ -268,25 +295,14 @@ lingering_row s why r =
     }
 
 -- its signal is set, so that it is drained at least once
-abbrev pub after_linger : State → ConnName → Cause → State
-after_linger s name why =
+abbrev pub next_linger : State → ConnName → Cause → State
+next_linger s name why =
     record s {
       rows = update s.rows name.slot (lingering_row s why);
       signals = slice_set s.signals name.slot true;
     }
 
 -- ## Close
-
-abbrev pub cause_number : Cause → ℕ
-cause_number cause.ClientDone = 0
-cause_number cause.LastSent = 1
-cause_number cause.KeepAliveLate = 2
-cause_number cause.ReadLate = 3
-cause_number cause.WriteLate = 4
-cause_number cause.Retiring = 5
-cause_number cause.LinkFailed = 6
-cause_number cause.Stopped = 7
-cause_number cause.NoMemory = 8
 
 -- how a lingering link may be left
 abbrev pub linger_tail_fits : State → Tail → Row → Bool
@@ -298,6 +314,7 @@ linger_tail_fits s tail.Failed r = true
 linger_tail_fits s tail.Halted r = is_halted s.going
 linger_tail_fits s tail.NoMemory r = true
 
+-- the tail is Direct: without lingering
 abbrev pub is_direct : Tail → Bool
 is_direct tail.Direct = true
 is_direct tail.Drained = false
@@ -326,6 +343,7 @@ end_fits s why how r =
     then option_map_or (λ c. cause_number c == cause_number why) r.cause false && linger_tail_fits s how r
     else is_direct how && direct_cause_fits s why r
 
+-- the row of that name is held or served, and cause and tail fit
 abbrev pub may_close : State → ConnName → Cause → Tail → Bool
 may_close s name why how =
     lives_and (λ r. (is_held r.place || is_working r.place) && end_fits s why how r) s.rows name
@@ -334,52 +352,63 @@ may_close s name why how =
 abbrev pub greatest_life : ℕ
 greatest_life = 4294967295
 
+-- the row of a slot whose connection was closed: vacant for its next life, or spent
 abbrev pub closed_row : Row → Row
 closed_row r =
     if r.life == greatest_life
     then record r { place = Spent; notes = [] }
     else record r { life = r.life + 1; place = Vacant; notes = [] }
 
-abbrev pub after_close : State → ConnName → State
-after_close s name =
+-- the state after Close: the signal goes
+abbrev pub next_close : State → ConnName → State
+next_close s name =
     record s { rows = update s.rows name.slot closed_row; signals = slice_set s.signals name.slot false }
 
 -- ## Ready: something may have come for a slot
 
+-- the server has not stopped, and the slot exists
 abbrev pub may_ready : State → ℕ → Bool
 may_ready s slot = not (is_halted s.going) && nat_lt slot (length s.rows)
 
-abbrev pub after_ready : State → ℕ → State
-after_ready s slot = record s { signals = slice_set s.signals slot true }
+-- the state after Ready: the slot is signalled
+abbrev pub next_ready : State → ℕ → State
+next_ready s slot = record s { signals = slice_set s.signals slot true }
 
 -- ## Tick: time passes, where no waiting row is late
 
+-- the server has not stopped, the moment is later and in range, and no row is late
 abbrev pub may_tick : State → ℕ → Bool
 may_tick s m =
     not (is_halted s.going) && nat_lt s.moment m && nat_le m greatest_moment
     && not (list_any (is_overdue s.moment) s.rows)
 
-abbrev pub after_tick : State → ℕ → State
-after_tick s m = record s { moment = m }
+-- the state after Tick
+abbrev pub next_tick : State → ℕ → State
+next_tick s m = record s { moment = m }
 
 -- ## StartChild and Retire
 
+-- the child of that number exists, and passes the test
 abbrev pub child_passes : (Child → Bool) → State → ℕ → Bool
 child_passes test s k = option_map_or test (slice_get s.children k) false
 
+-- the server takes connections, the child is not there, and fewer run than may
 abbrev pub may_start_child : State → ℕ → Bool
 may_start_child s k =
     is_serving s.going && child_passes (λ c. is_empty c.phase) s k
     && nat_lt (running_count s.children) s.shape.children
 
-abbrev pub after_start_child : State → ℕ → State
-after_start_child s k = record s { children = update s.children k (started_child s.newest s.shape) }
+-- the state after StartChild: the child runs, with the newest shape
+abbrev pub next_start_child : State → ℕ → State
+next_start_child s k = record s { children = update s.children k (started_child s.newest s.shape) }
 
+-- the child stops, and none of its rows is live
 abbrev pub may_retire : State → ℕ → Bool
 may_retire s k = child_passes (λ c. is_stopping c.phase) s k && not (list_any (is_live_in k) s.rows)
 
-abbrev pub after_retire : State → ℕ → State
-after_retire s k = record s { children = update s.children k retired_child }
+-- the state after Retire: the child is not there
+abbrev pub next_retire : State → ℕ → State
+next_retire s k = record s { children = update s.children k retired_child }
 
 -- ## Command
 
@@ -401,6 +430,7 @@ stop_fits s why.FrontFailed = true
 stop_fits s why.Full = true
 stop_fits s why.NoMemory = true
 
+-- what each command needs
 abbrev pub command_fits : State → Commanded → Bool
 command_fits s (Graceful shape) =
     is_serving s.going && nat_lt s.newest greatest_generation && is_in_bounds shape
@@ -408,49 +438,51 @@ command_fits s (Refused reason) = true
 command_fits s (GracefulStop until) = is_serving s.going && is_not_past s.moment until
 command_fits s (Stop reason) = stop_fits s reason
 
+-- the server has not stopped, and the command has what it needs
 abbrev pub may_command : State → Commanded → Bool
 may_command s c = not (is_halted s.going) && command_fits s c
 
-abbrev pub after_command : State → Commanded → State
-after_command s (Graceful shape) =
+-- the state after a command
+abbrev pub next_command : State → Commanded → State
+next_command s (Graceful shape) =
     record s { newest = s.newest + 1; shape = shape; children = all_stopped s.children }
-after_command s (Refused reason) = s
-after_command s (GracefulStop until) = record s { going = Ending until; children = all_stopped s.children }
-after_command s (Stop reason) = record s { going = Halted reason; children = all_stopped s.children }
+next_command s (Refused reason) = s
+next_command s (GracefulStop until) = record s { going = Ending until; children = all_stopped s.children }
+next_command s (Stop reason) = record s { going = Halted reason; children = all_stopped s.children }
 
 -- ## The table
 
 -- the state allows the event
-abbrev pub allowed : State → Event → Bool
-allowed s (event.Accept slot) = may_accept s slot
-allowed s (event.Park name kind) = may_park s name kind
-allowed s (event.Hold name) = may_hold s name
-allowed s (event.Queue name) = may_queue s name
-allowed s (event.Start name) = may_start s name
-allowed s (event.Answer name ask) = may_answer s name
-allowed s (event.Linger name why) = may_linger s name why
-allowed s (event.Close name why how) = may_close s name why how
-allowed s (event.Ready slot) = may_ready s slot
-allowed s (event.Tick m) = may_tick s m
-allowed s (event.StartChild k) = may_start_child s k
-allowed s (event.Command c) = may_command s c
-allowed s (event.Retire k) = may_retire s k
+abbrev pub is_allowed : State → Event → Bool
+is_allowed s (event.Accept slot) = may_accept s slot
+is_allowed s (event.Park name kind) = may_park s name kind
+is_allowed s (event.Hold name) = may_hold s name
+is_allowed s (event.Queue name) = may_queue s name
+is_allowed s (event.Start name) = may_start s name
+is_allowed s (event.Answer name ask) = may_answer s name
+is_allowed s (event.Linger name why) = may_linger s name why
+is_allowed s (event.Close name why how) = may_close s name why how
+is_allowed s (event.Ready slot) = may_ready s slot
+is_allowed s (event.Tick m) = may_tick s m
+is_allowed s (event.StartChild k) = may_start_child s k
+is_allowed s (event.Command c) = may_command s c
+is_allowed s (event.Retire k) = may_retire s k
 
 -- the state after the event
 abbrev pub next : State → Event → State
-next s (event.Accept slot) = after_accept s slot
-next s (event.Park name kind) = after_park s name kind
-next s (event.Hold name) = after_hold s name
-next s (event.Queue name) = after_queue s name
-next s (event.Start name) = after_start s name
-next s (event.Answer name ask) = after_answer s name ask
-next s (event.Linger name why) = after_linger s name why
-next s (event.Close name why how) = after_close s name
-next s (event.Ready slot) = after_ready s slot
-next s (event.Tick m) = after_tick s m
-next s (event.StartChild k) = after_start_child s k
-next s (event.Command c) = after_command s c
-next s (event.Retire k) = after_retire s k
+next s (event.Accept slot) = next_accept s slot
+next s (event.Park name kind) = next_park s name kind
+next s (event.Hold name) = next_hold s name
+next s (event.Queue name) = next_queue s name
+next s (event.Start name) = next_start s name
+next s (event.Answer name ask) = next_answer s name ask
+next s (event.Linger name why) = next_linger s name why
+next s (event.Close name why how) = next_close s name
+next s (event.Ready slot) = next_ready s slot
+next s (event.Tick m) = next_tick s m
+next s (event.StartChild k) = next_start_child s k
+next s (event.Command c) = next_command s c
+next s (event.Retire k) = next_retire s k
 
 -- the reply to the event
 abbrev pub reply : State → Event → Reply

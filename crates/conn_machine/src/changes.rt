@@ -89,7 +89,7 @@ impl Row {
         ensures err { OnErr result (self.new ≡ self.old) }
     {
         let last = note.last;
-        self.notes.add(note)?;
+        self.notes.push(note)?;
         let next = if last { Phase::Close } else { Phase::Write };
         self.place = self.place.in_phase(next);
         self.mid = true;

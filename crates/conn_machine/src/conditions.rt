@@ -5,12 +5,12 @@ ghost use Rattle.conn_machine.specs.Table as table;
 
 use crate::event::{Commanded, Event, Why};
 use crate::row::Row;
-use crate::state::{GREATEST_MOMENT, State};
-use mpm_base::{Cause, ConnName, Kind, Moment, Shape, Tail};
+use crate::state::State;
+use mpm_base::{Cause, ConnName, GREATEST_MOMENT, Kind, Moment, Shape, Tail};
 
 /// Whether the number lies between the two, or is one of them.
 fn is_within(low: u64, high: u64, n: u64) -> bool
-    ensures { result ≡ children.within low high n }
+    ensures { result ≡ children.is_between low high n }
 {
     low <= n && n <= high
 }
@@ -32,7 +32,7 @@ pub fn is_in_bounds(shape: &Shape) -> bool
 pub fn may(state: &State, event: &Event) -> bool
     requires few_rows { length state.now.rows ≤ 8192 }
     requires few_children { length state.now.children ≤ 32 }
-    ensures { result ≡ table.allowed state.now event.now }
+    ensures { result ≡ table.is_allowed state.now event.now }
 {
     match *event {
         Event::Accept(slot) => state.may_accept(slot),
@@ -48,23 +48,6 @@ pub fn may(state: &State, event: &Event) -> bool
         Event::StartChild(child) => state.may_start_child(child),
         Event::Command(commanded) => state.may_command(&commanded),
         Event::Retire(child) => state.may_retire(child),
-    }
-}
-
-/// A number for each cause, to tell two apart by.
-fn cause_number(cause: Cause) -> u8
-    ensures { result ≡ table.cause_number cause }
-{
-    match cause {
-        Cause::ClientDone => 0,
-        Cause::LastSent => 1,
-        Cause::KeepAliveLate => 2,
-        Cause::ReadLate => 3,
-        Cause::WriteLate => 4,
-        Cause::Retiring => 5,
-        Cause::LinkFailed => 6,
-        Cause::Stopped => 7,
-        Cause::NoMemory => 8,
     }
 }
 
@@ -233,8 +216,7 @@ impl State {
         ensures { result ≡ table.end_fits self.now cause tail row.now }
     {
         match row.cause {
-            Some(own) => cause_number(own) == cause_number(cause)
-                && self.linger_tail_fits(tail, row),
+            Some(own) => own.number() == cause.number() && self.linger_tail_fits(tail, row),
             None => matches!(tail, Tail::Direct) && self.direct_cause_fits(cause, row),
         }
     }

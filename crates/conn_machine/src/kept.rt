@@ -1,25 +1,42 @@
 //! What is kept of a history by a value that several passes share.
-ghost use Rattle.std.specs.Prelude.{◌≡◌, ◌+◌, ◌<◌, ◌^◌, ℕ, List, length};
+ghost use Rattle.std.specs.Prelude.{◌≡◌, ◌+◌, ◌<◌, ◌^◌, length};
+
+use crate::event::Entry;
+use crate::folded::Folded;
+use crate::state::State;
+use std::collections::LinkedList;
+
+/// What a value tells that keeps a history and may fold it. Contracts alone speak of it, and no value of it is made.
+pub struct Ledger {
+    /// The state before the first entry of the history.
+    pub base: State,
+    /// What is known of the entries before it, which were folded.
+    pub folded: Folded,
+    /// The entries since the last fold, oldest first.
+    pub history: LinkedList<Entry>,
+    /// The texts of the connections that ended since the last fold, in the order of their closes.
+    pub texts: LinkedList<LinkedList<u8>>,
+    /// How many passes may add entries: their numbers are below this one.
+    pub passes: u64,
+}
 
 /// A value that keeps the history of a machine.
 pub trait Kept: Drop {
-    ghost use Rattle.conn_machine.specs.declared.event.Entry.{Entry};
-    ghost use Rattle.conn_machine.specs.declared.state.State.{State};
+    ghost use Rattle.conn_machine.specs.declared.kept.Ledger.{Ledger};
 
-    /// The entries, oldest first.
-    ghost history: { Self → List Entry };
-
-    /// The state before the first of them.
-    ghost base: { Self → State };
-
-    /// The number of the first of them, which is how many entries came before.
-    ghost first: { Self → ℕ };
-
-    /// How many passes may add entries: their numbers are below this one.
-    ghost passes: { Self → ℕ };
+    /// What it tells.
+    ghost ledger: { Self → Ledger };
 
     /// How many entries there ever were.
     fn length(&self) -> u64
-        ensures is { result ≡ first self.now + length (history self.now) }
+        ensures is { result ≡ (ledger self.now).folded.entries + length (ledger self.now).history }
         ensures bounded { result < 2 ^ 63 };
+}
+
+impl<K: Kept> Kept for Box<K> {
+    ghost ledger = { λ b. K.ledger b.value };
+
+    fn length(&self) -> u64 {
+        (**self).length()
+    }
 }

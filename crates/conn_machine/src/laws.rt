@@ -8,7 +8,8 @@ ghost use Rattle.mpm_base.specs.declared.conn.Cause.{Cause};
 ghost use Rattle.mpm_base.specs.declared.conn.Tail.{Tail};
 ghost use Rattle.mpm_base.specs.declared.shape.Shape.{Shape};
 ghost use Rattle.conn_machine.specs.declared.row.Phase.{Phase};
-ghost use Rattle.conn_machine.specs.declared.row.Place.TheVariants.{Working};
+ghost use Rattle.conn_machine.specs.declared.row.Owner.TheVariants as owner;
+ghost use Rattle.conn_machine.specs.declared.row.Place.TheVariants.{Held, Working};
 ghost use Rattle.conn_machine.specs.declared.row.Row.{Row};
 ghost use Rattle.conn_machine.specs.declared.event.Event.{Event};
 ghost use Rattle.conn_machine.specs.declared.event.Event.TheVariants as event;
@@ -16,33 +17,35 @@ ghost use Rattle.conn_machine.specs.declared.event.Commanded.TheVariants.{Gracef
 ghost use Rattle.conn_machine.specs.declared.event.Reply.TheVariants.{Took};
 ghost use Rattle.conn_machine.specs.declared.event.Entry.{Entry};
 ghost use Rattle.conn_machine.specs.declared.state.State.{State};
-ghost use Rattle.conn_machine.specs.Rows.{is_live, is_live_in, live_row, owner_of};
+ghost use Rattle.conn_machine.specs.Rows.{is_live, is_live_in, is_lingering, live_row, owner_of};
 ghost use Rattle.conn_machine.specs.Children.{is_in_bounds};
-ghost use Rattle.conn_machine.specs.States.{opening};
-ghost use Rattle.conn_machine.specs.Table.{allowed, next};
+ghost use Rattle.conn_machine.specs.States.{opening_state};
+ghost use Rattle.conn_machine.specs.Table.{is_allowed, next};
 ghost use Rattle.conn_machine.specs.Runs.{Run, after};
 ghost use Rattle.conn_machine.specs.Events.{count_events, is_accept, is_close};
 ghost use Rattle.conn_machine.specs.Sound.{IsSound};
-ghost use Rattle.conn_machine.specs.Laws.{IsEarned, IsTakenFor, OnlyGrows, StaysSound, is_alive};
+ghost use Rattle.conn_machine.specs.Laws.{IsEarned, IsTakenFor, LingersOn, OnlyGrows, StartsFresh, StaysSound, is_alive, is_alive_or_closed};
 
 /// The opening state is sound, every event that the table allows keeps a sound state sound, and so does every run.
 pub fn events_keep_states_sound()
-    ensures opening { (slots children : ℕ) (shape : Shape) → is_in_bounds shape ≡ true → IsSound (opening slots children shape) }
-    ensures step { (s : State) (e : Event) → IsSound s → allowed s e ≡ true → IsSound (next s e) }
+    ensures opening { (slots children : ℕ) (shape : Shape) → is_in_bounds shape ≡ true → IsSound (opening_state slots children shape) }
+    ensures step { (s : State) (e : Event) → IsSound s → is_allowed s e ≡ true → IsSound (next s e) }
     ensures run { (s : State) (history : List Entry) → IsSound s → Run s history → StaysSound s history }
 {}
 
 /// In every run from the opening state connections are handed to workers at most as often as something came, and to the
 /// listener at most as often and three times for each connection.
 pub fn queues_and_holds_are_earned()
-    ensures { (slots children : ℕ) (shape : Shape) (history : List Entry) → is_in_bounds shape ≡ true → Run (opening slots children shape) history → IsEarned history }
+    ensures { (slots children : ℕ) (shape : Shape) (history : List Entry) → is_in_bounds shape ≡ true → Run (opening_state slots children shape) history → IsEarned history }
 {}
 
-/// In every run from the opening state each connection that was accepted was closed or is live, and closed at most once.
+/// In every run from the opening state each connection that was accepted was closed or is live, and closed at most once: as
+/// many were accepted as were closed or are live, and each by its name is live, or an entry behind its own closed it.
 /// The state counts those that were accepted, as far as a count goes.
 pub fn accepted_connections_are_closed_or_live()
-    ensures closed_or_live { (slots children : ℕ) (shape : Shape) (history : List Entry) → Run (opening slots children shape) history → count_events is_accept history ≡ count_events is_close history + count_by is_live (after (opening slots children shape) history).rows }
-    ensures accepted { (slots children : ℕ) (shape : Shape) (history : List Entry) → (after (opening slots children shape) history).accepted ≡ min (count_events is_accept history) greatest_count }
+    ensures closed_or_live { (slots children : ℕ) (shape : Shape) (history : List Entry) → Run (opening_state slots children shape) history → count_events is_accept history ≡ count_events is_close history + count_by is_live (after (opening_state slots children shape) history).rows }
+    ensures named { (s : State) (before rest : List Entry) (e : Entry) (slot : ℕ) (name : ConnName) (child generation : ℕ) → Run s (before ++ e ∷ rest) → e.event ≡ event.Accept slot → e.reply ≡ Took name child generation → is_alive_or_closed (after s (before ++ e ∷ rest)) rest name ≡ true }
+    ensures accepted { (slots children : ℕ) (shape : Shape) (history : List Entry) → (after (opening_state slots children shape) history).accepted ≡ min (count_events is_accept history) greatest_count }
 {}
 
 /// A connection that was closed is never live again.
@@ -56,9 +59,12 @@ pub fn live_connections_share_nothing()
     ensures cells { (s : State) (slot other cell : ℕ) (r r' : Row) (phase phase' : Phase) → IsSound s → slice_get s.rows slot ≡ Some r → slice_get s.rows other ≡ Some r' → r.place ≡ Working cell phase → r'.place ≡ Working cell phase' → r.child ≡ r'.child → slot ≡ other }
 {}
 
-/// A connection has an owner exactly while it is live: one queue, one worker or the listener.
+/// A connection has an owner exactly while it is live: one queue, one worker or the listener. The listener has those that it
+/// holds and no others, and a worker has one at most.
 pub fn live_connections_have_one_owner()
-    ensures { (r : Row) → (owner_of r ≡ None) ↔ (is_live r ≡ false) }
+    ensures none { (r : Row) → (owner_of r ≡ None) ↔ (is_live r ≡ false) }
+    ensures listener { (r : Row) → (owner_of r ≡ Some owner.Listener) ↔ (r.place ≡ Held) }
+    ensures worker { (s : State) (slot other child cell : ℕ) (r r' : Row) → IsSound s → slice_get s.rows slot ≡ Some r → slice_get s.rows other ≡ Some r' → owner_of r ≡ Some (owner.Worker child cell) → owner_of r' ≡ Some (owner.Worker child cell) → slot ≡ other }
 {}
 
 /// A connection that is taken after a graceful restart is of the generation that it made, or of a newer one.
@@ -75,6 +81,17 @@ pub fn retired_children_are_drained()
 /// workers, and of those with as many the one with the lowest number.
 pub fn connections_go_to_the_chosen_child()
     ensures { (s : State) (before rest : List Entry) (e : Entry) (slot : ℕ) → Run s (before ++ e ∷ rest) → e.event ≡ event.Accept slot → IsTakenFor (after s before) slot e.reply }
+{}
+
+/// A connection that is taken starts afresh: its row has no flag, no response and no cause, and its slot no signal, of the
+/// one that was there before.
+pub fn taken_connections_start_afresh()
+    ensures { (s : State) (slot : ℕ) → is_allowed s (event.Accept slot) ≡ true → StartsFresh (next s (event.Accept slot)) slot }
+{}
+
+/// A connection that lingers keeps its deadline and its cause as long as it lives.
+pub fn lingering_deadlines_never_move()
+    ensures { (s : State) (history : List Entry) (name : ConnName) (r r' : Row) → IsSound s → Run s history → live_row s.rows name ≡ Some r → is_lingering r ≡ true → live_row (after s history).rows name ≡ Some r' → LingersOn r r' }
 {}
 
 /// The responses of a live connection only grow, and none comes after one that says that it is the last.

@@ -4,12 +4,16 @@
 //! It is one definition, `allowed`, `next` and `reply` in `specs/Table.antt`, on one list of rows whose counts
 //! are filters. Histories of the machine, the order of each pass's entries, and what a pass may add stand in
 //! `specs/Runs.antt`. `may` and `step` are the same table as a plain program.
+//!
+//! A value that is `Kept` tells a ledger: a history, the state before it, and a record of the entries before that state, which
+//! were folded. What a fold makes stands in `specs/Folds.antt`.
 #![tactic(auto)]
 
 mod changes;
 mod child;
 mod conditions;
 mod event;
+mod folded;
 mod kept;
 pub mod laws;
 mod row;
@@ -22,7 +26,8 @@ mod tests;
 pub use child::{Child, ChildPhase, Children};
 pub use conditions::{is_in_bounds, may};
 pub use event::{Commanded, Entry, Event, Refusal, Reply, Why};
-pub use kept::Kept;
+pub use folded::{Edition, Editions, Folded, Ordinals};
+pub use kept::{Kept, Ledger};
 pub use row::{Owner, Phase, Place, Row};
 pub use rows::Rows;
 pub use state::{Going, Signals, State};

@@ -81,7 +81,7 @@ impl Rows {
 
     /// How many rows the workers of the child carry.
     pub fn carried(&self, child: u32) -> usize
-        ensures is { result ≡ spec.carried self.now child }
+        ensures is { result ≡ spec.carried_count self.now child }
         ensures few { result ≤ length self.now }
     {
         self.items

@@ -1,7 +1,7 @@
 //! The state of the machine: the table as it stands between two events.
 ghost use Rattle.std.specs.Prelude.{◌≡◌, ◌==◌, ◌<◌, ◌≤◌, false, length, map, replicate, IfOk, slice_index_or, slice_set};
 ghost use Rattle.std.specs.List.{list_any};
-ghost use Rattle.conn_machine.specs.Rows.{is_live, is_live_in, is_named, live_row};
+ghost use Rattle.conn_machine.specs.Rows.{is_live, is_live_in, is_live_as, live_row};
 ghost use Rattle.conn_machine.specs.Children.{child_at};
 ghost use Rattle.conn_machine.specs.States as spec;
 
@@ -11,12 +11,9 @@ use crate::row::Row;
 use crate::rows::Rows;
 use admission::ChildCount;
 use arrayvec::ArrayVec;
-use mpm_base::{Moment, NoMemory, Shape};
+use mpm_base::{GREATEST_MOMENT, Moment, NoMemory, Shape};
 use std::alloc::Global;
 use std::marker::Model;
-
-/// The last moment of the year 9999, in milliseconds.
-pub const GREATEST_MOMENT: Moment = 253_402_300_799_999;
 
 /// The most children that a table may have.
 pub const MOST_CHILDREN: usize = 32;
@@ -131,7 +128,7 @@ impl State {
         children: u32,
         shape: Shape,
     ) -> Result<State, NoMemory>
-        ensures { IfOk result (λ state. state ≡ spec.opening slots children shape) }
+        ensures { IfOk result (λ state. state ≡ spec.opening_state slots children shape) }
     {
         Ok(State {
             rows: Rows::make(alloc, slots)?,

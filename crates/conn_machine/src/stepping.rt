@@ -17,7 +17,7 @@ use std::alloc::Global;
 /// signals as rows.
 #[tactic(auto, using(crate::proofs::SoundRuns::sound_step))]
 pub fn step(alloc: Global, state: &mut State, event: &Event) -> Result<Reply, NoMemory>
-    requires allowed { table.allowed state.old event.now ≡ true }
+    requires allowed { table.is_allowed state.old event.now ≡ true }
     requires few_rows { length state.old.rows ≤ 8192 }
     requires few_children { length state.old.children ≤ 32 }
     requires signals { length state.old.signals ≡ length state.old.rows }
@@ -50,7 +50,7 @@ fn accept(state: &mut State, slot: u32) -> Reply
     requires few_rows { length state.old.rows ≤ 8192 }
     requires few_children { length state.old.children ≤ 32 }
     requires signals { length state.old.signals ≡ length state.old.rows }
-    ensures state { state.new ≡ table.after_accept state.old slot }
+    ensures state { state.new ≡ table.next_accept state.old slot }
     ensures reply { result ≡ table.taken_reply state.old slot }
 {
     let Some(child) = state.pick_child() else {
@@ -81,7 +81,7 @@ fn wait_until(state: &State, kind: Kind, row: &Row) -> Moment
 #[tactic(auto, using(crate::proofs::ListLemmas::update_as))]
 fn park(state: &mut State, name: ConnName, kind: Kind) -> Reply
     requires { table.may_park state.old name kind ≡ true }
-    ensures state { state.new ≡ table.after_park state.old name kind }
+    ensures state { state.new ≡ table.next_park state.old name kind }
     ensures reply { result ≡ Done }
 {
     let Some(row) = state.rows.live(name) else {
@@ -95,7 +95,7 @@ fn park(state: &mut State, name: ConnName, kind: Kind) -> Reply
 fn hold(state: &mut State, name: ConnName) -> Reply
     requires may { table.may_hold state.old name ≡ true }
     requires signals { length state.old.signals ≡ length state.old.rows }
-    ensures state { state.new ≡ table.after_hold state.old name }
+    ensures state { state.new ≡ table.next_hold state.old name }
     ensures reply { result ≡ Done }
 {
     let Some(row) = state.rows.live(name) else {
@@ -110,7 +110,7 @@ fn hold(state: &mut State, name: ConnName) -> Reply
 fn queue(state: &mut State, name: ConnName) -> Reply
     requires may { table.may_queue state.old name ≡ true }
     requires signals { length state.old.signals ≡ length state.old.rows }
-    ensures state { state.new ≡ table.after_queue state.old name }
+    ensures state { state.new ≡ table.next_queue state.old name }
     ensures reply { result ≡ Done }
 {
     let Some(_) = state.rows.live(name) else {
@@ -135,7 +135,7 @@ fn phase_at_start(row: &Row) -> Phase
 #[tactic(auto, using(crate::proofs::ListLemmas::update_as))]
 fn start(state: &mut State, name: ConnName) -> Reply
     requires { table.may_start state.old name ≡ true }
-    ensures state { state.new ≡ table.after_start state.old name }
+    ensures state { state.new ≡ table.next_start state.old name }
     ensures reply { result ≡ Cell (table.cell_at state.old name.slot) }
 {
     let Some(row) = state.rows.live(name) else {
@@ -155,7 +155,7 @@ fn is_last_for(state: &State, ask: &Ask, row: &Row) -> bool
     let child = state.child_of(row);
     ask.asked_close
         || ask.refused
-        || row.notes.len() as u64 + 1 == child.shape.most as u64
+        || row.notes.as_slice().len() as u64 + 1 == child.shape.most as u64
         || !child.shape.keep
         || !child.phase.is_running()
 }
@@ -163,7 +163,7 @@ fn is_last_for(state: &State, ask: &Ask, row: &Row) -> bool
 #[tactic(auto, using(crate::proofs::ListLemmas::update_as))]
 fn answer(state: &mut State, name: ConnName, ask: &Ask) -> Result<Reply, NoMemory>
     requires { table.may_answer state.old name ≡ true }
-    ensures state { OnOk result (state.new ≡ table.after_answer state.old name ask.now) }
+    ensures state { OnOk result (state.new ≡ table.next_answer state.old name ask.now) }
     ensures reply { IfOk result (λ answer. answer ≡ Noted (table.noted_at state.old name.slot ask.now)) }
     ensures err { OnErr result (state.new ≡ state.old) }
 {
@@ -186,7 +186,7 @@ fn answer(state: &mut State, name: ConnName, ask: &Ask) -> Result<Reply, NoMemor
 fn linger(state: &mut State, name: ConnName, cause: Cause) -> Reply
     requires may { table.may_linger state.old name cause ≡ true }
     requires signals { length state.old.signals ≡ length state.old.rows }
-    ensures state { state.new ≡ table.after_linger state.old name cause }
+    ensures state { state.new ≡ table.next_linger state.old name cause }
     ensures reply { result ≡ Done }
 {
     let Some(row) = state.rows.live(name) else {
@@ -206,7 +206,7 @@ fn linger(state: &mut State, name: ConnName, cause: Cause) -> Reply
 fn close(state: &mut State, name: ConnName) -> Reply
     requires live { rows.lives_and (λ r. true) state.old.rows name ≡ true }
     requires signals { length state.old.signals ≡ length state.old.rows }
-    ensures state { state.new ≡ table.after_close state.old name }
+    ensures state { state.new ≡ table.next_close state.old name }
     ensures reply { result ≡ Done }
 {
     let Some(_) = state.rows.live(name) else {
@@ -219,7 +219,7 @@ fn close(state: &mut State, name: ConnName) -> Reply
 
 fn ready(state: &mut State, slot: u32) -> Reply
     requires { slot < length state.old.signals }
-    ensures state { state.new ≡ table.after_ready state.old slot }
+    ensures state { state.new ≡ table.next_ready state.old slot }
     ensures reply { result ≡ Done }
 {
     state.signals.set(slot, true);
@@ -227,7 +227,7 @@ fn ready(state: &mut State, slot: u32) -> Reply
 }
 
 fn tick(state: &mut State, moment: Moment) -> Reply
-    ensures state { state.new ≡ table.after_tick state.old moment }
+    ensures state { state.new ≡ table.next_tick state.old moment }
     ensures reply { result ≡ Done }
 {
     state.moment = moment;
@@ -236,7 +236,7 @@ fn tick(state: &mut State, moment: Moment) -> Reply
 
 fn start_child(state: &mut State, child: u32) -> Reply
     requires { child < length state.old.children }
-    ensures state { state.new ≡ table.after_start_child state.old child }
+    ensures state { state.new ≡ table.next_start_child state.old child }
     ensures reply { result ≡ Done }
 {
     state.children.start(child, state.newest, state.shape);
@@ -245,7 +245,7 @@ fn start_child(state: &mut State, child: u32) -> Reply
 
 fn command(state: &mut State, commanded: &Commanded) -> Reply
     requires { table.may_command state.old commanded.now ≡ true }
-    ensures state { state.new ≡ table.after_command state.old commanded.now }
+    ensures state { state.new ≡ table.next_command state.old commanded.now }
     ensures reply { result ≡ Done }
 {
     match *commanded {
@@ -269,7 +269,7 @@ fn command(state: &mut State, commanded: &Commanded) -> Reply
 
 fn retire(state: &mut State, child: u32) -> Reply
     requires { child < length state.old.children }
-    ensures state { state.new ≡ table.after_retire state.old child }
+    ensures state { state.new ≡ table.next_retire state.old child }
     ensures reply { result ≡ Done }
 {
     state.children.retire(child);

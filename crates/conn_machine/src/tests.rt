@@ -4,6 +4,7 @@ ghost use Rattle.std.specs.Prelude.{◌≡◌, ◌≤◌, length, IfOk};
 mod arriving;
 mod closing;
 mod commands;
+mod folds;
 mod lingering;
 mod lives;
 mod serving;

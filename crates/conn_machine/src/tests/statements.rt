@@ -12,5 +12,7 @@ fn the_laws_do_nothing() {
     laws::replaced_generations_take_nothing();
     laws::retired_children_are_drained();
     laws::connections_go_to_the_chosen_child();
+    laws::taken_connections_start_afresh();
+    laws::lingering_deadlines_never_move();
     laws::responses_only_grow();
 }

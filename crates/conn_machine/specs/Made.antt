@@ -1,0 +1,25 @@
+-- Histories that passes made, and states in which a server opens.
+use Rattle.std.specs.Prelude.{◌≡◌, ℕ, true, List, [], ◌∷◌, ◌++◌, ⊤}
+use Rattle.mpm_base.specs.declared.shape.Shape.{Shape}
+use Rattle.conn_machine.specs.declared.event.Entry.{Entry}
+use Rattle.conn_machine.specs.declared.state.State.{State}
+use Rattle.conn_machine.specs.Children.{is_in_bounds}
+use Rattle.conn_machine.specs.States.{opening_state}
+use Rattle.conn_machine.specs.Runs.{IsNextOf}
+
+-- the state is one in which a server opens
+pub record IsOpened (s : State) : Type 0 where
+  pub slots : ℕ
+  pub children : ℕ
+  pub shape : Shape
+  pub bounds : is_in_bounds shape ≡ true
+  pub state : s ≡ opening_state slots children shape
+
+-- behind the entries before them, each of these is one that its pass may make where it stands
+abbrev pub AreMadeBehind : State → List Entry → List Entry → Type 0
+AreMadeBehind start before [] = ⊤
+AreMadeBehind start before (e ∷ entries) = IsNextOf e.pass start before e × AreMadeBehind start (before ++ e ∷ []) entries
+
+-- each entry of the history is one that its pass may make where it stands
+abbrev pub AreMade : State → List Entry → Type 0
+AreMade start history = AreMadeBehind start [] history
