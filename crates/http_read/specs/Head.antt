@@ -1,61 +1,77 @@
--- What the bytes of a connection say of its next request. The one form that is known so far is the request
--- for a host of mpm_base.
-use Rattle.std.specs.Prelude.{◌≡◌, ℕ, false, List, ◌++◌, length, None, codes, ⊤}
-use Rattle.mpm_base.specs.RootRequest.{IsHost, request_of, BeginsRequest, IsStarted}
-use Rattle.http_read.specs.declared.request.BodyKind.TheVariants.{Nothing}
-use Rattle.http_read.specs.declared.request.Request.{Request}
+-- What the bytes of a connection say of the head of its next request.
+use Rattle.std.specs.Prelude.{◌≡◌, ℕ, ◌≤◌, ◌⊎◌, Bool, List, [], length, take, map, Result, Ok, Err, ⊤}
+use Rattle.httparse.specs.Grammar.{RequestHead, ReadsRequest}
+use Rattle.httparse.specs.Spans.{name_and_value}
+use Rattle.http_read.specs.declared.request.Limits.{Limits}
 use Rattle.http_read.specs.declared.head.HeadAnswer.{HeadAnswer}
 use Rattle.http_read.specs.declared.head.HeadAnswer.TheVariants as answer
+use Rattle.http_read.specs.RequestParts.{RequestParts}
+use Rattle.http_read.specs.HeadLines.{BreaksLineLimit, IsUnended, IsHeadText}
+use Rattle.http_read.specs.FieldLimit.{has_long_field}
+use Rattle.http_read.specs.HeadRules.{said_by}
 
--- the request of that form for a host
-pub record IsRequestFor (host : List ℕ) (r : Request) : Type 0 where
-  pub method : r.method ≡ codes "GET"
-  pub target : r.target ≡ codes "/"
-  pub minor : r.minor ≡ 1
-  pub host_is : r.host ≡ host
-  pub asked_close : r.asked_close ≡ false
-  pub expects : r.expects ≡ false
-  pub range : r.range ≡ None
-  pub body : r.body ≡ Nothing
+-- the bytes that are looked at: a head ends within 65,536 bytes, or one byte more is there without an end
+abbrev pub head_window : List ℕ → List ℕ
+head_window bytes = take 65537 bytes
 
--- the bytes begin with that request, whose text has n bytes
-pub record BeginsWith (bytes : List ℕ) (r : Request) (n : ℕ) : Type 0 where
-  pub host : List ℕ
-  pub rest : List ℕ
-  pub is_host : IsHost host
-  pub whole : bytes ≡ request_of host ++ rest
-  pub length_is : n ≡ length (request_of host)
-  pub request : IsRequestFor host r
+-- the text is that head of the grammar, with so many fields at most
+pub record IsHead (most : ℕ) (text : List ℕ) (head : RequestHead) : Type 0 where
+  pub reads : ReadsRequest text head []
+  pub fields_fit : length head.fields ≤ most
 
--- the bytes neither begin with a request nor are a proper front of one
-pub record IsNoFront (bytes : List ℕ) : Type 0 where
-  pub no_request : ¬ BeginsRequest bytes
-  pub no_front : ¬ IsStarted bytes
+-- what a head says of its request, or the code by which it is refused, where one of its field lines is too long or none is
+abbrev pub head_says : Bool → RequestHead → Result RequestParts ℕ
+head_says long head = said_by long head.method head.target head.minor (map name_and_value head.fields)
+
+-- a head whose first line fits its limit ends behind n bytes, at most 65,536, and these are its field lines
+pub record EndsAt (limits : Limits) (bytes : List ℕ) (n : ℕ) (fields : List (List ℕ)) : Type 0 where
+  pub within : n ≤ length bytes
+  pub fits : n ≤ 65536
+  pub text : IsHeadText limits (take n bytes) fields
+
+-- the first n bytes are a head that says this of its request
+pub record BeginsHead (limits : Limits) (bytes : List ℕ) (request : RequestParts) (n : ℕ) : Type 0 where
+  pub field_lines : List (List ℕ)
+  pub head : RequestHead
+  pub ends : EndsAt limits bytes n field_lines
+  pub is_head : IsHead limits.fields (take n bytes) head
+  pub says : head_says (has_long_field limits field_lines) head ≡ Ok request
+
+-- the first line isn't too long, no head ends within 65,536 bytes, and one byte more is there
+pub record IsTooLarge (limits : Limits) (bytes : List ℕ) : Type 0 where
+  pub some : 65537 ≤ length bytes
+  pub unended : IsUnended limits (head_window bytes) ⊎ ((fields : List (List ℕ)) × IsHeadText limits (head_window bytes) fields)
+
+-- the lines end as those of a head, but their text is no head of the grammar, or has too many fields
+pub record IsNoHead (limits : Limits) (bytes : List ℕ) : Type 0 where
+  pub size : ℕ
+  pub field_lines : List (List ℕ)
+  pub ends : EndsAt limits bytes size field_lines
+  pub no_head : (head : RequestHead) → ¬ (IsHead limits.fields (take size bytes) head)
+
+-- the first bytes are a head whose fields are refused by the code
+pub record IsRefusedHead (limits : Limits) (bytes : List ℕ) (code : ℕ) : Type 0 where
+  pub size : ℕ
+  pub field_lines : List (List ℕ)
+  pub head : RequestHead
+  pub ends : EndsAt limits bytes size field_lines
+  pub is_head : IsHead limits.fields (take size bytes) head
+  pub says : head_says (has_long_field limits field_lines) head ≡ Err code
+
+-- the head at the front of the bytes is refused by the code
+abbrev pub IsRefusal : Limits → List ℕ → ℕ → Type 0
+IsRefusal limits bytes code =
+    (BreaksLineLimit limits (head_window bytes) × (code ≡ 414))
+    ⊎ ((IsTooLarge limits bytes × (code ≡ 400)) ⊎ ((IsNoHead limits bytes × (code ≡ 400)) ⊎ IsRefusedHead limits bytes code))
+
+-- more bytes of the head have to come
+pub record IsHeadFront (limits : Limits) (bytes : List ℕ) : Type 0 where
+  pub small : length bytes ≤ 65536
+  pub unended : IsUnended limits bytes
 
 -- the answer says what stands at the front of the bytes
-abbrev pub HeadIs : List ℕ → HeadAnswer → Type 0
-HeadIs bytes (answer.Whole r n) = BeginsWith bytes r n
-HeadIs bytes answer.More = IsStarted bytes
-HeadIs bytes (answer.Refused code) = (code ≡ 400) × IsNoFront bytes
-HeadIs bytes answer.NoMemory = ⊤
-
--- the answer is the request for that host, or that memory lacked
-abbrev pub IsRequestOr : List ℕ → HeadAnswer → Type 0
-IsRequestOr host (answer.Whole r n) = IsRequestFor host r × (n ≡ length (request_of host))
-IsRequestOr host answer.More = ⊥
-IsRequestOr host (answer.Refused code) = ⊥
-IsRequestOr host answer.NoMemory = ⊤
-
--- the answer is that more has to come, or that memory lacked
-abbrev pub IsMoreOr : HeadAnswer → Type 0
-IsMoreOr (answer.Whole r n) = ⊥
-IsMoreOr answer.More = ⊤
-IsMoreOr (answer.Refused code) = ⊥
-IsMoreOr answer.NoMemory = ⊤
-
--- the answer is the refusal by 400, or that memory lacked
-abbrev pub IsRefusalOr : HeadAnswer → Type 0
-IsRefusalOr (answer.Whole r n) = ⊥
-IsRefusalOr answer.More = ⊥
-IsRefusalOr (answer.Refused code) = code ≡ 400
-IsRefusalOr answer.NoMemory = ⊤
+abbrev pub HeadIs : Limits → List ℕ → HeadAnswer → Type 0
+HeadIs limits bytes (answer.Whole request n) = BeginsHead limits bytes request n
+HeadIs limits bytes answer.More = IsHeadFront limits bytes
+HeadIs limits bytes (answer.Refused code) = IsRefusal limits bytes code
+HeadIs limits bytes answer.NoMemory = ⊤

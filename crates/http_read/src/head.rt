@@ -1,22 +1,22 @@
 //! The next head in the bytes of a connection.
-ghost use Rattle.std.specs.Prelude.{◌≡◌, ◌≢◌, ℕ, List, ◌++◌, length, IfOk};
-ghost use Rattle.mpm_base.specs.RootRequest.{IsHost, request_of, IsStarted};
-ghost use Rattle.http_read.specs.Head.{HeadIs, IsNoFront, IsRequestFor, IsRequestOr, IsMoreOr, IsRefusalOr};
+ghost use Rattle.std.specs.Prelude.{◌≡◌, ◌≢◌, ◌≤◌, ℕ, List, [], ◌++◌, length, take};
+ghost use Rattle.http_read.specs.RequestParts.{RequestParts};
+ghost use Rattle.http_read.specs.LookedAt.{HasLookedAt};
+ghost use Rattle.http_read.specs.Head.{HeadIs};
 
-use crate::request::{BodyKind, Limits, Request};
-use httparse::Status;
-use httparse::spans::{EMPTY_HEADER_SPAN, parse_request};
-use mpm_base::{NoMemory, Octets, host_of, is_started, one_request};
+use crate::head_reader::{Extent, HeadReader};
+use crate::request::{Limits, Request};
+use crate::whole_head::read_head;
 use std::alloc::Global;
 
-/// What the bytes of a connection say of its next request.
+/// What the bytes of a connection say of the head of its next request.
 #[derive(Debug, Drop)]
 pub enum HeadAnswer {
-    /// The bytes begin with a request whose head has so many bytes.
+    /// The bytes begin with the head of a request, which has so many bytes.
     Whole(Request, u64),
-    /// The bytes are a proper front of a head: more of them have to come.
+    /// More bytes of the head have to come.
     More,
-    /// No head stands there, and none can come of it: the status code of the response.
+    /// The head is refused: the code of the response.
     Refused(u16),
     /// Memory was wanted and not found.
     NoMemory,
@@ -24,80 +24,56 @@ pub enum HeadAnswer {
 
 const BAD_REQUEST: u16 = 400;
 
-/// Reads the head at the front of the bytes. The limits have no effect yet.
+const URI_TOO_LONG: u16 = 414;
+
+/// So many bytes are looked at: a head that has no end in them is too large.
+const WINDOW: usize = 65_537;
+
+/// Reads the head at the front of the bytes (RFC 9112, section 2).
 pub fn next_head(alloc: Global, bytes: &[u8], limits: &Limits) -> HeadAnswer
-    ensures head { HeadIs bytes.now result }
+    ensures head { HeadIs limits.now bytes.now result }
 
-    // The same from the bytes: which answer they have, unless memory lacks.
-    ensures whole { (host rest : List ℕ) → IsHost host → bytes.now ≡ request_of host ++ rest → IsRequestOr host result }
-    ensures more { IsStarted bytes.now → IsMoreOr result }
-    ensures refused { IsNoFront bytes.now → IsRefusalOr result }
+    // The same from the bytes: what they are is answered, unless memory lacks.
+    ensures only { (answer : HeadAnswer) → HeadIs limits.now bytes.now answer → answer ≢ HeadAnswer.NoMemory
+        → result ≢ HeadAnswer.NoMemory → result ≡ answer }
 {
-    let _ = limits;
-    one_request();
-    read_head(alloc, bytes)
+    one_answer();
+    let mut reader = HeadReader::new(*limits);
+    reader.read(alloc, bytes)
 }
 
-fn read_head(alloc: Global, bytes: &[u8]) -> HeadAnswer
-    ensures { HeadIs bytes.now result }
-{
-    let mut fields = [EMPTY_HEADER_SPAN; 1];
-    match parse_request(bytes, &mut fields) {
-        Ok(Status::Complete(head)) => match host_of(&bytes[..head.len]) {
-            Some(host) => whole(alloc, host, head.len as u64),
-            None => HeadAnswer::Refused(BAD_REQUEST),
-        },
-        Ok(Status::Partial) => {
-            if is_started(bytes) {
-                HeadAnswer::More
-            } else {
-                HeadAnswer::Refused(BAD_REQUEST)
-            }
+impl HeadReader {
+    /// Goes on with the head at the front of the bytes, which begin with those that it has looked at.
+    /// Where more has to come it has looked at all of them.
+    pub fn read(&mut self, alloc: Global, bytes: &[u8]) -> HeadAnswer
+        requires within { self.old.looked ≤ length bytes.now }
+        requires looked { HasLookedAt (take self.old.looked bytes.now) self.old }
+        ensures head { HeadIs self.old.limits bytes.now result }
+        ensures all { result ≡ HeadAnswer.More → self.new.looked ≡ length bytes.now }
+        ensures limits { self.new.limits ≡ self.old.limits }
+        ensures within { self.new.looked ≤ length bytes.now }
+        ensures looked { HasLookedAt (take self.new.looked bytes.now) self.new }
+    {
+        let window = &bytes[..bytes.len().min(WINDOW)];
+        match self.look(window) {
+            Extent::LongLine => HeadAnswer::Refused(URI_TOO_LONG),
+            Extent::TooLarge => HeadAnswer::Refused(BAD_REQUEST),
+            Extent::Unended => HeadAnswer::More,
+            Extent::Ends(end, long) => read_head(alloc, &bytes[..end], &self.limits, long),
         }
-        Err(_) => HeadAnswer::Refused(BAD_REQUEST),
     }
 }
 
-fn whole(alloc: Global, host: &[u8], head_len: u64) -> HeadAnswer
-    requires { head_len ≡ length (request_of host.now) }
-    ensures { IsRequestOr host.now result }
-{
-    match root_request(alloc, host) {
-        Ok(request) => HeadAnswer::Whole(request, head_len),
-        Err(NoMemory) => HeadAnswer::NoMemory,
-    }
-}
-
-fn root_request(alloc: Global, host: &[u8]) -> Result<Request, NoMemory>
-    ensures { IfOk result (IsRequestFor host.now) }
-{
-    Ok(Request {
-        method: Octets::of(alloc, b"GET")?,
-        target: Octets::of(alloc, b"/")?,
-        minor: 1,
-        host: Octets::of(alloc, host)?,
-        asked_close: false,
-        expects: false,
-        range: None,
-        body: BodyKind::Nothing,
-    })
-}
-
-/// No bytes have two answers: they begin with one request alone, and what begins with one is neither a
-/// proper front of one nor refused.
+/// No bytes have two answers.
 pub fn one_answer()
-    ensures { (bytes : List ℕ) (answer other : HeadAnswer) → HeadIs bytes answer → HeadIs bytes other
+    ensures { (limits : Limits) (bytes : List ℕ) (answer other : HeadAnswer) → HeadIs limits bytes answer → HeadIs limits bytes other
         → answer ≢ HeadAnswer.NoMemory → other ≢ HeadAnswer.NoMemory → answer ≡ other }
-{
-    one_request();
-}
+{}
 
-/// A request stays whole whatever follows it, and what is refused stays refused.
+/// A whole head stays so whatever follows it, and what is refused stays refused.
 pub fn keeps_answer()
-    ensures whole { (bytes more : List ℕ) (request : Request) (head_len : ℕ)
-        → HeadIs bytes (HeadAnswer.Whole request head_len) → HeadIs (bytes ++ more) (HeadAnswer.Whole request head_len) }
-    ensures refused { (bytes more : List ℕ) (code : ℕ)
-        → HeadIs bytes (HeadAnswer.Refused code) → HeadIs (bytes ++ more) (HeadAnswer.Refused code) }
-{
-    one_request();
-}
+    ensures whole { (limits : Limits) (bytes more : List ℕ) (request : RequestParts) (head_len : ℕ)
+        → HeadIs limits bytes (HeadAnswer.Whole request head_len) → HeadIs limits (bytes ++ more) (HeadAnswer.Whole request head_len) }
+    ensures refused { (limits : Limits) (bytes more : List ℕ) (code : ℕ)
+        → HeadIs limits bytes (HeadAnswer.Refused code) → HeadIs limits (bytes ++ more) (HeadAnswer.Refused code) }
+{}

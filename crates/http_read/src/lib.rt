@@ -1,15 +1,42 @@
 //! Reads requests off the bytes of a connection.
 //!
-//! `next_head` says what stands at the front of the bytes: a whole request, the proper front of one, or
-//! neither. It knows one form of request so far, a GET of `/` whose one field is Host, which stands in
-//! `specs/RootRequest.antt` of `mpm_base`. What the answers say is in `specs/Head.antt`; `one_answer` and
-//! `keeps_answer` are the laws above them.
+//! `next_head` says what stands at the front of the bytes: the whole head of a request, the front of one, or a head that is
+//! refused, with the code of its response. A head is one of the grammar of the kit's `httparse`; what its lines are stands in
+//! `specs/HeadLines.antt`, what its fields say in `specs/HeadRules.antt` and `specs/FieldValues.antt`, and the answers in
+//! `specs/Head.antt`. `one_answer` and `keeps_answer` are the laws above them. `HeadReader` gives the same answers to bytes
+//! that come piece by piece, and looks at each byte once (`specs/LookedAt.antt`). `Request` is what a head says
+//! (`specs/RequestParts.antt`), in one copy of it.
+//!
+//! `BodyReader` reads a body as its bytes come and keeps none of them. `specs/BodyForm.antt` says what a whole body is, what
+//! the front of one, and what breaks its form; `one_form`, `keeps_form` and `cuts_never_matter` are the laws above it. What a
+//! call answers is in `specs/BodyAnswers.antt`, and where a reader stands in `specs/BodyPlaces.antt`.
+//!
+//! Which requests bytes spell, one behind the other, and what is left behind them, stands in `specs/Requests.antt`;
+//! `one_spelling` and `keeps_spelling` are the laws above it.
+//!
+//! `next_root_head` knows one form of request alone, a GET of `/` whose one field is Host (`specs/RootRequest.antt` of
+//! `mpm_base`); the program reads with it so far. What it answers is in `specs/RootHead.antt`; `one_root_answer` and
+//! `keeps_root_answer` are its laws.
 #![tactic(auto)]
 
+mod body;
+mod chunk_line;
+mod chunked;
 mod head;
+mod head_reader;
+mod head_rules;
 mod request;
+mod request_fields;
+mod requests;
+mod root_head;
 #[cfg(test)]
 mod tests;
+mod whole_head;
+mod words;
 
+pub use body::{BodyAnswer, BodyReader, cuts_never_matter, keeps_form, one_form};
 pub use head::{HeadAnswer, keeps_answer, next_head, one_answer};
+pub use head_reader::HeadReader;
 pub use request::{BodyKind, Limits, Request};
+pub use requests::{keeps_spelling, one_spelling};
+pub use root_head::{RootAnswer, RootHead, keeps_root_answer, next_root_head, one_root_answer};

@@ -1,5 +1,10 @@
 //! A request's head, as it was read.
-use mpm_base::Octets;
+//!
+//! Its texts are places in one copy of the head, so a request takes one allocation.
+ghost use Rattle.std.specs.Prelude.{◌≡◌, IfSome, IfNone};
+
+use httparse::spans::Span;
+use std::marker::Model;
 
 /// How long the head of a request may be.
 #[derive(Clone, Copy, Debug, PartialEq, Eq)]
@@ -26,20 +31,97 @@ pub enum BodyKind {
 /// The head of a request.
 #[derive(Debug, Drop)]
 pub struct Request {
+    pub(crate) head: Vec<u8>,
+    pub(crate) method: Span,
+    pub(crate) target: Span,
+    pub(crate) host: Span,
+    pub(crate) range: Option<Span>,
+    pub(crate) minor: u8,
+    pub(crate) asked_close: bool,
+    pub(crate) expects: bool,
+    pub(crate) body: BodyKind,
+}
+
+impl Model for Request {
+    ghost use Rattle.http_read.specs.RequestParts.{RequestParts};
+
+    ghost Value = { RequestParts };
+
+    ghost use Rattle.httparse.specs.Spans.{span_bytes};
+    ghost use Rattle.http_read.specs.Spans.{range_at, AreWithin};
+
+    ghost view = { λ r. record {
+      method = span_bytes r.head.items r.method;
+      target = span_bytes r.head.items r.target;
+      minor = r.minor;
+      host = span_bytes r.head.items r.host;
+      asked_close = r.asked_close;
+      expects = r.expects;
+      range = range_at r.head.items r.range;
+      body = r.body;
+    } };
+
+    ghost invariant = { λ r. AreWithin r.head.items r.method r.target r.host r.range };
+}
+
+impl Request {
     /// The method (RFC 9112, section 3.1).
-    pub method: Octets,
+    pub fn method(&self) -> &[u8]
+        ensures { result.now ≡ self.now.method }
+    {
+        &self.head[self.method.start..self.method.end]
+    }
+
     /// The target, as it was sent (RFC 9112, section 3.2).
-    pub target: Octets,
-    /// The minor number of the HTTP version: 1 for HTTP/1.1.
-    pub minor: u8,
-    /// The value of the field Host (RFC 9112, section 3.2).
-    pub host: Octets,
-    /// The request asks to close the connection after its response (RFC 9112, section 9.6).
-    pub asked_close: bool,
-    /// The client waits for `100 Continue` before it sends the body (RFC 9110, section 10.1.1).
-    pub expects: bool,
-    /// The value of the field Range (RFC 9110, section 14.2).
-    pub range: Option<Octets>,
+    pub fn target(&self) -> &[u8]
+        ensures { result.now ≡ self.now.target }
+    {
+        &self.head[self.target.start..self.target.end]
+    }
+
+    /// The minor number of the HTTP version: 1 for HTTP/1.1, 0 for HTTP/1.0.
+    pub fn minor(&self) -> u8
+        ensures { result ≡ self.now.minor }
+    {
+        self.minor
+    }
+
+    /// The value of the field Host (RFC 9112, section 3.2), empty where there is none.
+    pub fn host(&self) -> &[u8]
+        ensures { result.now ≡ self.now.host }
+    {
+        &self.head[self.host.start..self.host.end]
+    }
+
+    /// Whether the connection is to be closed after the response (RFC 9112, section 9.6).
+    pub fn asked_close(&self) -> bool
+        ensures { result ≡ self.now.asked_close }
+    {
+        self.asked_close
+    }
+
+    /// Whether the client waits for `100 Continue` before it sends the body (RFC 9110, section 10.1.1).
+    pub fn expects(&self) -> bool
+        ensures { result ≡ self.now.expects }
+    {
+        self.expects
+    }
+
+    /// The value of the field Range (RFC 9110, section 14.2), where one stands and no If-Range does.
+    pub fn range(&self) -> Option<&[u8]>
+        ensures some { IfSome result (λ range. self.now.range ≡ Some range.now) }
+        ensures none { IfNone result (self.now.range ≡ None) }
+    {
+        match self.range {
+            Some(span) => Some(&self.head[span.start..span.end]),
+            None => None,
+        }
+    }
+
     /// What follows the head.
-    pub body: BodyKind,
+    pub fn body(&self) -> BodyKind
+        ensures { result ≡ self.now.body }
+    {
+        self.body
+    }
 }

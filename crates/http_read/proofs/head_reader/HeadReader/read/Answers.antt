@@ -1,0 +1,15 @@
+use Rattle.http_read.proofs.WindowLemmas.{long_line_says, too_large_says, end_says}
+use Rattle.http_read.proofs.head_reader.HeadReader.read.Goals as goal
+
+pub returns-in-LongLine-clause-head : goal.returns-in-LongLine-clause-head
+returns-in-LongLine-clause-head c =
+    long_line_says c.args.self.now.limits c.look.new.self.limits c.args.bytes.now c.min.result c.in-LongLine.ensures.limits c.min.ensures c.in-LongLine.ensures.looks
+
+pub returns-in-TooLarge-clause-head : goal.returns-in-TooLarge-clause-head
+returns-in-TooLarge-clause-head c =
+    too_large_says c.args.self.now.limits c.look.new.self.limits c.args.bytes.now c.min.result c.in-TooLarge.ensures.limits c.min.ensures c.in-TooLarge.ensures.looks
+
+pub returns-in-Ends-clause-head : goal.returns-in-Ends-clause-head
+returns-in-Ends-clause-head c =
+    end_says c.args.self.now.limits c.look.new.self.limits c.args.bytes.now c.min.result c.in-Ends.end c.in-Ends.long c.read_head.result
+    c.in-Ends.ensures.limits c.min.ensures c.in-Ends.ensures.looks c.read_head.ensures

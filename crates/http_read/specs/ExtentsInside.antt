@@ -1,0 +1,57 @@
+-- What a reader of heads finds in the bytes that it looks at, at most 65,537.
+use Rattle.std.specs.Prelude.{◌≡◌, ℕ, ◌+◌, ◌-◌, ◌<◌, ◌≤◌, ◌⊎◌, Bool, true, false, ◌||◌, List, ◌∷◌, ◌++◌, take, drop, length, nat_lt, Option, Some, None}
+use Rattle.http_read.specs.declared.request.Limits.{Limits}
+use Rattle.http_read.specs.declared.head_reader.HeadReader.{HeadReader}
+use Rattle.http_read.specs.declared.head_reader.Extent.{Extent}
+use Rattle.http_read.specs.declared.head_reader.Extent.TheVariants as extent
+use Rattle.http_read.specs.declared.head_reader.Added.{Added}
+use Rattle.http_read.specs.declared.head_reader.Added.TheVariants as added
+use Rattle.http_read.specs.HeadLines.{IsHeadLine, BreaksLineLimit, IsUnended, IsHeadText}
+use Rattle.http_read.specs.FieldLimit.{has_long_field}
+
+-- the lines of a head end behind n bytes of the window
+pub record EndsIn (limits : Limits) (window : List ℕ) (n : ℕ) (long : Bool) : Type 0 where
+  pub fields : List (List ℕ)
+  pub within : n ≤ length window
+  pub fits : n ≤ 65536
+  pub text : IsHeadText limits (take n window) fields
+  pub long_is : long ≡ has_long_field limits fields
+
+-- the window is full, and no head ends within 65,536 bytes
+pub record IsFullWindow (limits : Limits) (window : List ℕ) : Type 0 where
+  pub some : length window ≡ 65537
+  pub unended : IsUnended limits window ⊎ ((fields : List (List ℕ)) × IsHeadText limits window fields)
+
+-- what was found is there
+abbrev pub LooksForEnd : Limits → List ℕ → Extent → Type 0
+LooksForEnd limits window extent.LongLine = BreaksLineLimit limits window
+LooksForEnd limits window extent.TooLarge = IsFullWindow limits window
+LooksForEnd limits window extent.Unended = (length window ≤ 65536) × IsUnended limits window
+LooksForEnd limits window (extent.Ends n long) = EndsIn limits window n long
+
+-- what a whole line of so many bytes of text does to the reader, before its places go on
+abbrev pub AddsLine : HeadReader → ℕ → Added → HeadReader → Type 0
+AddsLine r text added.Ends r' = (text ≡ 0) × (r.begun ≡ true) × (r' ≡ r)
+AddsLine r text added.LongLine r' = (r.limits.line < text) × (r.begun ≡ false) × (r' ≡ r)
+AddsLine r text added.Goes r' =
+    ((text ≡ 0) × (r.begun ≡ false) × (r' ≡ r))
+    ⊎ (((0 < text) × (r.begun ≡ true) × (r' ≡ record r { long = r.long || nat_lt r.limits.field text }))
+    ⊎ ((0 < text) × (text ≤ r.limits.line) × (r.begun ≡ false) × (r' ≡ record r { begun = true })))
+
+-- what is to be said where the bytes have no end of a head
+abbrev pub SaysUnended : HeadReader → ℕ → Extent → Type 0
+SaysUnended r len extent.LongLine = (r.begun ≡ false) × (r.limits.line + 2 ≤ len - r.line)
+SaysUnended r len extent.TooLarge = (65536 < len) × (r.begun ≡ false → len - r.line < r.limits.line + 2)
+SaysUnended r len extent.Unended = (len ≤ 65536) × (r.begun ≡ false → len - r.line < r.limits.line + 2)
+SaysUnended r len (extent.Ends n long) = ⊥
+
+-- the first line feed stands behind a line and in front of these bytes
+pub record FeedStands (bytes : List ℕ) (k : ℕ) : Type 0 where
+  pub within : k < length bytes
+  pub line : IsHeadLine (take k bytes)
+  pub bytes_are : bytes ≡ take k bytes ++ 10 ∷ drop (k + 1) bytes
+
+-- where the first line feed stands
+abbrev pub IsFeedAt : List ℕ → Option ℕ → Type 0
+IsFeedAt bytes (Some k) = FeedStands bytes k
+IsFeedAt bytes None = IsHeadLine bytes

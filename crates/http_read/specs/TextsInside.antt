@@ -1,0 +1,35 @@
+-- What is said of a text that ends as a head does.
+use Rattle.std.specs.Prelude.{◌≡◌, ℕ, ◌⊎◌, Bool, List, length, Result, Ok, Err, ⊤}
+use Rattle.httparse.specs.declared.spans.RequestSpans.{RequestSpans}
+use Rattle.httparse.specs.Grammar.{RequestHead}
+use Rattle.httparse.specs.Spans.{span_bytes}
+use Rattle.http_read.specs.declared.head.HeadAnswer.{HeadAnswer}
+use Rattle.http_read.specs.declared.head.HeadAnswer.TheVariants as answer
+use Rattle.http_read.specs.RequestParts.{RequestParts}
+use Rattle.http_read.specs.HeadRules.{said_by}
+use Rattle.http_read.specs.Head.{IsHead, head_says}
+
+-- what a head with these parts and fields says
+abbrev pub said_at : List ℕ → Bool → RequestSpans → List (List ℕ × List ℕ) → Result RequestParts ℕ
+said_at text long parts fields = said_by long (span_bytes text parts.method) (span_bytes text parts.path) parts.version fields
+
+-- the answer is what a head with these parts and fields says
+abbrev pub IsSaid : List ℕ → Bool → RequestSpans → List (List ℕ × List ℕ) → HeadAnswer → Type 0
+IsSaid text long parts fields (answer.Whole request n) = (said_at text long parts fields ≡ Ok request) × (n ≡ length text)
+IsSaid text long parts fields answer.More = ⊥
+IsSaid text long parts fields (answer.Refused code) = said_at text long parts fields ≡ Err code
+IsSaid text long parts fields answer.NoMemory = ⊤
+
+-- the text is a head that says this
+pub record IsSaidHead (most : ℕ) (long : Bool) (text : List ℕ) (said : Result RequestParts ℕ) : Type 0 where
+  pub head : RequestHead
+  pub is_head : IsHead most text head
+  pub says : head_says long head ≡ said
+
+-- the answer is what the text says, which is a head with so many fields at most, or none
+abbrev pub TextIs : ℕ → Bool → List ℕ → HeadAnswer → Type 0
+TextIs most long text (answer.Whole request n) = IsSaidHead most long text (Ok request) × (n ≡ length text)
+TextIs most long text answer.More = ⊥
+TextIs most long text (answer.Refused code) =
+    (((head : RequestHead) → ¬ (IsHead most text head)) × (code ≡ 400)) ⊎ IsSaidHead most long text (Err code)
+TextIs most long text answer.NoMemory = ⊤

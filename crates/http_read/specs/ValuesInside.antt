@@ -1,0 +1,22 @@
+-- The values of the fields of one name, as they are looked up.
+use Rattle.std.specs.Prelude.{◌≡◌, ℕ, ◌≤◌, List, [], ◌∷◌, length, Option, Some, None, Result, Ok, Err}
+use Rattle.httparse.specs.declared.spans.Span.{Span}
+use Rattle.httparse.specs.Spans.{span_bytes, IsWithin}
+use Rattle.http_read.specs.declared.request_fields.Values.{Values}
+use Rattle.http_read.specs.declared.request_fields.Values.TheVariants as values
+
+-- the values were found: none, the one at the span, or several
+abbrev pub AreValues : List ℕ → List (List ℕ) → Values → Type 0
+AreValues head found values.Absent = found ≡ []
+AreValues head found (values.One span) = (found ≡ span_bytes head span ∷ []) × IsWithin (length head) span
+AreValues head found values.Several = 2 ≤ length found
+
+-- the Host stands at the span, or its refusal is this
+abbrev pub IsHostAt : List ℕ → Result (List ℕ) ℕ → Result Span ℕ → Type 0
+IsHostAt head host (Ok span) = (host ≡ Ok (span_bytes head span)) × IsWithin (length head) span
+IsHostAt head host (Err code) = host ≡ Err code
+
+-- the value stands at the span, where both are there
+abbrev pub IsRangeAt : List ℕ → Option (List ℕ) → Option Span → Type 0
+IsRangeAt head range (Some span) = (range ≡ Some (span_bytes head span)) × IsWithin (length head) span
+IsRangeAt head range None = range ≡ None

@@ -1,0 +1,142 @@
+//! A chunk line (RFC 9112, section 7.1), byte by byte: each byte is looked at once.
+ghost use Rattle.std.specs.Prelude.{◌≡◌, ◌+◌, ◌<◌};
+ghost use Rattle.http_read.specs.ChunkStepsInside.{first_front, line_step, digit_step, pad_step, extension_step, longer, IsSmallLineMove};
+ghost use Rattle.http_read.specs.BodyPlaces.{IsSmallFront, IsSmallSize};
+
+use httparse::parse_hex_digit;
+
+/// What the front of a chunk line ends in.
+#[derive(Clone, Copy, Debug, PartialEq, Eq)]
+pub enum ChunkLinePart {
+    /// The digits of the size, or nothing.
+    Digits,
+    /// The spaces and tabs behind the size.
+    Pad,
+    /// The extension, from its semicolon on.
+    Extension,
+    /// The carriage return of the line end.
+    CarriageReturn,
+}
+
+/// The front of a chunk line that isn't whole.
+#[derive(Clone, Copy, Debug, PartialEq, Eq)]
+pub struct ChunkLineFront {
+    /// How many bytes of the line there are.
+    pub len: u32,
+    /// What its digits write, as far as they came.
+    pub size: u64,
+    /// What it ends in.
+    pub part: ChunkLinePart,
+}
+
+/// What one more byte makes of the front of a chunk line.
+#[derive(Clone, Copy, Debug, PartialEq, Eq)]
+pub enum ChunkLineMove {
+    /// A longer front.
+    Front(ChunkLineFront),
+    /// A whole line, which writes this size.
+    Whole(u64),
+    /// What no chunk line begins with, or only one that is too long.
+    Broken,
+}
+
+/// How long a chunk line may be with its line end.
+const MOST_LINE: u32 = 1024;
+/// How many digits a chunk line may have.
+const MOST_DIGITS: u32 = 16;
+
+impl ChunkLineFront {
+    /// Nothing of a chunk line.
+    pub(crate) fn first() -> ChunkLineFront
+        ensures { result ≡ first_front }
+    {
+        ChunkLineFront {
+            len: 0,
+            size: 0,
+            part: ChunkLinePart::Digits,
+        }
+    }
+
+    /// What the byte behind the front makes of it.
+    pub(crate) fn step(self, byte: u8) -> ChunkLineMove
+        requires { IsSmallFront self }
+        ensures step { result ≡ line_step self byte }
+        ensures small { IsSmallLineMove self.len result }
+    {
+        match self.part {
+            ChunkLinePart::Digits => self.step_digits(byte),
+            ChunkLinePart::Pad => self.step_pad(byte),
+            ChunkLinePart::Extension => self.step_extension(byte),
+            ChunkLinePart::CarriageReturn => {
+                if byte == b'\n' {
+                    ChunkLineMove::Whole(self.size)
+                } else {
+                    ChunkLineMove::Broken
+                }
+            }
+        }
+    }
+
+    fn step_digits(self, byte: u8) -> ChunkLineMove
+        requires { IsSmallFront (record self { part = ChunkLinePart.Digits }) }
+        ensures step { result ≡ digit_step self byte }
+        ensures small { IsSmallLineMove self.len result }
+    {
+        match parse_hex_digit(byte) {
+            Some(digit) => {
+                if self.len >= MOST_DIGITS {
+                    return ChunkLineMove::Broken;
+                }
+                let size = self.size * 16 + digit;
+                self.longer(size, ChunkLinePart::Digits)
+            }
+            None => {
+                if self.len == 0 {
+                    ChunkLineMove::Broken
+                } else {
+                    self.step_pad(byte)
+                }
+            }
+        }
+    }
+
+    fn step_pad(self, byte: u8) -> ChunkLineMove
+        requires { self.len < 1024 }
+        ensures step { result ≡ pad_step self byte }
+        ensures small { IsSmallLineMove self.len result }
+    {
+        match byte {
+            b' ' | b'\t' => self.longer(self.size, ChunkLinePart::Pad),
+            b';' => self.longer(self.size, ChunkLinePart::Extension),
+            b'\r' => self.longer(self.size, ChunkLinePart::CarriageReturn),
+            _ => ChunkLineMove::Broken,
+        }
+    }
+
+    fn step_extension(self, byte: u8) -> ChunkLineMove
+        requires { self.len < 1024 }
+        ensures step { result ≡ extension_step self byte }
+        ensures small { IsSmallLineMove self.len result }
+    {
+        match byte {
+            b'\r' => self.longer(self.size, ChunkLinePart::CarriageReturn),
+            b'\n' => ChunkLineMove::Broken,
+            _ => self.longer(self.size, ChunkLinePart::Extension),
+        }
+    }
+
+    /// The front with one more byte, unless the line is too long then.
+    fn longer(self, size: u64, part: ChunkLinePart) -> ChunkLineMove
+        requires len { self.len < 1024 }
+        requires size { IsSmallSize part (self.len + 1) size }
+        ensures step { result ≡ longer self size part }
+        ensures small { IsSmallLineMove self.len result }
+    {
+        let len = self.len + 1;
+        if len < MOST_LINE {
+            ChunkLineMove::Front(ChunkLineFront { len, size, part })
+        } else {
+            ChunkLineMove::Broken
+        }
+    }
+}

@@ -1,0 +1,162 @@
+//! What a head of the grammar says, by the rules of RFC 9110 and RFC 9112, or the code by which it is refused.
+ghost use Rattle.std.specs.Prelude.{◌≡◌, length, map, All, codes};
+ghost use Rattle.std.specs.List.{list_all};
+ghost use Rattle.httparse.specs.Spans.{IsHeaderWithin, header_bytes};
+ghost use Rattle.http_read.specs.FieldValues.{values_named, words_of_all};
+ghost use Rattle.http_read.specs.HeadRules.{is_authority_byte, host_in, length_of, coded_body, transfer_body, sized_body, body_of, has_content, expects_of, asks_close, range_in};
+ghost use Rattle.http_read.specs.ValuesInside.{AreValues, IsHostAt, IsRangeAt};
+
+use crate::request::BodyKind;
+use crate::request_fields::{Values, fields_end_in_word, fields_have_word, values_of};
+use crate::words::is_same_token;
+use httparse::spans::{HeaderSpan, Span};
+
+const BAD_REQUEST: u16 = 400;
+
+const CONTENT_TOO_LARGE: u16 = 413;
+
+const EXPECTATION_FAILED: u16 = 417;
+
+const NOT_IMPLEMENTED: u16 = 501;
+
+/// The greatest length of a body, in bytes.
+const GREATEST_LENGTH: u64 = 1_073_741_824;
+
+/// Where the Host stands; an empty span where there is none.
+pub(crate) fn host_in(head: &[u8], minor: u8, headers: &[HeaderSpan]) -> Result<Span, u16>
+    requires { All (IsHeaderWithin (length head.now)) headers.now }
+    ensures { IsHostAt head.now (host_in minor (values_named (codes "host") (map (header_bytes head.now) headers.now))) result }
+{
+    match values_of(head, headers, b"host") {
+        Values::Absent if minor == 1 => Err(BAD_REQUEST),
+        Values::Absent => Ok(Span { start: 0, end: 0 }),
+        Values::One(span) if is_authority(span.of(head)) => Ok(span),
+        _ => Err(BAD_REQUEST),
+    }
+}
+
+fn is_authority(value: &[u8]) -> bool
+    ensures { result ≡ list_all is_authority_byte value.now }
+{
+    for b in value {
+        if !is_authority_byte(*b) {
+            return false;
+        }
+    }
+    true
+}
+
+fn is_authority_byte(b: u8) -> bool
+    ensures { result ≡ is_authority_byte b }
+{
+    b >= 33 && b <= 126 && b != b'/' && b != b'?' && b != b'#' && b != b'@' && b != b'\\'
+}
+
+/// The body of the request.
+pub(crate) fn body_of(head: &[u8], minor: u8, headers: &[HeaderSpan]) -> Result<BodyKind, u16>
+    requires { All (IsHeaderWithin (length head.now)) headers.now }
+    ensures { result ≡ body_of minor (values_named (codes "transfer-encoding") (map (header_bytes head.now) headers.now)) (values_named (codes "content-length") (map (header_bytes head.now) headers.now)) }
+{
+    let codings = values_of(head, headers, b"transfer-encoding");
+    let lengths = values_of(head, headers, b"content-length");
+    match (codings, lengths) {
+        (Values::Absent, Values::Absent) => Ok(BodyKind::Nothing),
+        (Values::Absent, Values::One(span)) => length_of(span.of(head)),
+        (Values::Absent, Values::Several) => Err(BAD_REQUEST),
+        (_, Values::Absent) if minor != 0 => transfer_body(head, headers, codings),
+        _ => Err(BAD_REQUEST),
+    }
+}
+
+/// The body that transfer codings say.
+fn transfer_body(head: &[u8], headers: &[HeaderSpan], codings: Values) -> Result<BodyKind, u16>
+    requires within { All (IsHeaderWithin (length head.now)) headers.now }
+    requires values { AreValues head.now (values_named (codes "transfer-encoding") (map (header_bytes head.now) headers.now)) codings }
+    ensures { result ≡ transfer_body (values_named (codes "transfer-encoding") (map (header_bytes head.now) headers.now)) }
+{
+    if let Values::One(span) = codings
+        && is_same_token(span.of(head), b"chunked")
+    {
+        return Ok(BodyKind::Chunked);
+    }
+    if fields_end_in_word(head, headers, b"transfer-encoding", b"chunked") {
+        Err(NOT_IMPLEMENTED)
+    } else {
+        Err(BAD_REQUEST)
+    }
+}
+
+/// The body that a Content-Length says.
+fn length_of(value: &[u8]) -> Result<BodyKind, u16>
+    ensures { result ≡ length_of value.now }
+{
+    if value.is_empty() {
+        return Err(BAD_REQUEST);
+    }
+    let mut number: u64 = 0;
+    for b in value {
+        if !b.is_ascii_digit() {
+            return Err(BAD_REQUEST);
+        }
+        number = (number * 10 + u64::from(*b - b'0')).min(GREATEST_LENGTH + 1);
+    }
+    if number > GREATEST_LENGTH {
+        Err(CONTENT_TOO_LARGE)
+    } else {
+        Ok(BodyKind::Length(number))
+    }
+}
+
+/// Whether some bytes of a body are to come.
+fn has_content(body: BodyKind) -> bool
+    ensures { result ≡ has_content body }
+{
+    match body {
+        BodyKind::Nothing => false,
+        BodyKind::Length(length) => length > 0,
+        BodyKind::Chunked => true,
+    }
+}
+
+/// Whether the client waits for `100 Continue`.
+pub(crate) fn expects_of(
+    head: &[u8],
+    minor: u8,
+    headers: &[HeaderSpan],
+    body: BodyKind,
+) -> Result<bool, u16>
+    requires { All (IsHeaderWithin (length head.now)) headers.now }
+    ensures { result ≡ expects_of minor body (values_named (codes "expect") (map (header_bytes head.now) headers.now)) }
+{
+    if minor == 0 {
+        return Ok(false);
+    }
+    match values_of(head, headers, b"expect") {
+        Values::Absent => Ok(false),
+        Values::One(span) if is_same_token(span.of(head), b"100-continue") => Ok(has_content(body)),
+        _ => Err(EXPECTATION_FAILED),
+    }
+}
+
+/// Whether the connection is to be closed after the response.
+pub(crate) fn asks_close(head: &[u8], minor: u8, headers: &[HeaderSpan]) -> bool
+    requires { All (IsHeaderWithin (length head.now)) headers.now }
+    ensures { result ≡ asks_close minor (words_of_all (values_named (codes "connection") (map (header_bytes head.now) headers.now))) }
+{
+    fields_have_word(head, headers, b"connection", b"close")
+        || (minor == 0 && !fields_have_word(head, headers, b"connection", b"keep-alive"))
+}
+
+/// Where the Range stands, where one does and no If-Range.
+pub(crate) fn range_in(head: &[u8], headers: &[HeaderSpan]) -> Option<Span>
+    requires { All (IsHeaderWithin (length head.now)) headers.now }
+    ensures { IsRangeAt head.now (range_in (values_named (codes "range") (map (header_bytes head.now) headers.now)) (values_named (codes "if-range") (map (header_bytes head.now) headers.now))) result }
+{
+    match (
+        values_of(head, headers, b"range"),
+        values_of(head, headers, b"if-range"),
+    ) {
+        (Values::One(span), Values::Absent) => Some(span),
+        _ => None,
+    }
+}

@@ -1,0 +1,117 @@
+//! The fields of a head, looked up by their names.
+ghost use Rattle.std.specs.Prelude.{◌≡◌, ◌<◌, ℕ, false, List, [], ◌∷◌, ◌++◌, length, map, All};
+ghost use Rattle.httparse.specs.Spans.{IsHeaderWithin, IsWithin, header_bytes, span_bytes};
+ghost use Rattle.http_read.specs.FieldValues.{values_named, words_of_all, has_word, ends_in_word};
+ghost use Rattle.http_read.specs.ValuesInside.{AreValues};
+ghost use Rattle.http_read.specs.WordsInside.{last_word_is};
+
+use crate::words::{is_same_token, value_ends_in_word, value_has_word};
+use httparse::spans::{HeaderSpan, Span};
+
+/// The values of the fields of one name.
+#[derive(Clone, Copy, Debug)]
+pub(crate) enum Values {
+    /// No field has the name.
+    Absent,
+    /// One field has it, and its value stands there.
+    One(Span),
+    /// Two fields or more have it.
+    Several,
+}
+
+/// The values of the fields of that name.
+pub(crate) fn values_of(head: &[u8], headers: &[HeaderSpan], name: &[u8]) -> Values
+    requires { All (IsHeaderWithin (length head.now)) headers.now }
+    ensures { AreValues head.now (values_named name.now (map (header_bytes head.now) headers.now)) result }
+{
+    let mut found = Values::Absent;
+    for header in headers {
+        found = add_value(found, head, header, name);
+    }
+    found
+}
+
+/// The values after one field more.
+fn add_value(found: Values, head: &[u8], header: &HeaderSpan, name: &[u8]) -> Values
+    requires { IsHeaderWithin (length head.now) header.now }
+    ensures { (fields : List (List ℕ × List ℕ)) → AreValues head.now (values_named name.now fields) found
+        → AreValues head.now (values_named name.now (fields ++ header_bytes head.now header.now ∷ [])) result }
+{
+    if is_same_token(header.name.of(head), name) {
+        one_more(found, header.value)
+    } else {
+        found
+    }
+}
+
+/// The values after one value more.
+fn one_more(found: Values, value: Span) -> Values
+    ensures { (head : List ℕ) (values : List (List ℕ)) → AreValues head values found → IsWithin (length head) value
+        → AreValues head (values ++ span_bytes head value ∷ []) result }
+{
+    match found {
+        Values::Absent => Values::One(value),
+        _ => Values::Several,
+    }
+}
+
+/// Whether the values of the fields of that name have this word.
+pub(crate) fn fields_have_word(
+    head: &[u8],
+    headers: &[HeaderSpan],
+    name: &[u8],
+    word: &[u8],
+) -> bool
+    requires { All (IsHeaderWithin (length head.now)) headers.now }
+    ensures { result ≡ has_word word.now (words_of_all (values_named name.now (map (header_bytes head.now) headers.now))) }
+{
+    let mut found = false;
+    for header in headers {
+        found = add_word(found, head, header, name, word);
+    }
+    found
+}
+
+/// Whether they have it after one field more.
+fn add_word(found: bool, head: &[u8], header: &HeaderSpan, name: &[u8], word: &[u8]) -> bool
+    requires { IsHeaderWithin (length head.now) header.now }
+    ensures { (fields : List (List ℕ × List ℕ)) → found ≡ has_word word.now (words_of_all (values_named name.now fields))
+        → result ≡ has_word word.now (words_of_all (values_named name.now (fields ++ header_bytes head.now header.now ∷ []))) }
+{
+    if is_same_token(header.name.of(head), name) {
+        found | value_has_word(header.value.of(head), word)
+    } else {
+        found
+    }
+}
+
+/// Whether the last word of the values of the fields of that name is this one.
+pub(crate) fn fields_end_in_word(
+    head: &[u8],
+    headers: &[HeaderSpan],
+    name: &[u8],
+    word: &[u8],
+) -> bool
+    requires within { All (IsHeaderWithin (length head.now)) headers.now }
+    requires some { 0 < length word.now }
+    ensures { result ≡ ends_in_word word.now (words_of_all (values_named name.now (map (header_bytes head.now) headers.now))) }
+{
+    let mut is_last = false;
+    for header in headers {
+        is_last = add_last_word(is_last, head, header, name, word);
+    }
+    is_last
+}
+
+/// Whether it is after one field more.
+fn add_last_word(is_last: bool, head: &[u8], header: &HeaderSpan, name: &[u8], word: &[u8]) -> bool
+    requires { IsHeaderWithin (length head.now) header.now }
+    ensures { (fields : List (List ℕ × List ℕ)) → is_last ≡ last_word_is word.now false (words_of_all (values_named name.now fields))
+        → result ≡ last_word_is word.now false (words_of_all (values_named name.now (fields ++ header_bytes head.now header.now ∷ []))) }
+{
+    if is_same_token(header.name.of(head), name) {
+        value_ends_in_word(header.value.of(head), word, is_last)
+    } else {
+        is_last
+    }
+}

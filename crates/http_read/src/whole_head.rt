@@ -1,0 +1,102 @@
+//! The head of a request whose end was found.
+ghost use Rattle.std.specs.Prelude.{length, map, All};
+ghost use Rattle.httparse.specs.Spans.{IsHeaderWithin, IsWithin, header_bytes};
+ghost use Rattle.http_read.specs.TextsInside.{TextIs, IsSaid};
+
+use crate::head::HeadAnswer;
+use crate::head_rules::{asks_close, body_of, expects_of, host_in, range_in};
+use crate::request::{Limits, Request};
+use httparse::Status;
+use httparse::spans::{EMPTY_HEADER_SPAN, HeaderSpan, RequestSpans, parse_request};
+use std::alloc::Global;
+
+const BAD_REQUEST: u16 = 400;
+
+/// Up to so many fields need no memory while they are read.
+const USUAL_FIELDS: usize = 100;
+
+/// Reads a text that ends as a head does; `long` says whether one of its field lines is longer than its limit.
+pub(crate) fn read_head(alloc: Global, text: &[u8], limits: &Limits, long: bool) -> HeadAnswer
+    ensures { TextIs limits.now.fields long text.now result }
+{
+    let most = limits.fields as usize;
+    if most <= USUAL_FIELDS {
+        let mut spans = [EMPTY_HEADER_SPAN; USUAL_FIELDS];
+        parse_head(alloc, text, &mut spans[..most], long)
+    } else {
+        read_many(alloc, text, most, long)
+    }
+}
+
+fn read_many(alloc: Global, text: &[u8], most: usize, long: bool) -> HeadAnswer
+    ensures { TextIs most long text.now result }
+{
+    match vec![in alloc; EMPTY_HEADER_SPAN; most] {
+        Ok(mut spans) => parse_head(alloc, text, &mut spans, long),
+        Err(_) => HeadAnswer::NoMemory,
+    }
+}
+
+/// Reads the text with room for as many fields as there are spans.
+fn parse_head(alloc: Global, text: &[u8], spans: &mut [HeaderSpan], long: bool) -> HeadAnswer
+    ensures { TextIs (length spans.old) long text.now result }
+{
+    match parse_request(text, spans) {
+        Ok(Status::Complete(parts)) => {
+            if parts.len == text.len() {
+                judge(alloc, text, &parts, &spans[..parts.headers], long)
+            } else {
+                HeadAnswer::Refused(BAD_REQUEST)
+            }
+        }
+        Ok(Status::Partial) => HeadAnswer::Refused(BAD_REQUEST),
+        Err(_) => HeadAnswer::Refused(BAD_REQUEST),
+    }
+}
+
+/// What the head says, or the code by which it is refused.
+fn judge(
+    alloc: Global,
+    head: &[u8],
+    parts: &RequestSpans,
+    headers: &[HeaderSpan],
+    long: bool,
+) -> HeadAnswer
+    requires method { IsWithin (length head.now) parts.now.method }
+    requires path { IsWithin (length head.now) parts.now.path }
+    requires within { All (IsHeaderWithin (length head.now)) headers.now }
+    ensures { IsSaid head.now long parts.now (map (header_bytes head.now) headers.now) result }
+{
+    if long {
+        return HeadAnswer::Refused(BAD_REQUEST);
+    }
+    let host = match host_in(head, parts.version, headers) {
+        Ok(host) => host,
+        Err(code) => return HeadAnswer::Refused(code),
+    };
+    let body = match body_of(head, parts.version, headers) {
+        Ok(body) => body,
+        Err(code) => return HeadAnswer::Refused(code),
+    };
+    let expects = match expects_of(head, parts.version, headers, body) {
+        Ok(expects) => expects,
+        Err(code) => return HeadAnswer::Refused(code),
+    };
+    match Vec::from_slice(alloc, head) {
+        Ok(copy) => HeadAnswer::Whole(
+            Request {
+                head: copy,
+                method: parts.method,
+                target: parts.path,
+                host,
+                range: range_in(head, headers),
+                minor: parts.version,
+                asked_close: asks_close(head, parts.version, headers),
+                expects,
+                body,
+            },
+            head.len() as u64,
+        ),
+        Err(_) => HeadAnswer::NoMemory,
+    }
+}
