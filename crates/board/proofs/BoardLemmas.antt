@@ -7,9 +7,9 @@ use Rattle.mpm_base.specs.declared.conn.ConnName.{ConnName}
 use Rattle.conn_machine.specs.declared.row.Row.{Row}
 use Rattle.conn_machine.specs.declared.event.Event.{Event}
 use Rattle.conn_machine.specs.Lists.{update}
-use Rattle.conn_machine.specs.Rows.{is_live, is_named, live_row, lives_and}
+use Rattle.conn_machine.specs.Rows.{is_live, is_live_as, live_row, lives_and}
 use Rattle.conn_machine.specs.States.{is_halted}
-use Rattle.conn_machine.specs.Table.{allowed}
+use Rattle.conn_machine.specs.Table.{is_allowed}
 use Rattle.conn_machine.proofs.SizeLemmas.{length-update}
 use Rattle.conn_machine.proofs.UpdateLemmas.{get_changed}
 use Rattle.conn_state.specs.Conn.{SeenConn}
@@ -61,7 +61,7 @@ pub record LivesAs (rows : List Row) (name : ConnName) (test : Row → Bool) : T
   pub passes : test row ≡ true
 
 -- the row of the slot, where it has that name or not
-lives_if : (rows : List Row) (name : ConnName) (test : Row → Bool) (r : Row) (named : Bool) → is_named name r ≡ named
+lives_if : (rows : List Row) (name : ConnName) (test : Row → Bool) (r : Row) (named : Bool) → is_live_as name r ≡ named
     → slice_get rows name.slot ≡ Some r → lives_and test rows name ≡ true → LivesAs rows name test
 lives_if rows name test r true named at lives = record {
   row = r;
@@ -81,7 +81,7 @@ lives_where : (rows : List Row) (name : ConnName) (test : Row → Bool) (o : Opt
 lives_where rows name test None at lives =
     let never : false ≡ true = rw at at lives in
     absurd (cc)
-lives_where rows name test (Some r) at lives = lives_if rows name test r (is_named name r) refl at lives
+lives_where rows name test (Some r) at lives = lives_if rows name test r (is_live_as name r) refl at lives
 
 -- a connection that lives has a row, which passes
 pub lives_as : (rows : List Row) (name : ConnName) (test : Row → Bool) → lives_and test rows name ≡ true → LivesAs rows name test
@@ -90,12 +90,12 @@ lives_as rows name test lives = lives_where rows name test (slice_get rows name.
 -- ## A call
 
 -- the event that a call may make is allowed inside
-pub may_inside : (seen b : SeenBoard) (e : Event) → seen ≡ b → allowed b.book.state e ≡ true → allowed seen.book.state e ≡ true
-may_inside seen b e is may = subst (λ (v : SeenBoard). allowed v.book.state e ≡ true) (sym is) may
+pub may_inside : (seen b : SeenBoard) (e : Event) → seen ≡ b → is_allowed b.book.state e ≡ true → is_allowed seen.book.state e ≡ true
+may_inside seen b e is may = subst (λ (v : SeenBoard). is_allowed v.book.state e ≡ true) (sym is) may
 
 -- so is one that it may make while the server goes on, where it does
-pub may_while : (seen b : SeenBoard) (e : Event) → seen ≡ b → (is_halted b.book.state.going ≡ false → allowed b.book.state e ≡ true)
-    → is_halted seen.book.state.going ≡ false → allowed seen.book.state e ≡ true
+pub may_while : (seen b : SeenBoard) (e : Event) → seen ≡ b → (is_halted b.book.state.going ≡ false → is_allowed b.book.state e ≡ true)
+    → is_halted seen.book.state.going ≡ false → is_allowed seen.book.state e ≡ true
 may_while seen b e is may going =
     may_inside seen b e is (may (ap (λ (v : SeenBoard). is_halted v.book.state.going) (sym is) ∙ going))
 

@@ -11,18 +11,19 @@ use Rattle.conn_machine.specs.declared.event.Event.{Event}
 use Rattle.conn_machine.specs.declared.event.Event.TheVariants as event
 use Rattle.conn_machine.specs.declared.event.Entry.{Entry}
 use Rattle.conn_machine.specs.declared.state.State.{State}
-use Rattle.conn_machine.specs.Table.{allowed, next, reply}
+use Rattle.conn_machine.specs.Table.{is_allowed, next, reply}
 use Rattle.conn_machine.specs.Runs.{entries_of, asks_page, load, full_load}
 use Rattle.conn_machine.specs.Sound.{IsSound}
 use Rattle.conn_machine.specs.Children.{is_in_bounds, no_child}
-use Rattle.conn_machine.specs.States.{is_halted, opening, unused_row}
+use Rattle.conn_machine.specs.States.{is_halted, opening_state, unused_row}
 use Rattle.conn_machine.proofs.ChildSound.{sound-opening}
 use Rattle.conn_machine.proofs.RunLemmas.{after-snoc, history-snoc, entries_of-own, entries_of-other}
 use Rattle.conn_machine.proofs.SizeLemmas.{length-rows, length-children, length-signals, moment-within}
-use Rattle.board.specs.Book.{AreNext, IsSized, IsKept, SeenBook, full_stop, numbered, recorded, pages_of}
+use Rattle.board.specs.Book.{IsSized, SeenBook, full_stop, numbered_entry, book_with_entry}
+use Rattle.board.specs.BookInside.{AreNext, IsKept, pages_of}
 use Rattle.conn_machine.specs.declared.event.Reply.{Reply}
 use Rattle.board.specs.Faults.{IsOpen}
-use Rattle.board.specs.Room.{row_owes, child_owes, owed, is_sure}
+use Rattle.board.specs.RoomInside.{row_owes, child_owes, owed_entries, is_sure}
 use Rattle.board.proofs.RoomLemmas.{owed-bound, owed-sure}
 use Rattle.board.proofs.StopLemmas.{stops_first, stops_more, tells_first, tells_more}
 
@@ -50,7 +51,7 @@ next_more ordinals history e before within p below =
     (omega (arith, length-set ordinals e.pass (length (entries_of e.pass history) + 1)))
 
 -- the state has the size that it had
-sized_more : (s : State) (e : Event) → allowed s e ≡ true → IsSized s → IsSized (next s e)
+sized_more : (s : State) (e : Event) → is_allowed s e ≡ true → IsSized s → IsSized (next s e)
 sized_more s e may before = record {
   rows = omega (arith, before.rows, length-rows s e);
   children = omega (arith, before.children, length-children s e);
@@ -69,9 +70,9 @@ sure-pages e sure = refl
 
 -- the history is kept, where the room suffices
 kept_more : (base : State) (history : List Entry) (s : State) (ordinals ordinals' : List ℕ) (pages room room' : ℕ) (e : Entry)
-    → IsKept base history s ordinals pages room → allowed s e.event ≡ true → e.reply ≡ reply s e.event
+    → IsKept base history s ordinals pages room → is_allowed s e.event ≡ true → e.reply ≡ reply s e.event
     → e.ordinal ≡ length (entries_of e.pass history) → AreNext ordinals' (history ++ e ∷ []) → IsSound (next s e.event)
-    → length (history ++ e ∷ []) + owed (next s e.event) ≤ room' → (e.event ≡ full_stop → full_load ≤ load history)
+    → length (history ++ e ∷ []) + owed_entries (next s e.event) ≤ room' → (e.event ≡ full_stop → full_load ≤ load history)
     → IsKept base (history ++ e ∷ []) (next s e.event) ordinals' (pages + (if asks_page e.event then 1 else 0)) room'
 kept_more base history s ordinals ordinals' pages room room' e before is_allowed replied ordinal numbers sound has_room full = record {
   is_history = history-snoc base history e before.is_history (rw before.state_is is_allowed) (rw before.state_is replied) ordinal;
@@ -88,7 +89,7 @@ kept_more base history s ordinals ordinals' pages room room' e before is_allowed
 
 -- the same, where memory was found for all that may follow
 pub kept_with_room : (base : State) (history history' : List Entry) (s s' : State) (ordinals ordinals' : List ℕ) (pages pages' room room' : ℕ) (e : Entry)
-    → IsKept base history s ordinals pages room → allowed s e.event ≡ true → e.reply ≡ reply s e.event
+    → IsKept base history s ordinals pages room → is_allowed s e.event ≡ true → e.reply ≡ reply s e.event
     → e.ordinal ≡ length (entries_of e.pass history) → AreNext ordinals' history' → (IsSound s → IsSound s')
     → history' ≡ history ++ e ∷ [] → s' ≡ next s e.event → pages' ≡ pages + (if asks_page e.event then 1 else 0)
     → length history + (4 * length s.rows + length s.children + 2) ≤ room' → (e.event ≡ full_stop → full_load ≤ load history)
@@ -104,7 +105,7 @@ kept_with_room base history history' s s' ordinals ordinals' pages pages' room r
 
 -- the same, where the room was taken before
 pub kept_sure : (base : State) (history history' : List Entry) (s s' : State) (ordinals ordinals' : List ℕ) (pages room room' : ℕ) (e : Entry)
-    → IsKept base history s ordinals pages room → allowed s e.event ≡ true → e.reply ≡ reply s e.event
+    → IsKept base history s ordinals pages room → is_allowed s e.event ≡ true → e.reply ≡ reply s e.event
     → e.ordinal ≡ length (entries_of e.pass history) → AreNext ordinals' history' → (IsSound s → IsSound s')
     → history' ≡ history ++ e ∷ [] → s' ≡ next s e.event → is_sure e.event ≡ true → room ≤ room' → (e.event ≡ full_stop → full_load ≤ load history)
     → IsKept base history' s' ordinals' pages room'
@@ -120,7 +121,7 @@ kept_sure base history history' s s' ordinals ordinals' pages room room' e befor
 
 -- an empty history is kept, from a sound state that it leaves as it is
 pub kept_first : (slots children passes room : ℕ) (shape : Shape) → slots ≤ 8192 → children ≤ 32 → is_in_bounds shape ≡ true → 1 ≤ room
-    → IsKept (opening slots children shape) [] (opening slots children shape) (replicate passes 0) 0 room
+    → IsKept (opening_state slots children shape) [] (opening_state slots children shape) (replicate passes 0) 0 room
 kept_first slots children passes room shape few_slots few_children bounds space =
     let sound = sound-opening slots children shape bounds in
     record {
@@ -144,10 +145,10 @@ kept_first slots children passes room shape few_slots few_children bounds space 
 -- what a book shows once the entry was put at its end
 pub recorded_is : (b : SeenBook) (base : State) (history history' : List Entry) (s s' : State) (n n' who : ℕ) (event : Event) (answer : Reply)
     → (let seen : SeenBook = record { base = base; history = history; state = s; passes = n } in seen ≡ b)
-    → history' ≡ history ++ numbered who event answer history ∷ [] → s' ≡ next s event → answer ≡ reply s event → n' ≡ n
-    → (let seen : SeenBook = record { base = base; history = history'; state = s'; passes = n' } in seen ≡ recorded who event b)
+    → history' ≡ history ++ numbered_entry who event answer history ∷ [] → s' ≡ next s event → answer ≡ reply s event → n' ≡ n
+    → (let seen : SeenBook = record { base = base; history = history'; state = s'; passes = n' } in seen ≡ book_with_entry who event b)
 recorded_is b base history history' s s' n n' who event answer seen history_is state_is replied passes =
-    subst (λ (v : SeenBook). (let shown : SeenBook = record { base = base; history = history'; state = s'; passes = n' } in shown ≡ recorded who event v))
+    subst (λ (v : SeenBook). (let shown : SeenBook = record { base = base; history = history'; state = s'; passes = n' } in shown ≡ book_with_entry who event v))
     seen (rw (history_is, state_is, replied, passes) refl)
 
 -- a book that is neither halted nor full can be recorded in

@@ -11,9 +11,9 @@ use Rattle.conn_machine.specs.Table.{next}
 use Rattle.conn_machine.specs.Runs.{after}
 use Rattle.conn_state.specs.Conn.{SeenConn}
 use Rattle.conn_state.specs.Answered.{SeenEnded, IsEnded}
-use Rattle.board.specs.Book.{SeenBook, entry_of, recorded}
+use Rattle.board.specs.Book.{SeenBook, entry_of, book_with_entry}
 use Rattle.board.specs.Fits.{IsClosing}
-use Rattle.board.specs.Board.{AreClosed, AreEnded, Closes, IsBoard}
+use Rattle.board.specs.Board.{AreClosed, AreEnded, ClosesFirst, IsBoard}
 use Rattle.board.proofs.BoardLemmas.{AreThere}
 use Rattle.board.proofs.EventLemmas.{opening-there}
 
@@ -21,14 +21,14 @@ use Rattle.board.proofs.EventLemmas.{opening-there}
 
 -- what an event closes, where others come behind those that came later
 closes_more : (s : State) (e : Event) (P Q : List SeenEnded → Type 0) (last : List SeenEnded)
-    → ((others : List SeenEnded) → P others → Q (others ++ last)) → (ended : List SeenEnded) → Closes s e P ended → Closes s e Q (ended ++ last)
+    → ((others : List SeenEnded) → P others → Q (others ++ last)) → (ended : List SeenEnded) → ClosesFirst s e P ended → ClosesFirst s e Q (ended ++ last)
 closes_more s (event.Close name why how) P Q last more [] closes = absurd closes
 closes_more s (event.Close name why how) P Q last more (x ∷ ended) closes = (closes.0, more ended closes.1)
 closes_more s e P Q last more ended closes = more ended closes
 
 -- what the last event closes comes last
 pub closed_more : (s : State) (history : List Entry) (e : Entry) (ended last : List SeenEnded) → AreClosed s history ended
-    → Closes (after s history) e.event (λ others. others ≡ []) last → AreClosed s (history ++ e ∷ []) (ended ++ last)
+    → ClosesFirst (after s history) e.event (λ others. others ≡ []) last → AreClosed s (history ++ e ∷ []) (ended ++ last)
 closed_more s [] e ended last closed closes =
     subst (λ (xs : List SeenEnded). AreClosed s (e ∷ []) (xs ++ last)) (sym closed) closes
 closed_more s (x ∷ history) e ended last closed closes =
@@ -44,9 +44,9 @@ ended_more (y ∷ ended) x are is = (are.0, ended_more ended x are.1 is)
 
 -- a board goes on by an event that closes nothing
 pub board_on : (book : SeenBook) (conns conns' : List (Option SeenConn)) (ended : List SeenEnded) (room room' who : ℕ) (e : Event)
-    → IsBoard (record { book = book; conns = conns; ended = ended }) room → ((s : State) → Closes s e (λ others. others ≡ []) [])
+    → IsBoard (record { book = book; conns = conns; ended = ended }) room → ((s : State) → ClosesFirst s e (λ others. others ≡ []) [])
     → AreThere (next book.state e).rows conns' (length ended) room'
-    → IsBoard (record { book = recorded who e book; conns = conns'; ended = ended }) room'
+    → IsBoard (record { book = book_with_entry who e book; conns = conns'; ended = ended }) room'
 board_on book conns conns' ended room room' who e is closes there = record {
   agrees = record {
     waiting = there.waiting;
@@ -62,7 +62,7 @@ pub board_closed : (book : SeenBook) (conns : List (Option SeenConn)) (ended : L
     → IsBoard (record { book = book; conns = conns; ended = ended }) room → after book.base book.history ≡ book.state
     → IsClosing book.state x.name x.cause x.tail x → IsEnded x
     → AreThere (next book.state (event.Close x.name x.cause x.tail)).rows conns (length ended + 1) room'
-    → IsBoard (record { book = recorded who (event.Close x.name x.cause x.tail) book; conns = conns; ended = ended ++ x ∷ [] }) room'
+    → IsBoard (record { book = book_with_entry who (event.Close x.name x.cause x.tail) book; conns = conns; ended = ended ++ x ∷ [] }) room'
 board_closed book conns ended x room room' who is state_is closing shown there =
     let e = event.Close x.name x.cause x.tail in
     let len : length (ended ++ x ∷ []) ≡ length ended + 1 = length-append ended (x ∷ []) in
@@ -78,9 +78,9 @@ board_closed book conns ended x room room' who is state_is closing shown there =
 
 -- a board goes on by an event that changes no row
 pub board_same : (book : SeenBook) (conns : List (Option SeenConn)) (ended : List SeenEnded) (room who : ℕ) (e : Event)
-    → IsBoard (record { book = book; conns = conns; ended = ended }) room → ((s : State) → Closes s e (λ others. others ≡ []) [])
+    → IsBoard (record { book = book; conns = conns; ended = ended }) room → ((s : State) → ClosesFirst s e (λ others. others ≡ []) [])
     → (next book.state e).rows ≡ book.state.rows
-    → IsBoard (record { book = recorded who e book; conns = conns; ended = ended }) room
+    → IsBoard (record { book = book_with_entry who e book; conns = conns; ended = ended }) room
 board_same book conns ended room who e is closes same =
     board_on book conns conns ended room room who e is closes
     (subst (λ (rows : List Row). AreThere rows conns (length ended) room) (sym same)

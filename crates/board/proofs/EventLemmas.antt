@@ -17,9 +17,9 @@ use Rattle.conn_machine.specs.declared.row.Row.{Row}
 use Rattle.conn_machine.specs.declared.event.Event.TheVariants as event
 use Rattle.conn_machine.specs.declared.state.State.{State}
 use Rattle.conn_machine.specs.Lists.{update}
-use Rattle.conn_machine.specs.Rows.{is_vacant, is_unused, is_held, is_parked, is_queued, is_working, in_phase, is_live, is_lingering, carried, lives_and, live_row}
+use Rattle.conn_machine.specs.Rows.{is_vacant, is_unused, is_held, is_parked, is_queued, is_working, in_phase, is_live, is_lingering, carried_count, lives_and, live_row}
 use Rattle.conn_machine.specs.States.{is_signalled, is_halted, is_serving, pick_child, child_of, unused_row}
-use Rattle.conn_machine.specs.Table.{allowed, next, is_vacant_at, may_wait, may_be_held, may_be_queued, taken_row, parked_row, held_row, queued_row, served_row, answered_row, closed_row, greatest_life, end_fits, is_last_for}
+use Rattle.conn_machine.specs.Table.{is_allowed, next, is_vacant_at, may_wait, may_be_held, may_be_queued, taken_row, parked_row, held_row, queued_row, served_row, answered_row, closed_row, greatest_life, end_fits, is_last_for}
 use Rattle.conn_machine.specs.Sound.{IsSound, KindFits}
 use Rattle.conn_machine.proofs.SizeLemmas.{length-update}
 use Rattle.conn_machine.proofs.RowLemmas.{row_of_slot}
@@ -169,7 +169,7 @@ live-less rows slot r change at live dead =
 
 -- a connection is taken into a vacant slot, once there is room for the end of each
 pub accept-there : (s : State) (slot : ℕ) (conns : List (Option SeenConn)) (ended room room' : ℕ)
-    → allowed s (event.Accept slot) ≡ true → AreThere s.rows conns ended room → ended + length s.rows ≤ room'
+    → is_allowed s (event.Accept slot) ≡ true → AreThere s.rows conns ended room → ended + length s.rows ≤ room'
     → AreThere (next s (event.Accept slot)).rows conns ended room'
 accept-there s slot conns ended room room' may there space =
     let both = and_parts (is_serving s.going && is_vacant_at s slot) (is_some (pick_child s)) may in
@@ -182,7 +182,7 @@ accept-there s slot conns ended room room' may there space =
 
 -- a connection waits, and is as one that waits so
 pub park-there : (s : State) (name : ConnName) (kind : Kind) (conns : List (Option SeenConn)) (c : SeenConn) (r : Row) (ended room : ℕ)
-    → allowed s (event.Park name kind) ≡ true → AreThere s.rows conns ended room → live_row s.rows name ≡ Some r → c.name ≡ name
+    → is_allowed s (event.Park name kind) ≡ true → AreThere s.rows conns ended room → live_row s.rows name ≡ Some r → c.name ≡ name
     → Fits c r → IsSettled kind c
     → AreThere (next s (event.Park name kind)).rows (set conns name.slot (Some c)) ended room
 park-there s name kind conns c r ended room may there found name_is fits settled =
@@ -201,7 +201,7 @@ park-there s name kind conns c r ended room may there found name_is fits settled
 
 -- the listener takes a connection that waits
 pub hold-there : (s : State) (name : ConnName) (conns : List (Option SeenConn)) (ended room : ℕ)
-    → allowed s (event.Hold name) ≡ true → AreThere s.rows conns ended room
+    → is_allowed s (event.Hold name) ≡ true → AreThere s.rows conns ended room
     → AreThere (next s (event.Hold name)).rows (set conns name.slot None) ended room
 hold-there s name conns ended room may there =
     let lives = lives_as s.rows name (may_be_held s (is_signalled s name.slot)) may in
@@ -211,7 +211,7 @@ hold-there s name conns ended room may there =
 
 -- a worker takes a connection that waits for it
 pub start-there : (s : State) (name : ConnName) (conns : List (Option SeenConn)) (ended room : ℕ)
-    → allowed s (event.Start name) ≡ true → AreThere s.rows conns ended room
+    → is_allowed s (event.Start name) ≡ true → AreThere s.rows conns ended room
     → AreThere (next s (event.Start name)).rows (set conns name.slot None) ended room
 start-there s name conns ended room may there =
     let lives = lives_as s.rows name (λ (r : Row). is_queued r.place) may in
@@ -222,12 +222,12 @@ start-there s name conns ended room may there =
 -- what may be handed to the workers waits for something
 queue-parked : (s : State) (r : Row) → may_be_queued s r ≡ true → is_parked r.place ≡ true
 queue-parked s r may =
-    let parts = and_parts (is_parked r.place && not (is_lingering r)) (nat_lt (carried s.rows r.child) (child_of s r).shape.threads) may in
+    let parts = and_parts (is_parked r.place && not (is_lingering r)) (nat_lt (carried_count s.rows r.child) (child_of s r).shape.threads) may in
     (and_parts (is_parked r.place) (not (is_lingering r)) parts.0).0
 
 -- a connection that waits is handed to the workers of its child, and stays in the board
 pub queue-there : (s : State) (name : ConnName) (conns : List (Option SeenConn)) (ended room : ℕ) → IsSound s
-    → allowed s (event.Queue name) ≡ true → AreThere s.rows conns ended room
+    → is_allowed s (event.Queue name) ≡ true → AreThere s.rows conns ended room
     → AreThere (next s (event.Queue name)).rows conns ended room
 queue-there s name conns ended room sound may there =
     let lives = lives_as s.rows name (may_be_queued s)
@@ -255,7 +255,7 @@ answer_phase s ask r = if is_last_for s ask r then phase.Close else phase.Write
 
 -- a response is decided
 pub answer-there : (s : State) (name : ConnName) (ask : Ask) (conns : List (Option SeenConn)) (ended room : ℕ)
-    → allowed s (event.Answer name ask) ≡ true → AreThere s.rows conns ended room
+    → is_allowed s (event.Answer name ask) ≡ true → AreThere s.rows conns ended room
     → AreThere (next s (event.Answer name ask)).rows conns ended room
 answer-there s name ask conns ended room may there =
     let lives = lives_as s.rows name (λ (r : Row). is_working r.place && not r.last)
@@ -269,7 +269,7 @@ answer-there s name ask conns ended room may there =
 
 -- a connection ends, which takes the room that was left for it
 pub close-there : (s : State) (name : ConnName) (why : Cause) (how : Tail) (conns : List (Option SeenConn)) (ended room room' : ℕ)
-    → allowed s (event.Close name why how) ≡ true → AreThere s.rows conns ended room → room ≤ room'
+    → is_allowed s (event.Close name why how) ≡ true → AreThere s.rows conns ended room → room ≤ room'
     → AreThere (next s (event.Close name why how)).rows conns (ended + 1) room'
 close-there s name why how conns ended room room' may there more =
     let lives = lives_as s.rows name (λ (r : Row). (is_held r.place || is_working r.place) && end_fits s why how r) may in
@@ -282,7 +282,7 @@ close-there s name why how conns ended room room' may there more =
 
 -- before a close there is room for the one that ends
 pub close-room : (s : State) (name : ConnName) (why : Cause) (how : Tail) (conns : List (Option SeenConn)) (ended room : ℕ)
-    → allowed s (event.Close name why how) ≡ true → AreThere s.rows conns ended room → ended < room
+    → is_allowed s (event.Close name why how) ≡ true → AreThere s.rows conns ended room → ended < room
 close-room s name why how conns ended room may there =
     let lives = lives_as s.rows name (λ (r : Row). (is_held r.place || is_working r.place) && end_fits s why how r) may in
     let count = live-less s.rows name.slot lives.row closed_row lives.at lives.live (closed-away lives.row).1 in

@@ -3,8 +3,8 @@ use Rattle.std.proofs.Common.{◌≡◌, ◌⊎◌, ℕ, ◌+◌, ◌<◌, ◌�
 use Rattle.std.specs.List.{list_any, reduce}
 use Rattle.std.specs.Option.{option_map_or}
 use Rattle.std.proofs.lemmas.Bool.{cases_lt}
+use Rattle.std.proofs.lemmas.Grind.{fold-append}
 use Rattle.std.proofs.lemmas.Option.{slice_get_within, get_or_from_slice_get}
-use Rattle.admission.specs.Admission.{least}
 use Rattle.conn_machine.specs.declared.row.Row.{Row}
 use Rattle.conn_machine.specs.declared.child.Child.{Child}
 use Rattle.conn_machine.specs.declared.state.State.{State}
@@ -60,27 +60,11 @@ none_retirable s each k = none_there s k (slice_get s.children k) refl each
 
 -- ## The least of some moments
 
--- the lesser of two numbers and the least of others, whichever is taken first
-min_swap : (n m : ℕ) (o : Option ℕ) → min n (option_map_or (min m) o m) ≡ min m (option_map_or (min n) o n)
-min_swap n m None = omega arith
-min_swap n m (Some k) = omega arith
-
--- the least of some numbers from the lesser of two on is the lesser of the one and their least from the other on
-min_more : (n m : ℕ) (o : Option ℕ) → option_map_or (min (min n m)) o (min n m) ≡ min n (option_map_or (min m) o m)
-min_more n m None = refl
-min_more n m (Some k) = omega arith
-
--- a walk that keeps the lesser ends at the least of the numbers and of the one that it begins with
-fold_min : (n : ℕ) (ns : List ℕ) → fold min n ns ≡ option_map_or (min n) (least ns) n
-fold_min n [] = refl
-fold_min n (m ∷ ns) = fold_min (min n m) ns ∙ min_more n m (least ns)
-
--- so a walk from the first of them on ends at the least of some numbers
-pub reduce_is_least : (ns : List ℕ) → reduce min ns ≡ least ns
-reduce_is_least [] = refl
-reduce_is_least (n ∷ ns) = ap Some (fold_min n ns)
+-- the lesser of two numbers, whichever is named first
+min_turned : (n m : ℕ) → min n m ≡ min m n
+min_turned n m = omega arith
 
 -- the least of some numbers and one more
-pub least_push : (ns : List ℕ) (n : ℕ) → least (ns ++ n ∷ []) ≡ Some (option_map_or (min n) (least ns) n)
-least_push [] n = refl
-least_push (m ∷ ns) n = rw (least_push ns n) (ap Some (min_swap m n (least ns)))
+pub reduce_push : (ns : List ℕ) (n : ℕ) → reduce min (ns ++ n ∷ []) ≡ Some (option_map_or (min n) (reduce min ns) n)
+reduce_push [] n = refl
+reduce_push (m ∷ ns) n = ap Some (fold-append min m ns (n ∷ []) ∙ min_turned (fold min m ns) n)

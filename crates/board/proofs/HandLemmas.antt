@@ -1,27 +1,33 @@
 -- The connections that leave the board, and what a call needs and tells of one.
-use Rattle.std.proofs.Common.{◌≡◌, ℕ, ◌<◌, Bool, true, false, not, ◌&&◌, ◌||◌, nat_le, List, length, Option, None, Some, slice_get, get_or, eq-eqb, refl, sym, ap, subst, ◌∙◌, arith}
+use Rattle.std.proofs.Common.{◌≡◌, ◌⊎◌, inl, inr, ℕ, ◌<◌, Bool, true, false, not, ◌&&◌, ◌||◌, nat_le, List, [], length, Option, None, Some, slice_get, get_or, eq-eqb, refl, sym, ap, subst, ◌∙◌, arith}
 use Rattle.std.specs.Option.{option_map_or}
+use Rattle.std.proofs.Math.ListN.{set}
 use Rattle.std.proofs.lemmas.Bool.{and_parts}
 use Rattle.std.proofs.lemmas.List.{get_or_default}
 use Rattle.mpm_base.specs.declared.conn.ConnName.{ConnName}
 use Rattle.mpm_base.specs.declared.conn.Kind.TheVariants.{KeepAlive}
 use Rattle.mpm_base.specs.declared.conn.Ask.{Ask}
 use Rattle.conn_machine.specs.declared.row.Row.{Row}
+use Rattle.conn_machine.specs.declared.event.Event.{Event}
 use Rattle.conn_machine.specs.declared.event.Event.TheVariants as event
 use Rattle.conn_machine.specs.declared.state.State.{State}
 use Rattle.conn_machine.specs.Lists.{update}
-use Rattle.conn_machine.specs.Rows.{is_parked, is_queued, is_working, is_live, is_lingering, is_from, is_named, row_where, live_row, lives_and}
+use Rattle.conn_machine.specs.Rows.{is_parked, is_queued, is_working, is_live, is_lingering, is_from, is_live_as, row_where, live_row, lives_and}
 use Rattle.conn_machine.specs.Children.{is_stopping}
 use Rattle.conn_machine.specs.States.{is_signalled, is_halted, child_of}
-use Rattle.conn_machine.specs.Table.{allowed, next, may_be_held, held_row, served_row, is_last_for, noted_at}
+use Rattle.conn_machine.specs.Table.{is_allowed, next, may_be_held, held_row, served_row, is_last_for, noted_at}
 use Rattle.conn_machine.specs.Sound.{IsSound}
 use Rattle.conn_machine.proofs.UpdateLemmas.{get_changed}
 use Rattle.conn_state.specs.Conn.{SeenConn}
-use Rattle.board.specs.Fits.{Fits, IsHandedOut, IsSettledFrom}
-use Rattle.board.specs.Board.{AreHome, IsAtHome, conn_at}
-use Rattle.board.specs.Events.{IsDecided, noted}
-use Rattle.board.proofs.BoardLemmas.{get-below, lives_as}
-use Rattle.board.proofs.EventLemmas.{parked-home, queued-home, home-of, parked-settled, queued-settled}
+use Rattle.board.specs.Fits.{Fits, IsTakenUp, IsSettledFrom}
+use Rattle.board.specs.Book.{SeenBook}
+use Rattle.board.specs.Board.{AreHome, ClosesFirst, IsAtHome, conn_at}
+use Rattle.board.specs.Events.{IsDecided}
+use Rattle.board.specs.EventsInside.{MayStop, decided_note}
+use Rattle.board.specs.HandsInside.{HandsOut}
+use Rattle.board.specs.RoomInside.{is_sure}
+use Rattle.board.proofs.BoardLemmas.{AreThere, get-below, lives_as}
+use Rattle.board.proofs.EventLemmas.{hold-there, start-there, parked-home, queued-home, home-of, parked-settled, queued-settled}
 
 -- ## A connection that is handed out
 
@@ -29,7 +35,7 @@ use Rattle.board.proofs.EventLemmas.{parked-home, queued-home, home-of, parked-s
 pub live_row-update : (rows : List Row) (name : ConnName) (r : Row) (change : Row → Row) → slice_get rows name.slot ≡ Some r
     → is_live (change r) ≡ true → (change r).life ≡ name.life → live_row (update rows name.slot change) name ≡ Some (change r)
 live_row-update rows name r change at live life =
-    let named : is_named name (change r) ≡ true = rw (live, eq-eqb (change r).life name.life life) refl in
+    let named : is_live_as name (change r) ≡ true = rw (live, eq-eqb (change r).life name.life life) refl in
     rw (get_changed rows name.slot r change at) (rw named refl)
 
 -- the connection of a slot of that name is there, and leaves the board as the one of the changed row
@@ -38,7 +44,7 @@ pub record IsGiven (s s' : State) (conns : List (Option SeenConn)) (name : ConnN
   pub below : name.slot < length conns
   pub has : conn_at conns name.slot ≡ Some conn
   pub name_is : conn.name ≡ name
-  pub handed : IsHandedOut s' conn
+  pub handed : IsTakenUp s' conn
 
 -- a connection that waits is handed out, where its row stays what it was but for its place
 given : (s s' : State) (conns : List (Option SeenConn)) (name : ConnName) (r : Row) (change : Row → Row) (x : SeenConn)
@@ -78,7 +84,7 @@ hold-parked s signalled r may =
     || is_halted s.going) may).0
 
 -- the listener is given the connection
-pub hold-given : (s : State) (name : ConnName) (conns : List (Option SeenConn)) → IsSound s → allowed s (event.Hold name) ≡ true
+hold-given : (s : State) (name : ConnName) (conns : List (Option SeenConn)) → IsSound s → is_allowed s (event.Hold name) ≡ true
     → AreHome s.rows conns → IsGiven s (next s (event.Hold name)) conns name
 hold-given s name conns sound may are =
     let lives = lives_as s.rows name (may_be_held s (is_signalled s name.slot)) may in
@@ -91,7 +97,7 @@ hold-given s name conns sound may are =
     (parked-settled r.place r here.0 parked (sound.kinds name.slot r lives.at lives.live) here.2.here)
 
 -- a worker is given the connection
-pub start-given : (s : State) (name : ConnName) (conns : List (Option SeenConn)) → allowed s (event.Start name) ≡ true
+start-given : (s : State) (name : ConnName) (conns : List (Option SeenConn)) → is_allowed s (event.Start name) ≡ true
     → AreHome s.rows conns → IsGiven s (next s (event.Start name)) conns name
 start-given s name conns may are =
     let lives = lives_as s.rows name (λ (r : Row). is_queued r.place) may in
@@ -102,11 +108,63 @@ start-given s name conns may are =
     (record { child = fits.child; generation = fits.generation; notes = fits.notes; rank = fits.rank })
     (queued-settled r.place r here.0 lives.passes here.2.here)
 
+-- ## Both ways
+
+-- an event that hands out a connection is one of two
+out_either : (name : ConnName) (e : Event) → HandsOut name e → (e ≡ event.Hold name) ⊎ (e ≡ event.Start name)
+out_either name (event.Accept slot) out = absurd out
+out_either name (event.Park other kind) out = absurd out
+out_either name (event.Hold other) out = inl (ap (λ (n : ConnName). event.Hold n) out)
+out_either name (event.Queue other) out = absurd out
+out_either name (event.Start other) out = inr (ap (λ (n : ConnName). event.Start n) out)
+out_either name (event.Answer other ask) out = absurd out
+out_either name (event.Linger other why) out = absurd out
+out_either name (event.Close other why how) out = absurd out
+out_either name (event.Ready slot) out = absurd out
+out_either name (event.Tick m) out = absurd out
+out_either name (event.StartChild k) out = absurd out
+out_either name (event.Command c) out = absurd out
+out_either name (event.Retire k) out = absurd out
+
+-- what both have, each such event has
+by_either : (P : Event → Type 0) (name : ConnName) (e : Event) → P (event.Hold name) → P (event.Start name)
+    → (e ≡ event.Hold name) ⊎ (e ≡ event.Start name) → P e
+by_either P name e held served (inl is) = subst P (sym is) held
+by_either P name e held served (inr is) = subst P (sym is) served
+
+-- it closes nothing
+pub closes_none : (name : ConnName) (e : Event) → HandsOut name e → (s : State) → ClosesFirst s e (λ others. others ≡ []) []
+closes_none name e out s =
+    by_either (λ (x : Event). ClosesFirst s x (λ others. others ≡ []) []) name e refl refl (out_either name e out)
+
+-- it finds its room taken before
+pub out_sure : (name : ConnName) (e : Event) → HandsOut name e → is_sure e ≡ true
+out_sure name e out = by_either (λ (x : Event). is_sure x ≡ true) name e refl refl (out_either name e out)
+
+-- it stops nothing
+pub out_stops : (name : ConnName) (e : Event) (b : SeenBook) → HandsOut name e → MayStop e b
+out_stops name e b out = by_either (λ (x : Event). MayStop x b) name e tt tt (out_either name e out)
+
+-- the connection is given
+pub given_out : (s : State) (e : Event) (name : ConnName) (conns : List (Option SeenConn)) → HandsOut name e → IsSound s
+    → is_allowed s e ≡ true → AreHome s.rows conns → IsGiven s (next s e) conns name
+given_out s e name conns out sound =
+    by_either (λ (x : Event). is_allowed s x ≡ true → AreHome s.rows conns → IsGiven s (next s x) conns name) name e
+    (hold-given s name conns sound) (start-given s name conns) (out_either name e out)
+
+-- the others stay
+pub out_there : (s : State) (e : Event) (name : ConnName) (conns : List (Option SeenConn)) (ended room : ℕ) → HandsOut name e
+    → is_allowed s e ≡ true → AreThere s.rows conns ended room → AreThere (next s e).rows (set conns name.slot None) ended room
+out_there s e name conns ended room out =
+    by_either (λ (x : Event). is_allowed s x ≡ true → AreThere s.rows conns ended room
+    → AreThere (next s x).rows (set conns name.slot None) ended room) name e
+    (hold-there s name conns ended room) (start-there s name conns ended room) (out_either name e out)
+
 -- ## A live connection
 
 -- the row of a live connection stands below the length
 slot_of-live : (rows : List Row) (name : ConnName) (r : Row) (o : Option Row) → slice_get rows name.slot ≡ o
-    → row_where (is_named name) o ≡ Some r → name.slot < length rows
+    → row_where (is_live_as name) o ≡ Some r → name.slot < length rows
 slot_of-live rows name r None at found = absurd (cc)
 slot_of-live rows name r (Some x) at found = get-below rows name.slot x at
 
@@ -117,8 +175,8 @@ live-below rows conns name r are found =
     omega (arith, slot_of-live rows name r (slice_get rows name.slot) refl found, are.slots)
 
 -- the note that is answered is that of the row
-pub answer-note : (s : State) (name : ConnName) (ask : Ask) (last : Bool) (moment : ℕ) → allowed s (event.Answer name ask) ≡ true
-    → last ≡ noted_at s name.slot ask → moment ≡ s.moment → IsDecided s name ask (noted moment ask last)
+pub answer-note : (s : State) (name : ConnName) (ask : Ask) (last : Bool) (moment : ℕ) → is_allowed s (event.Answer name ask) ≡ true
+    → last ≡ noted_at s name.slot ask → moment ≡ s.moment → IsDecided s name ask (decided_note moment ask last)
 answer-note s name ask last moment may last_is moment_is =
     let lives = lives_as s.rows name (λ (r : Row). is_working r.place && not r.last)
     (and_parts (not (is_halted s.going)) (lives_and (λ (r : Row). is_working r.place && not r.last) s.rows name) may).1 in

@@ -19,11 +19,11 @@ use Rattle.conn_machine.specs.declared.event.Event.{Event}
 use Rattle.conn_machine.specs.declared.event.Event.TheVariants as event
 use Rattle.conn_machine.specs.declared.state.State.{State}
 use Rattle.conn_machine.specs.Lists.{update}
-use Rattle.conn_machine.specs.Rows.{is_held, is_parked, is_queued, is_working, is_lingering, is_named, row_where, lives_and}
+use Rattle.conn_machine.specs.Rows.{is_held, is_parked, is_queued, is_working, is_lingering, is_live_as, row_where, lives_and}
 use Rattle.conn_machine.specs.Children.{is_empty, is_running, is_stopping, stopped_child, all_stopped, retired_child}
 use Rattle.conn_machine.specs.States.{is_halted, is_signalled}
-use Rattle.conn_machine.specs.Table.{allowed, next, may_be_held, held_row, served_row, linger_cause_fits, lingering_row, end_fits, closed_row, greatest_life}
-use Rattle.board.specs.Room.{place_owes, row_owes, child_owes, owed, is_sure}
+use Rattle.conn_machine.specs.Table.{is_allowed, next, may_be_held, held_row, served_row, linger_cause_fits, lingering_row, end_fits, closed_row, greatest_life}
+use Rattle.board.specs.RoomInside.{place_owes, row_owes, child_owes, owed_entries, is_sure}
 
 -- ## Sums
 
@@ -54,9 +54,9 @@ passes-if test r false passes = absurd (cc)
 
 -- so does the row of a slot
 passes-where : (test : Row → Bool) (name : ConnName) (o : Option Row)
-    → option_map_or test (row_where (is_named name) o) false ≡ true → option_map_or test o false ≡ true
+    → option_map_or test (row_where (is_live_as name) o) false ≡ true → option_map_or test o false ≡ true
 passes-where test name None passes = passes
-passes-where test name (Some r) passes = passes-if test r (is_named name r) passes
+passes-where test name (Some r) passes = passes-if test r (is_live_as name r) passes
 
 -- a change of a connection that passes a test changes what the rows owe as it changes that connection's row
 rows-change : (change : Row → Row) (test : Row → Bool) (less more : ℕ)
@@ -174,7 +174,7 @@ retire-owes c is = rw (stopping-is_empty c.phase is) (omega arith)
 -- ## The state
 
 -- four entries for each row, one for each child, and one for the stop
-pub owed-bound : (s : State) → owed s ≤ 4 * length s.rows + length s.children + 1
+pub owed-bound : (s : State) → owed_entries s ≤ 4 * length s.rows + length s.children + 1
 owed-bound s =
     omega (
       arith,
@@ -184,7 +184,7 @@ owed-bound s =
     )
 
 -- an event that can't be refused takes its own entry out of what is owed
-pub owed-sure : (s : State) (e : Event) → allowed s e ≡ true → is_sure e ≡ true → owed (next s e) + 1 ≤ owed s
+pub owed-sure : (s : State) (e : Event) → is_allowed s e ≡ true → is_sure e ≡ true → owed_entries (next s e) + 1 ≤ owed_entries s
 owed-sure s (event.Hold name) may sure =
     let signalled = is_signalled s name.slot in
     omega (arith, rows-change held_row (may_be_held s signalled) 1 0 (hold-owes s signalled) s.rows name may)

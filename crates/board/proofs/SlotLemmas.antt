@@ -6,7 +6,7 @@ use Rattle.conn_machine.specs.declared.state.State.{State}
 use Rattle.conn_machine.specs.Rows.{open_count}
 use Rattle.conn_machine.specs.Children.{child_at, is_running}
 use Rattle.conn_machine.specs.States.{is_serving, pick_child}
-use Rattle.conn_machine.specs.Table.{allowed, is_vacant_at}
+use Rattle.conn_machine.specs.Table.{is_allowed, is_vacant_at}
 use Rattle.conn_machine.specs.Sound.{IsSound}
 use Rattle.conn_machine.specs.Laws.{idle_in}
 use Rattle.conn_machine.proofs.PickLemmas.{pick_is_chosen}
@@ -29,7 +29,7 @@ picked-some (Some k) some = refl
 
 -- a connection may be taken into a vacant slot where a child takes one
 pub slot-allowed : (s : State) (slot : ℕ) → IsSound s → is_none (pick_child s) ≡ false → is_vacant_at s slot ≡ true
-    → allowed s (event.Accept slot) ≡ true
+    → is_allowed s (event.Accept slot) ≡ true
 slot-allowed s slot sound some vacant =
     let serving = picked-serving s (pick_child s) sound refl some in
     and_from (is_serving s.going && is_vacant_at s slot) (is_some (pick_child s))

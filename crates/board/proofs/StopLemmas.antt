@@ -11,10 +11,10 @@ use Rattle.conn_machine.specs.declared.state.Going.{Going}
 use Rattle.conn_machine.specs.declared.state.Going.TheVariants.{Serving, Halted}
 use Rattle.conn_machine.specs.declared.state.State.{State}
 use Rattle.conn_machine.specs.States.{is_halted}
-use Rattle.conn_machine.specs.Table.{allowed, next}
+use Rattle.conn_machine.specs.Table.{is_allowed, next}
 use Rattle.conn_machine.specs.Runs.{load, full_load}
 use Rattle.board.specs.Book.{SeenBook, full_stop, HasFullStop, StopsWhereFull, TellsFullStop}
-use Rattle.board.specs.Events.{MayStop}
+use Rattle.board.specs.EventsInside.{MayStop}
 
 -- ## The machine
 
@@ -26,7 +26,7 @@ no-command going fits may halted =
     absurd (cc)
 
 -- it stays as it stopped
-stays_full : (s : State) (e : Event) → allowed s e ≡ true → s.going ≡ Halted why.Full → (next s e).going ≡ Halted why.Full
+stays_full : (s : State) (e : Event) → is_allowed s e ≡ true → s.going ≡ Halted why.Full → (next s e).going ≡ Halted why.Full
 stays_full s (event.Command c) may halted = absurd (no-command s.going _ may halted)
 stays_full s e may halted = halted
 
@@ -112,7 +112,7 @@ tells_first = record {
 }
 
 -- the history tells so by its next entry too
-pub tells_more : (s : State) (history : List Entry) (x : Entry) → TellsFullStop s.going history → allowed s x.event ≡ true
+pub tells_more : (s : State) (history : List Entry) (x : Entry) → TellsFullStop s.going history → is_allowed s x.event ≡ true
     → TellsFullStop (next s x.event).going (history ++ x ∷ [])
 tells_more s history x tells may = record {
   stands = λ halted. elim (by_full_stop s x.event halted) [

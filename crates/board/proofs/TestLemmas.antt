@@ -10,7 +10,7 @@ use Rattle.conn_machine.specs.declared.state.State.{State}
 use Rattle.conn_machine.specs.Rows.{is_live, live_row}
 use Rattle.conn_machine.specs.Table.{next, note_for, answered_row}
 use Rattle.conn_state.specs.Conn.{SeenConn}
-use Rattle.conn_state.specs.Turns.{Answers}
+use Rattle.conn_state.specs.Turns.{TakesNote}
 use Rattle.board.specs.Events.{IsDecided}
 use Rattle.board.specs.Fits.{IsOf}
 use Rattle.board.proofs.BoardLemmas.{LivesAs, lives_as}
@@ -42,7 +42,7 @@ decided-note s name ask note row found decided =
 
 -- a connection that took the note is still the one of its row
 pub of-answered : (s s' : State) (c c' : SeenConn) (name : ConnName) (ask : Ask) (note : Note) → IsOf s c → name ≡ c.name
-    → IsDecided s name ask note → s' ≡ next s (event.Answer name ask) → Answers note c c' → IsOf s' c'
+    → IsDecided s name ask note → s' ≡ next s (event.Answer name ask) → TakesNote note c c' → IsOf s' c'
 of-answered s s' c c' name ask note of named decided is answers =
     let found : live_row s.rows name ≡ Some of.row = ap (live_row s.rows) named ∙ of.found in
     let found' : live_row (next s (event.Answer name ask)).rows c.name ≡ Some (answered_row s ask of.row) =

@@ -63,15 +63,15 @@ pub record AreHome (rows : List Row) (conns : List (Option SeenConn)) : Type 0 w
 -- ## The connections that ended
 
 -- the first of the connections that ended is the one that the event closes, where it closes one; the others come later
-abbrev pub Closes : State → Event → (List SeenEnded → Type 0) → List SeenEnded → Type 0
-Closes s (event.Close name why how) Others [] = ⊥
-Closes s (event.Close name why how) Others (e ∷ ended) = IsClosing s name why how e × Others ended
-Closes s other Others ended = Others ended
+abbrev pub ClosesFirst : State → Event → (List SeenEnded → Type 0) → List SeenEnded → Type 0
+ClosesFirst s (event.Close name why how) Others [] = ⊥
+ClosesFirst s (event.Close name why how) Others (e ∷ ended) = IsClosing s name why how e × Others ended
+ClosesFirst s other Others ended = Others ended
 
 -- the connections that ended are those that the entries close, in their order
 abbrev pub AreClosed : State → List Entry → List SeenEnded → Type 0
 AreClosed s [] ended = ended ≡ []
-AreClosed s (entry ∷ entries) ended = Closes s entry.event (AreClosed (next s entry.event) entries) ended
+AreClosed s (entry ∷ entries) ended = ClosesFirst s entry.event (AreClosed (next s entry.event) entries) ended
 
 -- each of them shows what an ended connection shows
 abbrev pub AreEnded : List SeenEnded → Type 0

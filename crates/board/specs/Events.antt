@@ -1,11 +1,9 @@
 -- What an event leaves of a board, and what it gives.
-use Rattle.std.specs.Prelude.{◌≡◌, ℕ, ◌/◌, ◌≤◌, ◌||◌, Bool, None, Some, ⊤}
+use Rattle.std.specs.Prelude.{◌≡◌, ℕ, ◌≤◌, Some, ⊤}
 use Rattle.mpm_base.specs.declared.conn.ConnName.{ConnName}
 use Rattle.mpm_base.specs.declared.conn.Ask.{Ask}
 use Rattle.mpm_base.specs.declared.note.Note.{Note}
-use Rattle.conn_machine.specs.declared.event.Commanded.TheVariants.{Stop}
 use Rattle.conn_machine.specs.declared.event.Event.{Event}
-use Rattle.conn_machine.specs.declared.event.Event.TheVariants as event
 use Rattle.conn_machine.specs.declared.event.Reply.TheVariants.{Took}
 use Rattle.conn_machine.specs.declared.event.Why.{Why}
 use Rattle.conn_machine.specs.declared.event.Why.TheVariants as why
@@ -14,27 +12,22 @@ use Rattle.conn_machine.specs.declared.state.State.{State}
 use Rattle.conn_machine.specs.Rows.{live_row}
 use Rattle.conn_machine.specs.Table.{note_for, taken_reply}
 use Rattle.conn_machine.specs.Runs.{load, full_load}
-use Rattle.board.specs.Book.{SeenBook, recorded}
+use Rattle.board.specs.Book.{SeenBook, book_with_entry}
 use Rattle.board.specs.Board.{SeenBoard}
 use Rattle.board.specs.Faults.{IsOpen}
 
 -- the board with one more entry of the pass; all else stays
-abbrev pub added : ℕ → Event → SeenBoard → SeenBoard
-added who event b = record b { book = recorded who event b.book }
+abbrev pub with_recorded : ℕ → Event → SeenBoard → SeenBoard
+with_recorded who event b = record b { book = book_with_entry who event b.book }
 
 -- the event was recorded, in a history that could be recorded in; all else stayed
 pub record IsAdded (who : ℕ) (event : Event) (old new : SeenBoard) : Type 0 where
   pub was_open : IsOpen old.book
-  pub new_is : new ≡ added who event old
+  pub new_is : new ≡ with_recorded who event old
 
 -- the name, child and generation are those that the machine replied
 abbrev pub IsTaken : State → ConnName → ℕ → ℕ → Type 0
 IsTaken s name child generation = Took name child generation ≡ taken_reply s name.slot
-
--- the note of a response that is decided at this moment
-abbrev pub noted : ℕ → Ask → Bool → Note
-noted moment ask last =
-    record { date = moment / 1000; asked_close = ask.asked_close || ask.refused; last = last; code = ask.code; page = None }
 
 -- the note is that of the response to the live connection
 pub record IsDecided (s : State) (name : ConnName) (ask : Ask) (note : Note) : Type 0 where
@@ -46,8 +39,3 @@ pub record IsDecided (s : State) (name : ConnName) (ask : Ask) (note : Note) : T
 abbrev pub IsStoppable : Why → SeenBook → Type 0
 IsStoppable why.Full b = full_load ≤ load b.history
 IsStoppable other b = ⊤
-
--- so does its event; other events need nothing of the history
-abbrev pub MayStop : Event → SeenBook → Type 0
-MayStop (event.Command (Stop why)) b = IsStoppable why b
-MayStop other b = ⊤

@@ -1,7 +1,5 @@
 -- Why a call of the board is refused, and what it records.
-use Rattle.std.specs.Prelude.{◌≡◌, ℕ, ◌<◌, ◌≤◌, true, false, Option, None, Some, is_some}
-use Rattle.conn_machine.specs.declared.event.Event.{Event}
-use Rattle.conn_machine.specs.declared.state.State.{State}
+use Rattle.std.specs.Prelude.{◌≡◌, ℕ, ◌<◌, ◌≤◌, true, false, None, is_some}
 use Rattle.conn_machine.specs.States.{is_halted, pick_child}
 use Rattle.conn_machine.specs.Table.{is_vacant_at}
 use Rattle.conn_machine.specs.Runs.{load, full_load}
@@ -9,7 +7,7 @@ use Rattle.board.specs.declared.faults.BoardFault.{BoardFault}
 use Rattle.board.specs.declared.faults.BoardFault.TheVariants as fault
 use Rattle.board.specs.declared.faults.AcceptFault.{AcceptFault}
 use Rattle.board.specs.declared.faults.AcceptFault.TheVariants as accept
-use Rattle.board.specs.Book.{SeenBook, recorded}
+use Rattle.board.specs.Book.{SeenBook}
 
 -- the server goes on, and the history has room
 pub record IsOpen (b : SeenBook) : Type 0 where
@@ -27,20 +25,10 @@ IsRefusedFor fault.Halted b = is_halted b.state.going ≡ true
 IsRefusedFor fault.Full b = IsFull b
 IsRefusedFor fault.NoMemory b = IsOpen b
 
--- the pass recorded the event, in a history that could be recorded in
-pub record IsRecorded (who : ℕ) (event : Event) (old new : SeenBook) : Type 0 where
-  pub was_open : IsOpen old
-  pub new_is : new ≡ recorded who event old
-
 -- no child takes a connection
 pub record HasNoChild (b : SeenBook) : Type 0 where
   pub was_open : IsOpen b
   pub none_picked : pick_child b.state ≡ None
-
--- the slot is vacant, or no slot is
-abbrev pub FindsVacant : State → Option ℕ → Type 0
-FindsVacant s None = (slot : ℕ) → is_vacant_at s slot ≡ false
-FindsVacant s (Some slot) = is_vacant_at s slot ≡ true
 
 -- a child would take one, and no slot is vacant
 pub record HasNoSlot (b : SeenBook) : Type 0 where

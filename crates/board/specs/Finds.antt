@@ -1,8 +1,7 @@
 -- What the tests of a board look for in its state.
-use Rattle.std.specs.Prelude.{◌≡◌, ℕ, Bool, true, false, not, ◌&&◌, ◌||◌, List, [], ◌∷◌, ◌++◌, length, map, filter, find, nat_lt, Option, None, Some, slice_get, if◌then◌else◌}
-use Rattle.std.specs.List.{list_any, range_with_len}
+use Rattle.std.specs.Prelude.{◌≡◌, ℕ, Bool, true, false, not, ◌&&◌, ◌||◌, List, [], ◌∷◌, ◌++◌, length, map, filter, find, min, nat_lt, Option, None, Some, slice_get, if◌then◌else◌}
+use Rattle.std.specs.List.{list_any, range_with_len, reduce}
 use Rattle.std.specs.Option.{option_and_then}
-use Rattle.admission.specs.Admission.{least}
 use Rattle.mpm_base.specs.declared.conn.ConnName.{ConnName}
 use Rattle.mpm_base.specs.declared.conn.Kind.{Kind}
 use Rattle.conn_machine.specs.declared.row.Place.{Place}
@@ -71,7 +70,7 @@ ending_moments (Halted why) = []
 -- the least deadline of a row that waits, the moment at which the server stops among them
 abbrev pub next_deadline_of : State → Option ℕ
 next_deadline_of s =
-    least (map (λ r. r.deadline) (filter (λ r. is_parked r.place) s.rows) ++ ending_moments s.going)
+    reduce min (map (λ r. r.deadline) (filter (λ r. is_parked r.place) s.rows) ++ ending_moments s.going)
 
 -- the row is in hand: a worker or the listener has it, or it waits for a worker
 abbrev pub is_in_hand : Row → Bool

@@ -56,7 +56,7 @@ pub record IsOf (s : State) (c : SeenConn) : Type 0 where
   pub fits : Fits c row
 
 -- the connection was handed out: it is the one of a live row, and as it waited
-pub record IsHandedOut (s : State) (c : SeenConn) : Type 0 where
+pub record IsTakenUp (s : State) (c : SeenConn) : Type 0 where
   pub row : Row
   pub found : live_row s.rows c.name ≡ Some row
   pub fits : Fits c row

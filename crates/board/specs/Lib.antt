@@ -1,7 +1,13 @@
 pub mod Board
 pub mod Book
+pub mod BookInside
 pub mod Events
+pub mod EventsInside
 pub mod Faults
+pub mod FaultsInside
 pub mod Finds
 pub mod Fits
-pub mod Room
+pub mod HandsInside
+pub mod Ledger
+pub mod ReportLine
+pub mod RoomInside

@@ -1,8 +1,9 @@
 //! The slot that the next connection is taken into.
 ghost use Rattle.std.specs.Prelude.{◌≡◌, ◌≤◌, true, length, IfOk, IfErr, OnOk};
-ghost use Rattle.conn_machine.specs.Table.{allowed};
+ghost use Rattle.conn_machine.specs.Table.{is_allowed};
 ghost use Rattle.conn_machine.specs.declared.event.Event.TheVariants as event;
-ghost use Rattle.board.specs.Faults.{FindsVacant, IsNotTakenFor, IsOpen};
+ghost use Rattle.board.specs.Faults.{IsNotTakenFor, IsOpen};
+ghost use Rattle.board.specs.FaultsInside.{FindsVacant};
 
 use crate::book::Book;
 use crate::faults::AcceptFault;
@@ -11,7 +12,7 @@ use conn_machine::State;
 /// A vacant slot for the next connection, where one may be taken. Wants no memory.
 pub(crate) fn slot_for_accept(book: &Book) -> Result<u32, AcceptFault>
     ensures ok { OnOk result (IsOpen book.now) }
-    ensures allowed { IfOk result (λ slot. allowed book.now.state (event.Accept slot) ≡ true) }
+    ensures allowed { IfOk result (λ slot. is_allowed book.now.state (event.Accept slot) ≡ true) }
     ensures why { IfErr result (λ fault. IsNotTakenFor fault book.now) }
 {
     book.show();

@@ -1,8 +1,8 @@
 //! The board's events.
 ghost use Rattle.std.specs.Prelude.{◌≡◌, ◌<◌, ◌≤◌, true, false, Some, None, [], ◌∷◌, ◌++◌, length, slice_set, IfOk, IfErr, OnOk, OnErr};
 ghost use Rattle.conn_machine.specs.Children.{is_in_bounds};
-ghost use Rattle.conn_machine.specs.States.{is_halted, opening};
-ghost use Rattle.conn_machine.specs.Table.{allowed, cell_at, taken_reply};
+ghost use Rattle.conn_machine.specs.States.{is_halted, opening_state};
+ghost use Rattle.conn_machine.specs.Table.{is_allowed, cell_at, reply, taken_reply};
 ghost use Rattle.conn_machine.specs.Runs.{IsHistory, after, load, full_load};
 ghost use Rattle.conn_machine.specs.Sound.{IsSound};
 ghost use Rattle.conn_machine.specs.declared.event.Event.TheVariants as event;
@@ -10,11 +10,13 @@ ghost use Rattle.conn_machine.specs.declared.event.Commanded.TheVariants.{Stop};
 ghost use Rattle.conn_machine.specs.declared.event.Reply.TheVariants.{Took};
 ghost use Rattle.conn_machine.specs.declared.event.Why.TheVariants as why;
 ghost use Rattle.conn_state.specs.Answered.{IsEnded};
-ghost use Rattle.board.specs.Book.{IsSized, StopsWhereFull, TellsFullStop, recorded};
+ghost use Rattle.board.specs.Book.{IsSized, StopsWhereFull, TellsFullStop, book_with_entry};
 ghost use Rattle.board.specs.Board.{Agrees, conn_at};
-ghost use Rattle.board.specs.Events.{IsAdded, IsDecided, IsStoppable, IsTaken, added, noted};
+ghost use Rattle.board.specs.Events.{IsAdded, IsDecided, IsStoppable, IsTaken, with_recorded};
+ghost use Rattle.board.specs.EventsInside.{decided_note};
 ghost use Rattle.board.specs.Faults.{IsNotTakenFor, IsRefusedFor};
-ghost use Rattle.board.specs.Fits.{IsClosing, IsHandedOut, IsOf, IsSettled};
+ghost use Rattle.board.specs.Fits.{IsClosing, IsTakenUp, IsOf, IsSettled};
+ghost use Rattle.board.specs.HandsInside.{HandsOut};
 
 use crate::accept::slot_for_accept;
 use crate::book::Book;
@@ -56,13 +58,9 @@ impl<L: Link> Model for Board<L> {
 }
 
 impl<L: Link> Kept for Board<L> {
-    ghost history = { λ b. b.book.history };
+    ghost use Rattle.board.specs.Ledger.{ledger_of};
 
-    ghost base = { λ b. b.book.base };
-
-    ghost first = { λ b. 0 };
-
-    ghost passes = { λ b. b.book.passes };
+    ghost ledger = { ledger_of };
 
     fn length(&self) -> u64 {
         self.book.history().len() as u64
@@ -83,9 +81,9 @@ impl<L: Link> Board<L> {
         requires children { (1 ≤ children) × (children ≤ 32) }
         requires passes { (1 ≤ passes) × (passes ≤ 4099) }
         requires shape { is_in_bounds shape ≡ true }
-        ensures base { IfOk result (λ board. board.book.base ≡ opening slots children shape) }
+        ensures base { IfOk result (λ board. board.book.base ≡ opening_state slots children shape) }
         ensures history { IfOk result (λ board. board.book.history ≡ []) }
-        ensures state { IfOk result (λ board. board.book.state ≡ opening slots children shape) }
+        ensures state { IfOk result (λ board. board.book.state ≡ opening_state slots children shape) }
         ensures passes { IfOk result (λ board. board.book.passes ≡ passes) }
         ensures ended { IfOk result (λ board. board.ended ≡ []) }
     {
@@ -170,7 +168,7 @@ impl<L: Link> Board<L> {
     /// The connection waits. Where it is refused it comes back.
     pub fn park(&mut self, who: u32, kind: Kind, conn: Conn<L>) -> Result<(), (BoardFault, Conn<L>)>
         requires who { who < self.old.book.passes }
-        requires allowed { is_halted self.old.book.state.going ≡ false → allowed self.old.book.state (event.Park conn.name kind) ≡ true }
+        requires allowed { is_halted self.old.book.state.going ≡ false → is_allowed self.old.book.state (event.Park conn.name kind) ≡ true }
         requires fits { IsOf self.old.book.state conn }
         requires settled { IsSettled kind conn }
         ensures ok { OnOk result (IsAdded who (event.Park conn.name kind) self.old (record self.new { conns = self.old.conns })) }
@@ -192,24 +190,19 @@ impl<L: Link> Board<L> {
     /// The listener takes a connection that waits. Takes no memory.
     pub fn hold(&mut self, who: u32, name: ConnName) -> Conn<L>
         requires who { who < self.old.book.passes }
-        requires allowed { allowed self.old.book.state (event.Hold name) ≡ true }
-        ensures is { self.new ≡ record (added who (event.Hold name) self.old) { conns = slice_set self.old.conns name.slot None } }
+        requires allowed { is_allowed self.old.book.state (event.Hold name) ≡ true }
+        ensures is { self.new ≡ record (with_recorded who (event.Hold name) self.old) { conns = slice_set self.old.conns name.slot None } }
         ensures conn { conn_at self.old.conns name.slot ≡ Some result }
         ensures name { result.name ≡ name }
-        ensures handed { IsHandedOut self.new.book.state result }
+        ensures handed { IsTakenUp self.new.book.state result }
     {
-        self.book.show();
-        let _ = self.book.record_sure(who, Event::Hold(name));
-        match self.conns[name.slot as usize].take() {
-            Some(conn) => conn,
-            None => unreachable!(),
-        }
+        self.hand_out(who, Event::Hold(name), name).1
     }
 
     /// The connection is handed to the workers of its child. Takes the room that its start and its closing need.
     pub fn queue(&mut self, who: u32, name: ConnName) -> Result<(), BoardFault>
         requires who { who < self.old.book.passes }
-        requires allowed { is_halted self.old.book.state.going ≡ false → allowed self.old.book.state (event.Queue name) ≡ true }
+        requires allowed { is_halted self.old.book.state.going ≡ false → is_allowed self.old.book.state (event.Queue name) ≡ true }
         ensures ok { OnOk result (IsAdded who (event.Queue name) self.old self.new) }
         ensures why { IfErr result (λ fault. IsRefusedFor fault self.old.book) }
         ensures err { OnErr result (self.new ≡ self.old) }
@@ -222,18 +215,34 @@ impl<L: Link> Board<L> {
     /// A worker begins to serve the connection: its cell, and the connection. Takes no memory.
     pub fn start(&mut self, who: u32, name: ConnName) -> (u32, Conn<L>)
         requires who { who < self.old.book.passes }
-        requires allowed { allowed self.old.book.state (event.Start name) ≡ true }
-        ensures is { self.new ≡ record (added who (event.Start name) self.old) { conns = slice_set self.old.conns name.slot None } }
+        requires allowed { is_allowed self.old.book.state (event.Start name) ≡ true }
+        ensures is { self.new ≡ record (with_recorded who (event.Start name) self.old) { conns = slice_set self.old.conns name.slot None } }
         ensures cell { result.0 ≡ cell_at self.old.book.state name.slot }
         ensures conn { conn_at self.old.conns name.slot ≡ Some result.1 }
         ensures name { result.1.name ≡ name }
-        ensures handed { IsHandedOut self.new.book.state result.1 }
+        ensures handed { IsTakenUp self.new.book.state result.1 }
     {
-        let Reply::Cell(cell) = self.book.record_sure(who, Event::Start(name)) else {
+        let (Reply::Cell(cell), conn) = self.hand_out(who, Event::Start(name), name) else {
             unreachable!()
         };
+        (cell, conn)
+    }
+
+    /// Records the event, and hands out the connection of that name, which the event takes out of the board.
+    fn hand_out(&mut self, who: u32, taking: Event, name: ConnName) -> (Reply, Conn<L>)
+        requires who { who < self.old.book.passes }
+        requires allowed { is_allowed self.old.book.state taking ≡ true }
+        requires hands_out { HandsOut name taking }
+        ensures is { self.new ≡ record (with_recorded who taking self.old) { conns = slice_set self.old.conns name.slot None } }
+        ensures reply { result.0 ≡ reply self.old.book.state taking }
+        ensures conn { conn_at self.old.conns name.slot ≡ Some result.1 }
+        ensures name { result.1.name ≡ name }
+        ensures handed { IsTakenUp self.new.book.state result.1 }
+    {
+        self.book.show();
+        let reply = self.book.record_sure(who, taking);
         match self.conns[name.slot as usize].take() {
-            Some(conn) => (cell, conn),
+            Some(conn) => (reply, conn),
             None => unreachable!(),
         }
     }
@@ -241,7 +250,7 @@ impl<L: Link> Board<L> {
     /// A response is decided: its note.
     pub fn answer(&mut self, who: u32, name: ConnName, ask: Ask) -> Result<Note, BoardFault>
         requires who { who < self.old.book.passes }
-        requires allowed { is_halted self.old.book.state.going ≡ false → allowed self.old.book.state (event.Answer name ask) ≡ true }
+        requires allowed { is_halted self.old.book.state.going ≡ false → is_allowed self.old.book.state (event.Answer name ask) ≡ true }
         ensures ok { OnOk result (IsAdded who (event.Answer name ask) self.old self.new) }
         ensures note { IfOk result (λ note. IsDecided self.old.book.state name ask note) }
         ensures date { IfOk result (λ note. note.date < 253402300800) }
@@ -258,10 +267,10 @@ impl<L: Link> Board<L> {
     /// The connection ended. Takes no memory.
     pub fn close(&mut self, who: u32, ended: Ended<L>)
         requires who { who < self.old.book.passes }
-        requires allowed { allowed self.old.book.state (event.Close ended.name ended.cause ended.tail) ≡ true }
+        requires allowed { is_allowed self.old.book.state (event.Close ended.name ended.cause ended.tail) ≡ true }
         requires fits { IsClosing self.old.book.state ended.name ended.cause ended.tail ended }
         requires answered { IsEnded ended }
-        ensures { self.new ≡ record (added who (event.Close ended.name ended.cause ended.tail) self.old) { ended = self.old.ended ++ ended ∷ [] } }
+        ensures { self.new ≡ record (with_recorded who (event.Close ended.name ended.cause ended.tail) self.old) { ended = self.old.ended ++ ended ∷ [] } }
     {
         self.book.show();
         let _ = self
@@ -276,7 +285,7 @@ impl<L: Link> Board<L> {
     /// Something may have come for the slot.
     pub fn ready(&mut self, who: u32, slot: u32) -> Result<(), BoardFault>
         requires who { who < self.old.book.passes }
-        requires allowed { is_halted self.old.book.state.going ≡ false → allowed self.old.book.state (event.Ready slot) ≡ true }
+        requires allowed { is_halted self.old.book.state.going ≡ false → is_allowed self.old.book.state (event.Ready slot) ≡ true }
         ensures ok { OnOk result (IsAdded who (event.Ready slot) self.old self.new) }
         ensures why { IfErr result (λ fault. IsRefusedFor fault self.old.book) }
         ensures err { OnErr result (self.new ≡ self.old) }
@@ -288,7 +297,7 @@ impl<L: Link> Board<L> {
     /// Time passes, to the moment.
     pub fn tick(&mut self, who: u32, moment: Moment) -> Result<(), BoardFault>
         requires who { who < self.old.book.passes }
-        requires allowed { is_halted self.old.book.state.going ≡ false → allowed self.old.book.state (event.Tick moment) ≡ true }
+        requires allowed { is_halted self.old.book.state.going ≡ false → is_allowed self.old.book.state (event.Tick moment) ≡ true }
         ensures ok { OnOk result (IsAdded who (event.Tick moment) self.old self.new) }
         ensures why { IfErr result (λ fault. IsRefusedFor fault self.old.book) }
         ensures err { OnErr result (self.new ≡ self.old) }
@@ -300,7 +309,7 @@ impl<L: Link> Board<L> {
     /// The child starts. Takes the room that letting go of it needs.
     pub fn start_child(&mut self, who: u32, child: u32) -> Result<(), BoardFault>
         requires who { who < self.old.book.passes }
-        requires allowed { is_halted self.old.book.state.going ≡ false → allowed self.old.book.state (event.StartChild child) ≡ true }
+        requires allowed { is_halted self.old.book.state.going ≡ false → is_allowed self.old.book.state (event.StartChild child) ≡ true }
         ensures ok { OnOk result (IsAdded who (event.StartChild child) self.old self.new) }
         ensures why { IfErr result (λ fault. IsRefusedFor fault self.old.book) }
         ensures err { OnErr result (self.new ≡ self.old) }
@@ -312,9 +321,9 @@ impl<L: Link> Board<L> {
     /// The server stops: for a full history only where it is full. Takes no memory.
     pub fn halt(&mut self, who: u32, why: Why)
         requires who { who < self.old.book.passes }
-        requires allowed { allowed self.old.book.state (event.Command (Stop why)) ≡ true }
+        requires allowed { is_allowed self.old.book.state (event.Command (Stop why)) ≡ true }
         requires full { IsStoppable why self.old.book }
-        ensures { self.new ≡ added who (event.Command (Stop why)) self.old }
+        ensures { self.new ≡ with_recorded who (event.Command (Stop why)) self.old }
     {
         let _ = self
             .book
@@ -324,8 +333,8 @@ impl<L: Link> Board<L> {
     /// The child is let go of. Takes no memory.
     pub fn retire(&mut self, who: u32, child: u32)
         requires who { who < self.old.book.passes }
-        requires allowed { allowed self.old.book.state (event.Retire child) ≡ true }
-        ensures { self.new ≡ added who (event.Retire child) self.old }
+        requires allowed { is_allowed self.old.book.state (event.Retire child) ≡ true }
+        ensures { self.new ≡ with_recorded who (event.Retire child) self.old }
     {
         let _ = self.book.record_sure(who, Event::Retire(child));
     }
@@ -333,7 +342,7 @@ impl<L: Link> Board<L> {
 
 /// The note of a response that is decided now.
 fn note_of(state: &State, ask: &Ask, last: bool) -> Note
-    ensures { result ≡ noted state.now.moment ask.now last }
+    ensures { result ≡ decided_note state.now.moment ask.now last }
 {
     Note {
         date: state.moment / 1000,

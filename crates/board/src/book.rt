@@ -1,14 +1,16 @@
 //! The history that a board keeps, and the state after it.
 ghost use Rattle.std.specs.Prelude.{◌≡◌, ◌<◌, ◌≤◌, ◌^◌, true, false, [], ◌∷◌, ◌++◌, length, nat_le, vec_len, vec_capacity, if◌then◌else◌, IfOk, IfErr, OnOk, OnErr};
 ghost use Rattle.conn_machine.specs.Children.{is_in_bounds};
-ghost use Rattle.conn_machine.specs.States.{is_halted, opening};
-ghost use Rattle.conn_machine.specs.Table.{allowed, reply};
+ghost use Rattle.conn_machine.specs.States.{is_halted, opening_state};
+ghost use Rattle.conn_machine.specs.Table.{is_allowed, reply};
 ghost use Rattle.conn_machine.specs.Runs.{IsHistory, after, asks_page, load, full_load};
 ghost use Rattle.conn_machine.specs.Sound.{IsSound};
-ghost use Rattle.board.specs.Book.{AreNext, IsSized, StopsWhereFull, TellsFullStop, numbered, recorded};
-ghost use Rattle.board.specs.Events.{MayStop};
-ghost use Rattle.board.specs.Faults.{IsRecorded, IsRefusedFor};
-ghost use Rattle.board.specs.Room.{is_sure};
+ghost use Rattle.board.specs.Book.{IsSized, StopsWhereFull, TellsFullStop, numbered_entry, book_with_entry};
+ghost use Rattle.board.specs.BookInside.{AreNext};
+ghost use Rattle.board.specs.EventsInside.{MayStop};
+ghost use Rattle.board.specs.Faults.{IsRefusedFor};
+ghost use Rattle.board.specs.FaultsInside.{IsRecorded};
+ghost use Rattle.board.specs.RoomInside.{is_sure};
 
 use crate::faults::BoardFault;
 use conn_machine::{Entry, Event, Reply, State, step};
@@ -33,7 +35,8 @@ pub struct Book {
 
 impl Model for Book {
     ghost use Rattle.std.specs.Prelude.{length, vec_capacity};
-    ghost use Rattle.board.specs.Book.{SeenBook, IsKept};
+    ghost use Rattle.board.specs.Book.{SeenBook};
+    ghost use Rattle.board.specs.BookInside.{IsKept};
 
     ghost Value = { SeenBook };
 
@@ -54,9 +57,9 @@ impl Book {
         requires slots { slots ≤ 8192 }
         requires children { children ≤ 32 }
         requires shape { is_in_bounds shape ≡ true }
-        ensures base { IfOk result (λ book. book.base ≡ opening slots children shape) }
+        ensures base { IfOk result (λ book. book.base ≡ opening_state slots children shape) }
         ensures history { IfOk result (λ book. book.history ≡ []) }
-        ensures state { IfOk result (λ book. book.state ≡ opening slots children shape) }
+        ensures state { IfOk result (λ book. book.state ≡ opening_state slots children shape) }
         ensures passes { IfOk result (λ book. book.passes ≡ passes) }
     {
         let state = State::opening(alloc, slots, children, shape)?;
@@ -114,7 +117,7 @@ impl Book {
     /// Records an event of the pass, and takes the room for what must follow it. Where it is refused nothing changes.
     pub fn record(&mut self, who: u32, event: Event) -> Result<Reply, BoardFault>
         requires who { who < self.old.passes }
-        requires allowed { is_halted self.old.state.going ≡ false → allowed self.old.state event ≡ true }
+        requires allowed { is_halted self.old.state.going ≡ false → is_allowed self.old.state event ≡ true }
         requires stops { MayStop event self.old }
         ensures ok { OnOk result (IsRecorded who event self.old self.new) }
         ensures reply { IfOk result (λ answer. answer ≡ reply self.old.state event) }
@@ -142,10 +145,10 @@ impl Book {
     /// Records an event whose room was taken before.
     pub fn record_sure(&mut self, who: u32, event: Event) -> Reply
         requires who { who < self.old.passes }
-        requires allowed { allowed self.old.state event ≡ true }
+        requires allowed { is_allowed self.old.state event ≡ true }
         requires sure { is_sure event ≡ true }
         requires stops { MayStop event self.old }
-        ensures is { self.new ≡ recorded who event self.old }
+        ensures is { self.new ≡ book_with_entry who event self.old }
         ensures reply { result ≡ reply self.old.state event }
     {
         let Ok(reply) = step(self.alloc, &mut self.state, &event) else {
@@ -161,7 +164,7 @@ fn append(history: &mut Vec<Entry>, ordinals: &mut Vec<u64>, who: u32, event: Ev
     requires room { vec_len history.old < vec_capacity history.old }
     requires who { who < length ordinals.old.items }
     requires numbers { AreNext ordinals.old.items history.old.items }
-    ensures history { history.new.items ≡ history.old.items ++ numbered who event reply history.old.items ∷ [] }
+    ensures history { history.new.items ≡ history.old.items ++ numbered_entry who event reply history.old.items ∷ [] }
     ensures numbers { AreNext ordinals.new.items history.new.items }
     ensures passes { length ordinals.new.items ≡ length ordinals.old.items }
     ensures room { vec_capacity history.old ≤ vec_capacity history.new }

@@ -1,7 +1,6 @@
 //! The board's tests of its state: none takes memory, and each is exact.
-ghost use Rattle.std.specs.Prelude.{◌≡◌, ◌≤◌, length, filter, find, map};
-ghost use Rattle.std.specs.List.{list_any, range_with_len};
-ghost use Rattle.admission.specs.Admission.{least};
+ghost use Rattle.std.specs.Prelude.{◌≡◌, ◌≤◌, length, filter, find, map, min};
+ghost use Rattle.std.specs.List.{list_any, range_with_len, reduce};
 ghost use Rattle.conn_machine.specs.Children.{is_empty};
 ghost use Rattle.conn_machine.specs.Rows.{is_parked, is_vacant};
 ghost use Rattle.conn_machine.specs.States.{is_overdue};
@@ -239,7 +238,7 @@ fn kind(state: &State, name: ConnName) -> Option<Kind>
 }
 
 /// The least deadline of a connection that waits; the moment at which the server stops counts too.
-#[tactic(auto, using(crate::proofs::FindLemmas::least_push))]
+#[tactic(auto, using(crate::proofs::FindLemmas::reduce_push))]
 fn next_deadline(state: &State) -> Option<Moment>
     ensures { result ≡ next_deadline_of state.now }
 {
@@ -252,7 +251,7 @@ fn next_deadline(state: &State) -> Option<Moment>
 
 /// The least deadline of a connection that waits.
 fn least_deadline(state: &State) -> Option<Moment>
-    ensures { result ≡ least (map (λ r. r.deadline) (filter (λ r. is_parked r.place) state.now.rows)) }
+    ensures { result ≡ reduce min (map (λ r. r.deadline) (filter (λ r. is_parked r.place) state.now.rows)) }
 {
     state
         .rows

@@ -4,7 +4,7 @@
 //! else stays, and a call that is refused changes nothing. The board has the connection of each row that waits, and the
 //! connections that ended, in the order of their closes; that these agree with the history is `Agrees` in
 //! `specs/Board.antt`, and holds of every board. How a connection fits its row stands in `specs/Fits.antt`, what is kept of
-//! the history in `specs/Book.antt` and `specs/Room.antt`, why a call is refused in `specs/Faults.antt`, and what the tests
+//! the history in `specs/Book.antt` and `specs/RoomInside.antt`, why a call is refused in `specs/Faults.antt`, and what the tests
 //! look for in `specs/Finds.antt`.
 #![tactic(auto)]
 

@@ -3,7 +3,7 @@ ghost use Rattle.std.specs.Prelude.{◌≡◌, ◌<◌, ◌≤◌, true, false, 
 ghost use Rattle.mpm_base.specs.Notes.{says_last};
 ghost use Rattle.mpm_base.specs.declared.conn.Kind.TheVariants.{Reading};
 ghost use Rattle.mpm_base.specs.declared.conn.Tail.TheVariants.{Direct};
-ghost use Rattle.conn_machine.specs.Table.{allowed};
+ghost use Rattle.conn_machine.specs.Table.{is_allowed};
 ghost use Rattle.conn_state.specs.Answered.{IsShown};
 ghost use Rattle.conn_state.specs.Conn.{IsConn, is_usable};
 ghost use Rattle.conn_state.specs.Turns.{after_reading};
@@ -15,7 +15,8 @@ use crate::board::Board;
 use crate::faults::{AcceptFault, BoardFault};
 use conn_machine::{Commanded, Event, Going, Why, may};
 use conn_state::{Conn, ReadTurn, WriteTurn};
-use mpm_base::{Ask, Calls, Cause, ConnName, Kind, Moment, Octets, ScriptLink, Shape, Tail};
+use mpm_base::{Ask, Cause, ConnName, Kind, Moment, Octets, Shape, Tail};
+use stand_ins::{Calls, ScriptLink};
 use std::alloc::Global;
 use std::process::Abort;
 use std::test::Fail;
@@ -44,7 +45,7 @@ const FOUND: Ask = Ask {
 
 /// The event is to be allowed.
 fn allow(rt: &impl Abort, board: &Board<ScriptLink>, next: Event)
-    ensures { allowed board.now.book.state next ≡ true }
+    ensures { is_allowed board.now.book.state next ≡ true }
 {
     board.show();
     assert!(rt; may(board.state(), &next), "{next:?}");

@@ -4,14 +4,14 @@ use Rattle.httpdate.specs.Date.{date_text}
 use Rattle.mpm_base.specs.Link.{LinkTold}
 use Rattle.mpm_base.specs.Notes.{says_last}
 use Rattle.mpm_base.specs.declared.note.Note.{Note}
-use Rattle.http_read.specs.declared.request.Request.{Request}
+use Rattle.http_read.specs.declared.root_head.RootHead.{RootHead}
 use Rattle.conn_state.specs.declared.turn.LastTurn.{LastTurn}
 use Rattle.conn_state.specs.declared.turn.LastTurn.TheVariants as turn
-use Rattle.conn_state.specs.Items.{Item, Begins, ask_of}
+use Rattle.conn_state.specs.Items.{Item, BeginsItem, ask_of}
 use Rattle.conn_state.specs.Response.{IsResponse, response_at}
 use Rattle.conn_state.specs.Replies.{IsNoteFor, first_part}
 use Rattle.conn_state.specs.Conn.{SeenConn, is_usable, Streams, TurnFits}
-use Rattle.conn_state.specs.Turns.{IsNoteOf, Answers}
+use Rattle.conn_state.specs.Turns.{IsNoteOf, TakesNote}
 use Rattle.conn_state.specs.Held.{IsSizeOf, IsHeld}
 use Rattle.conn_state.proofs.ConnLemmas.{usable-streams, told-broken, streams-answered}
 
@@ -19,7 +19,7 @@ use Rattle.conn_state.proofs.ConnLemmas.{usable-streams, told-broken, streams-an
 record IsReady (c : SeenConn) (size : ℕ) (note : Note) : Type 0 where
   usable : is_usable c.turn ≡ true
   item : Item
-  begins : Begins c.rest item (drop size c.rest)
+  begins : BeginsItem c.rest item (drop size c.rest)
   noted : IsNoteFor (ask_of item) note
   none_pending : c.pending ≡ []
   goes_on : says_last c.notes ≡ false
@@ -37,8 +37,8 @@ ready (turn.Asked ask) c size note is fits sized noted = record {
 ready other c size note is fits sized noted = absurd noted
 
 -- the response of a note is the one to the item
-is_response-of : (item : Item) (bytes behind : List ℕ) (note : Note) (response : List ℕ) → Begins bytes item behind → IsNoteFor (ask_of item) note
-    → (note.code ≡ 200 → (request : Request) → IsResponse (inl request) note response)
+is_response-of : (item : Item) (bytes behind : List ℕ) (note : Note) (response : List ℕ) → BeginsItem bytes item behind → IsNoteFor (ask_of item) note
+    → (note.code ≡ 200 → (request : RootHead) → IsResponse (inl request) note response)
     → (¬ (note.code ≡ 200) → IsResponse (inr note.code) note response)
     → IsResponse item note response
 is_response-of (inl request) bytes behind note response begins noted file refusal = file noted.code request
@@ -47,7 +47,7 @@ is_response-of (inr code) bytes behind note response begins noted file refusal =
     subst (λ n. IsResponse (inr n) note response) noted.code (refusal (λ e. absurd (omega (arith, is_400, e))))
 
 -- no item that is read so far has anything sent before its response
-first_part-none : (item : Item) (bytes behind : List ℕ) → Begins bytes item behind → first_part item ≡ []
+first_part-none : (item : Item) (bytes behind : List ℕ) → BeginsItem bytes item behind → first_part item ≡ []
 first_part-none (inl request) bytes behind begins = rw begins.begins.request.expects refl
 first_part-none (inr code) bytes behind begins = refl
 
@@ -62,7 +62,7 @@ some-response item note response r = subst (λ xs. 0 < length xs) (sym r.is) (so
 
 -- the same of a link that may tell
 told-answered : (told : Option LinkTold) (notes : List Note) (rest : List ℕ) (item : Item) (behind : List ℕ) (note : Note) (response : List ℕ)
-    → IfSome told (Streams notes [] rest) → says_last notes ≡ false → Begins rest item behind → IsNoteFor (ask_of item) note → IsResponse item note response
+    → IfSome told (Streams notes [] rest) → says_last notes ≡ false → BeginsItem rest item behind → IsNoteFor (ask_of item) note → IsResponse item note response
     → IfSome told (Streams (notes ++ note ∷ []) (first_part item ++ response) behind)
 told-answered None notes rest item behind note response s goes_on begins noted is_response = tt
 told-answered (Some t) notes rest item behind note response s goes_on begins noted is_response =
@@ -73,7 +73,7 @@ abbrev after_answer : SeenConn → Note → List ℕ → List ℕ → SeenConn
 after_answer c note pending behind = record c { notes = c.notes ++ note ∷ []; pending = pending; rest = behind; turn = turn.Answered }
 
 module _ (c seen : SeenConn) (size : ℕ) (note : Note) (response : List ℕ) (held : IsHeld c size) (is : c ≡ seen) (asked : IsNoteOf seen.turn note)
-    (file : note.code ≡ 200 → (request : Request) → IsResponse (inl request) note response)
+    (file : note.code ≡ 200 → (request : RootHead) → IsResponse (inl request) note response)
     (refusal : ¬ (note.code ≡ 200) → IsResponse (inr note.code) note response) where
   -- the item that was asked
   ready-here : IsReady c size note
@@ -88,8 +88,8 @@ module _ (c seen : SeenConn) (size : ℕ) (note : Note) (response : List ℕ) (h
   pending-here = ap (λ xs. xs ++ response) (first_part-none ready-here.item c.rest (drop size c.rest) ready-here.begins)
 
   -- the item is answered
-  pub answers-here : Answers note seen (after_answer c note response (drop size c.rest))
-  answers-here = subst (λ (x : SeenConn). Answers note x (after_answer c note response (drop size c.rest))) is (record {
+  pub answers-here : TakesNote note seen (after_answer c note response (drop size c.rest))
+  answers-here = subst (λ (x : SeenConn). TakesNote note x (after_answer c note response (drop size c.rest))) is (record {
     item = ready-here.item;
     behind = drop size c.rest;
     response = response;

@@ -12,13 +12,13 @@ use Rattle.conn_state.specs.declared.turn.ReadTurn.{ReadTurn}
 use Rattle.conn_state.specs.declared.turn.ReadTurn.TheVariants as read
 use Rattle.conn_state.specs.declared.turn.WriteTurn.{WriteTurn}
 use Rattle.conn_state.specs.declared.turn.WriteTurn.TheVariants as write
-use Rattle.conn_state.specs.Items.{Item, Begins, IsAskedIn, ask_of}
+use Rattle.conn_state.specs.Items.{Item, BeginsItem, IsAskedIn, ask_of}
 use Rattle.conn_state.specs.Response.{IsResponse}
 use Rattle.conn_state.specs.Replies.{IsFitting, AreReplies, IsNoteFor, first_part}
 use Rattle.conn_state.specs.Conn.{SeenConn, is_usable, IsOpenLink, Streams, BrokeOff, StreamsWhile, TurnFits, IsConn}
 use Rattle.conn_state.specs.Turns.{after_reading, is_gone, KeepsRead, AsksNothing, after_writing, with_sent}
 use Rattle.conn_state.specs.Held.{IsSizeOf, IsHeld}
-use Rattle.conn_state.specs.Exchange.{TakesIn, IsSame, SendsOn}
+use Rattle.conn_state.specs.ExchangeInside.{TakesIn, IsSame, SendsOn}
 use Rattle.conn_state.proofs.StreamLemmas.{fitting-more, fitting-snoc, replies-snoc}
 
 -- ## The reply stream
@@ -53,7 +53,7 @@ streams-sent notes pending sent left rest t s front = record {
 
 -- the next item is answered
 pub streams-answered : (notes : List Note) (rest : List ℕ) (t : LinkTold) (item : Item) (behind : List ℕ) (note : Note) (response : List ℕ)
-    → Streams notes [] rest t → says_last notes ≡ false → Begins rest item behind → IsNoteFor (ask_of item) note → IsResponse item note response
+    → Streams notes [] rest t → says_last notes ≡ false → BeginsItem rest item behind → IsNoteFor (ask_of item) note → IsResponse item note response
     → Streams (notes ++ note ∷ []) (first_part item ++ response) behind t
 streams-answered notes rest t item behind note response s goes_on begins noted is_response = record {
   open_link = s.open_link;

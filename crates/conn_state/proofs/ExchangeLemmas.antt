@@ -11,8 +11,8 @@ use Rattle.mpm_base.specs.declared.conn.Ask.{Ask}
 use Rattle.conn_state.specs.declared.turn.ReadTurn.{ReadTurn}
 use Rattle.conn_state.specs.declared.turn.ReadTurn.TheVariants as read
 use Rattle.conn_state.specs.Items.{IsAskedIn, SpellsNone}
-use Rattle.conn_state.specs.Turns.{KeepsRead, is_more, is_gone, read_failed, with_sent}
-use Rattle.conn_state.specs.Exchange.{HasRead, TakesIn, IsSame, HasSent}
+use Rattle.conn_state.specs.Turns.{KeepsRead, is_more, is_gone, is_read_failure, with_sent}
+use Rattle.conn_state.specs.ExchangeInside.{HasRead, TakesIn, IsSame, HasSent}
 use Rattle.conn_state.proofs.ItemLemmas.{asked-none}
 
 -- ## Counts
@@ -146,7 +146,7 @@ module _ (told told1 told2 : Option LinkTold) (counts counts1 counts2 : LinkCoun
     told_is = told-joined first.got later.got first.told_is later.told_is;
     gives = gives-joined first.got later.got first.told_is first.gives later.gives;
     none_comes = later.none_comes;
-    faults = rises-after (read_failed answer) counts.faults counts1.faults counts2.faults first.faults later.faults;
+    faults = rises-after (is_read_failure answer) counts.faults counts1.faults counts2.faults first.faults later.faults;
     late_reads = subst (λ n. RisesExactlyWhere (is_more answer) n counts2.late_reads) first.late_reads later.late_reads;
     late_writes = later.late_writes ∙ first.late_writes;
     ends = subst (λ n. RisesExactlyWhere (is_gone answer) n counts2.ends) first.ends later.ends;

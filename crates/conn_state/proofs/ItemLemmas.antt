@@ -2,13 +2,13 @@
 use Rattle.std.proofs.Common.{◌≡◌, ℕ, List, length, drop, refl, ap, inl, inr, arith, length-append}
 use Rattle.mpm_base.specs.RootRequest.{BeginsRequest, IsStarted, request_of}
 use Rattle.mpm_base.specs.declared.conn.Ask.{Ask}
-use Rattle.http_read.specs.declared.request.Request.{Request}
-use Rattle.http_read.specs.Head.{BeginsWith, IsNoFront}
-use Rattle.conn_state.specs.Items.{Item, Begins, IsAskedIn, SpellsNone, request_ask, refusal_ask}
+use Rattle.http_read.specs.declared.root_head.RootHead.{RootHead}
+use Rattle.http_read.specs.RootHead.{BeginsWith, IsNoFront}
+use Rattle.conn_state.specs.Items.{Item, BeginsItem, IsAskedIn, SpellsNone, request_ask, refusal_ask}
 use Rattle.conn_state.specs.Held.{HasSize}
 
 -- a whole request has its size
-pub size-request : (bytes : List ℕ) (request : Request) (size : ℕ) (ask : Ask) → BeginsWith bytes request size → ask ≡ request_ask request → HasSize bytes ask size
+pub size-request : (bytes : List ℕ) (request : RootHead) (size : ℕ) (ask : Ask) → BeginsWith bytes request size → ask ≡ request_ask request → HasSize bytes ask size
 size-request bytes request size ask begins asks = record {
   item = inl request;
   begins = record { size = size; begins = begins; left = refl };
@@ -34,7 +34,7 @@ pub asked-none : ((bytes : List ℕ) → BeginsRequest bytes → ¬ (IsStarted b
 asked-none apart bytes ask asked none = begins-none asked.item asked.behind asked.begins
   where
     -- no item stands there
-    begins-none : (item : Item) (behind : List ℕ) → ¬ (Begins bytes item behind)
+    begins-none : (item : Item) (behind : List ℕ) → ¬ (BeginsItem bytes item behind)
     begins-none (inl request) behind b =
         apart bytes (record { host = b.begins.host; rest = b.begins.rest; is_host = b.begins.is_host; whole = b.begins.whole }) none
     begins-none (inr code) behind b = b.no_front.no_front none

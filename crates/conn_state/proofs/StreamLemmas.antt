@@ -6,17 +6,17 @@ use Rattle.mpm_base.specs.Notes.{says_last}
 use Rattle.mpm_base.specs.RootRequest.{request_of, before_host}
 use Rattle.mpm_base.specs.declared.note.Note.{Note}
 use Rattle.mpm_base.proofs.RootRequestLemmas.{before_more, started_before, started_within}
-use Rattle.http_read.specs.declared.request.Request.{Request}
-use Rattle.http_read.specs.Head.{BeginsWith, IsNoFront}
-use Rattle.http_read.proofs.AnswerLemmas.{stays_whole}
-use Rattle.conn_state.specs.Items.{Item, AreFirst, Begins, IsLastItem, SpellsNone, ask_of}
+use Rattle.http_read.specs.declared.root_head.RootHead.{RootHead}
+use Rattle.http_read.specs.RootHead.{BeginsWith, IsNoFront}
+use Rattle.http_read.proofs.RootAnswerLemmas.{stays_whole}
+use Rattle.conn_state.specs.Items.{Item, AreFirst, BeginsItem, IsLastItem, SpellsNone, ask_of}
 use Rattle.conn_state.specs.Response.{IsResponse}
 use Rattle.conn_state.specs.Replies.{IsFitting, AreNotesOf, AreReplies, IsLastWhere, IsNoteFor, IsInterim, Expects, first_part}
 
 -- ## More bytes
 
 -- a request is no longer than the bytes that begin with it
-within_bytes : (bytes : List ℕ) (request : Request) (size : ℕ) → BeginsWith bytes request size → size ≤ length bytes
+within_bytes : (bytes : List ℕ) (request : RootHead) (size : ℕ) → BeginsWith bytes request size → size ≤ length bytes
 within_bytes bytes request size b = omega (arith, b.length_is, ap length b.whole, length-append (request_of b.host) b.rest)
 
 -- what neither begins with a request nor is a front of one stays so
@@ -27,7 +27,7 @@ stays_refused bytes more none = record {
 }
 
 -- the item at the front stays there
-begins-more : (bytes : List ℕ) (item : Item) (rest more : List ℕ) → Begins bytes item rest → Begins (bytes ++ more) item (rest ++ more)
+begins-more : (bytes : List ℕ) (item : Item) (rest more : List ℕ) → BeginsItem bytes item rest → BeginsItem (bytes ++ more) item (rest ++ more)
 begins-more bytes (inl request) rest more b = record {
   size = b.size;
   begins = stays_whole bytes more request b.size b.begins;
@@ -94,10 +94,10 @@ last-alone (inr code) = refl
 
 -- the further item is the next one behind the first ones
 first-snoc : (items : List Item) (notes : List Note) (bytes rest : List ℕ) (item : Item) (behind : List ℕ)
-    → AreFirst items rest bytes → AreNotesOf items notes → says_last notes ≡ false → Begins rest item behind
+    → AreFirst items rest bytes → AreNotesOf items notes → says_last notes ≡ false → BeginsItem rest item behind
     → AreFirst (items ++ item ∷ []) behind bytes
 first-snoc [] notes bytes rest item behind first are goes_on begins =
-    (record { behind = behind; begins = subst (λ xs. Begins xs item behind) first begins; others = refl }, last-alone item)
+    (record { behind = behind; begins = subst (λ xs. BeginsItem xs item behind) first begins; others = refl }, last-alone item)
 first-snoc (head ∷ items) [] bytes rest item behind first are goes_on begins = absurd are
 first-snoc (inl request ∷ items) (note ∷ notes) bytes rest item behind first are goes_on begins = (
   record {
@@ -112,7 +112,7 @@ first-snoc (inr code ∷ items) (note ∷ notes) bytes rest item behind first ar
 
 -- the next item has its note
 pub fitting-snoc : (notes : List Note) (bytes : List ℕ) (items : List Item) (rest : List ℕ) (item : Item) (behind : List ℕ) (note : Note)
-    → IsFitting notes bytes items rest → says_last notes ≡ false → Begins rest item behind → IsNoteFor (ask_of item) note
+    → IsFitting notes bytes items rest → says_last notes ≡ false → BeginsItem rest item behind → IsNoteFor (ask_of item) note
     → IsFitting (notes ++ note ∷ []) bytes (items ++ item ∷ []) behind
 fitting-snoc notes bytes items rest item behind note fits goes_on begins noted = record {
   first = first-snoc items notes bytes rest item behind fits.first fits.noted goes_on begins;

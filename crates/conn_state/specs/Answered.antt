@@ -87,7 +87,7 @@ pub record IsEnded (e : SeenEnded) : Type 0 where
   pub answered : IfSome e.told (IsAnswered e.cause e.tail e.notes)
 
 -- the connection ended so: its link was closed, and it has the notes that it had
-pub record EndsAs (c : SeenConn) (why : Cause) (how : Tail) (e : SeenEnded) : Type 0 where
+pub record IsEndOf (c : SeenConn) (why : Cause) (how : Tail) (e : SeenEnded) : Type 0 where
   pub told : e.told ≡ option_map after_close c.told
   pub counts : OnlyFaults false c.counts e.counts
   pub name : e.name ≡ c.name

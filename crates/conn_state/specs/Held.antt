@@ -3,13 +3,13 @@ use Rattle.std.specs.Prelude.{◌≡◌, ℕ, ◌≤◌, List, drop, length, ⊤
 use Rattle.mpm_base.specs.declared.conn.Ask.{Ask}
 use Rattle.conn_state.specs.declared.turn.LastTurn.{LastTurn}
 use Rattle.conn_state.specs.declared.turn.LastTurn.TheVariants as turn
-use Rattle.conn_state.specs.Items.{Item, Begins, ask_of}
+use Rattle.conn_state.specs.Items.{Item, BeginsItem, ask_of}
 use Rattle.conn_state.specs.Conn.{SeenConn, IsConn}
 
 -- the item at the front of the bytes asks this, and has so many of them: a refusal none
 pub record HasSize (bytes : List ℕ) (ask : Ask) (size : ℕ) : Type 0 where
   pub item : Item
-  pub begins : Begins bytes item (drop size bytes)
+  pub begins : BeginsItem bytes item (drop size bytes)
   pub asks : ask ≡ ask_of item
   pub fits : size ≤ length bytes
 

@@ -1,42 +1,37 @@
 -- What the bytes that a connection received say: whole requests, one behind the other, and at most one refusal, behind
 -- which nothing is read (RFC 9112, sections 2.2 and 9.3.2).
-use Rattle.std.specs.Prelude.{◌≡◌, ◌⊎◌, ℕ, Bool, true, false, List, [], ◌∷◌, drop, ⊤}
+use Rattle.std.specs.Prelude.{◌≡◌, ◌⊎◌, ℕ, true, false, List, [], ◌∷◌, drop, ⊤}
 use Rattle.std.proofs.Common.{inl, inr}
 use Rattle.mpm_base.specs.RootRequest.{IsStarted}
 use Rattle.mpm_base.specs.declared.conn.Ask.{Ask}
-use Rattle.http_read.specs.declared.request.Request.{Request}
-use Rattle.http_read.specs.Head.{BeginsWith, IsNoFront}
+use Rattle.http_read.specs.declared.root_head.RootHead.{RootHead}
+use Rattle.http_read.specs.RootHead.{BeginsWith, IsNoFront}
 
--- a whole request, or the status code of a refusal
+-- a whole request, or the code of a refusal
 abbrev pub Item : Type 0
-Item = Request ⊎ ℕ
+Item = RootHead ⊎ ℕ
 
 -- the bytes begin with the request, behind which these are left
-pub record BeginsRequestWith (bytes : List ℕ) (request : Request) (rest : List ℕ) : Type 0 where
+pub record BeginsRequestWith (bytes : List ℕ) (request : RootHead) (rest : List ℕ) : Type 0 where
   pub size : ℕ
   pub begins : BeginsWith bytes request size
   pub left : rest ≡ drop size bytes
 
 -- no request can stand at the front of the bytes, and they are refused by the code
-pub record IsRefusedAt (bytes : List ℕ) (code : ℕ) (rest : List ℕ) : Type 0 where
+pub record IsRefusedWith (bytes : List ℕ) (code : ℕ) (rest : List ℕ) : Type 0 where
   pub bad_request : code ≡ 400
   pub no_front : IsNoFront bytes
   pub left : rest ≡ bytes
 
 -- the item stands at the front of the bytes, and these are left behind it
-abbrev pub Begins : List ℕ → Item → List ℕ → Type 0
-Begins bytes (inl request) rest = BeginsRequestWith bytes request rest
-Begins bytes (inr code) rest = IsRefusedAt bytes code rest
-
--- the item ends the reading of its connection
-abbrev pub is_refusal : Item → Bool
-is_refusal (inl request) = false
-is_refusal (inr code) = true
+abbrev pub BeginsItem : List ℕ → Item → List ℕ → Type 0
+BeginsItem bytes (inl request) rest = BeginsRequestWith bytes request rest
+BeginsItem bytes (inr code) rest = IsRefusedWith bytes code rest
 
 -- an item stands at the front of the bytes, and others behind it
 pub record BeginsAnd (Others : List ℕ → Type 0) (bytes : List ℕ) (item : Item) : Type 0 where
   pub behind : List ℕ
-  pub begins : Begins bytes item behind
+  pub begins : BeginsItem bytes item behind
   pub others : Others behind
 
 -- nothing follows a refusal
@@ -56,13 +51,14 @@ SpellsNone bytes = IsStarted bytes
 -- ## What an item asks of the table
 
 -- the one file is found, and the connection closes where the request asks for it
-abbrev pub request_ask : Request → Ask
+abbrev pub request_ask : RootHead → Ask
 request_ask request = record { asked_close = request.asked_close; refused = false; code = 200; page = false }
 
 -- a refusal closes the connection
 abbrev pub refusal_ask : ℕ → Ask
 refusal_ask code = record { asked_close = false; refused = true; code = code; page = false }
 
+-- what an item asks of the table
 abbrev pub ask_of : Item → Ask
 ask_of (inl request) = request_ask request
 ask_of (inr code) = refusal_ask code
@@ -71,5 +67,5 @@ ask_of (inr code) = refusal_ask code
 pub record IsAskedIn (bytes : List ℕ) (ask : Ask) : Type 0 where
   pub item : Item
   pub behind : List ℕ
-  pub begins : Begins bytes item behind
+  pub begins : BeginsItem bytes item behind
   pub asks : ask ≡ ask_of item

@@ -1,7 +1,7 @@
 pub mod Answered
 pub mod Conn
-pub mod Exchange
-pub mod Finds
+pub mod ExchangeInside
+pub mod FindsInside
 pub mod Held
 pub mod Items
 pub mod Replies

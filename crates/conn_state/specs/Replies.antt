@@ -3,7 +3,7 @@ use Rattle.std.specs.Prelude.{◌≡◌, ◌⊎◌, ℕ, true, false, List, [], 
 use Rattle.std.proofs.Common.{inl, inr}
 use Rattle.mpm_base.specs.declared.conn.Ask.{Ask}
 use Rattle.mpm_base.specs.declared.note.Note.{Note}
-use Rattle.http_read.specs.declared.request.Request.{Request}
+use Rattle.http_read.specs.declared.root_head.RootHead.{RootHead}
 use Rattle.mpm_base.specs.Notes.{says_last}
 use Rattle.conn_state.specs.Items.{Item, AreFirst, BeginsRequestWith, ask_of}
 use Rattle.conn_state.specs.Response.{IsResponse}
@@ -59,7 +59,7 @@ AreReplies (item ∷ items) (note ∷ notes) bytes = RepliesAnd (AreReplies item
 
 -- a head stands at the front of the bytes whose client waits to be told to send the body
 pub record Expects (bytes : List ℕ) : Type 0 where
-  pub request : Request
+  pub request : RootHead
   pub behind : List ℕ
   pub begins : BeginsRequestWith bytes request behind
   pub expects : request.expects ≡ true

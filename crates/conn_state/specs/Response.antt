@@ -21,20 +21,20 @@ close_line last = if last then head_line (codes "Connection: close") else []
 
 -- a response: its first line, the fields, an empty line, and the body
 abbrev pub message : List ℕ → List ℕ → Bool → List ℕ → List ℕ → List ℕ
-message status date last kind body =
-    head_line (codes "HTTP/1.1 " ++ status) ++ head_line (codes "Date: " ++ date) ++ close_line last
+message code_text date last kind body =
+    head_line (codes "HTTP/1.1 " ++ code_text) ++ head_line (codes "Date: " ++ date) ++ close_line last
     ++ head_line (codes "Content-Type: " ++ kind) ++ head_line (codes "Content-Length: " ++ decimal (length body))
     ++ head_line [] ++ body
 
 -- the code and the reason of a refusal; there is one code so far
-abbrev pub refusal_status : ℕ → List ℕ
-refusal_status code = decimal code ++ codes " Bad Request"
+abbrev pub code_and_reason : ℕ → List ℕ
+code_and_reason code = decimal code ++ codes " Bad Request"
 
--- the response to an item, of this date: the file for a request, and for a refusal its status as a text
+-- the response to an item, of this date: the file for a request, and for a refusal its code and reason as a text
 abbrev pub response_at : List ℕ → Item → Note → List ℕ
 response_at date (inl request) note = message (codes "200 OK") date note.last (codes "text/html") file
 response_at date (inr code) note =
-    message (refusal_status code) date note.last (codes "text/plain") (refusal_status code ++ codes "\n")
+    message (code_and_reason code) date note.last (codes "text/plain") (code_and_reason code ++ codes "\n")
 
 -- the bytes are the response to the item with the note, dated by the note's second
 pub record IsResponse (item : Item) (note : Note) (bytes : List ℕ) : Type 0 where

@@ -9,13 +9,14 @@ use Rattle.conn_state.specs.declared.turn.ReadTurn.{ReadTurn}
 use Rattle.conn_state.specs.declared.turn.ReadTurn.TheVariants as read
 use Rattle.conn_state.specs.declared.turn.WriteTurn.{WriteTurn}
 use Rattle.conn_state.specs.declared.turn.WriteTurn.TheVariants as write
-use Rattle.conn_state.specs.Items.{Item, Begins, IsAskedIn, SpellsNone}
+use Rattle.conn_state.specs.Items.{Item, BeginsItem, IsAskedIn, SpellsNone}
 use Rattle.conn_state.specs.Response.{IsResponse}
 use Rattle.conn_state.specs.Replies.{IsNoteFor, first_part}
 use Rattle.conn_state.specs.Conn.{SeenConn}
 
 -- ## Reading
 
+-- the connection after a turn of reading that answered so
 abbrev pub after_reading : ReadTurn → LastTurn
 after_reading (read.Asked ask) = turn.Asked ask
 after_reading read.More = turn.More
@@ -23,17 +24,20 @@ after_reading read.Gone = turn.Gone
 after_reading read.LinkFailed = turn.LinkFailed
 after_reading read.NoMemory = turn.NoMemory
 
+-- the turn found that more has to come
 abbrev pub is_more : ReadTurn → Bool
 is_more read.More = true
 is_more other = false
 
+-- the turn found that the client sends no more
 abbrev pub is_gone : ReadTurn → Bool
 is_gone read.Gone = true
 is_gone other = false
 
-abbrev pub read_failed : ReadTurn → Bool
-read_failed read.LinkFailed = true
-read_failed other = false
+-- a read of the turn failed
+abbrev pub is_read_failure : ReadTurn → Bool
+is_read_failure read.LinkFailed = true
+is_read_failure other = false
 
 -- what a turn of reading found in the bytes that it has: the next item, or that there is none yet
 abbrev pub ReadFinds : ReadTurn → List ℕ → Type 0
@@ -61,7 +65,7 @@ pub record ReadsOn (old new : SeenConn) (answer : ReadTurn) : Type 0 where
   pub rest : KeepsRead answer got old.rest new.rest
   pub told : new.told ≡ option_map (with_received (length got)) old.told
   pub gives : IfSome old.told (λ t. got ≡ take (length got) t.coming)
-  pub faults : RisesWhere (read_failed answer) old.counts.faults new.counts.faults
+  pub faults : RisesWhere (is_read_failure answer) old.counts.faults new.counts.faults
   pub late_reads : RisesExactlyWhere (is_more answer) old.counts.late_reads new.counts.late_reads
   pub ends : RisesExactlyWhere (is_gone answer) old.counts.ends new.counts.ends
   pub late_writes : new.counts.late_writes ≡ old.counts.late_writes
@@ -80,31 +84,34 @@ IsNoteOf (turn.Asked ask) note = IsNoteFor ask note
 IsNoteOf other note = ⊥
 
 -- the next item of the bytes has a response, which is to be sent
-pub record Answers (note : Note) (old new : SeenConn) : Type 0 where
+pub record TakesNote (note : Note) (old new : SeenConn) : Type 0 where
   pub item : Item
   pub behind : List ℕ
   pub response : List ℕ
-  pub begins : Begins old.rest item behind
+  pub begins : BeginsItem old.rest item behind
   pub is_response : IsResponse item note response
   pub new_is : new
       ≡ record old { notes = old.notes ++ note ∷ []; pending = first_part item ++ response; rest = behind; turn = turn.Answered }
 
 -- ## Writing
 
+-- the connection after a turn of writing that answered so
 abbrev pub after_writing : WriteTurn → LastTurn
 after_writing write.Done = turn.Done
 after_writing write.NotReady = turn.NotReady
 after_writing write.LinkFailed = turn.LinkFailed
 
+-- the turn found no room to write
 abbrev pub is_not_ready : WriteTurn → Bool
 is_not_ready write.Done = false
 is_not_ready write.NotReady = true
 is_not_ready write.LinkFailed = false
 
-abbrev pub write_failed : WriteTurn → Bool
-write_failed write.Done = false
-write_failed write.NotReady = false
-write_failed write.LinkFailed = true
+-- a write of the turn failed
+abbrev pub is_write_failure : WriteTurn → Bool
+is_write_failure write.Done = false
+is_write_failure write.NotReady = false
+is_write_failure write.LinkFailed = true
 
 -- what is left to send: nothing, or something
 abbrev pub WriteLeaves : WriteTurn → List ℕ → Type 0
@@ -128,7 +135,7 @@ pub record WritesOn (old new : SeenConn) (answer : WriteTurn) : Type 0 where
   pub front : old.pending ≡ sent ++ new.pending
   pub told : new.told ≡ option_map (with_sent sent) old.told
   pub leaves : WriteLeaves answer new.pending
-  pub faults : RisesWhere (write_failed answer) old.counts.faults new.counts.faults
+  pub faults : RisesWhere (is_write_failure answer) old.counts.faults new.counts.faults
   pub late_writes : RisesExactlyWhere (is_not_ready answer) old.counts.late_writes new.counts.late_writes
   pub late_reads : new.counts.late_reads ≡ old.counts.late_reads
   pub ends : new.counts.ends ≡ old.counts.ends

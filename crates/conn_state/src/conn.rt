@@ -3,12 +3,12 @@ ghost use Rattle.std.specs.Prelude.{◌≡◌, ◌==◌, ◌<◌, true, false, n
 ghost use Rattle.std.proofs.Common.{inl, inr};
 ghost use Rattle.mpm_base.specs.Notes.{says_last};
 ghost use Rattle.mpm_base.specs.declared.conn.Ask.{Ask};
-ghost use Rattle.http_read.specs.declared.request.Request.{Request};
+ghost use Rattle.http_read.specs.declared.root_head.RootHead.{RootHead};
 ghost use Rattle.conn_state.specs.declared.turn.LastTurn.TheVariants as turn;
 ghost use Rattle.conn_state.specs.Items.{IsAskedIn};
 ghost use Rattle.conn_state.specs.Conn.{IsConn, IsFresh, is_usable, new_conn};
-ghost use Rattle.conn_state.specs.Turns.{ReadsOn, AsksNothing, IsNoteOf, Answers, WritesOn};
-ghost use Rattle.conn_state.specs.Answered.{IsShown, IsEnded, EndsAs};
+ghost use Rattle.conn_state.specs.Turns.{ReadsOn, AsksNothing, IsNoteOf, TakesNote, WritesOn};
+ghost use Rattle.conn_state.specs.Answered.{IsShown, IsEnded, IsEndOf};
 ghost use Rattle.conn_state.specs.Response.{IsResponse};
 
 use crate::buffers::{Pending, Received};
@@ -155,7 +155,7 @@ impl<L: Link> Conn<L> {
     pub fn answer(&mut self, note: Note) -> Result<(), NoMemory>
         requires asked { IsNoteOf self.old.turn note }
         requires date { note.date < 253402300800 }
-        ensures ok { OnOk result (Answers note self.old self.new) }
+        ensures ok { OnOk result (TakesNote note self.old self.new) }
         ensures err { OnErr result (self.new ≡ record self.old { turn = turn.NoMemory }) }
     {
         match take_note(self.alloc, &mut self.notes, note) {
@@ -185,7 +185,7 @@ impl<L: Link> Conn<L> {
     /// Closes the link. Takes no memory.
     pub fn end(self, cause: Cause, tail: Tail) -> Ended<L>
         requires shown { IsShown cause tail self }
-        ensures ends { EndsAs self cause tail result }
+        ensures ends { IsEndOf self cause tail result }
         ensures ended { IsEnded result }
     {
         let Conn {
@@ -217,11 +217,11 @@ impl<L: Link> Conn<L> {
 fn take_note(alloc: Global, notes: &mut Notes, note: Note) -> Result<Octets, NoMemory>
     requires { note.date < 253402300800 }
     ensures ok { OnOk result (notes.new ≡ notes.old ++ note ∷ []) }
-    ensures file { note.code ≡ 200 → IfOk result (λ bytes. (request : Request) → IsResponse (inl request) note bytes) }
+    ensures file { note.code ≡ 200 → IfOk result (λ bytes. (request : RootHead) → IsResponse (inl request) note bytes) }
     ensures refusal { ¬ (note.code ≡ 200) → IfOk result (IsResponse (inr note.code) note) }
     ensures err { OnErr result (notes.new ≡ notes.old) }
 {
     let bytes = response(alloc, &note)?;
-    notes.add(note)?;
+    notes.push(note)?;
     Ok(bytes)
 }

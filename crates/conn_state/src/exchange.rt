@@ -4,7 +4,7 @@ ghost use Rattle.mpm_base.specs.declared.conn.Ask.{Ask};
 ghost use Rattle.conn_state.specs.Items.{IsAskedIn, SpellsNone};
 ghost use Rattle.conn_state.specs.Turns.{after_reading};
 ghost use Rattle.conn_state.specs.Held.{IsSizeOf};
-ghost use Rattle.conn_state.specs.Exchange.{ReadsPiece, TakesIn, SendsOn, IsSame};
+ghost use Rattle.conn_state.specs.ExchangeInside.{ReadsPiece, TakesIn, SendsOn, IsSame};
 
 use crate::buffers::{Pending, Received};
 use crate::item::{Found, find_item};

@@ -1,18 +1,11 @@
 //! The item at the front of the bytes that a connection holds.
 ghost use Rattle.std.specs.Prelude.{◌≡◌};
 ghost use Rattle.conn_state.specs.Items.{request_ask, refusal_ask};
-ghost use Rattle.conn_state.specs.Finds.{Finds};
+ghost use Rattle.conn_state.specs.FindsInside.{Finds};
 
-use http_read::{HeadAnswer, Limits, Request, next_head};
+use http_read::{RootAnswer, RootHead, next_root_head};
 use mpm_base::Ask;
 use std::alloc::Global;
-
-/// The limits of a head (LimitRequestLine, LimitRequestFieldSize, LimitRequestFields).
-const LIMITS: Limits = Limits {
-    line: 8_190,
-    field: 8_190,
-    fields: 100,
-};
 
 /// What the bytes say of their first item.
 #[derive(Clone, Copy, Debug, PartialEq, Eq)]
@@ -29,16 +22,16 @@ pub enum Found {
 pub fn find_item(alloc: Global, bytes: &[u8]) -> Found
     ensures { Finds bytes.now result }
 {
-    match next_head(alloc, bytes, &LIMITS) {
-        HeadAnswer::Whole(request, length) => Found::Item(asked_by(&request), length as usize),
-        HeadAnswer::More => Found::Nothing,
-        HeadAnswer::Refused(code) => Found::Item(asked_by_refusal(code), 0),
-        HeadAnswer::NoMemory => Found::NoMemory,
+    match next_root_head(alloc, bytes) {
+        RootAnswer::Whole(request, length) => Found::Item(asked_by(&request), length as usize),
+        RootAnswer::More => Found::Nothing,
+        RootAnswer::Refused(code) => Found::Item(asked_by_refusal(code), 0),
+        RootAnswer::NoMemory => Found::NoMemory,
     }
 }
 
 /// What a request asks: the one file is found.
-fn asked_by(request: &Request) -> Ask
+fn asked_by(request: &RootHead) -> Ask
     ensures { result ≡ request_ask request.now }
 {
     Ask {

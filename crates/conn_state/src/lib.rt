@@ -11,13 +11,9 @@ mod conn;
 mod ended;
 mod exchange;
 mod item;
-#[cfg(test)]
-mod pieces;
 mod response;
 #[cfg(test)]
 mod tests;
-#[cfg(test)]
-mod tests_cuts;
 mod turn;
 
 pub use conn::Conn;

@@ -3,7 +3,7 @@ ghost use Rattle.std.specs.Prelude.{◌≡◌, ◌<◌, ◌++◌, codes, IfOk, O
 ghost use Rattle.std.specs.Fmt.{decimal};
 ghost use Rattle.std.proofs.Common.{inl, inr};
 ghost use Rattle.httpdate.specs.Date.{date_text};
-ghost use Rattle.http_read.specs.declared.request.Request.{Request};
+ghost use Rattle.http_read.specs.declared.root_head.RootHead.{RootHead};
 ghost use Rattle.conn_state.specs.Response.{IsResponse};
 ghost use Rattle.conn_state.specs.Response as spec;
 
@@ -23,7 +23,7 @@ const LINE_END: &[u8] = b"\r\n";
 /// The response that the note says: the file, or else a refusal by the note's code.
 pub fn response(alloc: Global, note: &Note) -> Result<Octets, NoMemory>
     requires date { note.now.date < 253402300800 }
-    ensures file { note.now.code ≡ 200 → IfOk result (λ bytes. (request : Request) → IsResponse (inl request) note.now bytes) }
+    ensures file { note.now.code ≡ 200 → IfOk result (λ bytes. (request : RootHead) → IsResponse (inl request) note.now bytes) }
     ensures refusal { ¬ (note.now.code ≡ 200) → IfOk result (IsResponse (inr note.now.code) note.now) }
 {
     let Ok(date) = HttpDate::from_unix_secs(note.date) else {
@@ -36,16 +36,16 @@ pub fn response(alloc: Global, note: &Note) -> Result<Octets, NoMemory>
     }
 }
 
-/// The refusal by the code: its body is its status.
+/// The refusal by the code: its body is its code and reason.
 fn refusal(alloc: Global, code: u16, date: &HttpDate, last: bool) -> Result<Octets, NoMemory>
-    ensures { IfOk result (λ bytes. bytes ≡ spec.message (spec.refusal_status code) (date_text date.now) last (codes "text/plain") (spec.refusal_status code ++ codes "\n")) }
+    ensures { IfOk result (λ bytes. bytes ≡ spec.message (spec.code_and_reason code) (date_text date.now) last (codes "text/plain") (spec.code_and_reason code ++ codes "\n")) }
 {
-    let status = refusal_status(alloc, code)?;
-    let mut body = Octets::of(alloc, status.as_slice())?;
+    let code_text = code_and_reason(alloc, code)?;
+    let mut body = Octets::of(alloc, code_text.as_slice())?;
     body.add(b"\n")?;
     message(
         alloc,
-        status.as_slice(),
+        code_text.as_slice(),
         date,
         last,
         b"text/plain",
@@ -54,32 +54,32 @@ fn refusal(alloc: Global, code: u16, date: &HttpDate, last: bool) -> Result<Octe
 }
 
 /// The code and the reason of a refusal.
-fn refusal_status(alloc: Global, code: u16) -> Result<Octets, NoMemory>
-    ensures { IfOk result (λ status. status ≡ spec.refusal_status code) }
+fn code_and_reason(alloc: Global, code: u16) -> Result<Octets, NoMemory>
+    ensures { IfOk result (λ code_text. code_text ≡ spec.code_and_reason code) }
 {
-    let mut status = Octets::make(alloc);
-    add_number(alloc, &mut status, code as u64)?;
-    status.add(b" Bad Request")?;
-    Ok(status)
+    let mut code_text = Octets::make(alloc);
+    code_text.add_number(code as u64)?;
+    code_text.add(b" Bad Request")?;
+    Ok(code_text)
 }
 
 /// A response: its first line, the fields, an empty line, and the body.
 fn message(
     alloc: Global,
-    status: &[u8],
+    code_text: &[u8],
     date: &HttpDate,
     last: bool,
     kind: &[u8],
     body: &[u8],
 ) -> Result<Octets, NoMemory>
-    ensures { IfOk result (λ bytes. bytes ≡ spec.message status.now (date_text date.now) last kind.now body.now) }
+    ensures { IfOk result (λ bytes. bytes ≡ spec.message code_text.now (date_text date.now) last kind.now body.now) }
 {
     let mut bytes = Octets::make(alloc);
-    add_line(&mut bytes, b"HTTP/1.1 ", status)?;
+    add_line(&mut bytes, b"HTTP/1.1 ", code_text)?;
     add_date(&mut bytes, date)?;
     add_close(&mut bytes, last)?;
     add_line(&mut bytes, b"Content-Type: ", kind)?;
-    add_length(alloc, &mut bytes, body.len() as u64)?;
+    add_length(&mut bytes, body.len() as u64)?;
     bytes.add(LINE_END)?;
     bytes.add(body)?;
     Ok(bytes)
@@ -104,11 +104,11 @@ fn add_close(bytes: &mut Octets, last: bool) -> Result<(), NoMemory>
 }
 
 /// Adds the line that says how many bytes the body has.
-fn add_length(alloc: Global, bytes: &mut Octets, len: u64) -> Result<(), NoMemory>
+fn add_length(bytes: &mut Octets, len: u64) -> Result<(), NoMemory>
     ensures { OnOk result (bytes.new ≡ bytes.old ++ spec.head_line (codes "Content-Length: " ++ decimal len)) }
 {
     bytes.add(b"Content-Length: ")?;
-    add_number(alloc, bytes, len)?;
+    bytes.add_number(len)?;
     bytes.add(LINE_END)
 }
 
@@ -119,12 +119,4 @@ fn add_line(bytes: &mut Octets, name: &[u8], value: &[u8]) -> Result<(), NoMemor
     bytes.add(name)?;
     bytes.add(value)?;
     bytes.add(LINE_END)
-}
-
-/// Adds the digits of the number.
-fn add_number(alloc: Global, bytes: &mut Octets, number: u64) -> Result<(), NoMemory>
-    ensures { OnOk result (bytes.new ≡ bytes.old ++ decimal number) }
-{
-    let digits = number.to_string(alloc)?;
-    bytes.add(digits.as_bytes())
 }

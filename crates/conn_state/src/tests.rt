@@ -3,10 +3,15 @@ ghost use Rattle.std.specs.Prelude.{◌≡◌, true, false, [], ◌||◌, IfOk, 
 ghost use Rattle.mpm_base.specs.Notes.{says_last};
 ghost use Rattle.conn_state.specs.Conn.{is_usable};
 
+mod counting;
+mod cuts;
+mod pieces;
+
 use crate::conn::Conn;
 use crate::ended::Ended;
 use crate::turn::{ReadTurn, WriteTurn};
-use mpm_base::{Ask, Calls, Cause, ConnName, NoMemory, Note, Octets, ScriptLink, Tail};
+use mpm_base::{Ask, Cause, ConnName, NoMemory, Note, Octets, Tail};
+use stand_ins::{Calls, ScriptLink};
 use std::alloc::Global;
 use std::process::Abort;
 use std::test::Fail;

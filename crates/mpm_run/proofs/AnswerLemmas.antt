@@ -13,18 +13,18 @@ use Rattle.conn_machine.specs.declared.row.Row.{Row}
 use Rattle.conn_machine.specs.declared.event.Event.TheVariants as event
 use Rattle.conn_machine.specs.declared.state.State.{State}
 use Rattle.conn_machine.specs.Lists.{update}
-use Rattle.conn_machine.specs.Rows.{is_working, is_live, is_named, in_phase, row_where, live_row}
+use Rattle.conn_machine.specs.Rows.{is_working, is_live, is_live_as, in_phase, row_where, live_row}
 use Rattle.conn_machine.specs.States.{is_halted, child_of}
-use Rattle.conn_machine.specs.Table.{allowed, next, note_for, answered_row}
+use Rattle.conn_machine.specs.Table.{is_allowed, next, note_for, answered_row}
 use Rattle.conn_machine.specs.Sound.{IsSound}
 use Rattle.conn_machine.proofs.UpdateLemmas.{get_changed}
 use Rattle.conn_state.specs.declared.turn.LastTurn.{LastTurn}
 use Rattle.conn_state.specs.declared.turn.LastTurn.TheVariants as turn
 use Rattle.conn_state.specs.Conn.{SeenConn, TurnFits, IsConn}
-use Rattle.conn_state.specs.Turns.{Answers}
+use Rattle.conn_state.specs.Turns.{TakesNote}
 use Rattle.board.specs.Board.{SeenBoard}
-use Rattle.board.specs.Events.{IsDecided, added}
-use Rattle.mpm_run.specs.Serve.{IsServed, IsClosable, Stays, answers_left}
+use Rattle.board.specs.Events.{IsDecided, with_recorded}
+use Rattle.mpm_run.specs.ServeInside.{IsServed, IsClosable, Stays, answers_left}
 use Rattle.mpm_run.proofs.HandLemmas.{hand-answered}
 use Rattle.mpm_run.proofs.ServeLemmas.{alive, test-at, served-row, served-stays, row-open, working-in_hand}
 
@@ -34,7 +34,7 @@ asked-open c ask is asked = (subst (λ (u : LastTurn). TurnFits u c) asked is.tu
 
 -- a response may be decided for it
 pub may-answer : (s : State) (c : SeenConn) (name : ConnName) (ask : Ask) → IsSound s → IsServed s c → says_last c.notes ≡ false → name ≡ c.name
-    → is_halted s.going ≡ false → allowed s (event.Answer name ask) ≡ true
+    → is_halted s.going ≡ false → is_allowed s (event.Answer name ask) ≡ true
 may-answer s c name ask sound served goes_on named going =
     let answers : (is_working served.row.place && not served.row.last) ≡ true =
     rw (served.working, row-open s c sound served goes_on) refl in
@@ -45,9 +45,9 @@ may-answer s c name ask sound served goes_on named going =
 
 -- the changed row of a name that stays live is found by it
 pub live_row-update : (rows : List Row) (name : ConnName) (r : Row) (change : Row → Row) → slice_get rows name.slot ≡ Some r
-    → is_named name (change r) ≡ true → live_row (update rows name.slot change) name ≡ Some (change r)
+    → is_live_as name (change r) ≡ true → live_row (update rows name.slot change) name ≡ Some (change r)
 live_row-update rows name r change at named =
-    ap (row_where (is_named name)) (get_changed rows name.slot r change at) ∙ rw named refl
+    ap (row_where (is_live_as name)) (get_changed rows name.slot r change at) ∙ rw named refl
 
 -- a worker goes on to another phase
 in_phase-working : (next : Phase) (p : Place) → is_working p ≡ true → is_working (in_phase next p) ≡ true
@@ -85,7 +85,7 @@ answered-found : (s : State) (c : SeenConn) (ask : Ask) → (served : IsServed s
 answered-found s c ask served =
     let lives = alive s.rows c.name served.row served.found in
     let works = in_phase-working _ served.row.place served.working in
-    let named : is_named c.name (answered_row s ask served.row) ≡ true =
+    let named : is_live_as c.name (answered_row s ask served.row) ≡ true =
     rw (working-live (answered_row s ask served.row) _ refl works, lives.life) refl in
     live_row-update s.rows c.name served.row (answered_row s ask) lives.at named
 
@@ -100,7 +100,7 @@ answered-notes s c name ask note served named decided =
 
 -- the connection took the note, and is served on
 pub served-answered : (s s' : State) (c c' : SeenConn) (name : ConnName) (ask : Ask) (note : Note) → IsServed s c → name ≡ c.name → IsDecided s name ask note
-    → s' ≡ next s (event.Answer name ask) → Answers note c c' → IsServed s' c'
+    → s' ≡ next s (event.Answer name ask) → TakesNote note c c' → IsServed s' c'
 served-answered s s' c c' name ask note served named decided is answers =
     let is' : s' ≡ next s (event.Answer c.name ask) = is ∙ ap (λ (n : ConnName). next s (event.Answer n ask)) named in
     subst (λ (t : State). IsServed t c') (sym is')
@@ -140,7 +140,7 @@ closes-unanswered s s' c c' name ask note sound served named decided is left =
 
 -- the server goes on after the response was decided
 pub answered-stays : (who : ℕ) (name : ConnName) (ask : Ask) (c : SeenConn) (b b' : SeenBoard) → IsServed b.book.state c → name ≡ c.name
-    → b' ≡ added who (event.Answer name ask) b → Stays b.book b'.book
+    → b' ≡ with_recorded who (event.Answer name ask) b → Stays b.book b'.book
 answered-stays who name ask c b b' served named is =
     let hand = hand-answered b.book.state (next b.book.state (event.Answer name ask)) c name ask served named refl in
     subst (λ (x : SeenBoard). Stays b.book x.book) (sym is)
@@ -152,7 +152,7 @@ one-less most n m less is = omega (arith, less, is)
 
 -- the child allows one response less
 pub fewer-answered : (s s' : State) (c c' : SeenConn) (name : ConnName) (ask : Ask) (note : Note) → IsSound s → IsServed s c → says_last c.notes ≡ false
-    → s' ≡ next s (event.Answer name ask) → Answers note c c' → answers_left s' c' < answers_left s c
+    → s' ≡ next s (event.Answer name ask) → TakesNote note c c' → answers_left s' c' < answers_left s c
 fewer-answered s s' c c' name ask note sound served goes_on is answers =
     let room : length served.row.notes < (child_of s served.row).shape.most =
     (served-row s c.name served.row sound served.found).notes.fewer (row-open s c sound served goes_on) in

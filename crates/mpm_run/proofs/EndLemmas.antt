@@ -1,8 +1,10 @@
 -- How a run of a script ends.
-use Rattle.std.proofs.Common.{◌≡◌, inl, inr, ℕ, List, length, Option, Some, IfSome, IsSomeAnd, refl, sym, ap, subst, ◌∙◌, arith}
+use Rattle.std.proofs.Common.{◌≡◌, inl, inr, ℕ, List, [], length, map, Option, Some, IfSome, IsSomeAnd, refl, sym, ap, subst, ◌∙◌, arith}
 use Rattle.std.proofs.lemmas.List.{length-map}
 use Rattle.mpm_script.specs.Clients.{clients_of, names_of, sent_by}
-use Rattle.mpm_base.specs.Front.{FrontTold, HasAllTaken}
+use Rattle.mpm_base.specs.Clock.{asked_at}
+use Rattle.mpm_base.specs.Front.{FrontTold, HasAllTaken, moments_of}
+use Rattle.script_front.specs.ScriptClock.{AreEchoes, echo}
 use Rattle.script_front.specs.ScriptFront.{SeenFront, IsOfScript, new_front}
 use Rattle.mpm_base.specs.declared.script_line.ScriptLine.{ScriptLine}
 use Rattle.conn_machine.specs.declared.event.Why.TheVariants as why
@@ -12,8 +14,11 @@ use Rattle.conn_machine.specs.declared.state.State.{State}
 use Rattle.board.specs.Book.{StopsWhereFull, TellsFullStop}
 use Rattle.board.specs.Board.{SeenBoard}
 use Rattle.mpm_run.specs.FirstShape.{first_shape}
-use Rattle.mpm_run.specs.Listen.{SeenOutside, HasClients, HasClosedAll, HasEnded, HasStopped, IsClosedDown, IsEnd, IsRunFrom, IsWholeRun, StoppedFor}
-use Rattle.mpm_run.specs.Statuses.{EndsFull, HasEnd, IsStatusOf, ReportsAs, SinkSeen, Writes, board_report}
+use Rattle.mpm_run.specs.Listen.{HasClosedAll, IsClosedDown, IsRunFrom, IsWholeRun}
+use Rattle.mpm_run.specs.ListenInside.{SeenOutside, HasClients, HasEnded, HasStopped, IsEnd, StoppedFor}
+use Rattle.mpm_run.specs.ListenInside.{IsInTime, waits_of}
+use Rattle.mpm_run.specs.ExitStatuses.{EndsFull, HasEnd, KeepsTime, SinkSeen, WritesText, board_report}
+use Rattle.mpm_run.specs.ExitStatusesInside.{IsExitStatusOf, ReportsAs}
 
 -- ## Why the server stopped
 
@@ -31,20 +36,20 @@ of-seven status status' (inr (inl failed)) seven = absurd (omega (arith, failed.
 of-seven status status' (inr (inr no_memory)) seven = absurd (omega (arith, no_memory, seven))
 
 -- the status is 7 only where the server stopped for a full history
-seven-full : (going : Going) (status : ℕ) → IsEnd going → IsStatusOf going status → status ≡ 7 → going ≡ Halted why.Full
+seven-full : (going : Going) (status : ℕ) → IsEnd going → IsExitStatusOf going status → status ≡ 7 → going ≡ Halted why.Full
 seven-full going status (inl ended) is seven =
-    elim (subst (λ (g : Going). IsStatusOf g status) ended is) [
+    elim (subst (λ (g : Going). IsExitStatusOf g status) ended is) [
       | inl well ↦ absurd (omega (arith, well, seven))
       | inr cut ↦ absurd (omega (arith, cut, seven))
     ]
 seven-full going status (inr (inl full)) is seven = full
 seven-full going status (inr (inr no_memory)) is seven =
-    absurd (omega (arith, subst (λ (g : Going). IsStatusOf g status) no_memory is, seven))
+    absurd (omega (arith, subst (λ (g : Going). IsExitStatusOf g status) no_memory is, seven))
 
 -- then the history has a stop for that
 pub ends-full : (old new : SinkSeen) (b : SeenBoard) (status status' : ℕ) → StopsWhereFull b.book.history
-    → TellsFullStop b.book.state.going b.book.history → IsEnd b.book.state.going → IsStatusOf b.book.state.going status → ReportsAs status status'
-    → status' ≡ 7 → Writes old new (board_report b) → EndsFull old new b
+    → TellsFullStop b.book.state.going b.book.history → IsEnd b.book.state.going → IsExitStatusOf b.book.state.going status → ReportsAs status status'
+    → status' ≡ 7 → WritesText old new (board_report b) → EndsFull old new b
 ends-full old new b status status' stops full end is reports seven text =
     let stop = full.stands (seven-full b.book.state.going status end is (of-seven status status' reports seven)) in
     record { stop = stop; full = stops.full stop; text = text }
@@ -79,6 +84,13 @@ has-end old new b f stopped going told of_script run closed =
 -- the clients of a new front are those of its script
 pub has-clients : (lines : List ScriptLine) (f : SeenFront) → f ≡ new_front lines → HasClients (clients_of lines) (Some f.told)
 has-clients lines f made = (f.told, refl, ap (λ (f : SeenFront). f.told.clients) made)
+
+-- the clock of a front that was new with it was told what its waits gave, and answered that
+pub keeps-time : (lines : List ScriptLine) (first last : SeenFront) (none calls : List (ℕ × ℕ)) → first ≡ new_front lines → none ≡ [] → AreEchoes calls
+    → (IsInTime (waits_of (Some first.told)) (Some none) → IsInTime (waits_of (Some last.told)) (Some calls)) → KeepsTime last calls
+keeps-time lines first last none calls made empty echoes time =
+    let start : IsInTime (waits_of (Some first.told)) (Some none) = ap (map asked_at) empty ∙ sym (ap (λ (f : SeenFront). moments_of f.told.waits) made) in
+    echoes ∙ ap (map echo) (time start)
 
 -- ## What is left
 

@@ -1,7 +1,11 @@
 -- What the calls of a front leave of it, and whether the table is in step with it.
-use Rattle.std.proofs.Common.{◌≡◌, ◌⊎◌, inl, inr, ℕ, Bool, true, false, List, Option, None, Some, option_map, IfSome, refl, sym, ap, subst, ◌∙◌, arith}
+use Rattle.std.proofs.Common.{◌≡◌, ◌⊎◌, inl, inr, ℕ, Bool, true, false, List, [], ◌∷◌, ◌++◌, map, Option, None, Some, option_map, IfSome, refl, sym, ap, subst, ◌∙◌, arith}
 use Rattle.mpm_base.specs.Count.{next_count, NeverFalls, Rises, RisesWhere, RisesExactlyWhere}
-use Rattle.mpm_base.specs.Front.{FrontTold, FrontCounts, TellsOn, Waited, Waits, HasAllTaken, IsHandedOut, Accepts, after_accept, is_ended, is_handed, wait_failed}
+use Rattle.mpm_base.specs.Front.{FrontTold, FrontCounts, TellsOn, GoesForward, Waits, HasAllTaken, IsHandedOut, Accepts, WaitTold, after_accept, after_watch, is_ended, is_handed, moments_in, moments_of, wait_failed}
+use Rattle.mpm_base.specs.Clock.{asked_at}
+use Rattle.mpm_base.specs.declared.conn.ConnName.{ConnName}
+use Rattle.std.proofs.lemmas.Grind.{flat_map-append}
+use Rattle.std.proofs.lemmas.List.{append-nil, map-append}
 use Rattle.mpm_base.specs.Link.{LinkTold, LinkCounts}
 use Rattle.mpm_base.specs.declared.front.Arrival.{Arrival}
 use Rattle.mpm_base.specs.declared.front.Arrival.TheVariants as arrival
@@ -10,8 +14,9 @@ use Rattle.mpm_base.specs.declared.front.Woke.TheVariants as woke
 use Rattle.mpm_base.specs.declared.script_line.ScriptLine.{ScriptLine}
 use Rattle.conn_machine.specs.declared.state.State.{State}
 use Rattle.conn_state.specs.Conn.{IsFresh}
-use Rattle.mpm_run.specs.Listen.{SeenOutside, outside, Follows, HasClients, IsInStep}
-use Rattle.mpm_run.specs.Tells.{IsArrival, TellsFrom}
+use Rattle.mpm_run.specs.ListenInside.{SeenOutside, outside, Follows, HasClients, IsInStep}
+use Rattle.mpm_run.specs.ListenInside.{AsksFor, IsInTime, waits_of}
+use Rattle.mpm_run.specs.TellsInside.{IsArrival, TellsFrom}
 
 -- ## Counts
 
@@ -47,7 +52,7 @@ clients-mapped : (clients : List (List ℕ)) (told told' : Option FrontTold) (ch
 clients-mapped clients told told' change keeps is has = (change has.0, is ∙ ap (option_map change) has.1, keeps has.0 ∙ has.2)
 
 -- and in a wait
-waits-clients : (answer : Woke) (ready : List ℕ) (told told' : Option FrontTold) (clients : List (List ℕ)) → TellsOn (Waited answer ready) told told'
+waits-clients : (answer : Woke) (ready : List ℕ) (told told' : Option FrontTold) (clients : List (List ℕ)) → TellsOn (GoesForward answer ready) told told'
     → HasClients clients told → HasClients clients told'
 waits-clients answer ready None told' clients tells has = let at = has.1 in absurd (cc at)
 waits-clients answer ready (Some t) told' clients tells has =
@@ -80,6 +85,89 @@ follows-accept link_told link_counts script script' told told' counts counts' an
   ends = omega (arith, accepts.ends);
 }
 
+-- ## Its waits, and the clock
+
+-- a change that keeps them
+waits-mapped : (told told' : Option FrontTold) (change : FrontTold → FrontTold) → ((t : FrontTold) → (change t).waits ≡ t.waits)
+    → told' ≡ option_map change told → waits_of told' ≡ waits_of told
+waits-mapped None told' change keeps is = ap waits_of is
+waits-mapped (Some t) told' change keeps is = ap waits_of is ∙ ap (λ (waits : List WaitTold). Some waits) (keeps t)
+
+after_accept-waits : (handed : Bool) (t : FrontTold) → (after_accept handed t).waits ≡ t.waits
+after_accept-waits true t = refl
+after_accept-waits false t = refl
+
+pub waits-accept : (handed : Bool) (told told' : Option FrontTold) → told' ≡ option_map (after_accept handed) told → waits_of told' ≡ waits_of told
+waits-accept handed told told' is = waits-mapped told told' (after_accept handed) (after_accept-waits handed) is
+
+after_watch-waits : (name : ConnName) (link : Option LinkTold) (t : FrontTold) → (after_watch name link t).waits ≡ t.waits
+after_watch-waits name None t = refl
+after_watch-waits name (Some l) t = refl
+
+pub waits-watch : (name : ConnName) (link : Option LinkTold) (told told' : Option FrontTold) → told' ≡ option_map (after_watch name link) told
+    → waits_of told' ≡ waits_of told
+waits-watch name link told told' is = waits-mapped told told' (after_watch name link) (after_watch-waits name link) is
+
+-- the waits with one more
+abbrev more_waits : List ℕ → Woke → List WaitTold → List WaitTold
+more_waits ready answer waits = waits ++ record { slots = ready; answer = answer } ∷ []
+
+moments-more : (ready : List ℕ) (answer : Woke) (waits : List WaitTold) → moments_of (more_waits ready answer waits) ≡ moments_of waits ++ moments_in answer
+moments-more ready answer waits =
+    flat_map-append (λ (w : WaitTold). moments_in w.answer) waits (record { slots = ready; answer = answer } ∷ [])
+    ∙ ap (λ (ms : List ℕ). moments_of waits ++ ms) (append-nil (moments_in answer))
+
+-- the calls are these
+in-time-at : (waits : List WaitTold) (calls calls' : Option (List (ℕ × ℕ))) → calls' ≡ calls → IsInTime (Some waits) calls → IsInTime (Some waits) calls'
+in-time-at waits calls calls' same time = subst (λ (o : Option (List (ℕ × ℕ))). IsInTime (Some waits) o) (sym same) time
+
+none-asked : (answer : Woke) (calls' : Option (List (ℕ × ℕ))) → AsksFor answer None calls' → calls' ≡ None
+none-asked (woke.Woke m) calls' asks = asks.1
+none-asked woke.Ended calls' asks = asks
+none-asked woke.Failed calls' asks = asks
+
+-- a wait that gives no moment
+time-none : (ready : List ℕ) (answer : Woke) (waits : List WaitTold) (calls : List (ℕ × ℕ)) → moments_in answer ≡ [] → map asked_at calls ≡ moments_of waits
+    → map asked_at calls ≡ moments_of (more_waits ready answer waits)
+time-none ready answer waits calls none time =
+    time ∙ sym (append-nil (moments_of waits)) ∙ ap (λ (ms : List ℕ). moments_of waits ++ ms) (sym none) ∙ sym (moments-more ready answer waits)
+
+-- the clock is in time with the waits where one was made more, and it was told its moment
+time-more : (answer : Woke) (ready : List ℕ) (waits : List WaitTold) (calls calls' : Option (List (ℕ × ℕ))) → AsksFor answer calls calls'
+    → IsInTime (Some waits) calls → IsInTime (Some (more_waits ready answer waits)) calls'
+time-more answer ready waits None calls' asks time = in-time-at (more_waits ready answer waits) None calls' (none-asked answer calls' asks) tt
+time-more (woke.Woke m) ready waits (Some calls) calls' asks time =
+    in-time-at (more_waits ready (woke.Woke m) waits) (Some (calls ++ (m, asks.0) ∷ [])) calls' asks.1
+    (map-append asked_at calls ((m, asks.0) ∷ []) ∙ ap (λ (ms : List ℕ). ms ++ m ∷ []) time ∙ sym (moments-more ready (woke.Woke m) waits))
+time-more woke.Ended ready waits (Some calls) calls' asks time =
+    in-time-at (more_waits ready woke.Ended waits) (Some calls) calls' asks (time-none ready woke.Ended waits calls refl time)
+time-more woke.Failed ready waits (Some calls) calls' asks time =
+    in-time-at (more_waits ready woke.Failed waits) (Some calls) calls' asks (time-none ready woke.Failed waits calls refl time)
+
+-- after a wait
+pub time-wait : (answer : Woke) (ready : List ℕ) (told told' : Option FrontTold) (calls calls' : Option (List (ℕ × ℕ)))
+    → TellsOn (GoesForward answer ready) told told' → AsksFor answer calls calls' → IsInTime (waits_of told) calls → IsInTime (waits_of told') calls'
+time-wait answer ready None told' calls calls' tells asks time =
+    subst (λ (o : Option FrontTold). IsInTime (waits_of o) calls') (sym tells) tt
+time-wait answer ready (Some t) told' calls calls' tells asks time =
+    subst (λ (o : Option FrontTold). IsInTime (waits_of o) calls') (sym tells.1)
+    (subst (λ (waits : List WaitTold). IsInTime (Some waits) calls') (sym tells.2.waits) (time-more answer ready t.waits calls calls' asks time))
+
+asks-none : (answer : Woke) (calls : Option (List (ℕ × ℕ))) → moments_in answer ≡ [] → AsksFor answer calls calls
+asks-none (woke.Woke m) calls none = absurd (cc none)
+asks-none woke.Ended calls none = refl
+asks-none woke.Failed calls none = refl
+
+-- after one that gives no moment
+pub time-unasked : (answer : Woke) (ready : List ℕ) (told told' : Option FrontTold) (calls : Option (List (ℕ × ℕ)))
+    → TellsOn (GoesForward answer ready) told told' → moments_in answer ≡ [] → IsInTime (waits_of told) calls → IsInTime (waits_of told') calls
+time-unasked answer ready told told' calls tells none time =
+    time-wait answer ready told told' calls calls tells (asks-none answer calls none) time
+
+-- after calls that make no wait
+pub time-kept : (waits waits' : Option (List WaitTold)) (calls : Option (List (ℕ × ℕ))) → waits' ≡ waits → IsInTime waits calls → IsInTime waits' calls
+time-kept waits waits' calls same time = subst (λ (o : Option (List WaitTold)). IsInTime o calls) (sym same) time
+
 -- ## The table is in step with the front
 
 -- where it took no connection
@@ -87,7 +175,7 @@ pub step-kept : (told : Option FrontTold) (s s' : State) → s'.accepted ≡ s.a
 step-kept told s s' same step = subst (λ (n : ℕ). IfSome told (λ t. t.accepted ≡ n)) (sym same) step
 
 -- after a wait
-pub step-wait : (answer : Woke) (ready : List ℕ) (told told' : Option FrontTold) (s : State) → TellsOn (Waited answer ready) told told'
+pub step-wait : (answer : Woke) (ready : List ℕ) (told told' : Option FrontTold) (s : State) → TellsOn (GoesForward answer ready) told told'
     → IsInStep told s → IsInStep told' s
 step-wait answer ready None told' s tells step = subst (λ (o : Option FrontTold). IsInStep o s) (sym tells) tt
 step-wait answer ready (Some t) told' s tells step = subst (λ (o : Option FrontTold). IsInStep o s) (sym tells.1) (tells.2.accepted ∙ step)
@@ -113,7 +201,7 @@ step-none told told' answer s none is step =
     step-same told told' s (is ∙ ap (λ (handed : Bool). option_map (after_accept handed) told) (none-handed answer none)) step
 
 -- after a wait that answered Ended all was taken
-pub all-taken : (ready : List ℕ) (told told' : Option FrontTold) (s : State) → TellsOn (Waited woke.Ended ready) told told'
+pub all-taken : (ready : List ℕ) (told told' : Option FrontTold) (s : State) → TellsOn (GoesForward woke.Ended ready) told told'
     → IsInStep told s → IfSome told' (λ t. HasAllTaken t × (t.accepted ≡ s.accepted))
 all-taken ready None told' s tells step =
     subst (λ (o : Option FrontTold). IfSome o (λ t. HasAllTaken t × (t.accepted ≡ s.accepted))) (sym tells) tt

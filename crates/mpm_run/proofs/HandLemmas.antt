@@ -12,12 +12,12 @@ use Rattle.conn_machine.specs.declared.event.Event.TheVariants as event
 use Rattle.conn_machine.specs.declared.state.State.{State}
 use Rattle.conn_machine.specs.Lists.{update}
 use Rattle.conn_machine.specs.Rows.{is_held, is_queued, is_working, live_row}
-use Rattle.conn_machine.specs.States.{opening, unused_row}
-use Rattle.conn_machine.specs.Table.{next, after_close, answered_row, closed_row, greatest_life, parked_row, served_row}
+use Rattle.conn_machine.specs.States.{opening_state, unused_row}
+use Rattle.conn_machine.specs.Table.{next, next_close, answered_row, closed_row, greatest_life, parked_row, served_row}
 use Rattle.conn_machine.proofs.UpdateLemmas.{count_cons, count_update_kept, count_update_more}
 use Rattle.conn_state.specs.Conn.{SeenConn}
 use Rattle.board.specs.Finds.{is_in_hand}
-use Rattle.mpm_run.specs.Serve.{IsInHand, IsServed, in_hand_count}
+use Rattle.mpm_run.specs.ServeInside.{IsInHand, IsServed, in_hand_count}
 use Rattle.mpm_run.proofs.ServeLemmas.{alive}
 
 -- ## Counts
@@ -52,7 +52,7 @@ none-alike p x fails (suc n) = rw (count_cons p x (replicate n x), fails) (omega
 -- ## None
 
 -- no connection is in hand where a server opens
-pub opening-hand : (slots children : ℕ) (shape : Shape) (s : State) → s ≡ opening slots children shape → in_hand_count s ≡ 0
+pub opening-hand : (slots children : ℕ) (shape : Shape) (s : State) → s ≡ opening_state slots children shape → in_hand_count s ≡ 0
 opening-hand slots children shape s opened = ap in_hand_count opened ∙ none-alike is_in_hand unused_row refl slots
 
 -- no row is in hand where none was, and no more are
@@ -120,8 +120,8 @@ closed-row r false at = rw at refl
 
 -- nor is one that was closed
 pub hand-closed : (s s' : State) (name named : ConnName) (row : Row) → live_row s.rows name ≡ Some row → (is_held row.place || is_working row.place) ≡ true
-    → named ≡ name → s' ≡ after_close s named → in_hand_count s' < in_hand_count s
+    → named ≡ name → s' ≡ next_close s named → in_hand_count s' < in_hand_count s
 hand-closed s s' name named row found hand same is =
     let lives = alive s.rows name row found in
-    subst (λ (t : State). in_hand_count t < in_hand_count s) (sym (is ∙ ap (after_close s) same))
+    subst (λ (t : State). in_hand_count t < in_hand_count s) (sym (is ∙ ap (next_close s) same))
     (count-less is_in_hand s.rows name.slot row closed_row lives.at (taken-in_hand row.place hand) (closed-row row (row.life == greatest_life) refl))

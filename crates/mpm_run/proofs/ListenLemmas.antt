@@ -22,20 +22,21 @@ use Rattle.conn_machine.specs.declared.state.Going.{Going}
 use Rattle.conn_machine.specs.declared.state.Going.TheVariants.{Serving, Ending, Halted}
 use Rattle.conn_machine.specs.declared.state.State.{State}
 use Rattle.conn_machine.specs.Rows.{is_unused, is_held, is_parked, is_queued, is_working, is_live, is_live_in, is_lingering, live_row}
-use Rattle.conn_machine.specs.Children.{no_child, child_at, is_empty, is_running, is_stopping, running_count, is_in_bounds, within, started_child, retired_child}
+use Rattle.conn_machine.specs.Children.{no_child, child_at, is_empty, is_running, is_stopping, running_count, is_in_bounds, is_between, started_child, retired_child}
 use Rattle.conn_machine.specs.States.{is_halted, is_serving, is_signalled}
-use Rattle.conn_machine.specs.Table.{allowed, next, child_passes, may_retire, may_be_held, held_row, signal_after_hold}
+use Rattle.conn_machine.specs.Table.{is_allowed, next, child_passes, may_retire, may_be_held, held_row, signal_after_hold}
 use Rattle.conn_machine.specs.Sound.{IsSound, is_from_linger}
 use Rattle.conn_machine.proofs.RowLemmas.{held_kind}
 use Rattle.conn_state.specs.Conn.{SeenConn}
 use Rattle.board.specs.Book.{SeenBook}
 use Rattle.board.specs.Board.{SeenBoard}
-use Rattle.board.specs.Events.{added}
-use Rattle.board.specs.Fits.{IsSettledFrom, IsHandedOut}
+use Rattle.board.specs.Events.{with_recorded}
+use Rattle.board.specs.Fits.{IsSettledFrom, IsTakenUp}
 use Rattle.board.specs.Finds.{startable, FindsRow, FindsRetirable, is_waiting, is_in_hand, is_quiet}
-use Rattle.mpm_run.specs.Serve.{IsClosable, Stays, GoesOn, in_hand_count, parked_count, signalled_count}
-use Rattle.mpm_run.specs.Tells.{AllTell}
-use Rattle.mpm_run.specs.Listen.{Keeps, HasNoLive, AllEmpty, NoneParked}
+use Rattle.mpm_run.specs.ServeInside.{IsClosable, Stays, StaysUnlessFull, in_hand_count, parked_count, signalled_count}
+use Rattle.mpm_run.specs.TellsInside.{AllTell}
+use Rattle.mpm_run.specs.Listen.{HasNoLive, AllEmpty}
+use Rattle.mpm_run.specs.ListenInside.{Keeps, NoneParked}
 use Rattle.mpm_run.proofs.ServeLemmas.{alive, test-at, served-row}
 use Rattle.mpm_run.proofs.AnswerLemmas.{live_row-update}
 use Rattle.mpm_run.proofs.HandLemmas.{count-less, hand-more, none-in_hand}
@@ -69,7 +70,7 @@ pub stays-keeps : (a b : SeenBook) → Stays a b → Keeps a b
 stays-keeps a b stays = record { base = stays.base; passes = stays.passes; hand = stays.hand }
 
 -- it goes on, or is stopped for a full history, twice
-pub goes-trans : (a b c : SeenBook) → GoesOn a b → GoesOn b c → GoesOn a c
+pub goes-trans : (a b c : SeenBook) → StaysUnlessFull a b → StaysUnlessFull b c → StaysUnlessFull a c
 goes-trans a b c first second = record {
   base = second.base ∙ first.base;
   passes = second.passes ∙ first.passes;
@@ -91,7 +92,7 @@ pub tell-still : (clients : List (List ℕ)) (b b' : SeenBoard) → b' ≡ b →
 tell-still clients b b' is tells = subst (AllTell clients) (sym is) tells
 
 -- and of one that recorded an event alone
-pub tell-added : (clients : List (List ℕ)) (who : ℕ) (e : Event) (b b' : SeenBoard) → b' ≡ added who e b → AllTell clients b → AllTell clients b'
+pub tell-added : (clients : List (List ℕ)) (who : ℕ) (e : Event) (b b' : SeenBoard) → b' ≡ with_recorded who e b → AllTell clients b → AllTell clients b'
 tell-added clients who e b b' is tells =
     tell-same clients b b' (record { conns = ap (λ (x : SeenBoard). x.conns) is; ended = ap (λ (x : SeenBoard). x.ended) is }) tells
 
@@ -128,13 +129,13 @@ is-startable s k found = startable-by s k (is_serving s.going) (nat_lt (running_
 
 -- fewer children should run than there may be
 target-within : (shape : Shape) → is_in_bounds shape ≡ true → nat_le shape.target shape.children ≡ true
-target-within shape bounds = (and_parts (nat_le 1 shape.target) (nat_le shape.target shape.children) (and_parts _ (within 1 shape.children shape.target) bounds).1).1
+target-within shape bounds = (and_parts (nat_le 1 shape.target) (nat_le shape.target shape.children) (and_parts _ (is_between 1 shape.children shape.target) bounds).1).1
 
 less-within : (n target children : ℕ) → nat_lt n target ≡ true → nat_le target children ≡ true → nat_lt n children ≡ true
 less-within n target children less within = grind (arith, nat_tests)
 
 -- the child may be started
-pub may-start_child : (s : State) (k : ℕ) → IsSound s → startable s ≡ Some k → allowed s (event.StartChild k) ≡ true
+pub may-start_child : (s : State) (k : ℕ) → IsSound s → startable s ≡ Some k → is_allowed s (event.StartChild k) ≡ true
 may-start_child s k sound found =
     let is = is-startable s k found in
     rw (is.serving, is.empty, less-within (running_count s.children) s.shape.target s.shape.children is.few (target-within s.shape sound.children.newest)) refl
@@ -159,7 +160,7 @@ fewer-gone s s' k found is =
     (count-less (λ (c : Child). is_empty c.phase) s.children k child.child (started_child s.newest s.shape) child.at child.passes refl)
 
 -- the server goes on after the start of a child
-pub stays-start_child : (who k : ℕ) (a : SeenBook) (b b' : SeenBoard) → Stays a b.book → b' ≡ added who (event.StartChild k) b → Stays a b'.book
+pub stays-start_child : (who k : ℕ) (a : SeenBook) (b b' : SeenBoard) → Stays a b.book → b' ≡ with_recorded who (event.StartChild k) b → Stays a b'.book
 stays-start_child who k a b b' stays is =
     subst (λ (x : SeenBoard). Stays a x.book) (sym is)
     (record {
@@ -182,7 +183,7 @@ or-true true = refl
 or-true false = refl
 
 -- a connection that waits is held once the server has stopped
-pub may-hold : (s : State) (name : ConnName) → FindsRow is_waiting s (Some name) → is_halted s.going ≡ true → allowed s (event.Hold name) ≡ true
+pub may-hold : (s : State) (name : ConnName) → FindsRow is_waiting s (Some name) → is_halted s.going ≡ true → is_allowed s (event.Hold name) ≡ true
 may-hold s name found halted =
     let live = waits s name found in
     let passes = test-at s.rows name live.row (may_be_held s (is_signalled s name.slot)) live.found in
@@ -202,7 +203,7 @@ signal-after_hold s slot set = (and_parts (is_signalled s slot) _ set).0
 
 -- the server goes on after a hold and the close of what was held
 pub stays-closed : (who : ℕ) (name : ConnName) (a : SeenBook) (b b' : SeenBoard) (c : SeenBook) (conns : List (Option SeenConn)) → Stays a b.book
-    → b' ≡ record (added who (event.Hold name) b) { conns = conns } → Stays b'.book c → in_hand_count c.state < in_hand_count b'.book.state
+    → b' ≡ record (with_recorded who (event.Hold name) b) { conns = conns } → Stays b'.book c → in_hand_count c.state < in_hand_count b'.book.state
     → Stays a c
 stays-closed who name a b b' c conns stays is closed less =
     let kept = signals-kept b.book.state.signals name.slot (signal_after_hold b.book.state name.slot) (signal-after_hold b.book.state name.slot) in
@@ -234,7 +235,7 @@ pub record StaysHeld (r : Row) : Type 0 where
 
 -- so is that of a connection that waited for service until it was held
 pub held-row : (s s' : State) (name : ConnName) (c : SeenConn) → FindsRow is_waiting s (Some name) → s' ≡ next s (event.Hold name) → c.name ≡ name
-    → IsSound s' → (handed : IsHandedOut s' c) → StaysHeld handed.row
+    → IsSound s' → (handed : IsTakenUp s' c) → StaysHeld handed.row
 held-row s s' name c found is named sound handed =
     let live = waits s name found in
     let here = alive s.rows name live.row live.found in
@@ -246,7 +247,7 @@ held-row s s' name c found is named sound handed =
 
 -- a connection that is held may be closed where the server has stopped
 pub closes-held : (s s' : State) (name : ConnName) (c : SeenConn) → FindsRow is_waiting s (Some name) → is_halted s.going ≡ true
-    → s' ≡ next s (event.Hold name) → c.name ≡ name → IsSound s' → IsHandedOut s' c → IsClosable s' cause.Stopped c
+    → s' ≡ next s (event.Hold name) → c.name ≡ name → IsSound s' → IsTakenUp s' c → IsClosable s' cause.Stopped c
 closes-held s s' name c found halted is named sound handed =
     let row = held-row s s' name c found is named sound handed in
     record {
@@ -263,7 +264,7 @@ closes-held s s' name c found halted is named sound handed =
     }
 
 -- the links tell after a connection was taken out
-pub tell-held : (clients : List (List ℕ)) (who slot : ℕ) (name : ConnName) (b b' : SeenBoard) → b' ≡ record (added who (event.Hold name) b) { conns = slice_set b.conns slot None }
+pub tell-held : (clients : List (List ℕ)) (who slot : ℕ) (name : ConnName) (b b' : SeenBoard) → b' ≡ record (with_recorded who (event.Hold name) b) { conns = slice_set b.conns slot None }
     → AllTell clients b → AllTell clients b'
 tell-held clients who slot name b b' is tells =
     tell-set clients b b' slot None (ap (λ (x : SeenBoard). x.conns) is) (ap (λ (x : SeenBoard). x.ended) is) (λ c at. absurd (cc)) tells
@@ -285,7 +286,7 @@ fewer-stopping s s' k may is =
     (count-less (λ (c : Child). is_stopping c.phase) s.children k child.child retired_child child.at child.passes refl)
 
 -- the server stays as it was
-pub stays-retire : (who k : ℕ) (a : SeenBook) (b b' : SeenBoard) → Stays a b.book → b' ≡ added who (event.Retire k) b → Stays a b'.book
+pub stays-retire : (who k : ℕ) (a : SeenBook) (b b' : SeenBoard) → Stays a b.book → b' ≡ with_recorded who (event.Retire k) b → Stays a b'.book
 stays-retire who k a b b' stays is =
     subst (λ (x : SeenBoard). Stays a x.book) (sym is)
     (record {

@@ -13,7 +13,7 @@ use Rattle.conn_machine.specs.declared.event.Event.TheVariants as event
 use Rattle.conn_machine.specs.declared.event.Entry.{Entry}
 use Rattle.conn_machine.specs.declared.state.State.{State}
 use Rattle.conn_machine.specs.Rows.{is_live}
-use Rattle.conn_machine.specs.States.{opening, unused_row}
+use Rattle.conn_machine.specs.States.{opening_state, unused_row}
 use Rattle.conn_machine.specs.Table.{next}
 use Rattle.conn_machine.specs.Runs.{Run, after, IsHistory}
 use Rattle.conn_machine.specs.Sound.{IsSound}
@@ -22,14 +22,15 @@ use Rattle.conn_machine.specs.Laws.{StaysSound}
 use Rattle.conn_state.specs.Conn.{SeenConn}
 use Rattle.conn_state.specs.Answered.{SeenEnded, IsAnswered, IsEnded}
 use Rattle.board.specs.Book.{StopsWhereFull, TellsFullStop}
-use Rattle.board.specs.Board.{SeenBoard, Agrees, AreHome, IsHome, AreClosed, AreEnded, Closes, conn_at}
-use Rattle.mpm_run.specs.Tells.{TellsFrom, EndedTell, AllTell, Receives, AllReceive}
+use Rattle.board.specs.Board.{SeenBoard, Agrees, AreHome, IsHome, AreClosed, AreEnded, ClosesFirst, conn_at}
+use Rattle.mpm_run.specs.Tells.{Receives, AllReceive}
+use Rattle.mpm_run.specs.TellsInside.{TellsFrom, EndedTell, AllTell}
 use Rattle.mpm_run.specs.Listen.{HasClosedAll, HasNoLive, IsClosedDown, IsRunFrom}
 
 -- ## The history
 
 -- the history of a board that opened so is a run from there, each state of which is sound
-pub run-from : (slots children : ℕ) (shape : Shape) (b : SeenBoard) → b.book.base ≡ opening slots children shape
+pub run-from : (slots children : ℕ) (shape : Shape) (b : SeenBoard) → b.book.base ≡ opening_state slots children shape
     → ((s : State) (history : List Entry) → IsSound s → Run s history → StaysSound s history)
     → IsHistory b.book.base b.book.history → after b.book.base b.book.history ≡ b.book.state → IsSound b.book.base
     → StopsWhereFull b.book.history → TellsFullStop b.book.state.going b.book.history → Agrees b → IsRunFrom slots children shape b
@@ -46,7 +47,7 @@ run-from slots children shape b opened law is_history state sound stops full agr
 -- ## The connections that were taken
 
 -- an event that closes a connection counts one
-closes-count : (s : State) (e : Event) (Others : List SeenEnded → Type 0) (ended : List SeenEnded) (n : ℕ) → Closes s e Others ended
+closes-count : (s : State) (e : Event) (Others : List SeenEnded → Type 0) (ended : List SeenEnded) (n : ℕ) → ClosesFirst s e Others ended
     → ((more : List SeenEnded) → Others more → length more ≡ n) → length ended ≡ cond (is_close e) 1 0 + n
 closes-count s (event.Close name why how) Others [] n closes rest = absurd closes
 closes-count s (event.Close name why how) Others (e ∷ ended) n closes rest = omega (arith, rest ended closes.1)
@@ -84,7 +85,7 @@ none-counted (r ∷ rows) none = none-cons r rows (is_live r) refl none (none-co
 
 -- where no connection is live each that was taken ended
 pub closed-all : (slots children : ℕ) (shape : Shape) (b : SeenBoard) → IsRunFrom slots children shape b
-    → count_events is_accept b.book.history ≡ count_events is_close b.book.history + count_by is_live (after (opening slots children shape) b.book.history).rows
+    → count_events is_accept b.book.history ≡ count_events is_close b.book.history + count_by is_live (after (opening_state slots children shape) b.book.history).rows
     → IsClosedDown b.book.state → HasClosedAll b
 closed-all slots children shape b run closed_or_live down = record {
   down = down;
@@ -92,7 +93,7 @@ closed-all slots children shape b run closed_or_live down = record {
       omega (
         arith,
         closed_or_live,
-        none-counted (after (opening slots children shape) b.book.history).rows (subst HasNoLive (sym run.state) down.live),
+        none-counted (after (opening_state slots children shape) b.book.history).rows (subst HasNoLive (sym run.state) down.live),
         closed-count b.book.base b.book.history b.ended run.agrees.closed,
       );
 }
@@ -138,7 +139,7 @@ opening-empty n slot conns c home at =
     (subst (IsHome slot unused_row) at (home.homes slot unused_row row)).here
 
 -- so its links tell of any clients
-pub opening-tells : (clients : List (List ℕ)) (slots children : ℕ) (shape : Shape) (b : SeenBoard) → Agrees b → b.book.state ≡ opening slots children shape → b.ended ≡ []
+pub opening-tells : (clients : List (List ℕ)) (slots children : ℕ) (shape : Shape) (b : SeenBoard) → Agrees b → b.book.state ≡ opening_state slots children shape → b.ended ≡ []
     → AllTell clients b
 opening-tells clients slots children shape b agrees opened none = record {
   conns = λ slot c at.

@@ -18,9 +18,9 @@ use Rattle.conn_machine.specs.declared.row.Place.TheVariants.{Vacant, Spent, Hel
 use Rattle.conn_machine.specs.declared.row.Row.{Row}
 use Rattle.conn_machine.specs.declared.event.Event.TheVariants as event
 use Rattle.conn_machine.specs.declared.state.State.{State}
-use Rattle.conn_machine.specs.Rows.{is_held, is_working, is_live, is_lingering, is_named, has_note, row_where, live_row, lives_and}
+use Rattle.conn_machine.specs.Rows.{is_held, is_working, is_live, is_lingering, is_live_as, has_note, row_where, live_row, lives_and}
 use Rattle.conn_machine.specs.States.{is_halted}
-use Rattle.conn_machine.specs.Table.{allowed, may_wait, direct_cause_fits}
+use Rattle.conn_machine.specs.Table.{is_allowed, may_wait, direct_cause_fits}
 use Rattle.conn_machine.specs.Sound.{IsSound}
 use Rattle.conn_machine.proofs.RowLemmas.{IsSoundRow, sound_row, served_by, in_service}
 use Rattle.conn_state.specs.declared.turn.LastTurn.{LastTurn}
@@ -33,7 +33,7 @@ use Rattle.conn_state.specs.Conn.{SeenConn, is_usable, TurnFits, IsConn}
 use Rattle.conn_state.specs.Answered.{IsShown}
 use Rattle.conn_state.specs.Turns.{WritesOn, ReadsOn, after_writing, after_reading}
 use Rattle.board.specs.Fits.{Fits, WaitsAs, NotesEnd}
-use Rattle.mpm_run.specs.Serve.{IsInHand, IsServed, IsClosable, KeepsNoted}
+use Rattle.mpm_run.specs.ServeInside.{IsInHand, IsServed, IsClosable, KeepsNoted}
 
 -- ## The row of a name
 
@@ -44,7 +44,7 @@ pub record IsAlive (rows : List Row) (name : ConnName) (row : Row) : Type 0 wher
   pub life : (row.life == name.life) ≡ true
 
 -- a row that was read and passes the test of the name
-named-alive : (rows : List Row) (name : ConnName) (r row : Row) (b : Bool) → slice_get rows name.slot ≡ Some r → is_named name r ≡ b
+named-alive : (rows : List Row) (name : ConnName) (r row : Row) (b : Bool) → slice_get rows name.slot ≡ Some r → is_live_as name r ≡ b
     → cond b (Some r) None ≡ Some row → IsAlive rows name row
 named-alive rows name r row true at named is =
     let same : r ≡ row = cc in
@@ -53,9 +53,9 @@ named-alive rows name r row true at named is =
 named-alive rows name r row false at named is = absurd (cc)
 
 found-alive : (rows : List Row) (name : ConnName) (row : Row) (o : Option Row) → slice_get rows name.slot ≡ o
-    → row_where (is_named name) o ≡ Some row → IsAlive rows name row
+    → row_where (is_live_as name) o ≡ Some row → IsAlive rows name row
 found-alive rows name row None at is = absurd (cc)
-found-alive rows name row (Some r) at is = named-alive rows name r row (is_named name r) at refl is
+found-alive rows name row (Some r) at is = named-alive rows name r row (is_live_as name r) at refl is
 
 -- the row of a connection that lives
 pub alive : (rows : List Row) (name : ConnName) (row : Row) → live_row rows name ≡ Some row → IsAlive rows name row
@@ -250,7 +250,7 @@ may-wait s ShortLinger c sound is served waits noted = absurd waits
 
 -- a connection that is served may wait so
 pub may-park : (s : State) (kind : Kind) (c : SeenConn) → IsSound s → IsConn c → IsServed s c → WaitsAs kind c → KeepsNoted kind c
-    → is_halted s.going ≡ false → allowed s (event.Park c.name kind) ≡ true
+    → is_halted s.going ≡ false → is_allowed s (event.Park c.name kind) ≡ true
 may-park s kind c sound is served waits noted going =
     let passes = test-at s.rows c.name served.row (may_wait s.moment kind) served.found ∙ may-wait s kind c sound is served waits noted in
     rw (going, passes) refl

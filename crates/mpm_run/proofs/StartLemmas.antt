@@ -9,14 +9,14 @@ use Rattle.conn_machine.specs.declared.event.Event.TheVariants as event
 use Rattle.conn_machine.specs.declared.state.State.{State}
 use Rattle.conn_machine.specs.Rows.{is_queued, is_working, live_row, lives_and}
 use Rattle.conn_machine.specs.States.{is_halted, is_signalled}
-use Rattle.conn_machine.specs.Table.{allowed, next, may_be_queued, queued_row, served_row}
+use Rattle.conn_machine.specs.Table.{is_allowed, next, may_be_queued, queued_row, served_row}
 use Rattle.conn_state.specs.Conn.{SeenConn, is_usable}
 use Rattle.board.specs.Book.{SeenBook}
 use Rattle.board.specs.Board.{SeenBoard, conn_at}
-use Rattle.board.specs.Events.{added}
-use Rattle.board.specs.Fits.{WaitsAs, IsSettledFrom, IsHandedOut}
-use Rattle.mpm_run.specs.Serve.{IsServed, Stays, GoesOn, in_hand_count, signalled_count}
-use Rattle.mpm_run.specs.Tells.{TellsFrom, AllTell}
+use Rattle.board.specs.Events.{with_recorded}
+use Rattle.board.specs.Fits.{WaitsAs, IsSettledFrom, IsTakenUp}
+use Rattle.mpm_run.specs.ServeInside.{IsServed, Stays, StaysUnlessFull, in_hand_count, signalled_count}
+use Rattle.mpm_run.specs.TellsInside.{TellsFrom, AllTell}
 use Rattle.mpm_run.proofs.ServeLemmas.{alive, test-at}
 use Rattle.mpm_run.proofs.AnswerLemmas.{live_row-update}
 use Rattle.mpm_run.proofs.HandLemmas.{hand-more, hand-started}
@@ -45,7 +45,7 @@ pub record MayQueue (s : State) (name : ConnName) : Type 0 where
   pub signalled : is_signalled s name.slot ≡ true
   pub lives : Lives (may_be_queued s) s.rows name
 
-pub may-queue : (s : State) (name : ConnName) → allowed s (event.Queue name) ≡ true → MayQueue s name
+pub may-queue : (s : State) (name : ConnName) → is_allowed s (event.Queue name) ≡ true → MayQueue s name
 may-queue s name may =
     let parts = and_parts (not (is_halted s.going) && is_signalled s name.slot) (lives_and (may_be_queued s) s.rows name) may in
     record {
@@ -61,8 +61,8 @@ queued-found s name row found =
     live_row-update s.rows name row queued_row is.at is.life
 
 -- a connection that was queued may be started
-pub may-start : (s s1 : State) (name : ConnName) → allowed s (event.Queue name) ≡ true → s1 ≡ next s (event.Queue name)
-    → allowed s1 (event.Start name) ≡ true
+pub may-start : (s s1 : State) (name : ConnName) → is_allowed s (event.Queue name) ≡ true → s1 ≡ next s (event.Queue name)
+    → is_allowed s1 (event.Start name) ≡ true
 may-start s s1 name may queued =
     let live = (may-queue s name may).lives in
     rw queued (test-at (next s (event.Queue name)).rows name (queued_row live.row) (λ (r : Row). is_queued r.place) (queued-found s name live.row live.found))
@@ -82,8 +82,8 @@ settled-usable None c settled = absurd settled
 settled-usable (Some kind) c settled = waits-usable kind c settled.waits
 
 -- the connection that was queued and started is served
-pub served-started : (s s1 s2 : State) (c : SeenConn) (name : ConnName) → allowed s (event.Queue name) ≡ true → s1 ≡ next s (event.Queue name)
-    → s2 ≡ next s1 (event.Start name) → c.name ≡ name → IsHandedOut s2 c → IsServed s2 c
+pub served-started : (s s1 s2 : State) (c : SeenConn) (name : ConnName) → is_allowed s (event.Queue name) ≡ true → s1 ≡ next s (event.Queue name)
+    → s2 ≡ next s1 (event.Start name) → c.name ≡ name → IsTakenUp s2 c → IsServed s2 c
 served-started s s1 s2 c name may queued started named handed =
     let live = (may-queue s name may).lives in
     let found1 : live_row s1.rows name ≡ Some (queued_row live.row) = rw queued (queued-found s name live.row live.found) in
@@ -111,7 +111,7 @@ signals-fewer (x ∷ signals) (suc slot) set =
     rw (count-signal x (slice_set signals slot false), count-signal x signals) (omega (arith, signals-fewer signals slot set))
 
 -- fewer signals are set once a connection was queued
-pub fewer-queued : (s s1 : State) (name : ConnName) → allowed s (event.Queue name) ≡ true → s1 ≡ next s (event.Queue name)
+pub fewer-queued : (s s1 : State) (name : ConnName) → is_allowed s (event.Queue name) ≡ true → s1 ≡ next s (event.Queue name)
     → signalled_count s1 < signalled_count s
 fewer-queued s s1 name may queued =
     subst (λ (t : State). signalled_count t < signalled_count s) (sym queued) (signals-fewer s.signals name.slot (may-queue s name may).signalled)
@@ -128,8 +128,8 @@ pub record Starts (old new : SeenBook) : Type 0 where
   pub going : new.state.going ≡ old.state.going
 
 -- so it does after a connection was queued and started
-pub starts : (who : ℕ) (name : ConnName) (b b1 b2 : SeenBoard) (conns : List (Option SeenConn)) → allowed b.book.state (event.Queue name) ≡ true
-    → b1 ≡ added who (event.Queue name) b → b2 ≡ record (added who (event.Start name) b1) { conns = conns } → Starts b.book b2.book
+pub starts : (who : ℕ) (name : ConnName) (b b1 b2 : SeenBoard) (conns : List (Option SeenConn)) → is_allowed b.book.state (event.Queue name) ≡ true
+    → b1 ≡ with_recorded who (event.Queue name) b → b2 ≡ record (with_recorded who (event.Start name) b1) { conns = conns } → Starts b.book b2.book
 starts who name b b1 b2 conns may queued started =
     let live = (may-queue b.book.state name may).lives in
     let at : b1.book.state ≡ next b.book.state (event.Queue name) = ap (λ (x : SeenBoard). x.book.state) queued in
@@ -148,7 +148,7 @@ starts who name b b1 b2 conns may queued started =
     }
 
 -- what goes on from there, and has one less in hand at the end, goes on from the server that it was
-pub starts-goes : (a b c d : SeenBook) → Starts a b → Stays b c → GoesOn c d → in_hand_count d.state < in_hand_count c.state → GoesOn a d
+pub starts-goes : (a b c d : SeenBook) → Starts a b → Stays b c → StaysUnlessFull c d → in_hand_count d.state < in_hand_count c.state → StaysUnlessFull a d
 starts-goes a b c d first stays goes less = record {
   base = goes.base ∙ stays.base ∙ first.base;
   passes = goes.passes ∙ stays.passes ∙ first.passes;
@@ -163,8 +163,8 @@ starts-goes a b c d first stays goes less = record {
 }
 
 -- fewer signals are set after a connection was served
-pub fewer-served : (s s1 s2 : State) (a b c : SeenBook) (name : ConnName) → allowed s (event.Queue name) ≡ true → s1 ≡ next s (event.Queue name)
-    → s2 ≡ next s1 (event.Start name) → a.state ≡ s2 → Stays a b → GoesOn b c → signalled_count c.state < signalled_count s
+pub fewer-served : (s s1 s2 : State) (a b c : SeenBook) (name : ConnName) → is_allowed s (event.Queue name) ≡ true → s1 ≡ next s (event.Queue name)
+    → s2 ≡ next s1 (event.Start name) → a.state ≡ s2 → Stays a b → StaysUnlessFull b c → signalled_count c.state < signalled_count s
 fewer-served s s1 s2 a b c name may queued started at stays goes =
     let less = fewer-queued s s1 name may queued in
     let same : signalled_count s2 ≡ signalled_count s1 = ap signalled_count started in
@@ -178,8 +178,8 @@ pub record StartTells (clients : List (List ℕ)) (b : SeenBoard) (c : SeenConn)
   pub others : AllTell clients b
   pub own : TellsFrom clients c.told
 
-pub start-tells : (clients : List (List ℕ)) (who slot : ℕ) (name : ConnName) (b b1 b2 : SeenBoard) (c : SeenConn) → b1 ≡ added who (event.Queue name) b
-    → b2 ≡ record (added who (event.Start name) b1) { conns = slice_set b1.conns slot None } → conn_at b1.conns slot ≡ Some c
+pub start-tells : (clients : List (List ℕ)) (who slot : ℕ) (name : ConnName) (b b1 b2 : SeenBoard) (c : SeenConn) → b1 ≡ with_recorded who (event.Queue name) b
+    → b2 ≡ record (with_recorded who (event.Start name) b1) { conns = slice_set b1.conns slot None } → conn_at b1.conns slot ≡ Some c
     → AllTell clients b → StartTells clients b2 c
 start-tells clients who slot name b b1 b2 c queued started at tells =
     let tells1 = tell-same clients b b1 (record { conns = ap (λ (x : SeenBoard). x.conns) queued; ended = ap (λ (x : SeenBoard). x.ended) queued }) tells in

@@ -15,8 +15,8 @@ use Rattle.conn_machine.specs.States.{is_halted, is_signalled}
 use Rattle.board.specs.declared.faults.BoardFault.{BoardFault}
 use Rattle.board.specs.declared.faults.BoardFault.TheVariants as fault
 use Rattle.board.specs.Book.{SeenBook}
-use Rattle.mpm_run.specs.Serve.{given_up}
-use Rattle.mpm_run.specs.Listen.{TookAll}
+use Rattle.mpm_run.specs.ServeInside.{after_give_up}
+use Rattle.mpm_run.specs.ListenInside.{TookAll}
 use Rattle.mpm_run.proofs.FrontLemmas.{rises-after}
 
 -- ## Signals
@@ -72,7 +72,7 @@ still-serving before after (inr full) serving running =
 -- ## The moment
 
 -- no time passes where a connection is given up
-pub given_up-moment : (fault : BoardFault) (who : ℕ) (name : ConnName) (b : SeenBook) → (given_up fault who name b).state.moment ≡ b.state.moment
-given_up-moment fault.Halted who name b = refl
-given_up-moment fault.Full who name b = refl
-given_up-moment fault.NoMemory who name b = refl
+pub after_give_up-moment : (fault : BoardFault) (who : ℕ) (name : ConnName) (b : SeenBook) → (after_give_up fault who name b).state.moment ≡ b.state.moment
+after_give_up-moment fault.Halted who name b = refl
+after_give_up-moment fault.Full who name b = refl
+after_give_up-moment fault.NoMemory who name b = refl

@@ -12,12 +12,12 @@ use Rattle.conn_machine.specs.Lists.{update}
 use Rattle.conn_machine.specs.Rows.{is_vacant, row_passes, live_row}
 use Rattle.conn_machine.specs.Children.{child_at}
 use Rattle.conn_machine.specs.States.{is_serving, pick_child}
-use Rattle.conn_machine.specs.Table.{allowed, next, is_vacant_at, picked_child, taken_row, life_at}
+use Rattle.conn_machine.specs.Table.{is_allowed, next, is_vacant_at, picked_child, taken_row, life_at}
 use Rattle.conn_machine.specs.Runs.{Run, after, IsHistory}
-use Rattle.board.specs.Book.{SeenBook, recorded}
+use Rattle.board.specs.Book.{SeenBook, book_with_entry}
 use Rattle.board.specs.Events.{IsTaken}
 use Rattle.board.specs.Finds.{acceptable}
-use Rattle.mpm_run.specs.Listen.{HasTaken}
+use Rattle.mpm_run.specs.ListenInside.{HasTaken}
 use Rattle.mpm_run.proofs.AnswerLemmas.{live_row-update}
 
 -- ## Where a connection is taken
@@ -58,16 +58,16 @@ takes-slot s o is some none =
 -- ## The connection that was taken
 
 -- the last entry of a run was allowed where it stands
-last-allowed : (s : State) (history : List Entry) (e : Entry) → Run s (history ++ e ∷ []) → allowed (after s history) e.event ≡ true
+last-allowed : (s : State) (history : List Entry) (e : Entry) → Run s (history ++ e ∷ []) → is_allowed (after s history) e.event ≡ true
 last-allowed s [] e run = run.0
 last-allowed s (x ∷ history) e run = last-allowed (next s x.event) history e run.2
 
 -- the accept was allowed
 pub accept-allowed : (who slot : ℕ) (b b' : SeenBook) → after b.base b.history ≡ b.state → IsHistory b'.base b'.history
-    → b' ≡ recorded who (event.Accept slot) b → allowed b.state (event.Accept slot) ≡ true
+    → b' ≡ book_with_entry who (event.Accept slot) b → is_allowed b.state (event.Accept slot) ≡ true
 accept-allowed who slot b b' state is_history is =
     let here = subst (λ (x : SeenBook). IsHistory x.base x.history) is is_history in
-    subst (λ (s : State). allowed s (event.Accept slot) ≡ true) state (last-allowed b.base b.history _ here.run)
+    subst (λ (s : State). is_allowed s (event.Accept slot) ≡ true) state (last-allowed b.base b.history _ here.run)
 
 -- the row of a slot that passes a test
 slot-row : (test : Row → Bool) (o : Option Row) → option_map_or test o false ≡ true → (r : Row) × (o ≡ Some r)
@@ -97,7 +97,7 @@ taken-of s slot name child generation r at slot_is taken =
     }
 
 -- what was taken is held
-pub has-taken : (s s' : State) (name : ConnName) (child generation : ℕ) → allowed s (event.Accept name.slot) ≡ true
+pub has-taken : (s s' : State) (name : ConnName) (child generation : ℕ) → is_allowed s (event.Accept name.slot) ≡ true
     → s' ≡ next s (event.Accept name.slot) → IsTaken s name child generation → HasTaken s' name child generation s.accepted
 has-taken s s' name child generation may is taken =
     let both = and_parts (is_serving s.going && is_vacant_at s name.slot) (is_some (pick_child s)) may in

@@ -7,7 +7,7 @@ use Rattle.conn_state.specs.Conn.{SeenConn}
 use Rattle.conn_state.specs.Turns.{with_sent}
 use Rattle.conn_state.specs.Answered.{SeenEnded}
 use Rattle.board.specs.Board.{SeenBoard, conn_at}
-use Rattle.mpm_run.specs.Tells.{TellsFrom, ConnsTell, EndedTell, AllTell, HasSame}
+use Rattle.mpm_run.specs.TellsInside.{TellsFrom, ConnsTell, EndedTell, AllTell, HasSame}
 
 -- a change that keeps what was received and what comes, and the rank
 tells-changed : (clients : List (List ℕ)) (told told' : Option LinkTold) (change : LinkTold → LinkTold)

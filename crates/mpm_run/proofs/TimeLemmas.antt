@@ -9,14 +9,15 @@ use Rattle.conn_machine.specs.declared.row.Row.{Row}
 use Rattle.conn_machine.specs.declared.event.Event.TheVariants as event
 use Rattle.conn_machine.specs.declared.state.State.{State}
 use Rattle.conn_machine.specs.Rows.{is_parked}
-use Rattle.conn_machine.specs.States.{greatest_moment, is_halted, is_overdue, is_signalled}
-use Rattle.conn_machine.specs.Table.{allowed, next, may_be_held}
+use Rattle.conn_machine.specs.States.{is_halted, is_overdue, is_signalled}
+use Rattle.mpm_base.specs.Moment.{greatest_moment}
+use Rattle.conn_machine.specs.Table.{is_allowed, next, may_be_held}
 use Rattle.conn_machine.specs.Sound.{IsSound}
 use Rattle.conn_state.specs.Conn.{SeenConn}
-use Rattle.board.specs.Fits.{IsHandedOut}
+use Rattle.board.specs.Fits.{IsTakenUp}
 use Rattle.board.specs.Finds.{FindsRow, is_late, is_waiting}
-use Rattle.mpm_run.specs.Serve.{IsClosable}
-use Rattle.mpm_run.specs.Listen.{NoneOverdue}
+use Rattle.mpm_run.specs.ServeInside.{IsClosable}
+use Rattle.mpm_run.specs.ListenInside.{NoneOverdue}
 use Rattle.mpm_run.proofs.ServeLemmas.{test-at}
 use Rattle.mpm_run.proofs.StartLemmas.{Lives, lives}
 use Rattle.mpm_run.proofs.ListenLemmas.{held-row}
@@ -36,7 +37,7 @@ late-waits s name found =
     test-at s.rows name live.row (λ (r : Row). is_parked r.place) live.found ∙ (late-parts s.moment live.row live.passes).0
 
 -- so it may be held
-pub may-hold_late : (s : State) (name : ConnName) → FindsRow (is_late s) s (Some name) → allowed s (event.Hold name) ≡ true
+pub may-hold_late : (s : State) (name : ConnName) → FindsRow (is_late s) s (Some name) → is_allowed s (event.Hold name) ≡ true
 may-hold_late s name found =
     let live = late-row s name found in
     let parts = late-parts s.moment live.row live.passes in
@@ -44,7 +45,7 @@ may-hold_late s name found =
 
 -- and then closed for want of memory
 pub closes-late : (s s' : State) (name : ConnName) (c : SeenConn) → FindsRow (is_late s) s (Some name) → s' ≡ next s (event.Hold name) → c.name ≡ name
-    → IsSound s' → IsHandedOut s' c → IsClosable s' cause.NoMemory c
+    → IsSound s' → IsTakenUp s' c → IsClosable s' cause.NoMemory c
 closes-late s s' name c found is named sound handed =
     let row = held-row s s' name c (late-waits s name found) is named sound handed in
     record {
@@ -72,7 +73,7 @@ pub none-late : (s : State) → FindsRow (is_late s) s None → NoneOverdue s
 none-late s found = none-any (is_overdue s.moment) s.rows found
 
 -- then time may pass
-pub may-tick : (s : State) (m : ℕ) → is_halted s.going ≡ false → NoneOverdue s → s.moment < m → m ≤ greatest_moment → allowed s (event.Tick m) ≡ true
+pub may-tick : (s : State) (m : ℕ) → is_halted s.going ≡ false → NoneOverdue s → s.moment < m → m ≤ greatest_moment → is_allowed s (event.Tick m) ≡ true
 may-tick s m going none later within =
     let after : nat_lt s.moment m ≡ true = grind (arith, nat_tests) in
     let before : nat_le m greatest_moment ≡ true = grind (arith, nat_tests) in

@@ -1,7 +1,10 @@
+pub mod ExitStatuses
+pub mod ExitStatusesInside
 pub mod FirstShape
 pub mod Listen
+pub mod ListenInside
 pub mod Report
-pub mod Serve
-pub mod Statuses
+pub mod ServeInside
 pub mod Tells
+pub mod TellsInside
 pub mod Texts

@@ -1,87 +1,18 @@
 -- What the listener keeps, and how a run ends.
-use Rattle.std.specs.Prelude.{◌≡◌, ◌⊎◌, ◌↔◌, ℕ, ◌<◌, ◌≤◌, Bool, true, false, List, [], length, Option, None, Some, IfSome, slice_get, slice_index}
+use Rattle.std.specs.Prelude.{◌≡◌, ℕ, true, false, length}
 use Rattle.std.specs.List.{list_any}
-use Rattle.mpm_base.specs.Count.{NeverFalls, Rises}
-use Rattle.mpm_base.specs.Front.{FrontTold, FrontCounts, HasAllTaken}
-use Rattle.mpm_base.specs.Link.{LinkTold}
-use Rattle.mpm_base.specs.declared.script_line.ScriptLine.{ScriptLine}
-use Rattle.mpm_base.specs.declared.conn.ConnName.{ConnName}
 use Rattle.mpm_base.specs.declared.shape.Shape.{Shape}
-use Rattle.conn_machine.specs.declared.row.Row.{Row}
 use Rattle.conn_machine.specs.declared.event.Why.TheVariants as why
-use Rattle.conn_machine.specs.declared.state.Going.{Going}
-use Rattle.conn_machine.specs.declared.state.Going.TheVariants.{Serving, Halted}
+use Rattle.conn_machine.specs.declared.state.Going.TheVariants.{Halted}
 use Rattle.conn_machine.specs.declared.state.State.{State}
-use Rattle.conn_machine.specs.Rows.{is_held, is_live, is_lingering, is_parked, live_row}
+use Rattle.conn_machine.specs.Rows.{is_live}
 use Rattle.conn_machine.specs.Children.{child_at, is_empty}
-use Rattle.conn_machine.specs.States.{is_halted, is_overdue, is_signalled, opening}
-use Rattle.conn_machine.specs.Table.{may_retire}
+use Rattle.conn_machine.specs.States.{opening_state}
 use Rattle.conn_machine.specs.Events.{count_events, is_accept}
 use Rattle.conn_machine.specs.Runs.{after, IsHistory}
 use Rattle.conn_machine.specs.Laws.{StaysSound}
-use Rattle.board.specs.declared.faults.BoardFault.{BoardFault}
-use Rattle.board.specs.declared.faults.BoardFault.TheVariants as fault
-use Rattle.board.specs.Book.{SeenBook, StopsWhereFull, TellsFullStop}
+use Rattle.board.specs.Book.{StopsWhereFull, TellsFullStop}
 use Rattle.board.specs.Board.{SeenBoard, Agrees}
-use Rattle.board.specs.Faults.{IsFull}
-use Rattle.board.specs.Finds.{acceptable, is_due, is_quiet, startable}
-use Rattle.mpm_run.specs.Serve.{in_hand_count}
-use Rattle.mpm_run.specs.declared.listen.End.{End}
-use Rattle.mpm_run.specs.declared.listen.End.TheVariants as end
-
--- ## What the listener keeps
-
--- the server is still the one that opened, with no more connections in hand than before
-pub record Keeps (old new : SeenBook) : Type 0 where
-  pub base : new.base ≡ old.base
-  pub passes : new.passes ≡ old.passes
-  pub hand : in_hand_count new.state ≤ in_hand_count old.state
-
--- what is seen of a front: the script that it was made of, what it tells, and its counts
-pub record SeenOutside : Type 0 where
-  pub script : Option (List ScriptLine)
-  pub told : Option FrontTold
-  pub counts : FrontCounts
-
-abbrev pub outside : Option (List ScriptLine) → Option FrontTold → FrontCounts → SeenOutside
-outside script told counts = record { script = script; told = told; counts = counts }
-
--- the front tells, and its clients are these
-abbrev pub HasClients : List (List ℕ) → Option FrontTold → Type 0
-HasClients clients told = (t : FrontTold) × (told ≡ Some t) × (t.clients ≡ clients)
-
--- the front is still the one that it was
-pub record Follows (old new : SeenOutside) : Type 0 where
-  pub script : new.script ≡ old.script
-  pub clients : (clients : List (List ℕ)) → HasClients clients old.told → HasClients clients new.told
-  pub faults : NeverFalls old.counts.faults new.counts.faults
-  pub ends : NeverFalls old.counts.ends new.counts.ends
-
--- the front, where it tells, handed out as many links as the table took connections
-abbrev pub IsInStep : Option FrontTold → State → Type 0
-IsInStep told s = IfSome told (λ t. t.accepted ≡ s.accepted)
-
--- each link of the type tells
-pub record LinksTell {L : Type 0} (told : L → Option LinkTold) : Type 0 where
-  pub each : (link : L) → (t : LinkTold) × (told link ≡ Some t)
-
--- the server has to be stopped for the fault, or was
-abbrev pub MustStop : BoardFault → SeenBook → Type 0
-MustStop fault.Halted b = b.state.going ≡ Halted why.Full
-MustStop fault.Full b = IsFull b ⊎ (b.state.going ≡ Halted why.Full)
-MustStop fault.NoMemory b = is_halted b.state.going ≡ false
-
--- the listener holds the connection of that name, child, generation and arrival, which it has just taken
-pub record HasTaken (s : State) (name : ConnName) (child generation arrival : ℕ) : Type 0 where
-  pub row : Row
-  pub found : live_row s.rows name ≡ Some row
-  pub held : is_held row.place ≡ true
-  pub fresh : row.from ≡ None
-  pub serves : is_lingering row ≡ false
-  pub child_is : row.child ≡ child
-  pub generation_is : row.generation ≡ generation
-  pub arrival_is : row.arrival ≡ arrival
-  pub notes : row.notes ≡ []
 
 -- ## How a run ends
 
@@ -93,83 +24,10 @@ HasNoLive s = list_any is_live s.rows ≡ false
 abbrev pub AllEmpty : State → Type 0
 AllEmpty s = (k : ℕ) → is_empty (child_at s.children k).phase ≡ true
 
--- a wait of the front answered Ended, so that one which tells has handed all out, and the table took them
-pub record HasTakenAll (old new : SeenOutside) (s : State) : Type 0 where
-  pub answered : Rises old.counts.ends new.counts.ends
-  pub taken : IfSome new.told (λ t. HasAllTaken t × (t.accepted ≡ s.accepted))
-
--- nothing more can come, and no connection is live
-pub record IsOver (old new : SeenOutside) (s : State) : Type 0 where
-  pub going : s.going ≡ Serving
-  pub live : HasNoLive s
-  pub all : HasTakenAll old new s
-
 -- no connection is live, and each child is gone
 pub record IsClosedDown (s : State) : Type 0 where
   pub live : HasNoLive s
   pub empty : AllEmpty s
-
--- the server stopped because nothing more could come
-pub record HasEnded (old new : SeenOutside) (s : State) : Type 0 where
-  pub going : s.going ≡ Halted why.FrontEnded
-  pub all : HasTakenAll old new s
-
--- the server stopped because a wait of the front failed
-pub record HasFailed (old new : SeenOutside) (s : State) : Type 0 where
-  pub going : s.going ≡ Halted why.FrontFailed
-  pub failed : Rises old.counts.faults new.counts.faults
-
--- how the listener's turns end
-abbrev pub EndsAs : End → SeenOutside → SeenOutside → State → Type 0
-EndsAs end.Ended old new s = IsOver old new s
-EndsAs end.Failed old new s = (s.going ≡ Serving) × Rises old.counts.faults new.counts.faults
-
--- ## Between turns
-
--- no connection is late
-abbrev pub NoneOverdue : State → Type 0
-NoneOverdue s = list_any (is_overdue s.moment) s.rows ≡ false
-
--- no connection waits
-abbrev pub NoneParked : State → Type 0
-NoneParked s = (slot : ℕ) (r : Row) → slice_get s.rows slot ≡ Some r → is_parked r.place ≡ false
-
--- no connection has to be served, for which a worker is free
-abbrev pub NoneDue : State → Type 0
-NoneDue s = (slot : ℕ) (r : Row) → slice_get s.rows slot ≡ Some r → is_due s slot r ≡ false
-
--- each of the slots that the table has is signalled
-abbrev pub AreSignalled : List ℕ → State → Type 0
-AreSignalled slots s = (i : ℕ) → i < length slots → slice_index slots i < length s.rows → is_signalled s (slice_index slots i) ≡ true
-
--- no further connection is taken: none could be, none of a front that tells has arrived, or an accept of it failed
-abbrev pub TookAll : Option FrontTold → FrontCounts → FrontCounts → State → Type 0
-TookAll told counts counts' s =
-    (acceptable s ≡ None) ⊎ IfSome told (λ t. t.accepted ≡ t.arrived) ⊎ Rises counts.accept_faults counts'.accept_faults
-
--- the next wait may let time pass: no connection is in hand or has to be served, and no child waits to be started or let go of
-pub record IsAtRest (s : State) : Type 0 where
-  pub quiet : is_quiet s ≡ true
-  pub served : NoneDue s
-  pub kept : (k : ℕ) → may_retire s k ≡ false
-  pub started : startable s ≡ None
-
-abbrev pub IsRestful : Bool → State → Type 0
-IsRestful quiet s = (quiet ≡ true) ↔ IsAtRest s
-
--- the server stopped for one of these
-abbrev pub IsEnd : Going → Type 0
-IsEnd going = (going ≡ Halted why.FrontEnded) ⊎ (going ≡ Halted why.Full) ⊎ (going ≡ Halted why.NoMemory)
-
--- why it stopped: nothing more could come, a wait failed, the history was full, or memory lacked
-abbrev pub StoppedFor : SeenOutside → SeenOutside → State → Type 0
-StoppedFor old new s =
-    HasEnded old new s ⊎ HasFailed old new s ⊎ (s.going ≡ Halted why.Full) ⊎ (s.going ≡ Halted why.NoMemory)
-
--- it stopped for one of these, and closed down
-pub record HasStopped (old new : SeenOutside) (s : State) : Type 0 where
-  pub down : IsClosedDown s
-  pub cause : StoppedFor old new s
 
 -- ## A run
 
@@ -177,10 +35,10 @@ pub record HasStopped (old new : SeenOutside) (s : State) : Type 0 where
 -- way is sound; a stop because the history is full stands only where it is, and is told by the state; and the connections agree
 -- with the history
 pub record IsRunFrom (slots children : ℕ) (shape : Shape) (b : SeenBoard) : Type 0 where
-  pub opened : b.book.base ≡ opening slots children shape
-  pub is_history : IsHistory (opening slots children shape) b.book.history
-  pub state : after (opening slots children shape) b.book.history ≡ b.book.state
-  pub stays_sound : StaysSound (opening slots children shape) b.book.history
+  pub opened : b.book.base ≡ opening_state slots children shape
+  pub is_history : IsHistory (opening_state slots children shape) b.book.history
+  pub state : after (opening_state slots children shape) b.book.history ≡ b.book.state
+  pub stays_sound : StaysSound (opening_state slots children shape) b.book.history
   pub stops : StopsWhereFull b.book.history
   pub full : TellsFullStop b.book.state.going b.book.history
   pub agrees : Agrees b

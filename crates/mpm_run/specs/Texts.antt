@@ -12,6 +12,7 @@ usage = codes "usage: event_server --script FILE | --load N | -f FILE | -t -f FI
 abbrev pub store_fault : List ℕ → List ℕ
 store_fault name = codes "store fault: " ++ name ++ codes "\n"
 
+-- the word for the fault of a script
 abbrev pub refusal_word : ScriptRefusal → List ℕ
 refusal_word BadLine = codes "BadLine"
 refusal_word MomentBackwards = codes "MomentBackwards"

@@ -3,7 +3,7 @@ ghost use Rattle.std.specs.Prelude.{◌≡◌, map, IfOk};
 ghost use Rattle.conn_machine.specs.Events as events;
 ghost use Rattle.mpm_run.specs.Report as spec;
 
-use crate::report::{Tally, ended_lines, place_of};
+use crate::report::{Tally, ended_lines};
 use board::Board;
 use conn_machine::{Entry, Event};
 use mpm_base::{Cause, Link, NoMemory};
@@ -67,7 +67,7 @@ fn count_closes(history: &[Entry]) -> u64
 
 /// How many connections were closed for each cause, in order.
 fn count_causes(history: &[Entry]) -> [u64; 9]
-    ensures { result ≡ map (λ why. events.count_events (spec.is_close_for why) history.now) spec.causes }
+    ensures { result ≡ map (λ why. events.count_events (events.is_close_for why) history.now) events.causes }
 {
     [
         count_closes_for(history, Cause::ClientDone),
@@ -84,7 +84,7 @@ fn count_causes(history: &[Entry]) -> [u64; 9]
 
 /// How many connections were closed for the cause.
 fn count_closes_for(history: &[Entry], cause: Cause) -> u64
-    ensures { result ≡ events.count_events (spec.is_close_for cause) history.now }
+    ensures { result ≡ events.count_events (events.is_close_for cause) history.now }
 {
     history
         .iter()
@@ -122,10 +122,10 @@ fn is_close(event: &Event) -> bool
 
 /// Whether the event closes a connection for the cause.
 fn is_close_for(event: &Event, cause: Cause) -> bool
-    ensures { result ≡ spec.is_close_for cause event.now }
+    ensures { result ≡ events.is_close_for cause event.now }
 {
     match event {
-        Event::Close(_, why, _) => place_of(*why) == place_of(cause),
+        Event::Close(_, why, _) => why.number() == cause.number(),
         _ => false,
     }
 }

@@ -3,19 +3,22 @@ ghost use Rattle.std.specs.Prelude.{◌≡◌, ◌⊎◌, ◌<◌, ◌≤◌, �
 ghost use Rattle.std.specs.List.{list_any};
 ghost use Rattle.mpm_base.specs.Count.{next_count};
 ghost use Rattle.conn_machine.specs.Rows.{is_live};
-ghost use Rattle.conn_machine.specs.States.{greatest_moment, is_halted, is_signalled};
+ghost use Rattle.conn_machine.specs.States.{is_halted, is_signalled};
+ghost use Rattle.mpm_base.specs.Moment.{greatest_moment};
 ghost use Rattle.conn_machine.specs.declared.event.Why.TheVariants as why;
 ghost use Rattle.conn_machine.specs.declared.state.Going.TheVariants.{Halted, Serving};
 ghost use Rattle.board.specs.Finds.{acceptable, next_deadline_of, startable};
-ghost use Rattle.mpm_run.specs.Serve.{GoesOn, Stays, in_hand_count};
-ghost use Rattle.mpm_run.specs.Listen.{AreSignalled, EndsAs, Follows, HasClients, HasNoLive, HasStopped, HasTaken, IsClosedDown, IsInStep, IsRestful, Keeps, LinksTell, MustStop, NoneDue, NoneOverdue, NoneParked, TookAll, outside};
-ghost use Rattle.mpm_run.specs.Tells.{AllTell, HasSame, IsArrival, TellsFrom};
+ghost use Rattle.mpm_run.specs.ServeInside.{StaysUnlessFull, Stays, in_hand_count};
+ghost use Rattle.mpm_run.specs.Listen.{HasNoLive, IsClosedDown};
+ghost use Rattle.mpm_run.specs.ListenInside.{AreSignalled, TurnsEnd, Follows, HasClients, HasStopped, HasTaken, IsInStep, IsRestful, Keeps, LinksTell, MustStop, NoneDue, NoneOverdue, NoneParked, TookAll, outside};
+ghost use Rattle.mpm_run.specs.ListenInside.{AsksFor, IsInTime, waits_of};
+ghost use Rattle.mpm_run.specs.TellsInside.{AllTell, HasSame, IsArrival, TellsFrom};
 
 use crate::serve::{close, park, serve};
 use board::{AcceptFault, Board, BoardFault, Taken};
 use conn_machine::Why;
 use conn_state::Conn;
-use mpm_base::{Arrival, Cause, Clock, Front, Kind, Link, Moment, Ready, Woke};
+use mpm_base::{Arrival, Cause, Clock, Front, GREATEST_MOMENT, Kind, Link, Moment, Ready, Woke};
 use std::alloc::Global;
 use std::sync::Wait;
 
@@ -27,9 +30,6 @@ const SERVER: u32 = 1;
 
 /// How many passes there are.
 pub const PASSES: u32 = 2;
-
-/// The greatest moment, the last of the year 9999.
-const LATEST: Moment = 253_402_300_799_999;
 
 /// Why the listener's turns end.
 #[derive(Clone, Copy, Debug, PartialEq, Eq)]
@@ -68,9 +68,10 @@ pub fn listen<R: Wait, L: Link + Send, F: Front<L = L>, C: Clock>(
     ensures keeps { Keeps board.old.book board.new.book }
     ensures stopped { HasStopped (outside (F.script front.old) (F.told front.old) (F.counts front.old)) (outside (F.script front.new) (F.told front.new) (F.counts front.new)) board.new.book.state }
     ensures follows { Follows (outside (F.script front.old) (F.told front.old) (F.counts front.old)) (outside (F.script front.new) (F.told front.new) (F.counts front.new)) }
+    ensures time { IsInTime (waits_of (F.told front.old)) (C.told clock.old) → IsInTime (waits_of (F.told front.new)) (C.told clock.new) }
     ensures tells { (clients : List (List ℕ)) → LinksTell L.told → HasClients clients (F.told front.old) → AllTell clients board.old → AllTell clients board.new }
 {
-    match play(rt, alloc, board, front, clock, ready) {
+    match take_turns(rt, alloc, board, front, clock, ready) {
         Ok(End::Ended) => {
             board.halt(LISTENER, Why::FrontEnded);
             retire_all(board);
@@ -91,7 +92,7 @@ pub fn listen<R: Wait, L: Link + Send, F: Front<L = L>, C: Clock>(
 /// Starts the children, and takes turns with the front until nothing more can come, each followed by the service of what is
 /// signalled. What the next wait is told is found before that service, as a worker's service goes on by itself. Err where the
 /// server has to stop before.
-fn play<R: Wait, L: Link + Send, F: Front<L = L>, C: Clock>(
+fn take_turns<R: Wait, L: Link + Send, F: Front<L = L>, C: Clock>(
     rt: &R,
     alloc: Global,
     board: &mut Board<L>,
@@ -104,7 +105,8 @@ fn play<R: Wait, L: Link + Send, F: Front<L = L>, C: Clock>(
     requires step { IsInStep (F.told front.old) board.old.book.state }
     ensures keeps { Keeps board.old.book board.new.book }
     ensures follows { Follows (outside (F.script front.old) (F.told front.old) (F.counts front.old)) (outside (F.script front.new) (F.told front.new) (F.counts front.new)) }
-    ensures ok { IfOk result (λ end. EndsAs end (outside (F.script front.old) (F.told front.old) (F.counts front.old)) (outside (F.script front.new) (F.told front.new) (F.counts front.new)) board.new.book.state) }
+    ensures time { IsInTime (waits_of (F.told front.old)) (C.told clock.old) → IsInTime (waits_of (F.told front.new)) (C.told clock.new) }
+    ensures ok { IfOk result (λ end. TurnsEnd end (outside (F.script front.old) (F.told front.old) (F.counts front.old)) (outside (F.script front.new) (F.told front.new) (F.counts front.new)) board.new.book.state) }
     ensures err { IfErr result (λ fault. MustStop fault board.new.book) }
     ensures tells { (clients : List (List ℕ)) → LinksTell L.told → HasClients clients (F.told front.old) → AllTell clients board.old → AllTell clients board.new }
 {
@@ -114,13 +116,14 @@ fn play<R: Wait, L: Link + Send, F: Front<L = L>, C: Clock>(
         quiet: true,
     };
     for _ in rt.forever() {
-        let moment = match front.wait(rt, rest.until, rest.quiet, ready) {
-            Woke::Woke(at) => clock.now(at),
-            Woke::Ended if has_live(board) => board.moment(),
-            Woke::Ended => return Ok(End::Ended),
+        let woke = front.wait(rt, rest.until, rest.quiet, ready);
+        match woke {
+            Woke::Ended if !has_live(board) => return Ok(End::Ended),
             Woke::Failed => return Ok(End::Failed),
-        };
-        turn(rt, alloc, board, front, ready, moment)?;
+            _ => (),
+        }
+        let moment = moment_of(board, clock, woke);
+        take_in(rt, alloc, board, front, ready, moment)?;
         rest = find_rest(board);
         serve_all(board)?;
         if board.going().is_halted() {
@@ -130,8 +133,18 @@ fn play<R: Wait, L: Link + Send, F: Front<L = L>, C: Clock>(
     unreachable!()
 }
 
+/// The moment behind a wait: what the clock says where the wait gave one, and else the present one.
+fn moment_of<L: Link, C: Clock>(board: &Board<L>, clock: &mut C, woke: Woke) -> Moment
+    ensures { AsksFor woke (C.told clock.old) (C.told clock.new) }
+{
+    match woke {
+        Woke::Woke(at) => clock.now(at),
+        Woke::Ended | Woke::Failed => board.moment(),
+    }
+}
+
 /// Lets time pass to the moment, signals what something came for, and takes what has arrived.
-fn turn<R: Wait, L: Link + Send, F: Front<L = L>>(
+fn take_in<R: Wait, L: Link + Send, F: Front<L = L>>(
     rt: &R,
     alloc: Global,
     board: &mut Board<L>,
@@ -146,6 +159,7 @@ fn turn<R: Wait, L: Link + Send, F: Front<L = L>>(
     ensures going { OnOk result (board.new.book.state.going ≡ Serving) }
     ensures step { OnOk result (IsInStep (F.told front.new) board.new.book.state) }
     ensures follows { Follows (outside (F.script front.old) (F.told front.old) (F.counts front.old)) (outside (F.script front.new) (F.told front.new) (F.counts front.new)) }
+    ensures waits { waits_of (F.told front.new) ≡ waits_of (F.told front.old) }
     ensures err { IfErr result (λ fault. MustStop fault board.new.book) }
     ensures moment { OnOk result (board.new.book.state.moment ≡ max board.old.book.state.moment (min moment greatest_moment)) }
     ensures taken { OnOk result (TookAll (F.told front.new) (F.counts front.old) (F.counts front.new) board.new.book.state) }
@@ -188,7 +202,7 @@ fn pass_time<L: Link>(board: &mut Board<L>, moment: Moment) -> Result<(), BoardF
     ensures tells { (clients : List (List ℕ)) → AllTell clients board.old → AllTell clients board.new }
 {
     close_overdue(board);
-    let moment = moment.min(LATEST);
+    let moment = moment.min(GREATEST_MOMENT);
     if moment > board.moment() {
         board.show();
         board.tick(LISTENER, moment)?;
@@ -283,6 +297,7 @@ fn take_all<R: Wait, L: Link + Send, F: Front<L = L>>(
     ensures going { OnOk result (board.new.book.state.going ≡ Serving) }
     ensures step { OnOk result (IsInStep (F.told front.new) board.new.book.state) }
     ensures follows { Follows (outside (F.script front.old) (F.told front.old) (F.counts front.old)) (outside (F.script front.new) (F.told front.new) (F.counts front.new)) }
+    ensures waits { waits_of (F.told front.new) ≡ waits_of (F.told front.old) }
     ensures err { IfErr result (λ fault. MustStop fault board.new.book) }
     ensures taken { OnOk result (TookAll (F.told front.new) (F.counts front.old) (F.counts front.new) board.new.book.state) }
     ensures moment { board.new.book.state.moment ≡ board.old.book.state.moment }
@@ -318,6 +333,7 @@ fn take<L: Link + Send, F: Front<L = L>>(
     ensures taken { OnOk result (board.new.book.state.accepted ≡ next_count board.old.book.state.accepted) }
     ensures step { IsInStep (F.told front.old) board.new.book.state → IsInStep (F.told front.new) board.new.book.state }
     ensures follows { Follows (outside (F.script front.old) (F.told front.old) (F.counts front.old)) (outside (F.script front.new) (F.told front.new) (F.counts front.new)) }
+    ensures waits { waits_of (F.told front.new) ≡ waits_of (F.told front.old) }
     ensures err { IfErr result (λ fault. MustStop fault board.new.book) }
     ensures counts { F.counts front.new ≡ F.counts front.old }
     ensures moment { board.new.book.state.moment ≡ board.old.book.state.moment }
@@ -376,7 +392,7 @@ fn accept<L: Link>(board: &mut Board<L>) -> Result<Taken, BoardFault>
 fn serve_all<L: Link>(board: &mut Board<L>) -> Result<(), BoardFault>
     requires passes { board.old.book.passes ≡ 2 }
     requires serving { board.old.book.state.going ≡ Serving }
-    ensures goes { GoesOn board.old.book board.new.book }
+    ensures goes { StaysUnlessFull board.old.book board.new.book }
     ensures err { IfErr result (λ fault. MustStop fault board.new.book) }
     ensures served { OnOk result (NoneDue board.new.book.state) }
     ensures tells { (clients : List (List ℕ)) → AllTell clients board.old → AllTell clients board.new }

@@ -1,15 +1,15 @@
 //! The service of a connection by a worker, from its queue to a park or a close.
 ghost use Rattle.std.specs.Prelude.{◌≡◌, ◌<◌, ◌≤◌, ℕ, List, true, false, IfSome, IfNone, IfErr, OnOk, OnErr};
 ghost use Rattle.conn_machine.specs.States.{is_halted};
-ghost use Rattle.conn_machine.specs.Table.{allowed};
+ghost use Rattle.conn_machine.specs.Table.{is_allowed};
 ghost use Rattle.conn_machine.specs.declared.event.Event.TheVariants as event;
 ghost use Rattle.mpm_base.specs.declared.conn.Tail.TheVariants.{Direct};
-ghost use Rattle.board.specs.Book.{recorded};
+ghost use Rattle.board.specs.Book.{book_with_entry};
 ghost use Rattle.board.specs.Faults.{IsRefusedFor};
 ghost use Rattle.board.specs.Fits.{IsSettled};
 ghost use Rattle.conn_state.specs.declared.turn.LastTurn.TheVariants as turn;
-ghost use Rattle.mpm_run.specs.Serve.{GoesOn, IsClosable, IsInHand, IsServed, LeavesGoing, MayLeave, OthersStay, Stays, answers_left, given_up, in_hand_count, parked_count, signalled_count};
-ghost use Rattle.mpm_run.specs.Tells.{AllTell, HasSame, TellsFrom};
+ghost use Rattle.mpm_run.specs.ServeInside.{StaysUnlessFull, IsClosable, IsInHand, IsServed, LeavesGoing, MayLeave, OthersStay, Stays, answers_left, after_give_up, in_hand_count, parked_count, signalled_count};
+ghost use Rattle.mpm_run.specs.TellsInside.{AllTell, HasSame, TellsFrom};
 
 use board::{Board, BoardFault};
 use conn_machine::Why;
@@ -30,8 +30,8 @@ pub enum Exit {
 /// Serves a signalled connection, as the pass `who`. Where its queueing is refused nothing changes.
 pub fn serve<L: Link>(board: &mut Board<L>, who: u32, name: ConnName) -> Result<(), BoardFault>
     requires who { who < board.old.book.passes }
-    requires allowed { is_halted board.old.book.state.going ≡ false → allowed board.old.book.state (event.Queue name) ≡ true }
-    ensures goes { GoesOn board.old.book board.new.book }
+    requires allowed { is_halted board.old.book.state.going ≡ false → is_allowed board.old.book.state (event.Queue name) ≡ true }
+    ensures goes { StaysUnlessFull board.old.book board.new.book }
     ensures others { OthersStay who board.old.book board.new.book }
     ensures fewer { OnOk result (signalled_count board.new.book.state < signalled_count board.old.book.state) }
     ensures tells { (clients : List (List ℕ)) → AllTell clients board.old → AllTell clients board.new }
@@ -56,7 +56,7 @@ fn converse<L: Link>(board: &mut Board<L>, who: u32, conn: &mut Conn<L>) -> Exit
     ensures may { MayLeave board.new.book conn.new result }
 {
     loop {
-        if let Some(exit) = turn(board, who, conn) {
+        if let Some(exit) = serve_turn(board, who, conn) {
             return exit;
         }
     }
@@ -66,7 +66,7 @@ fn converse<L: Link>(board: &mut Board<L>, who: u32, conn: &mut Conn<L>) -> Exit
 ///
 /// Lingering closes are not built yet: once a last response was sent the connection ends for want of memory, the one
 /// cause that needs no other.
-fn turn<L: Link>(board: &mut Board<L>, who: u32, conn: &mut Conn<L>) -> Option<Exit>
+fn serve_turn<L: Link>(board: &mut Board<L>, who: u32, conn: &mut Conn<L>) -> Option<Exit>
     requires who { who < board.old.book.passes }
     requires served { IsServed board.old.book.state conn.old }
     ensures stays { Stays board.old.book board.new.book }
@@ -124,7 +124,7 @@ fn answer<L: Link>(board: &mut Board<L>, who: u32, conn: &mut Conn<L>, ask: Ask)
 fn leave<L: Link>(board: &mut Board<L>, who: u32, conn: Conn<L>, exit: Exit)
     requires who { who < board.old.book.passes }
     requires may { MayLeave board.old.book conn exit }
-    ensures goes { GoesOn board.old.book board.new.book }
+    ensures goes { StaysUnlessFull board.old.book board.new.book }
     ensures hand { in_hand_count board.new.book.state < in_hand_count board.old.book.state }
     ensures others { OthersStay who board.old.book board.new.book }
     ensures tells { (clients : List (List ℕ)) → AllTell clients board.old → TellsFrom clients conn.told → AllTell clients board.new }
@@ -148,14 +148,14 @@ pub fn park<L: Link>(
     kind: Kind,
 ) -> Result<(), BoardFault>
     requires who { who < board.old.book.passes }
-    requires allowed { is_halted board.old.book.state.going ≡ false → allowed board.old.book.state (event.Park conn.name kind) ≡ true }
+    requires allowed { is_halted board.old.book.state.going ≡ false → is_allowed board.old.book.state (event.Park conn.name kind) ≡ true }
     requires hand { IsInHand board.old.book.state conn }
     requires settled { IsSettled kind conn }
-    ensures goes { GoesOn board.old.book board.new.book }
+    ensures goes { StaysUnlessFull board.old.book board.new.book }
     ensures hand { in_hand_count board.new.book.state < in_hand_count board.old.book.state }
     ensures others { OthersStay who board.old.book board.new.book }
     ensures ok { OnOk result (board.new.book.state.going ≡ board.old.book.state.going) }
-    ensures parked { OnOk result (board.new.book ≡ recorded who (event.Park conn.name kind) board.old.book) }
+    ensures parked { OnOk result (board.new.book ≡ book_with_entry who (event.Park conn.name kind) board.old.book) }
     ensures moment { board.new.book.state.moment ≡ board.old.book.state.moment }
     ensures err { IfErr result (λ fault. LeavesGoing fault board.old.book.state.going board.new.book.state.going) }
     ensures tells { (clients : List (List ℕ)) → AllTell clients board.old → TellsFrom clients conn.told → AllTell clients board.new }
@@ -175,8 +175,8 @@ pub fn give_up<L: Link>(board: &mut Board<L>, who: u32, conn: Conn<L>, fault: Bo
     requires who { who < board.old.book.passes }
     requires hand { IsInHand board.old.book.state conn }
     requires why { IsRefusedFor fault board.old.book }
-    ensures is { board.new.book ≡ given_up fault who conn.name board.old.book }
-    ensures goes { GoesOn board.old.book board.new.book }
+    ensures is { board.new.book ≡ after_give_up fault who conn.name board.old.book }
+    ensures goes { StaysUnlessFull board.old.book board.new.book }
     ensures hand { in_hand_count board.new.book.state < in_hand_count board.old.book.state }
     ensures others { OthersStay who board.old.book board.new.book }
     ensures going { LeavesGoing fault board.old.book.state.going board.new.book.state.going }
@@ -196,7 +196,7 @@ pub fn give_up<L: Link>(board: &mut Board<L>, who: u32, conn: Conn<L>, fault: Bo
 pub fn close<L: Link>(board: &mut Board<L>, who: u32, conn: Conn<L>, cause: Cause)
     requires who { who < board.old.book.passes }
     requires may { IsClosable board.old.book.state cause conn }
-    ensures closed { board.new.book ≡ recorded who (event.Close conn.name cause Direct) board.old.book }
+    ensures closed { board.new.book ≡ book_with_entry who (event.Close conn.name cause Direct) board.old.book }
     ensures stays { Stays board.old.book board.new.book }
     ensures hand { in_hand_count board.new.book.state < in_hand_count board.old.book.state }
     ensures others { OthersStay who board.old.book board.new.book }

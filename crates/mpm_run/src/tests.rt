@@ -1,12 +1,10 @@
 //! Runs of whole scripts: what they print, record and send, and the statuses of those that are refused.
-use crate::run_script::{Outcome, run};
+use crate::top_call::{Outcome, run};
 use board::Board;
 use conn_machine::{Commanded, Event, Going, Reply, Why};
 use conn_state::Ended;
-use mpm_base::{
-    Ask, Calls, Cause, ConnName, Files, Kind, MemSink, MemStore, NoMemory, Octets, ScriptLink,
-    Tail, Words,
-};
+use mpm_base::{Ask, Cause, ConnName, Kind, NoMemory, Octets, Tail, Words};
+use stand_ins::{Calls, Files, MemSink, MemStore, ScriptLink};
 use std::alloc::Global;
 use std::process::Abort;
 use std::sync::Wait;
@@ -152,19 +150,20 @@ fn is_done(rt: &impl Abort, ended: &Ended<ScriptLink>, replies: &[&[u8]]) {
     assert_eq!(rt; (ended.link.shuts(), ended.link.closes()), (0, 1));
 }
 
-/// The script is to be played to its end, and its connections are to end in this order, each after these replies.
+/// The script is to be played to its end, and its connections are to end in this order, each after these replies. Answers
+/// the output.
 fn serves(
     rt: &(impl Abort + Threads + Wait + Sync),
     alloc: Global,
     script: &[u8],
     wanted: &[&[&[u8]]],
-) -> Result<(), NoMemory> {
+) -> Result<MemSink, NoMemory> {
     let mut out = MemSink::make(alloc, Calls::make(alloc));
     let outcome = plays(rt, alloc, &["--script", "s"], script, &mut out)?;
     assert_eq!(rt; outcome.status, 0);
     let Some(scripted) = &outcome.scripted else {
         assert!(rt; false);
-        return Ok(());
+        return Ok(out);
     };
     let front = &scripted.front;
     assert_eq!(rt; front.happened(), front.script().lines().len());
@@ -172,7 +171,7 @@ fn serves(
     for (ended, replies) in scripted.board.ended().iter().zip(wanted) {
         is_done(rt, ended, replies);
     }
-    Ok(())
+    Ok(out)
 }
 
 /// The server is to have stopped as the status says, and each link that was taken to have been closed once.
@@ -318,7 +317,7 @@ fn add_end(script: &mut Octets, number: u8) -> Result<(), NoMemory> {
 }
 
 #[test]
-fn seventy_connections_share_64_slots(rt: HostRuntime) -> Result<(), Fail> {
+fn seventy_connections_share_64_slots_and_the_report_shows_64(rt: HostRuntime) -> Result<(), Fail> {
     let alloc = rt.alloc();
     let mut script = Octets::make(alloc);
     for number in 0..70 {
@@ -329,7 +328,11 @@ fn seventy_connections_share_64_slots(rt: HostRuntime) -> Result<(), Fail> {
         add_end(&mut script, number)?;
     }
     let once: &[&[u8]] = &[REPLY];
-    serves(&rt, alloc, script.as_slice(), &[once; 70])?;
+    let out = serves(&rt, alloc, script.as_slice(), &[once; 70])?;
+    let counts: &[u8] = b"Generation: 0\nAccepted: 70\nClosed: 70\nResponses: 70\nClientDone: 70\n";
+    assert!(rt; out.bytes().starts_with(counts));
+    let lines = out.bytes().iter().filter(|byte| **byte == b'\n').count();
+    assert_eq!(rt; lines, 14 + 64);
     Ok(())
 }
 

@@ -2,7 +2,6 @@
 ghost use Rattle.std.specs.Prelude.{◌≡◌, IfOk};
 ghost use Rattle.mpm_run.specs.Texts as spec;
 
-use crate::report::add_number;
 use mpm_base::{NoMemory, Octets};
 use std::alloc::Global;
 
@@ -44,7 +43,7 @@ pub fn script_refused_text(alloc: Global, line: u64, why: ScriptRefusal) -> Resu
     ensures { IfOk result (λ text. text ≡ spec.script_refused line why) }
 {
     let mut text = Octets::of(alloc, b"script refused at ")?;
-    add_number(alloc, &mut text, line)?;
+    text.add_number(line)?;
     text.add(b": ")?;
     text.add(refusal_word(why))?;
     text.add(b"\n")?;

@@ -12,7 +12,8 @@ use crate::tests::{
 };
 use conn_machine::Event;
 use conn_state::{Conn, ReadTurn};
-use mpm_base::{Cause, Kind, ScriptLink};
+use mpm_base::{Cause, Kind};
+use stand_ins::ScriptLink;
 use std::process::Abort;
 use std::test::Fail;
 

@@ -1,7 +1,7 @@
 use Rattle.std.proofs.Common.{◌-◌, ◌^◌, length}
 use Rattle.mpm_base.specs.declared.conn.Ask.{Ask}
 use Rattle.conn_state.specs.Items.{IsAskedIn}
-use Rattle.conn_state.specs.Exchange.{HasRead, IsSame}
+use Rattle.conn_state.specs.ExchangeInside.{HasRead, IsSame}
 use Rattle.conn_state.proofs.exchange.read_item.Given as goal
 
 -- bytes came so far, and none where the first item was there

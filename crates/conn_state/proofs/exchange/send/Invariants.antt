@@ -1,5 +1,5 @@
 use Rattle.std.proofs.Common.{length}
-use Rattle.conn_state.specs.Exchange.{HasSent}
+use Rattle.conn_state.specs.ExchangeInside.{HasSent}
 use Rattle.conn_state.proofs.exchange.send.Given as goal
 
 -- a front of the bytes was sent so far

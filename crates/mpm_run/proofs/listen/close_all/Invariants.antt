@@ -1,6 +1,6 @@
 use Rattle.std.proofs.Common.{List, ℕ}
-use Rattle.mpm_run.specs.Serve.{Stays, parked_count}
-use Rattle.mpm_run.specs.Tells.{AllTell}
+use Rattle.mpm_run.specs.ServeInside.{Stays, parked_count}
+use Rattle.mpm_run.specs.TellsInside.{AllTell}
 use Rattle.mpm_run.proofs.listen.close_all.Given as goal
 
 -- the server stays stopped

@@ -1,7 +1,7 @@
 use Rattle.std.proofs.Common.{◌≡◌, List, ℕ, count_by}
 use Rattle.conn_machine.specs.Children.{is_stopping}
-use Rattle.mpm_run.specs.Serve.{Stays}
-use Rattle.mpm_run.specs.Tells.{AllTell}
+use Rattle.mpm_run.specs.ServeInside.{Stays}
+use Rattle.mpm_run.specs.TellsInside.{AllTell}
 use Rattle.mpm_run.proofs.listen.retire_all.Given as goal
 
 -- the server stays stopped, with the rows that it had

@@ -1,13 +1,13 @@
 use Rattle.std.proofs.Common.{List, ℕ}
-use Rattle.mpm_run.specs.Serve.{GoesOn, signalled_count}
-use Rattle.mpm_run.specs.Tells.{AllTell}
+use Rattle.mpm_run.specs.ServeInside.{StaysUnlessFull, signalled_count}
+use Rattle.mpm_run.specs.TellsInside.{AllTell}
 use Rattle.mpm_run.proofs.listen.serve_all.Given as goal
 
 -- the server goes on, or was stopped for a full history
 abbrev pub invariant-loop-name : goal.invariant-loop-name
 invariant-loop-name g l =
     record {
-      goes : GoesOn l.fn.board.book l.board.book;
+      goes : StaysUnlessFull l.fn.board.book l.board.book;
       tells : (clients : List (List ℕ)) → AllTell clients l.fn.board → AllTell clients l.board;
     }
 

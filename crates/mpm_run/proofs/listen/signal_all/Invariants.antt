@@ -1,8 +1,8 @@
 use Rattle.std.proofs.Common.{◌≡◌, ◌<◌, List, ℕ, length, true, slice_index}
 use Rattle.conn_machine.specs.declared.state.Going.TheVariants.{Serving}
 use Rattle.conn_machine.specs.States.{is_signalled}
-use Rattle.mpm_run.specs.Listen.{Keeps}
-use Rattle.mpm_run.specs.Tells.{AllTell}
+use Rattle.mpm_run.specs.ListenInside.{Keeps}
+use Rattle.mpm_run.specs.TellsInside.{AllTell}
 use Rattle.mpm_run.proofs.listen.signal_all.Given as goal
 
 -- the server goes on as before, and the slots so far are signalled

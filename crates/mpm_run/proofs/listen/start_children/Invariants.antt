@@ -1,7 +1,7 @@
 use Rattle.std.proofs.Common.{◌≡◌, List, ℕ, count_by}
 use Rattle.conn_machine.specs.Children.{is_empty}
-use Rattle.mpm_run.specs.Serve.{Stays}
-use Rattle.mpm_run.specs.Tells.{AllTell}
+use Rattle.mpm_run.specs.ServeInside.{Stays}
+use Rattle.mpm_run.specs.TellsInside.{AllTell}
 use Rattle.mpm_run.proofs.listen.start_children.Given as goal
 
 -- the server goes on as before, and no time passes

@@ -3,7 +3,7 @@ use Rattle.mpm_base.specs.Count.{NeverFalls}
 use Rattle.mpm_base.specs.Front.{FrontCounts}
 use Rattle.mpm_run.proofs.ListenLemmas.{keeps-trans}
 use Rattle.mpm_run.proofs.StepLemmas.{took-none}
-use Rattle.mpm_run.proofs.FrontLemmas.{rises-where, follows-trans, follows-accept, step-taken, step-none, tells-next}
+use Rattle.mpm_run.proofs.FrontLemmas.{rises-where, follows-trans, follows-accept, step-taken, step-none, tells-next, waits-accept}
 use Rattle.mpm_run.proofs.listen.take_all.Goals as goal
 
 pub loop-preserved : goal.loop-preserved
@@ -19,6 +19,7 @@ loop-preserved g c =
           follows-trans _ _ _ c.loop.invariant.follows
           (follows-trans _ _ _ (follows-accept g.L.Link.told g.L.Link.counts _ _ _ _ _ _ _ c.accept.ensures.script c.accept.ensures.accepts)
           c.take.ensures.follows);
+      waits = c.take.ensures.waits ∙ waits-accept _ _ _ c.accept.ensures.accepts.told_is ∙ c.loop.invariant.waits;
       accept_faults =
           subst (λ (n : FrontCounts). NeverFalls (g.F.Front.counts c.args.front.now).accept_faults n.accept_faults) (sym c.take.ensures.counts)
           (omega (arith, c.loop.invariant.accept_faults, rises-where _ _ _ c.accept.ensures.accepts.accept_faults));
@@ -48,6 +49,7 @@ returns-in-None-accept g c =
       follows =
           follows-trans _ _ _ c.loop.invariant.follows
           (follows-accept g.L.Link.told g.L.Link.counts _ _ _ _ _ _ _ c.accept.ensures.script c.accept.ensures.accepts);
+      waits = waits-accept _ _ _ c.accept.ensures.accepts.told_is ∙ c.loop.invariant.waits;
       err = tt;
       taken =
           took-none g.L.Link.told g.L.Link.counts (g.F.Front.told c.loop.front) (g.F.Front.told c.accept.new.self) (g.F.Front.counts c.args.front.now)
@@ -55,3 +57,7 @@ returns-in-None-accept g c =
       moment = c.loop.invariant.moment;
       tells = c.loop.invariant.tells;
     }
+
+pub returns-in_err-take-in-Some-accept-clause-waits : goal.returns-in_err-take-in-Some-accept-clause-waits
+returns-in_err-take-in-Some-accept-clause-waits g c =
+    c.take.ensures.waits ∙ waits-accept _ _ _ c.accept.ensures.accepts.told_is ∙ c.loop.invariant.waits

@@ -1,8 +1,10 @@
 use Rattle.std.proofs.Common.{◌≡◌, ◌++◌, ℕ, List, get_or, ap, ◌∙◌}
-use Rattle.conn_machine.specs.Table.{cause_number}
+use Rattle.mpm_base.specs.Cause.{cause_number}
 use Rattle.mpm_base.specs.declared.conn.Cause.{Cause}
 use Rattle.mpm_base.specs.declared.conn.Cause.TheVariants.{ClientDone}
-use Rattle.mpm_run.specs.Report.{cause_line, cause_word, causes, count_line}
+use Rattle.conn_machine.specs.Events.{causes}
+use Rattle.board.specs.ReportLine.{cause_word}
+use Rattle.mpm_run.specs.Report.{cause_line, count_line}
 use Rattle.mpm_run.proofs.ReportLemmas.{lines_more}
 use Rattle.mpm_run.proofs.report.add_causes.Goals as goal
 
@@ -17,5 +19,5 @@ pub loop-cause-preserved : goal.loop-cause-preserved
 loop-cause-preserved c =
     lines_more (cause_line c.args.counts.now) causes c.loop-cause.cause-index ClientDone c.args.text.now c.loop-cause.text c.add_count.new.text
     c.loop-cause-test.true c.loop-cause.invariant
-    (added_line c.args.counts.now c.loop-cause.text c.add_count.new.text c.cause_word.result.now c.place_of.result
-    (get_or causes c.loop-cause.cause-index ClientDone) c.in_ok-add_count.ensures c.cause_word.ensures c.place_of.ensures.is)
+    (added_line c.args.counts.now c.loop-cause.text c.add_count.new.text c.cause_word.result.now c.number.result
+    (get_or causes c.loop-cause.cause-index ClientDone) c.in_ok-add_count.ensures c.cause_word.ensures c.number.ensures.is)

@@ -1,6 +1,7 @@
 use Rattle.std.proofs.Common.{◌≡◌, take, ◌++◌}
 use Rattle.std.specs.List.{flat_map}
-use Rattle.mpm_run.specs.Report.{cause_line, causes}
+use Rattle.conn_machine.specs.Events.{causes}
+use Rattle.mpm_run.specs.Report.{cause_line}
 use Rattle.mpm_run.proofs.report.add_causes.Given as goal
 
 -- the causes so far have their lines

@@ -1,6 +1,6 @@
 use Rattle.std.proofs.Common.{◌≡◌, take, ◌++◌}
 use Rattle.std.specs.List.{flat_map}
-use Rattle.mpm_run.specs.Report.{further_code}
+use Rattle.board.specs.ReportLine.{further_code}
 use Rattle.mpm_run.proofs.report.add_codes.Given as goal
 
 -- the further codes so far are added

@@ -1,6 +1,6 @@
 use Rattle.std.proofs.Common.{◌≡◌, take}
 use Rattle.std.specs.List.{flat_map}
-use Rattle.mpm_run.specs.Report.{line_of}
+use Rattle.board.specs.ReportLine.{line_of}
 use Rattle.mpm_run.proofs.report.ended_lines.Given as goal
 
 -- the connections so far have their lines

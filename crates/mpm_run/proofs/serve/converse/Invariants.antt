@@ -1,6 +1,6 @@
 use Rattle.std.proofs.Common.{List, ℕ}
-use Rattle.mpm_run.specs.Serve.{IsServed, OthersStay, Stays, answers_left}
-use Rattle.mpm_run.specs.Tells.{HasSame, TellsFrom}
+use Rattle.mpm_run.specs.ServeInside.{IsServed, OthersStay, Stays, answers_left}
+use Rattle.mpm_run.specs.TellsInside.{HasSame, TellsFrom}
 use Rattle.mpm_run.proofs.serve.converse.Given as goal
 
 -- the connection is served on, and the board has what it had

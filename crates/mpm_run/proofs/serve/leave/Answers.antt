@@ -1,5 +1,5 @@
 use Rattle.std.proofs.Common.{subst}
-use Rattle.mpm_run.specs.Serve.{MayLeave}
+use Rattle.mpm_run.specs.ServeInside.{MayLeave}
 use Rattle.mpm_run.specs.declared.serve.Exit.{Exit}
 use Rattle.mpm_run.proofs.ServeLemmas.{in-hand, may-park}
 use Rattle.mpm_run.proofs.serve.leave.Goals as goal

@@ -4,12 +4,12 @@ use Rattle.conn_machine.specs.Table.{next}
 use Rattle.board.specs.Book.{SeenBook}
 use Rattle.conn_state.specs.Conn.{SeenConn}
 use Rattle.board.specs.Board.{SeenBoard}
-use Rattle.mpm_run.specs.Serve.{GoesOn}
-use Rattle.mpm_run.specs.Tells.{AllTell, TellsFrom}
+use Rattle.mpm_run.specs.ServeInside.{StaysUnlessFull}
+use Rattle.mpm_run.specs.TellsInside.{AllTell, TellsFrom}
 use Rattle.mpm_run.proofs.TellLemmas.{same-tells, tell-set}
 use Rattle.mpm_run.proofs.HandLemmas.{hand-parked}
 use Rattle.mpm_run.proofs.PassLemmas.{others-recorded}
-use Rattle.mpm_run.proofs.StepLemmas.{given_up-moment}
+use Rattle.mpm_run.proofs.StepLemmas.{after_give_up-moment}
 use Rattle.mpm_run.proofs.serve.park.Goals as goal
 
 pub returns-in-Ok-clause-others : goal.returns-in-Ok-clause-others
@@ -20,7 +20,7 @@ pub returns-in-Ok-clause-goes : goal.returns-in-Ok-clause-goes
 returns-in-Ok-clause-goes g c =
     let s = c.args.board.now.book.state in
     let less = hand-parked s (next s (event.Park c.args.conn.name c.args.kind)) c.args.conn c.args.kind c.requires.hand refl in
-    subst (GoesOn c.args.board.now.book) (sym (ap (λ (b : SeenBoard). b.book) c.in-Ok.ensures.ok.new_is))
+    subst (StaysUnlessFull c.args.board.now.book) (sym (ap (λ (b : SeenBoard). b.book) c.in-Ok.ensures.ok.new_is))
     (record { base = refl; passes = refl; accepted = refl; signals = omega arith; hand = omega (arith, less); going = inl refl })
 
 pub returns-in-Ok-clause-tells : goal.returns-in-Ok-clause-tells
@@ -43,5 +43,5 @@ returns-in-Err-clause-tells g c clients tells told =
 pub returns-in-Err-clause-moment : goal.returns-in-Err-clause-moment
 returns-in-Err-clause-moment g c =
     ap (λ (b : SeenBook). b.state.moment) c.give_up.ensures.is
-    ∙ given_up-moment _ c.args.who _ c.park.new.self.book
+    ∙ after_give_up-moment _ c.args.who _ c.park.new.self.book
     ∙ ap (λ (b : SeenBoard). b.book.state.moment) c.in-Err.ensures.err

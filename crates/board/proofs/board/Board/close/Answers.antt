@@ -1,7 +1,7 @@
 use Rattle.std.proofs.Common.{◌≡◌, ◌++◌, ◌∷◌, [], ◌<◌, length, vec_capacity, subst, sym, rules}
 use Rattle.conn_machine.specs.declared.event.Event.TheVariants as event
 use Rattle.conn_state.specs.Answered.{SeenEnded}
-use Rattle.board.specs.Book.{recorded}
+use Rattle.board.specs.Book.{book_with_entry}
 use Rattle.board.specs.Fits.{IsClosing}
 use Rattle.board.specs.Board.{SeenBoard, IsBoard}
 use Rattle.board.proofs.BoardLemmas.{may_inside, there_of}
@@ -32,7 +32,7 @@ invariant_of-self g c =
     subst (λ (v : SeenBoard). IsClosing v.book.state e.name e.cause e.tail e) (sym c.self.view_is) c.requires.fits in
     let more : c.push.new.self.items ≡ ended ++ e ∷ [] = search rules in
     rw (c.record_sure.ensures.is, more)
-    (subst (λ (v : SeenEnded). IsBoard (record { book = recorded c.args.who (event.Close v.name v.cause v.tail) inside.book; conns = conns; ended = ended ++ e ∷ [] }) (vec_capacity c.push.new.self))
+    (subst (λ (v : SeenEnded). IsBoard (record { book = book_with_entry c.args.who (event.Close v.name v.cause v.tail) inside.book; conns = conns; ended = ended ++ e ∷ [] }) (vec_capacity c.push.new.self))
     (sym c.ended.view_is)
     (board_closed inside.book conns ended e room (vec_capacity c.push.new.self) c.args.who c.self.invariant c.show.ensures.state closing c.requires.answered
     (close-there inside.book.state e.name e.cause e.tail conns (length ended) room (vec_capacity c.push.new.self) may

@@ -1,7 +1,7 @@
 use Rattle.std.proofs.Common.{◌≡◌, true, Some, length, vec_capacity, subst, sym, refl, rules}
 use Rattle.mpm_base.specs.declared.conn.ConnName.{ConnName}
 use Rattle.conn_machine.specs.Rows.{live_row}
-use Rattle.conn_machine.specs.Table.{allowed}
+use Rattle.conn_machine.specs.Table.{is_allowed}
 use Rattle.conn_machine.specs.declared.event.Event.TheVariants as event
 use Rattle.board.proofs.BoardLemmas.{may_while, there_of}
 use Rattle.board.proofs.ClosedLemmas.{board_on}
@@ -20,7 +20,7 @@ index_mut-requires g c =
 pub record-requires-clause-allowed : goal.record-requires-clause-allowed
 record-requires-clause-allowed g c going =
     let inside = c.self.inside in
-    subst (λ (n : ConnName). allowed inside.book.state (event.Park n c.args.kind) ≡ true) (sym c.name-name.ensures)
+    subst (λ (n : ConnName). is_allowed inside.book.state (event.Park n c.args.kind) ≡ true) (sym c.name-name.ensures)
     (may_while _ c.args.self.now (event.Park c.args.conn.name c.args.kind) c.self.view_is c.requires.allowed going)
 
 pub invariant_of-self : goal.invariant_of-self
@@ -33,8 +33,8 @@ invariant_of-self g c =
     let e = event.Park name c.args.kind in
     let ok = c.in-Ok.ensures.ok in
     let found : live_row inside.book.state.rows name ≡ Some c.requires.fits.row = search rules in
-    let may : allowed inside.book.state e ≡ true =
-    subst (λ (n : ConnName). allowed inside.book.state (event.Park n c.args.kind) ≡ true) (sym c.name-name.ensures)
+    let may : is_allowed inside.book.state e ≡ true =
+    subst (λ (n : ConnName). is_allowed inside.book.state (event.Park n c.args.kind) ≡ true) (sym c.name-name.ensures)
     (may_while _ c.args.self.now (event.Park c.args.conn.name c.args.kind) c.self.view_is c.requires.allowed ok.was_open.going) in
     rw (ok.new_is)
     (board_on inside.book conns _ ended room room c.args.who e c.self.invariant (λ s. refl)

@@ -1,8 +1,8 @@
 use Rattle.std.proofs.Common.{◌≡◌, ◌+◌, ◌*◌, ◌≤◌, true, false, length, vec_capacity, if◌then◌else◌, subst, sym, refl, ◌∙◌, ap, rules}
 use Rattle.conn_machine.specs.States.{is_halted}
-use Rattle.conn_machine.specs.Table.{allowed, reply}
+use Rattle.conn_machine.specs.Table.{is_allowed, reply}
 use Rattle.conn_machine.specs.Runs.{asks_page}
-use Rattle.board.specs.Book.{SeenBook, numbered}
+use Rattle.board.specs.Book.{SeenBook, numbered_entry}
 use Rattle.board.proofs.BookLemmas.{open_if, kept_with_room, recorded_is}
 use Rattle.board.proofs.StopLemmas.{full_inside}
 use Rattle.board.proofs.book.Book.record.Goals as goal
@@ -11,20 +11,20 @@ pub step-requires-clause-allowed : goal.step-requires-clause-allowed
 step-requires-clause-allowed c =
     let going : is_halted c.args.self.now.state.going ≡ false =
     ap (λ (v : SeenBook). is_halted v.state.going) (sym c.self.view_is) ∙ sym c.is_halted.ensures ∙ c.if-is_halted.false in
-    subst (λ (v : SeenBook). allowed v.state c.args.event ≡ true) (sym c.self.view_is) (c.requires.allowed going)
+    subst (λ (v : SeenBook). is_allowed v.state c.args.event ≡ true) (sym c.self.view_is) (c.requires.allowed going)
 
 pub invariant_of-self-2 : goal.invariant_of-self-2
 invariant_of-self-2 c =
     let inside = c.self.inside in
     let going : is_halted c.args.self.now.state.going ≡ false =
     ap (λ (v : SeenBook). is_halted v.state.going) (sym c.self.view_is) ∙ sym c.is_halted.ensures ∙ c.if-is_halted.false in
-    let may = subst (λ (v : SeenBook). allowed v.state c.args.event ≡ true) (sym c.self.view_is) (c.requires.allowed going) in
+    let may = subst (λ (v : SeenBook). is_allowed v.state c.args.event ≡ true) (sym c.self.view_is) (c.requires.allowed going) in
     let space : length inside.history.items + (4 * length inside.state.rows + length inside.state.children + 2) ≤ vec_capacity c.append.new.history =
     search rules in
     let pages : inside.pages + c.pages_in.result ≡ inside.pages + (if asks_page c.args.event then 1 else 0) = search rules in
     kept_with_room inside.base.value inside.history.items c.append.new.history.items inside.state c.step.new.state inside.ordinals.items
     c.append.new.ordinals.items inside.pages (inside.pages + c.pages_in.result) (vec_capacity inside.history) (vec_capacity c.append.new.history)
-    (numbered c.args.who c.args.event c.in-Ok.reply inside.history.items) c.self.invariant may c.in-Ok.ensures.reply refl
+    (numbered_entry c.args.who c.args.event c.in-Ok.reply inside.history.items) c.self.invariant may c.in-Ok.ensures.reply refl
     c.append.ensures.numbers c.step.ensures.sound (rw c.reserve.ensures.items at c.append.ensures.history) c.in-Ok.ensures.state pages space
     (full_inside _ c.args.self.now c.args.event c.self.view_is c.requires.stops)
 

@@ -1,7 +1,7 @@
 use Rattle.std.proofs.Common.{◌≡◌, ◌+◌, ◌≤◌, ◌<◌, true, length, vec_capacity, subst, sym, refl, rules, arith}
-use Rattle.conn_machine.specs.Table.{allowed, next}
-use Rattle.board.specs.Book.{SeenBook, numbered}
-use Rattle.board.specs.Room.{owed}
+use Rattle.conn_machine.specs.Table.{is_allowed, next}
+use Rattle.board.specs.Book.{SeenBook, numbered_entry}
+use Rattle.board.specs.RoomInside.{owed_entries}
 use Rattle.board.proofs.BookLemmas.{kept_sure}
 use Rattle.board.proofs.RoomLemmas.{owed-sure}
 use Rattle.board.proofs.StopLemmas.{full_inside}
@@ -10,18 +10,18 @@ use Rattle.board.proofs.book.Book.record_sure.Goals as goal
 pub append-requires-clause-room : goal.append-requires-clause-room
 append-requires-clause-room c =
     let inside = c.self.inside in
-    let may = subst (λ (v : SeenBook). allowed v.state c.args.event ≡ true) (sym c.self.view_is) c.requires.allowed in
-    let owes : owed (next inside.state c.args.event) + 1 ≤ owed inside.state = owed-sure inside.state c.args.event may c.requires.sure in
-    let room : length inside.history.items + owed inside.state ≤ vec_capacity inside.history = c.self.invariant.has_room in
+    let may = subst (λ (v : SeenBook). is_allowed v.state c.args.event ≡ true) (sym c.self.view_is) c.requires.allowed in
+    let owes : owed_entries (next inside.state c.args.event) + 1 ≤ owed_entries inside.state = owed-sure inside.state c.args.event may c.requires.sure in
+    let room : length inside.history.items + owed_entries inside.state ≤ vec_capacity inside.history = c.self.invariant.has_room in
     let below : length inside.history.items < vec_capacity inside.history = omega (arith, owes, room) in
     search rules
 
 pub invariant_of-self : goal.invariant_of-self
 invariant_of-self c =
     let inside = c.self.inside in
-    let may = subst (λ (v : SeenBook). allowed v.state c.args.event ≡ true) (sym c.self.view_is) c.requires.allowed in
+    let may = subst (λ (v : SeenBook). is_allowed v.state c.args.event ≡ true) (sym c.self.view_is) c.requires.allowed in
     kept_sure inside.base.value inside.history.items c.append.new.history.items inside.state c.step.new.state inside.ordinals.items
     c.append.new.ordinals.items inside.pages (vec_capacity inside.history) (vec_capacity c.append.new.history)
-    (numbered c.args.who c.args.event c.in-Ok.reply inside.history.items) c.self.invariant may c.in-Ok.ensures.reply refl
+    (numbered_entry c.args.who c.args.event c.in-Ok.reply inside.history.items) c.self.invariant may c.in-Ok.ensures.reply refl
     c.append.ensures.numbers c.step.ensures.sound c.append.ensures.history c.in-Ok.ensures.state c.requires.sure c.append.ensures.room
     (full_inside _ c.args.self.now c.args.event c.self.view_is c.requires.stops)

@@ -1,0 +1,222 @@
+-- Why a run ends with its exit status, and what it leaves of the output.
+use Rattle.std.specs.Prelude.{◌≡◌, ℕ, ◌≤◌, Bool, true, false, ◌⊎◌, List, [], ◌∷◌, ◌++◌, length, map, Option, Some, None, option_map, Result, Ok, Err, codes}
+use Rattle.std.specs.List.{list_any}
+use Rattle.mpm_base.specs.Count.{NeverFalls, Rises}
+use Rattle.mpm_script.specs.Clients.{clients_of, names_of}
+use Rattle.mpm_script.specs.Script.{ScriptIs}
+use Rattle.script_front.specs.ScriptClock.{echo}
+use Rattle.script_front.specs.ScriptFront.{SeenFront}
+use Rattle.mpm_base.specs.Front.{moments_of}
+use Rattle.mpm_base.specs.Store.{ReadsFile, StoreCounts, StoreTold}
+use Rattle.mpm_base.specs.declared.conn.Cause.{Cause}
+use Rattle.mpm_base.specs.declared.conn.Cause.TheVariants as cause
+use Rattle.mpm_script.specs.declared.script.ScriptFault.{ScriptFault}
+use Rattle.mpm_script.specs.declared.script.ScriptFault.TheVariants as script
+use Rattle.mpm_base.specs.declared.store.StoreFault.{StoreFault}
+use Rattle.mpm_base.specs.declared.store.StoreFault.TheVariants as fault
+use Rattle.conn_machine.specs.declared.event.Why.TheVariants as why
+use Rattle.conn_machine.specs.declared.state.Going.{Going}
+use Rattle.conn_machine.specs.declared.state.Going.TheVariants.{Halted}
+use Rattle.conn_machine.specs.Runs.{full_load, load}
+use Rattle.conn_state.specs.Answered.{SeenEnded}
+use Rattle.board.specs.Book.{HasFullStop}
+use Rattle.board.specs.Board.{SeenBoard}
+use Rattle.mpm_run.specs.FirstShape.{first_shape}
+use Rattle.mpm_run.specs.Listen.{HasClosedAll, IsRunFrom, IsWholeRun}
+use Rattle.mpm_run.specs.Report.{report_of}
+use Rattle.mpm_run.specs.Tells.{AllReceive}
+use Rattle.mpm_run.specs.Texts.{script_refused, store_fault, usage}
+use Rattle.mpm_run.specs.declared.texts.ScriptRefusal.{ScriptRefusal}
+use Rattle.mpm_run.specs.declared.texts.ScriptRefusal.TheVariants.{BadLine, MomentBackwards, UnknownName, NotYet}
+
+-- ## A call
+
+-- the words are the command that plays the script of that name
+abbrev pub IsCommand : List (List ℕ) → List ℕ → Type 0
+IsCommand words name = words ≡ codes "--script" ∷ name ∷ []
+
+-- the words are no command
+abbrev pub IsNoCommand : List (List ℕ) → Type 0
+IsNoCommand words = (name : List ℕ) → ¬ IsCommand words name
+
+-- what an output tells, and its count of faults
+pub record SinkSeen : Type 0 where
+  pub told : Option (List ℕ)
+  pub faults : ℕ
+
+-- what is seen of an output, of its parts
+abbrev pub sink_seen : Option (List ℕ) → ℕ → SinkSeen
+sink_seen told faults = record { told = told; faults = faults }
+
+-- the text was written whole, unless a write failed; then nothing is said of how much of it was
+pub record WritesText (old new : SinkSeen) (text : List ℕ) : Type 0 where
+  pub faults : NeverFalls old.faults new.faults
+  pub whole : (new.told ≡ option_map (λ written. written ++ text) old.told) ⊎ Rises old.faults new.faults
+
+-- what a store tells, and its counts
+pub record StoreSeen : Type 0 where
+  pub told : Option StoreTold
+  pub counts : StoreCounts
+
+-- what is seen of a store, of its parts
+abbrev pub store_seen : Option StoreTold → StoreCounts → StoreSeen
+store_seen told counts = record { told = told; counts = counts }
+
+-- the greatest size of a script, in bytes
+abbrev pub most_script : ℕ
+most_script = 67108864
+
+-- a call of `run`: its words, what the store and the output tell and count before it and after it, and the number it shows
+pub record Call : Type 0 where
+  pub words : List (List ℕ)
+  pub store : StoreSeen
+  pub store' : StoreSeen
+  pub sink : SinkSeen
+  pub sink' : SinkSeen
+  pub shown : Option ℕ
+
+-- a call of `run`, of its parts
+abbrev pub seen_call : List (List ℕ) → Option StoreTold → StoreCounts → Option StoreTold → StoreCounts → Option (List ℕ) → ℕ → Option (List ℕ) → ℕ → Option ℕ → Call
+seen_call words told counts told' counts' written faults written' faults' shown =
+    record {
+      words = words;
+      store = store_seen told counts;
+      store' = store_seen told' counts';
+      sink = sink_seen written faults;
+      sink' = sink_seen written' faults';
+      shown = shown;
+    }
+
+-- the words are the command, and the store was asked once, for the script of that name
+pub record Asks (call : Call) (name : List ℕ) (answer : Result (List ℕ) StoreFault) : Type 0 where
+  pub command : IsCommand call.words name
+  pub read : ReadsFile call.store.told call.store'.told call.store.counts call.store'.counts name most_script answer
+
+-- ## Where no run opened
+
+-- the faults of a store that are told as its own: a file that is missing, at place 0, and a call that failed
+abbrev pub IsUnread : StoreFault → Option ℕ → Type 0
+IsUnread e shown = ((e ≡ fault.Missing) × (shown ≡ Some 0)) ⊎ ((e ≡ fault.Failed) × (shown ≡ None))
+
+-- with exit status 2
+pub record EndsUnknown (call : Call) : Type 0 where
+  pub unknown : IsNoCommand call.words
+  pub unasked : call.store' ≡ call.store
+  pub shows : call.shown ≡ None
+  pub text : WritesText call.sink call.sink' usage
+
+-- with exit status 3
+pub record EndsUnread (call : Call) : Type 0 where
+  pub name : List ℕ
+  pub told : StoreFault
+  pub asks : Asks call name (Err told)
+  pub shows : IsUnread told call.shown
+  pub text : WritesText call.sink call.sink' (store_fault name)
+
+-- with exit status 8, for the size
+pub record EndsTooLarge (call : Call) : Type 0 where
+  pub name : List ℕ
+  pub size : ℕ
+  pub asks : Asks call name (Err (fault.Large size))
+  pub shows : call.shown ≡ Some 0
+  pub text : WritesText call.sink call.sink' (script_refused 0 BadLine)
+
+-- the fault of a script that is refused so at that line
+abbrev pub fault_at : ScriptRefusal → ℕ → ScriptFault
+fault_at BadLine line = script.BadLine line
+fault_at MomentBackwards line = script.MomentBackwards line
+fault_at UnknownName line = script.UnknownName line
+fault_at NotYet line = script.NotYet line
+
+-- with exit status 8, for a line
+pub record EndsAtLine (call : Call) : Type 0 where
+  pub name : List ℕ
+  pub bytes : List ℕ
+  pub line : ℕ
+  pub why : ScriptRefusal
+  pub asks : Asks call name (Ok bytes)
+  pub refused : ScriptIs bytes (Err (fault_at why line))
+  pub shows : call.shown ≡ Some line
+  pub text : WritesText call.sink call.sink' (script_refused line why)
+
+-- with exit status 8
+abbrev pub EndsRefused : Call → Type 0
+EndsRefused call = EndsTooLarge call ⊎ EndsAtLine call
+
+-- ## Where a run opened
+
+-- the report of a board
+abbrev pub board_report : SeenBoard → List ℕ
+board_report b = report_of b.book.history b.book.state.newest b.ended
+
+-- the report of the board was written whole
+abbrev pub Reports : SinkSeen → SinkSeen → SeenBoard → Type 0
+Reports old new b = new.told ≡ option_map (λ written. written ++ board_report b) old.told
+
+-- what is left of a run of these clients: it closed each connection that it took, each child is gone, and each connection
+-- received a front of what its client sends, and all of it where the client had done
+pub record HasRun (clients : List (List ℕ)) (b : SeenBoard) : Type 0 where
+  pub run : IsRunFrom 64 1 first_shape b
+  pub closed : HasClosedAll b
+  pub receive : AllReceive clients b.ended
+
+-- a script was read, and what is left is of a run of it: a board, and the front that played the script
+pub record HasPlayed (call : Call) (b : SeenBoard) (f : SeenFront) : Type 0 where
+  pub name : List ℕ
+  pub bytes : List ℕ
+  pub asks : Asks call name (Ok bytes)
+  pub script : ScriptIs bytes (Ok f.script)
+  pub shows : call.shown ≡ None
+  pub has_run : HasRun (clients_of f.script) b
+
+-- the clock was told exactly the moments that the waits of the front gave, in order, and answered each
+abbrev pub KeepsTime : SeenFront → List (ℕ × ℕ) → Type 0
+KeepsTime f calls = calls ≡ map echo (moments_of f.told.waits)
+
+-- how a run that stopped so may end: with 6 wherever memory lacked for its report, and where a connection was cut short
+abbrev pub EndsFor : Going → ℕ → Type 0
+EndsFor (Halted why.FrontEnded) status = (status ≡ 0) ⊎ (status ≡ 5) ⊎ (status ≡ 6)
+EndsFor (Halted why.Full) status = (status ≡ 7) ⊎ (status ≡ 6)
+EndsFor (Halted why.NoMemory) status = status ≡ 6
+EndsFor other status = ⊥
+
+-- the service of a connection that ended for this was cut short by something else than want of memory
+abbrev pub is_cut_by : Cause → Bool
+is_cut_by cause.ClientDone = false
+is_cut_by cause.NoMemory = false
+is_cut_by other = true
+
+-- the connection ended for such a cause
+abbrev pub is_cut : SeenEnded → Bool
+is_cut e = is_cut_by e.cause
+
+-- the script was played to its end: the run is a whole one, all lines have happened, and each connection of the script was
+-- taken
+pub record HasEnd (b : SeenBoard) (f : SeenFront) : Type 0 where
+  pub whole : IsWholeRun 64 1 first_shape b
+  pub happened : f.happened ≡ length f.script
+  pub taken : b.book.state.accepted ≡ length (names_of f.script)
+
+-- with exit status 0: the script was played to its end, no connection was cut short by anything but want of memory, and the report
+-- was written
+pub record EndsWell (sink sink' : SinkSeen) (b : SeenBoard) (f : SeenFront) : Type 0 where
+  pub end : HasEnd b f
+  pub none_cut : list_any is_cut b.ended ≡ false
+  pub report : Reports sink sink' b
+
+-- with exit status 5: the script was played to its end, no connection was cut short by anything but want of memory, and a write of
+-- the report failed
+pub record EndsUnwritten (sink sink' : SinkSeen) (b : SeenBoard) (f : SeenFront) : Type 0 where
+  pub end : HasEnd b f
+  pub none_cut : list_any is_cut b.ended ≡ false
+  pub failed : Rises sink.faults sink'.faults
+
+-- with exit status 7: the history has a stop because it is full, at a load that is at its limit
+pub record EndsFull (sink sink' : SinkSeen) (b : SeenBoard) : Type 0 where
+  pub stop : HasFullStop b.book.history
+  pub full : full_load ≤ load stop.before
+  pub text : WritesText sink sink' (board_report b)
+
+-- the exit statuses that there are
+abbrev pub IsExitStatus : ℕ → Type 0
+IsExitStatus s = (s ≡ 0) ⊎ (s ≡ 2) ⊎ (s ≡ 3) ⊎ (s ≡ 5) ⊎ (s ≡ 6) ⊎ (s ≡ 7) ⊎ (s ≡ 8)

@@ -1,0 +1,22 @@
+//! The exit statuses of the program, as numbers.
+
+/// The run came to its end, and its report was written.
+pub(crate) const PLAYED: u8 = 0;
+
+/// The words of the command line are no command.
+pub(crate) const UNKNOWN_WORDS: u8 = 2;
+
+/// The script is missing or can't be read.
+pub(crate) const UNREAD: u8 = 3;
+
+/// The report can't be written.
+pub(crate) const UNWRITTEN: u8 = 5;
+
+/// Memory was wanted and not found.
+pub(crate) const NO_MEMORY: u8 = 6;
+
+/// The history is full.
+pub(crate) const FULL: u8 = 7;
+
+/// The script is refused.
+pub(crate) const REFUSED: u8 = 8;
