@@ -1,1 +1,6 @@
+pub mod Entry
+pub mod Fault
 pub mod Listing
+pub mod Output
+pub mod WholeFile
+pub mod WholeFileInside

@@ -1,42 +1,35 @@
 //! The program: runs the command that its words give, over the current folder and standard output, and ends with
 //! the run's status.
 //!
-//! What it promises is what `run` of `mpm_run` does. The folder and the output tell nothing of what they hold.
+//! What it promises is what `run` of `mpm_run` does. The folder and the output tell nothing of what they hold; how their
+//! answers follow from what the system answers stands in `specs/`: which fault an error is (`Fault`), what an entry of a
+//! folder leads to (`Entry`), a listing (`Listing`), reading to the end (`WholeFile`), and what a write took (`Output`).
 #![tactic(auto)]
 
+mod command_line;
+mod entry;
+mod fault;
 mod folder;
+mod listing;
 mod output;
+mod whole_file;
 
+use command_line::{exit_of, words_of};
 use folder::Folder;
-use mpm_base::{NoMemory, Words};
+use mpm_base::NoMemory;
 use mpm_run::run;
 use output::Output;
-use std::env::{self, Env};
 use std::process::ExitCode;
-
-/// The status for want of memory.
-const NO_MEMORY: u8 = 6;
+use std::{env, io};
 
 fn main(rt: HostRuntime) -> ExitCode {
-    let status = match words(&rt) {
+    let outcome = match words_of(rt.alloc(), env::args(&rt)) {
         Ok(words) => {
-            let mut folder = Folder::new(&rt);
-            let mut output = Output::new(&rt);
-            run(&rt, rt.alloc(), &words, &mut folder, &mut output).status
+            let mut folder = Folder::new(&rt, rt.alloc());
+            let mut output = Output::new(io::writer(&rt));
+            Ok(run(&rt, rt.alloc(), &words, &mut folder, &mut output))
         }
-        Err(NoMemory) => NO_MEMORY,
+        Err(NoMemory) => Err(NoMemory),
     };
-    ExitCode::from(status)
-}
-
-/// The words of the command line, without the program's name.
-fn words<R: Env + AllocGlobal>(rt: &R) -> Result<Words, NoMemory> {
-    let mut words = Words::make(rt.alloc());
-    let Ok(args) = env::args(rt) else {
-        return Err(NoMemory);
-    };
-    for word in args.skip(1) {
-        words.add(word.as_str())?;
-    }
-    Ok(words)
+    exit_of(outcome)
 }

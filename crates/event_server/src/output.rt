@@ -1,35 +1,58 @@
-//! Standard output as a sink.
-ghost use Rattle.std.specs.Prelude.{None};
+//! A writer as a sink.
+ghost use Rattle.std.specs.Prelude.{◌≡◌, None, length};
+ghost use Rattle.std.specs.Io.KnownBytes.{Appends};
+ghost use Rattle.mpm_base.specs.Sink.{FitsOutput, Puts, put_bytes};
+ghost use Rattle.event_server.specs.Output.{put_for};
 
 use mpm_base::{Put, Sink};
 use std::io::{self, Write};
 
-/// Standard output. It tells nothing.
+/// The output over a writer, as standard output is one. It tells nothing.
 #[derive(Drop)]
-pub struct Output<'a, R: Print> {
-    rt: &'a R,
+pub struct Output<W: Write + Drop> {
+    writer: W,
     faults: u64,
 }
 
-impl<'a, R: Print> Output<'a, R> {
-    /// The output of the runtime.
-    pub fn new(rt: &'a R) -> Output<'a, R> {
-        Output { rt, faults: 0 }
+impl<W: Write + Drop> Output<W> {
+    /// The output over the writer.
+    pub fn new(writer: W) -> Output<W> {
+        Output { writer, faults: 0 }
     }
 }
 
-impl<'a, R: Print> Sink for Output<'a, R> {
+impl<W: Write + Drop> Sink for Output<W> {
     ghost told = { λ _. None };
 
     ghost faults = { λ o. o.faults };
 
-    fn write(&mut self, bytes: &[u8]) -> Put {
-        match io::writer(self.rt).write(bytes) {
-            Ok(count) if count > 0 || bytes.is_empty() => Put::Put(count as u64),
-            _ => {
-                self.faults = self.faults.saturating_add(1);
-                Put::Failed
-            }
+    fn write(&mut self, bytes: &[u8]) -> Put
+        ensures sink { Puts None None self.old.faults self.new.faults result bytes.now }
+        ensures writer { Appends (W.contents self.old.writer) (W.contents self.new.writer) (put_bytes result bytes.now) }
+    {
+        let put = write_piece(&mut self.writer, bytes);
+        if put == Put::Failed {
+            self.faults = self.faults.saturating_add(1);
         }
+        put
+    }
+}
+
+/// Writes from the front of the piece to the writer, which then holds just what was taken of it.
+fn write_piece<W: Write>(writer: &mut W, piece: &[u8]) -> Put
+    ensures fits { FitsOutput result (length piece.now) }
+    ensures bytes { Appends (W.contents writer.old) (W.contents writer.new) (put_bytes result piece.now) }
+{
+    put_of(writer.write(piece), piece)
+}
+
+/// What the answer to a write says of the piece. A write that took nothing of one that isn't empty failed.
+fn put_of(answer: io::Result<usize>, piece: &[u8]) -> Put
+    ensures { result ≡ put_for answer piece.now }
+{
+    match answer {
+        Ok(0) if !piece.is_empty() => Put::Failed,
+        Ok(count) => Put::Put(count as u64),
+        Err(_) => Put::Failed,
     }
 }

@@ -1,0 +1,36 @@
+-- What an entry of a folder leads to, by what the file system tells of it.
+use Rattle.std.specs.Prelude.{Option, None, Result, Ok, Err}
+use Rattle.std.specs.Fs.{IsDir, IsFile}
+use Rattle.std.specs.declared.fs.attrs.FileType.{FileType}
+use Rattle.std.specs.declared.io.ErrorKind.{ErrorKind}
+use Rattle.std.specs.declared.io.ErrorKind.TheVariants as kind
+use Rattle.mpm_base.specs.declared.store.StoreFault.{StoreFault}
+use Rattle.mpm_base.specs.declared.store.StoreFault.TheVariants as fault
+use Rattle.event_server.specs.declared.entry.EntryKind.{EntryKind}
+use Rattle.event_server.specs.declared.entry.EntryKind.TheVariants as entry
+
+-- what is no link is a folder, a regular file, or something else, as a pipe, a socket or a device
+abbrev pub IsKindOf : FileType → EntryKind → Type 0
+IsKindOf t entry.Folder = IsDir t
+IsKindOf t entry.File = IsFile t
+IsKindOf t entry.Other = (¬ IsDir t) × (¬ IsFile t)
+
+-- a link leads to a regular file or to nothing that is listed, since a folder behind it isn't gone through
+abbrev pub IsKindBehind : FileType → EntryKind → Type 0
+IsKindBehind t entry.Folder = ⊥
+IsKindBehind t entry.File = IsFile t
+IsKindBehind t entry.Other = ¬ IsFile t
+
+-- where the file system tells nothing of an entry: either nothing is there, or the folder can't be listed
+abbrev pub unknown_kind : ErrorKind → Result EntryKind StoreFault
+unknown_kind kind.NotFound = Ok entry.Other
+unknown_kind kind.NotADirectory = Ok entry.Other
+unknown_kind kind.FilesystemLoop = Ok entry.Other
+unknown_kind kind.OutOfMemory = Err fault.NoMemory
+unknown_kind k = Err fault.Failed
+
+-- where an entry isn't given: its name isn't UTF-8 and it is left out, or the folder can't be listed
+abbrev pub unnamed_entry : {T : Type 0} → ErrorKind → Result (Option T) StoreFault
+unnamed_entry kind.InvalidFilename = Ok None
+unnamed_entry kind.OutOfMemory = Err fault.NoMemory
+unnamed_entry k = Err fault.Failed

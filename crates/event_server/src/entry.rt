@@ -1,0 +1,105 @@
+//! What an entry of a folder leads to.
+ghost use Rattle.std.specs.Prelude.{◌≡◌, IfErr, IsOkAnd, Some, Ok, MatchResult};
+ghost use Rattle.std.specs.IoError.{error_kind};
+ghost use Rattle.std.specs.Fs.{IsSymlink, file_type};
+ghost use Rattle.event_server.specs.Entry.{IsKindBehind, IsKindOf, unknown_kind, unnamed_entry};
+ghost use Rattle.event_server.specs.Listing.{IsListFault, listing_fault};
+
+use crate::fault::fault_of;
+use mpm_base::StoreFault;
+use std::fs::{self, DirEntry, FileType, Metadata};
+use std::io::{self, ErrorKind};
+use std::rt::Files;
+
+/// What stands in a folder, as a listing takes it.
+#[derive(Clone, Copy, PartialEq, Eq)]
+pub enum EntryKind {
+    /// A folder, which is gone through.
+    Folder,
+    /// A regular file, or a link to one.
+    File,
+    /// Anything else. It is left out, and never opened.
+    Other,
+}
+
+/// The entry, or none where its name isn't UTF-8.
+pub fn entry_given<T>(told: io::Result<T>) -> Result<Option<T>, StoreFault>
+    ensures { MatchResult told (λ entry. result ≡ Ok (Some entry)) (λ e. result ≡ unnamed_entry (error_kind e)) }
+{
+    match told {
+        Ok(entry) => Ok(Some(entry)),
+        Err(error) => match error.kind() {
+            ErrorKind::InvalidFilename => Ok(None),
+            _ => Err(fault_of_entry(&error)),
+        },
+    }
+}
+
+/// What the entry leads to. A link is followed to a file alone.
+pub fn kind_in<R: Files>(rt: &R, entry: &DirEntry<R>) -> Result<EntryKind, StoreFault>
+    ensures { IfErr result IsListFault }
+{
+    let kind = match entry.file_type() {
+        Ok(kind) => kind,
+        Err(error) => return without_kind(&error),
+    };
+    if kind.is_symlink() {
+        kind_behind(fs::metadata(rt, entry.path()))
+    } else {
+        Ok(kind_of_type(kind))
+    }
+}
+
+/// What is of that type, and no link.
+fn kind_of_type(kind: FileType) -> EntryKind
+    requires { ¬ IsSymlink kind }
+    ensures { IsKindOf kind result }
+{
+    if kind.is_dir() {
+        EntryKind::Folder
+    } else if kind.is_file() {
+        EntryKind::File
+    } else {
+        EntryKind::Other
+    }
+}
+
+/// What stands behind a link, by what the file system tells of that.
+fn kind_behind(told: io::Result<Metadata>) -> Result<EntryKind, StoreFault>
+    ensures { MatchResult told
+        (λ m. IsOkAnd result (IsKindBehind (file_type m)))
+        (λ e. result ≡ unknown_kind (error_kind e)) }
+{
+    match told {
+        Ok(metadata) => {
+            if metadata.is_file() {
+                Ok(EntryKind::File)
+            } else {
+                Ok(EntryKind::Other)
+            }
+        }
+        Err(error) => without_kind(&error),
+    }
+}
+
+/// What an entry is of which the file system tells nothing.
+fn without_kind(error: &io::Error) -> Result<EntryKind, StoreFault>
+    ensures { result ≡ unknown_kind (error_kind error.now) }
+{
+    match error.kind() {
+        ErrorKind::NotFound | ErrorKind::NotADirectory | ErrorKind::FilesystemLoop => {
+            Ok(EntryKind::Other)
+        }
+        _ => Err(fault_of_entry(error)),
+    }
+}
+
+/// The fault where a folder can't be listed whole.
+fn fault_of_entry(error: &io::Error) -> StoreFault
+    ensures { result ≡ listing_fault (error_kind error.now) }
+{
+    match fault_of(error) {
+        StoreFault::Missing => StoreFault::Failed,
+        fault => fault,
+    }
+}
