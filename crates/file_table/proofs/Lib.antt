@@ -1,0 +1,4 @@
+pub mod LoadLemmas
+pub mod OrderLemmas
+pub mod PathLemmas
+pub mod ResourceLemmas

@@ -1,0 +1,56 @@
+-- What loading a site answers, and what it leaves of the store.
+use Rattle.std.specs.Prelude.{◌≡◌, ℕ, ◌<◌, ◌≤◌, Bool, true, false, List, ◌∷◌, ◌++◌, length, Some, None, Result, Ok, Err, ⊤}
+use Rattle.mpm_base.specs.declared.store.File.{File}
+use Rattle.mpm_base.specs.Count.{RisesWhere}
+use Rattle.mpm_base.specs.Store.{StoreCounts, names_under}
+use Rattle.file_table.specs.declared.load_fault.LoadFault.{LoadFault}
+use Rattle.file_table.specs.declared.load_fault.LoadFault.TheVariants as fault
+use Rattle.file_table.specs.declared.site.SiteOrder.{SiteOrder}
+use Rattle.file_table.specs.Site.{SeenSite, IsSiteOf, first_too_large, size_of}
+
+-- the file is the first of the site that is too large; the name is its whole name, and it has so many bytes
+pub record IsTooLargeFile (order : SiteOrder) (files : List File) (name : List ℕ) (size : ℕ) : Type 0 where
+  pub site : SeenSite
+  pub is_site : IsSiteOf order files site
+  pub file : File
+  pub first : first_too_large 0 site.files ≡ Some file
+  pub named : name ≡ order.root ++ 47 ∷ file.name
+  pub sized : size ≡ size_of file
+
+-- what loading answers of these files: their site, or why it is refused
+abbrev pub MayLoad : SiteOrder → List File → Result SeenSite LoadFault → Type 0
+MayLoad order files (Ok site) = IsSiteOf order files site
+MayLoad order files (Err fault.StoreFault) = ⊤
+MayLoad order files (Err fault.TooMany) = 65536 < length (names_under order.root files)
+MayLoad order files (Err (fault.TooLarge name size)) =
+    (length (names_under order.root files) ≤ 65536) × IsTooLargeFile order files name size
+MayLoad order files (Err fault.NoMemory) = ⊤
+
+-- a site that was loaded has at most 65,536 files, and none is too large
+pub record IsWithinLimits (site : SeenSite) : Type 0 where
+  pub few : length site.files ≤ 65536
+  pub small : first_too_large 0 site.files ≡ None
+
+-- the store failed
+abbrev pub is_store_fault : LoadFault → Bool
+is_store_fault fault.StoreFault = true
+is_store_fault fault.TooMany = false
+is_store_fault (fault.TooLarge name size) = false
+is_store_fault fault.NoMemory = false
+
+-- the files are more, or larger, than a site takes
+abbrev pub is_limit : LoadFault → Bool
+is_limit fault.StoreFault = false
+is_limit fault.TooMany = true
+is_limit (fault.TooLarge name size) = true
+is_limit fault.NoMemory = false
+
+-- the answer is a fault that passes the test
+abbrev pub answers_for : {T : Type 0} → (LoadFault → Bool) → Result T LoadFault → Bool
+answers_for test (Ok x) = false
+answers_for test (Err e) = test e
+
+-- no count of the store fell; the first rose where the answer is StoreFault, the second where it is TooMany or TooLarge
+pub record CountsLoad {T : Type 0} (counts counts' : StoreCounts) (answer : Result T LoadFault) : Type 0 where
+  pub faults : RisesWhere (answers_for is_store_fault answer) counts.faults counts'.faults
+  pub refusals : RisesWhere (answers_for is_limit answer) counts.refusals counts'.refusals

@@ -1,0 +1,42 @@
+-- A site: the files under a folder, by their names in it, in the order of the names.
+use Rattle.std.specs.Prelude.{◌≡◌, ℕ, ◌+◌, ◌||◌, nat_lt, Bool, List, [], ◌∷◌, length, map, drop, Option, Some, None, if◌then◌else◌, unwrap_or}
+use Rattle.std.specs.List.Sorted.{IsPermutation}
+use Rattle.mpm_base.specs.declared.store.File.{File}
+use Rattle.mpm_base.specs.Store.{bytes_of, names_under}
+use Rattle.file_table.specs.declared.site.SiteOrder.{SiteOrder}
+use Rattle.file_table.specs.Order.{IsInOrder}
+
+-- what contracts see of a site: the name of the file that stands for a folder, and the files
+pub record SeenSite : Type 0 where
+  pub index : List ℕ
+  pub files : List File
+
+-- the name within a folder of what lies there: what follows the folder's name and a slash
+abbrev pub name_within : List ℕ → List ℕ → List ℕ
+name_within folder name = drop (length folder + 1) name
+
+-- a name of these files as a file of the folder: its bytes are those of the first file of that name, and none where no file has it
+abbrev pub file_within : List ℕ → List File → List ℕ → File
+file_within folder files name = record { name = name_within folder name; bytes = unwrap_or (bytes_of name files) [] }
+
+-- the site has the files under the root, in the order of their names there
+pub record IsSiteOf (order : SiteOrder) (given : List File) (site : SeenSite) : Type 0 where
+  pub index : site.index ≡ order.index
+  pub names : List (List ℕ)
+  pub all : IsPermutation (names_under order.root given) names
+  pub files : site.files ≡ map (file_within order.root given) names
+  pub in_order : IsInOrder site.files
+
+-- how many bytes the file has
+abbrev pub size_of : File → ℕ
+size_of file = length file.bytes
+
+-- the file has more than 16,777,216 bytes, or with those before it, which have so many, more than 67,108,864
+abbrev pub is_too_large : ℕ → File → Bool
+is_too_large before file = nat_lt 16777216 (size_of file) || nat_lt 67108864 (before + size_of file)
+
+-- the first file that is too large, where those before the first have so many bytes
+abbrev pub first_too_large : ℕ → List File → Option File
+first_too_large before [] = None
+first_too_large before (file ∷ files) =
+    if is_too_large before file then Some file else first_too_large (before + size_of file) files

@@ -1,0 +1,71 @@
+//! The content type of a file.
+ghost use Rattle.std.specs.Prelude.{◌≡◌, ◌<◌, length, Some, slice_get, option_map, codes};
+ghost use Rattle.file_table.specs.ContentType.{extension_of, is_extension, type_by_extension, type_of_extension, type_of_name};
+
+use crate::site::Site;
+
+/// What follows the last point of a name, where there is one.
+fn extension_of(name: &[u8]) -> Option<&[u8]>
+    ensures { option_map (λ e. e.now) result ≡ extension_of name.now }
+{
+    for place in (0..name.len()).rev() {
+        if name[place] == b'.' {
+            return Some(&name[place + 1..]);
+        }
+    }
+    None
+}
+
+/// Whether the extension is this word, in which case of letters doesn't count.
+fn is_extension(word: &[u8], extension: &[u8]) -> bool
+    ensures { result ≡ is_extension word.now extension.now }
+{
+    extension.eq_ignore_ascii_case(word)
+}
+
+/// The type that goes with an extension.
+fn type_by_extension(extension: &[u8]) -> &'static [u8]
+    ensures { result.now ≡ type_by_extension extension.now }
+{
+    if is_extension(b"html", extension) || is_extension(b"htm", extension) {
+        b"text/html"
+    } else if is_extension(b"txt", extension) {
+        b"text/plain"
+    } else if is_extension(b"css", extension) {
+        b"text/css"
+    } else if is_extension(b"js", extension) {
+        b"text/javascript"
+    } else if is_extension(b"json", extension) {
+        b"application/json"
+    } else if is_extension(b"xml", extension) {
+        b"application/xml"
+    } else if is_extension(b"svg", extension) {
+        b"image/svg+xml"
+    } else if is_extension(b"png", extension) {
+        b"image/png"
+    } else if is_extension(b"jpg", extension) || is_extension(b"jpeg", extension) {
+        b"image/jpeg"
+    } else if is_extension(b"gif", extension) {
+        b"image/gif"
+    } else {
+        b"application/octet-stream"
+    }
+}
+
+/// The type of a file of that name.
+fn type_of_name(name: &[u8]) -> &'static [u8]
+    ensures { result.now ≡ type_of_name name.now }
+{
+    match extension_of(name) {
+        Some(extension) => type_by_extension(extension),
+        None => b"application/octet-stream",
+    }
+}
+
+/// The content type of a file of the site (RFC 9110, section 8.3).
+pub fn content_type(site: &Site, file: u32) -> &[u8]
+    requires { file < length site.now.files }
+    ensures { option_map (λ f. type_of_name f.name) (slice_get site.now.files file) ≡ Some result.now }
+{
+    type_of_name(site.files()[file as usize].name.as_slice())
+}

@@ -1,0 +1,83 @@
+//! The files of a site.
+ghost use Rattle.std.specs.Prelude.{◌≡◌, ◌<◌, ◌≤◌, ◌∷◌, length, Some, IfOk, slice_get, option_map};
+ghost use Rattle.file_table.specs.Order.{IsInOrder};
+
+use mpm_base::{File, NoMemory, Octets};
+use std::alloc::Global;
+use std::marker::Model;
+
+/// What a site is made of: the folder whose files it has, and the name of the file that stands for a folder.
+#[derive(Debug, Drop)]
+pub struct SiteOrder {
+    pub root: Octets,
+    pub index: Octets,
+}
+
+/// The files under a folder by their names in it, at most 65,536.
+#[derive(Debug, Drop)]
+pub struct Site {
+    index: Octets,
+    slash_index: Octets,
+    files: Vec<File>,
+}
+
+impl Model for Site {
+    ghost use Rattle.std.specs.Prelude.{◌≡◌, ◌≤◌, ◌∷◌, length};
+    ghost use Rattle.file_table.specs.Order.{IsInOrder};
+    ghost use Rattle.file_table.specs.Site.{SeenSite};
+
+    ghost Value = { SeenSite };
+
+    ghost view = { λ s. record { index = s.index; files = s.files.items } };
+
+    ghost invariant = { λ s. (s.slash_index ≡ 47 ∷ s.index) × IsInOrder s.files.items × (length s.files.items ≤ 65536) };
+}
+
+impl Site {
+    /// A site of these files.
+    pub(crate) fn of(alloc: Global, index: &[u8], files: Vec<File>) -> Result<Site, NoMemory>
+        requires in_order { IsInOrder files.items }
+        requires few { length files.items ≤ 65536 }
+        ensures { IfOk result (λ site. site ≡ record { index = index.now; files = files.items }) }
+    {
+        let mut slash_index = Octets::of(alloc, b"/")?;
+        slash_index.add(index)?;
+        let index = Octets::of(alloc, index)?;
+        Ok(Site {
+            index,
+            slash_index,
+            files,
+        })
+    }
+
+    /// The name of the file that stands for a folder.
+    pub fn index(&self) -> &[u8]
+        ensures { result.now ≡ self.now.index }
+    {
+        self.index.as_slice()
+    }
+
+    /// A slash and the name of the file that stands for a folder.
+    pub(crate) fn slash_index(&self) -> &[u8]
+        ensures { result.now ≡ 47 ∷ self.now.index }
+    {
+        self.slash_index.as_slice()
+    }
+
+    /// The files, in the order of their names.
+    pub fn files(&self) -> &[File]
+        ensures files { result.now ≡ self.now.files }
+        ensures in_order { IsInOrder self.now.files }
+        ensures few { length self.now.files ≤ 65536 }
+    {
+        self.files.as_slice()
+    }
+}
+
+/// The bytes of a file of the site, which are not copied.
+pub fn bytes(site: &Site, file: u32) -> &[u8]
+    requires { file < length site.now.files }
+    ensures { option_map (λ f. f.bytes) (slice_get site.now.files file) ≡ Some result.now }
+{
+    site.files()[file as usize].bytes.as_slice()
+}

@@ -1,0 +1,33 @@
+-- What is asked of the table for a request, and the plan of its response.
+use Rattle.std.specs.Prelude.{◌<◌, ◌≤◌, false, length, ⊤}
+use Rattle.mpm_base.specs.declared.conn.Ask.{Ask}
+use Rattle.http_read.specs.RequestParts.{RequestParts}
+use Rattle.file_table.specs.Site.{SeenSite}
+use Rattle.http_core.specs.Served.{code_of, is_head, served_to, size_at}
+use Rattle.http_core.specs.declared.plan.Plan.{Plan}
+use Rattle.http_core.specs.declared.plan.FilePart.{FilePart}
+use Rattle.http_core.specs.declared.plan.Served.{Served}
+use Rattle.http_core.specs.declared.plan.Served.TheVariants as served
+
+-- what a request asks for: its code, and whether it asks to close; no response is a status page
+abbrev pub ask_for : SeenSite → RequestParts → Ask
+ask_for site r = record { asked_close = r.asked_close; refused = false; code = code_of (served_to site r); page = false }
+
+-- the plan of the response to a request
+abbrev pub plan_for : SeenSite → RequestParts → Plan
+plan_for site r = record { served = served_to site r; only_head = is_head r.method; minor = r.minor }
+
+-- the part is one of a file of the site
+pub record IsPartOf (site : SeenSite) (part : FilePart) : Type 0 where
+  pub there : part.file < length site.files
+  pub ordered : part.from ≤ part.to
+  pub within : part.to ≤ size_at site part.file
+
+-- what is served is of this site
+abbrev pub IsServedOf : SeenSite → Served → Type 0
+IsServedOf site (served.Whole part) = IsPartOf site part
+IsServedOf site (served.Part part) = IsPartOf site part
+IsServedOf site (served.Unsatisfied size) = ⊤
+IsServedOf site (served.Moved path) = ⊤
+IsServedOf site served.Options = ⊤
+IsServedOf site (served.Refused code) = ⊤

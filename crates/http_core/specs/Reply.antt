@@ -1,0 +1,127 @@
+-- A response: its head (RFC 9112, section 4; RFC 9110, sections 6.6.1, 8.3, 8.6, 10.2 and 14.4) and its body.
+use Rattle.std.specs.Prelude.{◌≡◌, ℕ, ◌-◌, ◌==◌, Bool, List, [], ◌++◌, length, codes, Option, Some, None, slice_get, if◌then◌else◌}
+use Rattle.std.specs.Fmt.{decimal}
+use Rattle.httpdate.specs.Date.{unix_secs, date_text}
+use Rattle.httpdate.specs.declared.date.HttpDate.{HttpDate}
+use Rattle.mpm_base.specs.declared.note.Note.{Note}
+use Rattle.mpm_base.specs.declared.store.File.{File}
+use Rattle.file_table.specs.ContentType.{type_of_name}
+use Rattle.file_table.specs.Site.{SeenSite}
+use Rattle.http_core.specs.Served.{code_of}
+use Rattle.http_core.specs.Status.{status_text}
+use Rattle.http_core.specs.declared.plan.Plan.{Plan}
+use Rattle.http_core.specs.declared.plan.Served.{Served}
+use Rattle.http_core.specs.declared.plan.Served.TheVariants as served
+use Rattle.http_core.specs.declared.reply.Body.{Body}
+use Rattle.http_core.specs.declared.reply.Body.TheVariants as body
+use Rattle.http_core.specs.declared.reply.Reply.{Reply}
+
+-- a line of a head, with its end
+abbrev pub head_line_of : List ℕ → List ℕ
+head_line_of text = text ++ codes "\r\n"
+
+-- the line of the connection (RFC 9112, section 9.3): close for the last response, and keep-alive for another one to HTTP/1.0
+abbrev pub connection_line : Bool → ℕ → List ℕ
+connection_line last minor =
+    if last then head_line_of (codes "Connection: close") else (if minor == 0 then head_line_of (codes "Connection: keep-alive") else [])
+
+-- the methods that are served, for OPTIONS and where the method isn't allowed
+abbrev pub allow_line : Served → List ℕ
+allow_line served.Options = head_line_of (codes "Allow: GET, HEAD, OPTIONS")
+allow_line (served.Refused code) = if code == 405 then head_line_of (codes "Allow: GET, HEAD, OPTIONS") else []
+allow_line (served.Whole part) = []
+allow_line (served.Part part) = []
+allow_line (served.Unsatisfied size) = []
+allow_line (served.Moved path) = []
+
+-- the path to ask for
+abbrev pub location_line : Served → List ℕ
+location_line (served.Moved path) = head_line_of (codes "Location: " ++ path)
+location_line served.Options = []
+location_line (served.Refused code) = []
+location_line (served.Whole part) = []
+location_line (served.Part part) = []
+location_line (served.Unsatisfied size) = []
+
+-- which bytes of how many follow; the last one is named itself
+abbrev pub range_line : Served → List ℕ
+range_line (served.Part part) =
+    head_line_of (codes "Content-Range: bytes " ++ decimal part.from ++ codes "-" ++ decimal (part.to - 1) ++ codes "/" ++ decimal part.size)
+range_line (served.Unsatisfied size) = head_line_of (codes "Content-Range: bytes */" ++ decimal size)
+range_line served.Options = []
+range_line (served.Refused code) = []
+range_line (served.Whole part) = []
+range_line (served.Moved path) = []
+
+-- the type of the file at the place
+abbrev pub type_of_file : Option File → List ℕ
+type_of_file None = []
+type_of_file (Some file) = type_of_name file.name
+
+-- the content type of what is served: that of the file, or a text; OPTIONS has none
+abbrev pub type_line : SeenSite → Served → List ℕ
+type_line site served.Options = []
+type_line site (served.Whole part) = head_line_of (codes "Content-Type: " ++ type_of_file (slice_get site.files part.file))
+type_line site (served.Part part) = head_line_of (codes "Content-Type: " ++ type_of_file (slice_get site.files part.file))
+type_line site (served.Unsatisfied size) = head_line_of (codes "Content-Type: text/plain")
+type_line site (served.Moved path) = head_line_of (codes "Content-Type: text/plain")
+type_line site (served.Refused code) = head_line_of (codes "Content-Type: text/plain")
+
+-- a body that says the status
+abbrev pub status_body : ℕ → List ℕ
+status_body code = status_text code ++ codes "\n"
+
+-- how many bytes the body of a GET has
+abbrev pub reply_length : Served → ℕ
+reply_length (served.Whole part) = part.to - part.from
+reply_length (served.Part part) = part.to - part.from
+reply_length served.Options = 0
+reply_length (served.Unsatisfied size) = length (status_body 416)
+reply_length (served.Moved path) = length (status_body 301)
+reply_length (served.Refused code) = length (status_body code)
+
+-- the first two lines of a head
+abbrev pub first_lines : ℕ → List ℕ → List ℕ
+first_lines code date = head_line_of (codes "HTTP/1.1 " ++ status_text code) ++ head_line_of (codes "Date: " ++ date)
+
+-- the last lines of a head, for a body of so many bytes
+abbrev pub last_lines : ℕ → List ℕ
+last_lines size = head_line_of (codes "Content-Length: " ++ decimal size) ++ head_line_of []
+
+-- the head of the response of this plan and date; `last` says that no other response follows
+abbrev pub head_of : SeenSite → Plan → Bool → List ℕ → List ℕ
+head_of site plan last date =
+    first_lines (code_of plan.served) date ++ connection_line last plan.minor ++ allow_line plan.served ++ location_line plan.served
+    ++ range_line plan.served ++ type_line site plan.served ++ last_lines (reply_length plan.served)
+
+-- the body of a GET
+abbrev pub body_of_get : Served → Body
+body_of_get (served.Whole part) = body.File part.file part.from part.to
+body_of_get (served.Part part) = body.File part.file part.from part.to
+body_of_get served.Options = body.Nothing
+body_of_get (served.Unsatisfied size) = body.Own (status_body 416)
+body_of_get (served.Moved path) = body.Own (status_body 301)
+body_of_get (served.Refused code) = body.Own (status_body code)
+
+-- the body of the response of this plan; a HEAD has none
+abbrev pub reply_body : Plan → Body
+reply_body plan = if plan.only_head then body.Nothing else body_of_get plan.served
+
+-- the reply is the response of this plan, dated by the note's second, behind the bytes that were there
+pub record IsReply (site : SeenSite) (plan : Plan) (note : Note) (before : List ℕ) (reply : Reply) : Type 0 where
+  pub date : HttpDate
+  pub second : unix_secs date ≡ note.date
+  pub head : reply.head ≡ before ++ head_of site plan note.last (date_text date)
+  pub body : reply.body ≡ reply_body plan
+
+-- the head of the response to a refused head
+abbrev pub refusal_head : ℕ → List ℕ → List ℕ
+refusal_head code date =
+    first_lines code date ++ head_line_of (codes "Connection: close") ++ head_line_of (codes "Content-Type: text/plain") ++ last_lines (length (status_body code))
+
+-- the reply is the response to a refused head, by the note's code
+pub record IsRefusalReply (note : Note) (before : List ℕ) (reply : Reply) : Type 0 where
+  pub date : HttpDate
+  pub second : unix_secs date ≡ note.date
+  pub head : reply.head ≡ before ++ refusal_head note.code (date_text date)
+  pub body : reply.body ≡ body.Own (status_body note.code)

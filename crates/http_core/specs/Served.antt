@@ -1,0 +1,98 @@
+-- What a request is served: the first rule that fits.
+use Rattle.std.specs.Prelude.{ℕ, ◌==◌, ◌||◌, Bool, not, List, length, codes, Option, Some, None, if◌then◌else◌, slice_get}
+use Rattle.std.specs.Str.{bytes_eq}
+use Rattle.mpm_base.specs.declared.store.File.{File}
+use Rattle.http_read.specs.RequestParts.{RequestParts}
+use Rattle.file_table.specs.Resource.{resource_of}
+use Rattle.file_table.specs.Site.{SeenSite}
+use Rattle.file_table.specs.declared.found.Found.{Found}
+use Rattle.file_table.specs.declared.found.Found.TheVariants as resource
+use Rattle.http_core.specs.Range.{range_in_value, selection_of}
+use Rattle.http_core.specs.Target.{path_of}
+use Rattle.http_core.specs.declared.range.Range.{Range}
+use Rattle.http_core.specs.declared.range.Selection.{Selection}
+use Rattle.http_core.specs.declared.range.Selection.TheVariants as selection
+use Rattle.http_core.specs.declared.plan.Served.{Served}
+use Rattle.http_core.specs.declared.plan.Served.TheVariants as served
+
+-- the method is GET (RFC 9110, section 9.3.1)
+abbrev pub is_get : List ℕ → Bool
+is_get method = bytes_eq method (codes "GET")
+
+-- the method is HEAD (section 9.3.2)
+abbrev pub is_head : List ℕ → Bool
+is_head method = bytes_eq method (codes "HEAD")
+
+-- the method is OPTIONS (section 9.3.7)
+abbrev pub is_options : List ℕ → Bool
+is_options method = bytes_eq method (codes "OPTIONS")
+
+-- a method that is known and not allowed
+abbrev pub is_disallowed : List ℕ → Bool
+is_disallowed method =
+    bytes_eq method (codes "POST") || bytes_eq method (codes "PUT") || bytes_eq method (codes "DELETE") || bytes_eq method (codes "PATCH")
+
+-- what the path of a target names in the site
+abbrev pub resource_at : SeenSite → Option (List ℕ) → Found
+resource_at site None = resource.BadPath
+resource_at site (Some path) = resource_of site path
+
+-- what a target names in the site
+abbrev pub resource_of_target : SeenSite → List ℕ → Found
+resource_of_target site target = resource_at site (path_of target)
+
+-- how many bytes a file has; none where there is no file
+abbrev pub size_of_file : Option File → ℕ
+size_of_file None = 0
+size_of_file (Some file) = length file.bytes
+
+-- how many bytes the file at the place has
+abbrev pub size_at : SeenSite → ℕ → ℕ
+size_at site place = size_of_file (slice_get site.files place)
+
+-- OPTIONS is served but where the target is none (RFC 9110, section 9.3.7)
+abbrev pub options_of : Found → Served
+options_of resource.BadPath = served.Refused 400
+options_of (resource.File place) = served.Options
+options_of (resource.Redirect path) = served.Options
+options_of resource.Missing = served.Options
+
+-- the file, or what a range selects of it
+abbrev pub served_selection : ℕ → ℕ → Selection → Served
+served_selection place size selection.Whole = served.Whole (record { file = place; from = 0; to = size; size = size })
+served_selection place size (selection.Part from to) = served.Part (record { file = place; from = from; to = to; size = size })
+served_selection place size selection.Unsatisfiable = served.Unsatisfied size
+
+-- the file, whole where no range counts
+abbrev pub served_range : ℕ → ℕ → Option Range → Served
+served_range place size None = served_selection place size selection.Whole
+served_range place size (Some range) = served_selection place size (selection_of size range)
+
+-- the range of a request where it counts: that of a GET, for a file of some bytes
+abbrev pub range_for : Bool → ℕ → Option (List ℕ) → Option Range
+range_for get size None = None
+range_for get size (Some text) = if not get || size == 0 then None else range_in_value text
+
+-- what a resource serves to GET, or else to HEAD
+abbrev pub served_of : SeenSite → Bool → Option (List ℕ) → Found → Served
+served_of site get range resource.BadPath = served.Refused 400
+served_of site get range (resource.Redirect path) = served.Moved path
+served_of site get range resource.Missing = served.Refused 404
+served_of site get range (resource.File place) = served_range place (size_at site place) (range_for get (size_at site place) range)
+
+-- what a request is served
+abbrev pub served_to : SeenSite → RequestParts → Served
+served_to site r =
+    if is_get r.method || is_head r.method then served_of site (is_get r.method) r.range (resource_of_target site r.target)
+    else (if is_options r.method
+    then (if bytes_eq r.target (codes "*") then served.Options else options_of (resource_of_target site r.target))
+    else (if is_disallowed r.method then served.Refused 405 else served.Refused 501))
+
+-- the code of what is served
+abbrev pub code_of : Served → ℕ
+code_of (served.Whole part) = 200
+code_of (served.Part part) = 206
+code_of (served.Unsatisfied size) = 416
+code_of (served.Moved path) = 301
+code_of served.Options = 200
+code_of (served.Refused code) = code

@@ -1,0 +1,45 @@
+-- The target of a request (RFC 9112, section 3.2).
+use Rattle.std.specs.Prelude.{ℕ, ◌==◌, ◌||◌, Bool, List, [], ◌∷◌, length, take, drop, map, codes, Option, Some, None, slice_index, if◌then◌else◌}
+use Rattle.std.specs.List.{before_first, list_any}
+use Rattle.std.specs.Char.{to_ascii_lowercase}
+use Rattle.std.specs.Str.{bytes_eq}
+
+-- the byte that begins a query
+abbrev pub begins_query : ℕ → Bool
+begins_query b = b == 63
+
+-- what stands before the query
+abbrev pub before_query : List ℕ → List ℕ
+before_query target = before_first begins_query target
+
+-- the byte that begins a path
+abbrev pub begins_path : ℕ → Bool
+begins_path b = b == 47
+
+-- the byte that begins a fragment
+abbrev pub begins_fragment : ℕ → Bool
+begins_fragment b = b == 35
+
+-- the target begins with http://, in which case of letters doesn't count
+abbrev pub has_scheme : List ℕ → Bool
+has_scheme target = bytes_eq (map to_ascii_lowercase (take 7 target)) (codes "http://")
+
+-- a path, or the root where it is empty (RFC 9110, section 4.2.3)
+abbrev pub path_or_root : List ℕ → List ℕ
+path_or_root path = if length path == 0 then 47 ∷ [] else path
+
+-- the authority: what stands before the path
+abbrev pub authority_of : List ℕ → List ℕ
+authority_of text = before_first begins_path text
+
+-- the path behind an authority, which isn't empty and has no fragment
+abbrev pub path_behind : List ℕ → Option (List ℕ)
+path_behind text =
+    if length (authority_of text) == 0 || list_any begins_fragment (authority_of text) then None
+    else Some (path_or_root (drop (length (authority_of text)) text))
+
+-- the path of a target in origin form or in absolute form; another one has none
+abbrev pub path_of : List ℕ → Option (List ℕ)
+path_of target =
+    if begins_path (slice_index target 0) then Some (before_query target)
+    else (if has_scheme target then path_behind (before_query (drop 7 target)) else None)

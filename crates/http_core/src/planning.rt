@@ -1,0 +1,175 @@
+//! What a request asks for, and the plan of its response.
+ghost use Rattle.std.specs.Prelude.{◌≡◌, ◌<◌, IfOk, IfSome, codes, length, option_map, if◌then◌else◌};
+ghost use Rattle.std.specs.Option.{ForSome};
+ghost use Rattle.std.specs.Str.{bytes_eq};
+ghost use Rattle.file_table.specs.Resource.{IsFoundIn};
+ghost use Rattle.http_core.specs.Ask as spec;
+ghost use Rattle.http_core.specs.Ask.{IsServedOf};
+ghost use Rattle.http_core.specs.RangeInside.{HasSmallBound, IsPartWithin};
+ghost use Rattle.http_core.specs.Served.{is_disallowed, is_get, is_head, is_options, options_of, range_for, served_range, resource_of_target, served_of, served_to, size_at};
+
+use crate::plan::{FilePart, Plan, Served};
+use crate::range::{Range, Selection, range_of, selection_of};
+use crate::target::path_of;
+use file_table::{Found, Site, bytes, find};
+use http_read::Request;
+use mpm_base::{Ask, NoMemory};
+use std::alloc::Global;
+
+/// What the path of the target names.
+fn resource_of_target(alloc: Global, site: &Site, target: &[u8]) -> Result<Found, NoMemory>
+    ensures resource { IfOk result (λ found. found ≡ resource_of_target site.now target.now) }
+    ensures there { IfOk result (IsFoundIn site.now) }
+{
+    match path_of(target) {
+        Some(path) => find(alloc, site, path),
+        None => Ok(Found::BadPath),
+    }
+}
+
+/// The range of a request where it counts.
+fn range_for(get: bool, size: u64, text: Option<&[u8]>) -> Option<Range>
+    ensures value { result ≡ range_for get size (option_map (λ t. t.now) text.entry) }
+    ensures bound { IfSome result HasSmallBound }
+{
+    match text {
+        Some(text) if get && size != 0 => range_of(text),
+        _ => None,
+    }
+}
+
+/// The file, or what a range selects of it.
+fn ranged(file: u32, size: u64, range: Option<Range>) -> Served
+    requires { ForSome range HasSmallBound }
+    ensures value { result ≡ served_range file size range }
+    ensures within { IsPartWithin file size result }
+{
+    let selection = match range {
+        Some(range) => selection_of(size, range),
+        None => Selection::Whole,
+    };
+    match selection {
+        Selection::Whole => Served::Whole(FilePart {
+            file,
+            from: 0,
+            to: size,
+            size,
+        }),
+        Selection::Part(from, to) => Served::Part(FilePart {
+            file,
+            from,
+            to,
+            size,
+        }),
+        Selection::Unsatisfiable => Served::Unsatisfied(size),
+    }
+}
+
+/// How many bytes the file has.
+fn size_at(site: &Site, place: u32) -> u64
+    requires { place < length site.now.files }
+    ensures { result ≡ size_at site.now place }
+{
+    bytes(site, place).len() as u64
+}
+
+/// What the resource serves to GET, or else to HEAD.
+fn served_of(site: &Site, get: bool, range: Option<&[u8]>, found: Found) -> Served
+    requires { IsFoundIn site.now found }
+    ensures value { result ≡ served_of site.now get (option_map (λ t. t.now) range.entry) found }
+    ensures of { IsServedOf site.now result }
+{
+    match found {
+        Found::BadPath => Served::Refused(400),
+        Found::Redirect(path) => Served::Moved(path),
+        Found::Missing => Served::Refused(404),
+        Found::File(place) => {
+            let size = size_at(site, place);
+            ranged(place, size, range_for(get, size, range))
+        }
+    }
+}
+
+/// What OPTIONS is served for the resource.
+fn options_of(found: Found) -> Served
+    ensures { result ≡ options_of found }
+{
+    match found {
+        Found::BadPath => Served::Refused(400),
+        _ => Served::Options,
+    }
+}
+
+/// Whether the method is known and not allowed.
+fn is_disallowed(method: &[u8]) -> bool
+    ensures { result ≡ is_disallowed method.now }
+{
+    method == b"POST".as_slice()
+        || method == b"PUT".as_slice()
+        || method == b"DELETE".as_slice()
+        || method == b"PATCH".as_slice()
+}
+
+/// What is served to a GET, or else to a HEAD.
+fn serve_file(alloc: Global, site: &Site, request: &Request, get: bool) -> Result<Served, NoMemory>
+    ensures value { IfOk result (λ served. served
+        ≡ served_of site.now get request.now.range (resource_of_target site.now request.now.target)) }
+    ensures of { IfOk result (IsServedOf site.now) }
+{
+    let found = resource_of_target(alloc, site, request.target())?;
+    Ok(served_of(site, get, request.range(), found))
+}
+
+/// What is served to OPTIONS.
+fn serve_options(alloc: Global, site: &Site, target: &[u8]) -> Result<Served, NoMemory>
+    ensures value { IfOk result (λ served. served ≡ (if bytes_eq target.now (codes "*") then Served.Options
+        else options_of (resource_of_target site.now target.now))) }
+    ensures of { IfOk result (IsServedOf site.now) }
+{
+    if matches!(target, b"*") {
+        return Ok(Served::Options);
+    }
+    let found = resource_of_target(alloc, site, target)?;
+    Ok(options_of(found))
+}
+
+/// What the request is served.
+fn served_to(alloc: Global, site: &Site, request: &Request) -> Result<Served, NoMemory>
+    ensures value { IfOk result (λ served. served ≡ served_to site.now request.now) }
+    ensures of { IfOk result (IsServedOf site.now) }
+{
+    match request.method() {
+        b"GET" => serve_file(alloc, site, request, true),
+        b"HEAD" => serve_file(alloc, site, request, false),
+        b"OPTIONS" => serve_options(alloc, site, request.target()),
+        method => Ok(Served::Refused(if is_disallowed(method) { 405 } else { 501 })),
+    }
+}
+
+/// Whether the method is HEAD.
+fn is_head(method: &[u8]) -> bool
+    ensures { result ≡ is_head method.now }
+{
+    matches!(method, b"HEAD")
+}
+
+/// What a request asks for, and the plan of its response.
+pub fn ask_of(alloc: Global, site: &Site, request: &Request) -> Result<(Ask, Plan), NoMemory>
+    ensures ask { IfOk result (λ asked. asked.0 ≡ spec.ask_for site.now request.now) }
+    ensures plan { IfOk result (λ asked. asked.1 ≡ spec.plan_for site.now request.now) }
+    ensures of { IfOk result (λ asked. IsServedOf site.now asked.1.served) }
+{
+    let served = served_to(alloc, site, request)?;
+    let ask = Ask {
+        asked_close: request.asked_close(),
+        refused: false,
+        code: served.code(),
+        page: false,
+    };
+    let plan = Plan {
+        served,
+        only_head: is_head(request.method()),
+        minor: request.minor(),
+    };
+    Ok((ask, plan))
+}

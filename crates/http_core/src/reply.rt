@@ -1,0 +1,112 @@
+//! A response: its head, and what its body is.
+ghost use Rattle.std.specs.Prelude.{◌≡◌, ◌<◌, true, IfOk};
+ghost use Rattle.httpdate.specs.Date.{unix_secs};
+ghost use Rattle.http_core.specs.Ask.{IsServedOf};
+ghost use Rattle.http_core.specs.Reply as spec;
+ghost use Rattle.http_core.specs.Reply.{IsRefusalReply, IsReply};
+ghost use Rattle.http_core.specs.Status.{refuses_head};
+
+use crate::plan::{Plan, Served};
+use crate::status::status_text;
+use crate::writing::{write_head, write_refusal};
+use file_table::Site;
+use httpdate::HttpDate;
+use mpm_base::{NoMemory, Note, Octets};
+use std::alloc::Global;
+
+/// What follows the head of a response.
+#[derive(Debug, Drop)]
+pub enum Body {
+    /// Nothing.
+    Nothing,
+    /// These bytes.
+    Own(Octets),
+    /// The bytes of a file of the site, by its place: from the one place up to the other, which isn't one of them.
+    File(u32, u64, u64),
+}
+
+/// A response, its head as bytes.
+#[derive(Debug, Drop)]
+pub struct Reply {
+    pub head: Octets,
+    pub body: Body,
+}
+
+/// The date at a second since 1970-01-01 00:00:00 UTC.
+fn date_at(second: u64) -> HttpDate
+    requires { second < 253402300800 }
+    ensures { unix_secs result ≡ second }
+{
+    let Ok(date) = HttpDate::from_unix_secs(second) else {
+        unreachable!()
+    };
+    date
+}
+
+/// A body that says the status.
+fn status_body(alloc: Global, code: u16) -> Result<Octets, NoMemory>
+    ensures { IfOk result (λ text. text ≡ spec.status_body code) }
+{
+    let mut text = Octets::of(alloc, status_text(code))?;
+    text.add(b"\n")?;
+    Ok(text)
+}
+
+/// The body of a GET.
+fn body_of_get(alloc: Global, served: &Served) -> Result<Body, NoMemory>
+    ensures { IfOk result (λ body. body ≡ spec.body_of_get served.now) }
+{
+    match served {
+        Served::Whole(part) => Ok(Body::File(part.file, part.from, part.to)),
+        Served::Part(part) => Ok(Body::File(part.file, part.from, part.to)),
+        Served::Options => Ok(Body::Nothing),
+        _ => Ok(Body::Own(status_body(alloc, served.code())?)),
+    }
+}
+
+/// The body of the response of this plan.
+fn body_of(alloc: Global, plan: &Plan) -> Result<Body, NoMemory>
+    ensures { IfOk result (λ body. body ≡ spec.reply_body plan.now) }
+{
+    if plan.only_head {
+        Ok(Body::Nothing)
+    } else {
+        body_of_get(alloc, &plan.served)
+    }
+}
+
+/// The response of this plan with the note: its head is written behind what the buffer holds, which is dropped where
+/// memory lacks.
+pub fn response(
+    alloc: Global,
+    head: Octets,
+    site: &Site,
+    plan: &Plan,
+    note: &Note,
+) -> Result<Reply, NoMemory>
+    requires date { note.now.date < 253402300800 }
+    requires of { IsServedOf site.now plan.now.served }
+    ensures { IfOk result (IsReply site.now plan.now note.now head) }
+{
+    let mut head = head;
+    let date = date_at(note.date);
+    write_head(&mut head, site, plan, note.last, &date)?;
+    let body = body_of(alloc, plan)?;
+    Ok(Reply { head, body })
+}
+
+/// The response to a head that was refused by the note's code.
+pub fn refusal(alloc: Global, head: Octets, note: &Note) -> Result<Reply, NoMemory>
+    requires date { note.now.date < 253402300800 }
+    requires code { refuses_head note.now.code ≡ true }
+    ensures { IfOk result (IsRefusalReply note.now head) }
+{
+    let mut head = head;
+    let date = date_at(note.date);
+    write_refusal(&mut head, note.code, &date)?;
+    let text = status_body(alloc, note.code)?;
+    Ok(Reply {
+        head,
+        body: Body::Own(text),
+    })
+}

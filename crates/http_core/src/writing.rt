@@ -1,0 +1,189 @@
+//! Writes the lines of a head.
+ghost use Rattle.std.specs.Prelude.{◌≡◌, ◌++◌, ◌-◌, ◌<◌, codes, length, slice_get, OnOk};
+ghost use Rattle.std.specs.Fmt.{decimal};
+ghost use Rattle.httpdate.specs.Date.{date_text};
+ghost use Rattle.http_core.specs.Ask.{IsServedOf};
+ghost use Rattle.http_core.specs.Reply as spec;
+
+use crate::plan::{FilePart, Plan, Served};
+use crate::status::status_text;
+use file_table::{Site, content_type};
+use httpdate::HttpDate;
+use mpm_base::{NoMemory, Octets};
+
+/// Room for a head without its Location.
+const USUAL_ROOM: usize = 256;
+
+/// The line that says which methods are served.
+const ALLOW: &[u8] = b"Allow: GET, HEAD, OPTIONS\r\n";
+
+/// The line of the type of a text.
+const TEXT: &[u8] = b"Content-Type: text/plain\r\n";
+
+/// How much room the head takes.
+fn room_of(served: &Served) -> usize {
+    match served {
+        Served::Moved(path) => USUAL_ROOM.saturating_add(path.len()),
+        _ => USUAL_ROOM,
+    }
+}
+
+/// Adds a line: a name with what parts it from its value, and the value.
+fn add_line(head: &mut Octets, name: &[u8], value: &[u8]) -> Result<(), NoMemory>
+    ensures { OnOk result (head.new ≡ head.old ++ spec.head_line_of (name.now ++ value.now)) }
+{
+    head.add(name)?;
+    head.add(value)?;
+    head.add(b"\r\n")
+}
+
+/// Adds the first two lines.
+fn add_first_lines(head: &mut Octets, code: u16, date: &HttpDate) -> Result<(), NoMemory>
+    ensures { OnOk result (head.new ≡ head.old ++ spec.first_lines code (date_text date.now)) }
+{
+    add_line(head, b"HTTP/1.1 ", status_text(code))?;
+    add_line(head, b"Date: ", &date.to_bytes())
+}
+
+/// Adds the line of the connection.
+fn add_connection(head: &mut Octets, last: bool, minor: u8) -> Result<(), NoMemory>
+    ensures { OnOk result (head.new ≡ head.old ++ spec.connection_line last minor) }
+{
+    if last {
+        head.add(b"Connection: close\r\n")
+    } else if minor == 0 {
+        head.add(b"Connection: keep-alive\r\n")
+    } else {
+        Ok(())
+    }
+}
+
+/// Adds the line of the methods that are served.
+fn add_allow(head: &mut Octets, served: &Served) -> Result<(), NoMemory>
+    ensures { OnOk result (head.new ≡ head.old ++ spec.allow_line served.now) }
+{
+    match served {
+        Served::Options => head.add(ALLOW),
+        Served::Refused(405) => head.add(ALLOW),
+        _ => Ok(()),
+    }
+}
+
+/// Adds the line of the path to ask for.
+fn add_location(head: &mut Octets, served: &Served) -> Result<(), NoMemory>
+    ensures { OnOk result (head.new ≡ head.old ++ spec.location_line served.now) }
+{
+    match served {
+        Served::Moved(path) => add_line(head, b"Location: ", path.as_slice()),
+        _ => Ok(()),
+    }
+}
+
+/// Adds which bytes of how many follow.
+fn add_part(head: &mut Octets, part: &FilePart) -> Result<(), NoMemory>
+    ensures { OnOk result (head.new ≡ head.old ++ spec.head_line_of (codes "Content-Range: bytes " ++ decimal part.now.from
+        ++ codes "-" ++ decimal (part.now.to - 1) ++ codes "/" ++ decimal part.now.size)) }
+{
+    head.add(b"Content-Range: bytes ")?;
+    head.add_number(part.from)?;
+    head.add(b"-")?;
+    head.add_number(part.to.saturating_sub(1))?;
+    head.add(b"/")?;
+    head.add_number(part.size)?;
+    head.add(b"\r\n")
+}
+
+/// Adds how many bytes there are, where a range lies behind them.
+fn add_unsatisfied(head: &mut Octets, size: u64) -> Result<(), NoMemory>
+    ensures { OnOk result (head.new ≡ head.old ++ spec.head_line_of (codes "Content-Range: bytes */" ++ decimal size)) }
+{
+    head.add(b"Content-Range: bytes */")?;
+    head.add_number(size)?;
+    head.add(b"\r\n")
+}
+
+/// Adds the line of the range.
+fn add_range(head: &mut Octets, served: &Served) -> Result<(), NoMemory>
+    ensures { OnOk result (head.new ≡ head.old ++ spec.range_line served.now) }
+{
+    match served {
+        Served::Part(part) => add_part(head, part),
+        Served::Unsatisfied(size) => add_unsatisfied(head, *size),
+        _ => Ok(()),
+    }
+}
+
+/// Adds the line of the type of a file.
+fn add_type_of_file(head: &mut Octets, site: &Site, file: u32) -> Result<(), NoMemory>
+    requires { file < length site.now.files }
+    ensures { OnOk result (head.new ≡ head.old ++ spec.head_line_of (codes "Content-Type: " ++ spec.type_of_file (slice_get site.now.files file))) }
+{
+    add_line(head, b"Content-Type: ", content_type(site, file))
+}
+
+/// Adds the line of the content type.
+fn add_type(head: &mut Octets, site: &Site, served: &Served) -> Result<(), NoMemory>
+    requires { IsServedOf site.now served.now }
+    ensures { OnOk result (head.new ≡ head.old ++ spec.type_line site.now served.now) }
+{
+    match served {
+        Served::Options => Ok(()),
+        Served::Whole(part) => add_type_of_file(head, site, part.file),
+        Served::Part(part) => add_type_of_file(head, site, part.file),
+        _ => head.add(TEXT),
+    }
+}
+
+/// How many bytes the body of a GET has.
+fn length_of(served: &Served) -> u64
+    ensures { result ≡ spec.reply_length served.now }
+{
+    match served {
+        Served::Whole(part) => part.to.saturating_sub(part.from),
+        Served::Part(part) => part.to.saturating_sub(part.from),
+        Served::Options => 0,
+        _ => status_text(served.code()).len() as u64 + 1,
+    }
+}
+
+/// Adds the last lines.
+fn add_last_lines(head: &mut Octets, size: u64) -> Result<(), NoMemory>
+    ensures { OnOk result (head.new ≡ head.old ++ spec.last_lines size) }
+{
+    head.add(b"Content-Length: ")?;
+    head.add_number(size)?;
+    head.add(b"\r\n\r\n")
+}
+
+/// Writes the head of the response of this plan.
+pub fn write_head(
+    head: &mut Octets,
+    site: &Site,
+    plan: &Plan,
+    last: bool,
+    date: &HttpDate,
+) -> Result<(), NoMemory>
+    requires { IsServedOf site.now plan.now.served }
+    ensures { OnOk result (head.new ≡ head.old ++ spec.head_of site.now plan.now last (date_text date.now)) }
+{
+    let served = &plan.served;
+    head.reserve(room_of(served))?;
+    add_first_lines(head, served.code(), date)?;
+    add_connection(head, last, plan.minor)?;
+    add_allow(head, served)?;
+    add_location(head, served)?;
+    add_range(head, served)?;
+    add_type(head, site, served)?;
+    add_last_lines(head, length_of(served))
+}
+
+/// Writes the head of the response to a refused head.
+pub fn write_refusal(head: &mut Octets, code: u16, date: &HttpDate) -> Result<(), NoMemory>
+    ensures { OnOk result (head.new ≡ head.old ++ spec.refusal_head code (date_text date.now)) }
+{
+    head.reserve(USUAL_ROOM)?;
+    add_first_lines(head, code, date)?;
+    add_connection(head, true, 1)?;
+    head.add(TEXT)?;
+    add_last_lines(head, status_text(code).len() as u64 + 1)
+}
