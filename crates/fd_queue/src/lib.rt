@@ -1,0 +1,13 @@
+//! The descriptor queue: items that go from one thread to others, in order.
+//!
+//! Each thread has a seat, and puts and takes items through it. The items leave in the order in which they came, each once:
+//! `specs/Seats.antt` says it by places, the place of an item being how many were put before it.
+#![tactic(auto)]
+
+mod queue;
+mod seat;
+#[cfg(test)]
+mod tests;
+
+pub use queue::{FdQueue, FdSeat};
+pub use seat::{Item, SeatView};

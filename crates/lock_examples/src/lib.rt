@@ -1,0 +1,17 @@
+//! A small value under the lock, and tests of the lock, the idle words, the perch and the queue with it.
+//!
+//! The value's machine has one child with two workers. Its history begins with the start of the child, and goes on with
+//! signals (`specs/Toy.antt`), all of them made by pass 0.
+#![tactic(auto)]
+
+mod idles;
+mod opening;
+#[cfg(test)]
+mod tests;
+mod toy;
+mod turns;
+
+pub use idles::{credits, reserves, reserves_once};
+pub use opening::{last_of, opened};
+pub use toy::Toy;
+pub use turns::{goes_on, looks};

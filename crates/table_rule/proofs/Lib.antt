@@ -1,0 +1,11 @@
+mod DrawLaws
+mod GiveLaws
+mod HistoryLemmas
+mod IdleLaws
+mod PermitLaws
+mod RowLaws
+mod SumLemmas
+mod TieLemmas
+mod TurnLaws
+mod WordLemmas
+mod WorkerLaws

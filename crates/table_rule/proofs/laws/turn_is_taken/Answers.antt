@@ -1,0 +1,5 @@
+use Rattle.table_rule.proofs.TurnLaws.{takes_law}
+use Rattle.table_rule.proofs.laws.turn_is_taken.Goals as goal
+
+pub returns : goal.returns
+returns g c = λ o slots id n me. takes_law g.K.Kept.ledger o slots id me n

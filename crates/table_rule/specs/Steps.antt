@@ -1,0 +1,88 @@
+-- What each kind of step tells the pass that makes it.
+use Rattle.std.specs.Prelude.{◌≡◌, ◌≤◌, ℕ, ◌-◌, ◌==◌, Bool, true, false, List, [], ◌∷◌, nat_lt, Option, None, Some}
+use Rattle.atomic_table.specs.Table.{Step, Me}
+use Rattle.conn_machine.specs.declared.event.Entry.{Entry}
+use Rattle.conn_machine.specs.declared.kept.Ledger.{Ledger}
+use Rattle.conn_machine.specs.Laws.{idle_in}
+use Rattle.conn_machine.specs.Runs.{after}
+use Rattle.conn_machine.specs.Runs.{Adds}
+use Rattle.table_rule.specs.declared.view.Left.{Left}
+use Rattle.table_rule.specs.declared.view.Origin.{Origin}
+use Rattle.table_rule.specs.declared.view.View.{View}
+use Rattle.table_rule.specs.Histories.{HasSeen}
+use Rattle.table_rule.specs.Ledgers.{IsLedgerLeft}
+use Rattle.table_rule.specs.Views.{IsFound, taken_view, given_view, drawn_view, resting_view, free_view, with_permit, with_try, credited_view, noting_view}
+use Rattle.table_rule.specs.IdleWords.{bias}
+
+module _ {K : Type 0} (ledger : K → Ledger) where
+  -- the turn was taken, with the value; or nothing changed
+  abbrev pub IsTurnTaken : Bool → Me (Option K) View → Me (Option K) View → Type 0
+  IsTurnTaken true v w =
+      (kept : K) × (history : List Entry) × (w.1 ≡ (0, Some kept) ∷ []) × (w.0 ≡ taken_view v.0 (ledger kept) history)
+      × IsFound v.0 (ledger kept) history
+  IsTurnTaken false v w = w ≡ v
+
+  -- the turn is taken where the word was the one that was expected
+  abbrev pub TakesTurn : Step (Option K) → Me (Option K) View → ℕ → Me (Option K) View → Type 0
+  TakesTurn s v found w = IsTurnTaken (found == s.first) v w
+
+  -- the value in hand is at home again, and what was added is in the history
+  abbrev pub GivesBack : Step (Option K) → Me (Option K) View → ℕ → Me (Option K) View → Type 0
+  GivesBack s v found w =
+      (kept : K) × (history : List Entry) × (left : Left) × (v.1 ≡ (0, Some kept) ∷ []) × (w.1 ≡ [])
+      × (w.0 ≡ given_view v.0 history left) × Adds v.0.who.number v.0.origin.state v.0.seen history
+      × IsLedgerLeft v.0 (ledger kept) history left
+
+-- nothing changed
+abbrev pub LooksAtWord : {K : Type 0} → Step (Option K) → Me (Option K) View → ℕ → Me (Option K) View → Type 0
+LooksAtWord s v found w = w ≡ v
+
+-- pass 0 drew the number that it knew to be the next
+abbrev pub DrawsNext : {K : Type 0} → Step (Option K) → Me (Option K) View → ℕ → Me (Option K) View → Type 0
+DrawsNext s v found w = (found ≡ v.0.draws.next) × (w.1 ≡ v.1) × (w.0 ≡ drawn_view v.0)
+
+-- the pass rests, and knows nothing any more but its number
+abbrev pub LiesDown : {K : Type 0} → Step (Option K) → Me (Option K) View → ℕ → Me (Option K) View → Type 0
+LiesDown s v found w = (w.1 ≡ v.1) × (w.0 ≡ resting_view v.0.who.number)
+
+-- the pass rests no more: it has nothing, and knows its number and some history that it has seen
+abbrev pub WakesUp : {K : Type 0} → Step (Option K) → Me (Option K) View → ℕ → Me (Option K) View → Type 0
+WakesUp s v found w = (w.1 ≡ v.1) × ((origin : Origin) × (seen : List Entry) × (w.0 ≡ free_view origin v.0.who.number seen))
+
+-- a permit of the child, or a try to undo
+abbrev pub tried_view : Bool → ℕ → View → View
+tried_view true k v = with_permit (Some k) v
+tried_view false k v = with_try (Some k) v
+
+-- a permit where the word was above the bias; the word's number is the child's and 2
+abbrev pub Tries : {K : Type 0} → Step (Option K) → Me (Option K) View → ℕ → Me (Option K) View → Type 0
+Tries s v found w = (w.1 ≡ v.1) × (w.0 ≡ noting_view found (tried_view (nat_lt bias found) (s.word - 2) v.0))
+
+-- the try is undone
+abbrev pub Undoes : {K : Type 0} → Step (Option K) → Me (Option K) View → ℕ → Me (Option K) View → Type 0
+Undoes s v found w = (w.1 ≡ v.1) × (w.0 ≡ with_try None v.0)
+
+-- the permit is given back
+abbrev pub Releases : {K : Type 0} → Step (Option K) → Me (Option K) View → ℕ → Me (Option K) View → Type 0
+Releases s v found w = (w.1 ≡ v.1) × (w.0 ≡ with_permit None v.0)
+
+-- the child has the credit that was added
+abbrev pub Credits : {K : Type 0} → Step (Option K) → Me (Option K) View → ℕ → Me (Option K) View → Type 0
+Credits s v found w = (w.1 ≡ v.1) × (w.0 ≡ credited_view (s.word - 2) s.first v.0)
+
+-- the child's credit went, or stayed
+abbrev pub uncredited_view : Bool → ℕ → View → View
+uncredited_view true k v = credited_view k 0 v
+uncredited_view false k v = v
+
+-- the credit goes where the word was the one that was expected
+abbrev pub Uncredits : {K : Type 0} → Step (Option K) → Me (Option K) View → ℕ → Me (Option K) View → Type 0
+Uncredits s v found w = (w.1 ≡ v.1) × (w.0 ≡ noting_view found (uncredited_view (found == s.first) (s.word - 2) v.0))
+
+-- nothing changed but what was found; in a history that the pass had seen the first of, at least as many workers of the child carry nothing as
+-- the word is above the bias, which are 64 at most
+abbrev pub LooksAtIdle : {K : Type 0} → Step (Option K) → Me (Option K) View → ℕ → Me (Option K) View → Type 0
+LooksAtIdle s v found w =
+    (w.1 ≡ v.1) × (w.0 ≡ noting_view found v.0) × (found - bias ≤ 64)
+    × ((history : List Entry) × HasSeen v.0.who.number v.0.seen history
+    × (found - bias ≤ idle_in (after v.0.origin.state history) (s.word - 2)))

@@ -1,0 +1,142 @@
+-- The views of passes, and how steps change them.
+use Rattle.std.specs.Prelude.{◌≡◌, ◌<◌, ℕ, ◌+◌, ◌-◌, true, false, List, [], length, nat_lt, if◌then◌else◌, Option, None, Some, IfSome, replicate, slice_get, slice_set, ◌++◌, ◌∷◌}
+use Rattle.conn_machine.specs.declared.event.Entry.{Entry}
+use Rattle.conn_machine.specs.declared.kept.Ledger.{Ledger}
+use Rattle.conn_machine.specs.declared.state.State.{State}
+use Rattle.conn_machine.specs.Rows.{carried_count}
+use Rattle.conn_machine.specs.Children.{no_shape}
+use Rattle.conn_machine.specs.States.{opening_state}
+use Rattle.conn_machine.specs.Runs.{after, row_of}
+use Rattle.conn_machine.specs.Folds.{opening_record}
+use Rattle.table_rule.specs.declared.view.Hand.{Hand}
+use Rattle.table_rule.specs.declared.view.Left.{Left}
+use Rattle.table_rule.specs.declared.view.Origin.{Origin}
+use Rattle.table_rule.specs.declared.view.View.{View}
+use Rattle.conn_machine.specs.Made.{AreMade}
+use Rattle.table_rule.specs.Histories.{HasSeen, threads_of}
+use Rattle.table_rule.specs.Ledgers.{IsSplit}
+
+-- ## Views
+
+-- neither a permit nor a try
+abbrev pub empty_hand : Hand
+empty_hand = record { permit = None; trying = None }
+
+-- nothing was folded yet, and no text left
+abbrev pub nothing_left : Origin → Left
+nothing_left origin = record { entries = []; folded = opening_record origin.passes; texts = [] }
+
+-- nothing is known of where the history begins
+abbrev pub no_origin : Origin
+no_origin = record { state = opening_state 0 0 no_shape; passes = 0 }
+
+-- a pass that rests knows its number alone
+abbrev pub resting_view : ℕ → View
+resting_view p =
+    record {
+      origin = no_origin;
+      who = record { number = p; resting = true; gone = false };
+      seen = [];
+      turn = None;
+      row = None;
+      hand = empty_hand;
+      found = [];
+      left = nothing_left no_origin;
+      credits = [];
+      draws = record { next = 0; spare = false };
+    }
+
+-- a pass other than pass 0 that has nothing, and has seen this history
+abbrev pub free_view : Origin → ℕ → List Entry → View
+free_view origin p seen =
+    record (resting_view p) {
+      origin = origin;
+      who = record { number = p; resting = false; gone = false };
+      seen = seen;
+      left = nothing_left origin;
+    }
+
+-- pass 0 before it did anything, when it has drawn the numbers below this one
+abbrev pub first_view : Origin → ℕ → View
+first_view origin next =
+    record (free_view origin 0 []) { credits = replicate 32 0; draws = record { next = next; spare = false } }
+
+-- a pass that went into another one
+abbrev pub gone_view : View
+gone_view = record (resting_view 0) { who = record { number = 0; resting = true; gone = true } }
+
+-- ## What is said of one
+
+-- the pass is there, and does not rest
+pub record IsAwake (v : View) : Type 0 where
+  pub up : v.who.resting ≡ false
+  pub there : v.who.gone ≡ false
+
+-- the pass has no turn, no permit, no try and no connection
+pub record IsIdle (v : View) : Type 0 where
+  pub turn : v.turn ≡ None
+  pub hand : v.hand ≡ empty_hand
+  pub row : v.row ≡ None
+
+-- where the pass has a connection, its row is in this history as in what the pass had seen
+abbrev pub RowStays : View → List Entry → Type 0
+RowStays v history =
+    IfSome v.row (λ name. slice_get (after v.origin.state history).rows name.slot ≡ slice_get (after v.origin.state v.seen).rows name.slot)
+
+-- where the pass has a permit and no connection, fewer than all workers of that child carry one
+abbrev pub HasFreeWorker : View → State → Type 0
+HasFreeWorker v s = v.row ≡ None → IfSome v.hand.permit (λ k. carried_count s.rows k < threads_of s k)
+
+-- what a pass finds that takes the turn: the value, and its history from the origin on
+pub record IsFound (v : View) (found : Ledger) (history : List Entry) : Type 0 where
+  pub seen : HasSeen v.who.number v.seen history
+  pub made : AreMade v.origin.state history
+  pub number : v.who.number < v.origin.passes
+  pub left : Left
+  pub parts : IsSplit v.origin left found history
+  pub own : v.who.number ≡ 0 → left ≡ v.left
+  pub row : RowStays v history
+  pub room : HasFreeWorker v (after v.origin.state history)
+
+-- ## What steps make of one
+
+-- it took the turn, and found this
+abbrev pub taken_view : View → Ledger → List Entry → View
+taken_view v found history = record v { turn = Some found; seen = history }
+
+-- it gave the turn back, and left this
+abbrev pub given_view : View → List Entry → Left → View
+given_view v history left =
+    record v { turn = None; seen = history; row = row_of v.who.number history; left = left }
+
+-- it drew the next number
+abbrev pub drawn_view : View → View
+drawn_view v = record v { draws = record { next = v.draws.next + 1; spare = true } }
+
+-- another pass went into it: the longer history that was seen stays
+abbrev pub joined_view : View → View → View
+joined_view v other = if nat_lt (length v.seen) (length other.seen) then record v { seen = other.seen } else v
+
+-- it gave the last number to a new pass
+abbrev pub parted_view : View → View
+parted_view v = record v { draws = record v.draws { spare = false } }
+
+-- the new pass
+abbrev pub new_view : View → View
+new_view v = free_view v.origin (v.draws.next - 1) v.seen
+
+-- it found this on an idle word
+abbrev pub noting_view : ℕ → View → View
+noting_view word v = record v { found = v.found ++ word ∷ [] }
+
+-- the view with a permit of that child
+abbrev pub with_permit : Option ℕ → View → View
+with_permit permit v = record v { hand = record v.hand { permit = permit } }
+
+-- the view that tries for a permit of that child
+abbrev pub with_try : Option ℕ → View → View
+with_try trying v = record v { hand = record v.hand { trying = trying } }
+
+-- the child has this credit
+abbrev pub credited_view : ℕ → ℕ → View → View
+credited_view k threads v = record v { credits = slice_set v.credits k threads }

@@ -1,0 +1,92 @@
+//! Each kind of step keeps the rule, and tells what `specs/Steps.antt` says of it. Each law is the contract of a function
+//! that does nothing. That a value is taken out of its slot, or put in, is part of the take and of the give of the turn.
+ghost use Rattle.std.specs.Prelude.{◌≡◌, ◌≢◌, ◌<◌, ◌≤◌, ◌+◌, ◌-◌, ◌*◌, ◌%◌, ◌^◌, ◌==◌, ℕ, true, false, List, [], ◌∷◌, length, slice_index, Option, Some, None};
+ghost use mathlib.Core.Option.{none};
+ghost use prog.Atomic.{either};
+ghost use Rattle.atomic_table.specs.Table.{Allows, Joins, Me, Splits, opening, step};
+ghost use Rattle.conn_machine.specs.declared.kept.Ledger.{Ledger};
+ghost use Rattle.conn_machine.specs.Runs.{after};
+ghost use Rattle.table_rule.specs.declared.view.View.{View};
+ghost use Rattle.table_rule.specs.Histories.{threads_of};
+ghost use Rattle.table_rule.specs.IdleWords.{bias};
+ghost use Rattle.table_rule.specs.Ledgers.{MayGiveBack};
+ghost use Rattle.table_rule.specs.Steps.{Credits, DrawsNext, GivesBack, LiesDown, LooksAtWord, LooksAtIdle, Releases, TakesTurn, Tries, Uncredits, Undoes, WakesUp};
+ghost use Rattle.table_rule.specs.Tie.{AreFirstWords, IsNew, IsTied, origin_of};
+ghost use Rattle.table_rule.specs.Views.{IsAwake, IsIdle, first_view, gone_view, joined_view, new_view, parted_view, resting_view};
+
+use conn_machine::Kept;
+
+/// The rule holds of a new table.
+pub fn table_opens<K: Kept>()
+    ensures { (words : List ℕ) (kept : K) → IsNew (K.ledger kept) → AreFirstWords words → IsTied K.ledger (K.ledger kept) (opening words (Some kept ∷ []) (first_view (origin_of (K.ledger kept)) 1)) }
+{}
+
+/// The turn is taken.
+pub fn turn_is_taken<K: Kept>()
+    ensures { (o : Ledger) (slots id n : ℕ) (me : Me (Option K) View) → me.1 ≡ [] → IsAwake me.0 → (n % 2 ≡ 1 → ⊥) → Allows (IsTied K.ledger o) slots id me 0 (λ x. either (x == n) (n + 1) x) (TakesTurn K.ledger (step slots 0 n (n + 1) none) me) }
+{}
+
+/// The turn is given back.
+pub fn turn_is_given_back<K: Kept>()
+    ensures { (o : Ledger) (slots id n : ℕ) (me : Me (Option K) View) (kept : K) → me.1 ≡ (0, Some kept) ∷ [] → IsAwake me.0 → MayGiveBack me.0 (K.ledger kept) → n ≡ 2 * ((K.ledger kept).folded.entries + length (K.ledger kept).history) → Allows (IsTied K.ledger o) slots id me 0 (λ _. n) (λ _. GivesBack K.ledger (step slots 0 n 0 none) me n) }
+{}
+
+/// A word is looked at.
+pub fn word_is_looked_at<K: Kept>()
+    ensures { (o : Ledger) (slots id word : ℕ) (me : Me (Option K) View) → Allows (IsTied K.ledger o) slots id me word (λ n. n) (LooksAtWord (step slots word 0 0 none) me) }
+{}
+
+/// Pass 0 draws the next number.
+pub fn number_is_drawn<K: Kept>()
+    ensures { (o : Ledger) (slots id : ℕ) (me : Me (Option K) View) → IsAwake me.0 → me.0.who.number ≡ 0 → me.0.draws.spare ≡ false → me.0.draws.next < me.0.origin.passes → Allows (IsTied K.ledger o) slots id me 1 (λ n. (n + 1) % 2 ^ 64) (DrawsNext (step slots 1 1 0 none) me) }
+{}
+
+/// A pass is made of the number that pass 0 drew last.
+pub fn pass_is_made<K: Kept>()
+    ensures { (o : Ledger) (id : ℕ) (v : View) → IsAwake v → v.who.number ≡ 0 → v.draws.spare ≡ true → Splits (IsTied K.ledger o) id v (parted_view v) (new_view v) }
+{}
+
+/// A pass that has nothing goes into another one.
+pub fn pass_is_joined<K: Kept>()
+    ensures { (o : Ledger) (id other : ℕ) (v u : View) → IsAwake v → v.turn ≡ None → IsAwake u → IsIdle u → u.who.number ≢ 0 → Joins (IsTied K.ledger o) id v other u (joined_view v u) gone_view }
+{}
+
+/// A pass other than pass 0 that has nothing lies down.
+pub fn pass_lies_down<K: Kept>()
+    ensures { (o : Ledger) (slots id : ℕ) (me : Me (Option K) View) → IsAwake me.0 → IsIdle me.0 → me.0.who.number ≢ 0 → Allows (IsTied K.ledger o) slots id me 0 (λ n. n) (LiesDown (step slots 0 0 0 none) me) }
+{}
+
+/// A pass wakes up.
+pub fn pass_wakes_up<K: Kept>()
+    ensures { (o : Ledger) (slots id p : ℕ) (me : Me (Option K) View) → me.0 ≡ resting_view p → p ≢ 0 → Allows (IsTied K.ledger o) slots id me 0 (λ n. n) (WakesUp (step slots 0 0 0 none) me) }
+{}
+
+/// A pass that has nothing tries for a permit.
+pub fn permit_is_tried_for<K: Kept>()
+    ensures { (o : Ledger) (slots id k : ℕ) (me : Me (Option K) View) → k < 32 → IsIdle me.0 → Allows (IsTied K.ledger o) slots id me (k + 2) (λ n. (n + (2 ^ 64 - 1)) % 2 ^ 64) (Tries (step slots (k + 2) 1 0 none) me) }
+{}
+
+/// A try is undone.
+pub fn try_is_undone<K: Kept>()
+    ensures { (o : Ledger) (slots id k : ℕ) (me : Me (Option K) View) → k < 32 → me.0.hand.trying ≡ Some k → Allows (IsTied K.ledger o) slots id me (k + 2) (λ n. (n + 1) % 2 ^ 64) (Undoes (step slots (k + 2) 1 0 none) me) }
+{}
+
+/// A permit is given back.
+pub fn permit_is_released<K: Kept>()
+    ensures { (o : Ledger) (slots id k : ℕ) (me : Me (Option K) View) → k < 32 → me.0.hand.permit ≡ Some k → me.0.row ≡ None → Allows (IsTied K.ledger o) slots id me (k + 2) (λ n. (n + 1) % 2 ^ 64) (Releases (step slots (k + 2) 1 0 none) me) }
+{}
+
+/// A child gets its credit: pass 0 has the turn, and the child has these workers.
+pub fn child_is_credited<K: Kept>()
+    ensures { (o found : Ledger) (slots id k n : ℕ) (me : Me (Option K) View) → k < 32 → IsAwake me.0 → me.0.who.number ≡ 0 → me.0.turn ≡ Some found → slice_index me.0.credits k ≡ 0 → n ≤ 64 → n ≡ threads_of (after me.0.origin.state me.0.seen) k → Allows (IsTied K.ledger o) slots id me (k + 2) (λ c. (c + n) % 2 ^ 64) (Credits (step slots (k + 2) n 0 none) me) }
+{}
+
+/// A child loses its credit.
+pub fn child_is_uncredited<K: Kept>()
+    ensures { (o : Ledger) (slots id k n : ℕ) (me : Me (Option K) View) → k < 32 → IsAwake me.0 → me.0.who.number ≡ 0 → slice_index me.0.credits k ≡ n → Allows (IsTied K.ledger o) slots id me (k + 2) (λ x. either (x == bias + n) bias x) (Uncredits (step slots (k + 2) (bias + n) bias none) me) }
+{}
+
+/// An idle word is looked at.
+pub fn idle_word_is_looked_at<K: Kept>()
+    ensures { (o : Ledger) (slots id k : ℕ) (me : Me (Option K) View) → k < 32 → IsAwake me.0 → Allows (IsTied K.ledger o) slots id me (k + 2) (λ n. n) (LooksAtIdle (step slots (k + 2) 0 0 none) me) }
+{}

@@ -1,0 +1,21 @@
+//! The rule of the table that passes share: what a pass knows, what holds of words, kept value and all passes between any
+//! two atomic steps, the kinds of step, and that each keeps the rule.
+//!
+//! Word 0 is the turn word, word 1 the count of passes, word 2 + k the idle word of child k, for 32 children. Slot 0 holds
+//! the kept value. What a pass knows is a `View`. The rule is `IsTied` in `specs/Tie.antt`: there is one history, of which
+//! each pass has seen a beginning; one pass at a time has the turn; and each idle word is what it ought to be (`specs/IdleWords.antt`).
+//! What each kind of step tells stands in `specs/Steps.antt`. That each keeps the rule is a function of `laws`, which does
+//! nothing.
+#![tactic(auto)]
+
+pub mod laws;
+mod steps;
+mod view;
+mod words;
+
+pub use steps::{
+    CreditStep, DrawStep, GiveStep, IdleStep, Joined, LoadStep, NewPass, ReleaseStep, RestStep,
+    TakeStep, Tie, TryStep, UncreditStep, UndoStep, WakeStep,
+};
+pub use view::{Draws, Hand, Left, Origin, View, Who};
+pub use words::{BIAS, first_words};
