@@ -1,12 +1,13 @@
--- What helps to prove, and no public contract reaches, of: Texts that spell bytes. A byte from 32 on other than 127 and the backslash stands for itself, and
+-- How a text that spells bytes begins, for proofs alone.
 use Rattle.std.specs.Prelude.{◌≡◌, ℕ, ◌+◌, ◌*◌, true, List, ◌∷◌, ◌++◌}
 use Rattle.std.specs.Char.{is_ascii_hexdigit, digit_value}
 use Rattle.mpm_script.specs.Escapes.{IsEscape, SpellsByte}
 
--- the text begins with an escape's code, or with a piece, that stands for a byte
+-- the text begins with an escape's code that stands for a byte
 abbrev pub BeginsEscape : List ℕ → ℕ → List ℕ → Type 0
 BeginsEscape text b rest = (code : List ℕ) × IsEscape code b × (text ≡ code ++ rest)
 
+-- the text begins with a piece that stands for a byte
 abbrev pub BeginsByte : List ℕ → ℕ → List ℕ → Type 0
 BeginsByte text b rest = (piece : List ℕ) × SpellsByte piece b × (text ≡ piece ++ rest)
 
