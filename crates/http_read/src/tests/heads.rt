@@ -26,9 +26,13 @@ fn code_of(answer: &HeadAnswer) -> u16 {
     }
 }
 
+/// The answer has that code for the whole text, and where the text comes byte by byte.
 fn expect_code(rt: &impl Abort, alloc: Global, text: &[u8], code: u16) {
     let found = code_of(&next_head(alloc, text, &LIMITS));
     assert_eq!(rt; found, code, "at {text:?}");
+    assert!(rt; text.len() < 1_000_000);
+    let (answer, _, _) = read_by_byte(alloc, text);
+    assert_eq!(rt; code_of(&answer), code, "byte by byte: {text:?}");
 }
 
 #[test]
@@ -77,7 +81,7 @@ fn post(alloc: Global, version: &[u8], fields: &[u8]) -> Result<Vec<u8>, AllocEr
 
 #[test]
 fn answers_each_body_and_expectation_by_its_code(rt: HostRuntime) -> Result<(), Fail> {
-    let rows: [(&[u8], u16); 28] = [
+    let rows: [(&[u8], u16); 32] = [
         (b"Transfer-Encoding: chunked", WHOLE),
         (b"transfer-encoding: \tCHUNKED ", WHOLE),
         (b"Transfer-Encoding: gzip, chunked", 501),
@@ -92,6 +96,10 @@ fn answers_each_body_and_expectation_by_its_code(rt: HostRuntime) -> Result<(), 
         (
             b"Transfer-Encoding: chunked\r\nTransfer-Encoding: gzip",
             400,
+        ),
+        (
+            b"Transfer-Encoding: chunked\r\nTransfer-Encoding: chunked",
+            501,
         ),
         (b"Transfer-Encoding:", 400),
         (b"Transfer-Encoding: ,", 400),
@@ -113,6 +121,12 @@ fn answers_each_body_and_expectation_by_its_code(rt: HostRuntime) -> Result<(), 
         (b"Expect: 100-continue\r\nExpect: 100-continue", 417),
         // The earlier rule decides.
         (b"Expect: 200-ok\r\nContent-Length: 1073741825", 413),
+        (b"Expect: 200-ok\r\nTransfer-Encoding: gzip, chunked", 501),
+        (
+            b"Content-Length: 1073741825\r\nTransfer-Encoding: gzip, chunked",
+            400,
+        ),
+        (b"Content-Length: 1073741825\r\nHost: a", 400),
     ];
     for (fields, code) in rows {
         let text = post(rt.alloc(), b"HTTP/1.1", fields)?;
@@ -270,7 +284,8 @@ fn line_of(alloc: Global, len: usize) -> Result<Vec<u8>, AllocError> {
 
 #[test]
 fn bounds_the_first_line(rt: HostRuntime) -> Result<(), Fail> {
-    let rows: [(usize, &[u8], u16); 9] = [
+    let rows: [(usize, &[u8], u16); 11] = [
+        (8190, b"", MORE),
         (8190, b"\r\nHost: a\r\n\r\n", WHOLE),
         (8190, b"\nHost: a\n\n", WHOLE),
         (8191, b"\r\n", 414),
@@ -280,6 +295,8 @@ fn bounds_the_first_line(rt: HostRuntime) -> Result<(), Fail> {
         (8192, b"", 414),
         (8190, b"\r", MORE),
         (8191, b" ", 414),
+        // The head is too large as well.
+        (70_000, b"", 414),
     ];
     for (len, behind, code) in rows {
         let mut text = line_of(rt.alloc(), len)?;
@@ -326,6 +343,9 @@ fn bounds_the_fields(rt: HostRuntime) -> Result<(), Fail> {
     assert_eq!(rt; code_of(&next_head(rt.alloc(), &text, &limits)), 400);
     let text = head_with(rt.alloc(), 3, 11)?;
     assert_eq!(rt; code_of(&next_head(rt.alloc(), &text, &limits)), 400);
+    // The field is too long, and its number too great.
+    let text = post(rt.alloc(), b"HTTP/1.1", b"Content-Length: 1073741825")?;
+    assert_eq!(rt; code_of(&next_head(rt.alloc(), &text, &limits)), 400);
     Ok(())
 }
 
@@ -345,19 +365,23 @@ fn head_of(alloc: Global, len: usize) -> Result<Vec<u8>, AllocError> {
 
 #[test]
 fn bounds_the_head(rt: HostRuntime) -> Result<(), Fail> {
-    // The last rows have no end: of a byte less, and of none but empty lines.
-    let rows: [(usize, usize, u16); 4] = [
-        (65_536, 0, WHOLE),
-        (65_537, 0, 400),
-        (65_537, 1, MORE),
-        (65_538, 1, 400),
+    // Empty lines in front count; the last rows have no end, of a byte less.
+    let rows: [(usize, usize, usize, u16); 6] = [
+        (0, 65_536, 0, WHOLE),
+        (0, 65_537, 0, 400),
+        (3, 65_533, 0, WHOLE),
+        (3, 65_534, 0, 400),
+        (0, 65_537, 1, MORE),
+        (0, 65_538, 1, 400),
     ];
-    for (len, less, code) in rows {
-        let mut text = head_of(rt.alloc(), len)?;
-        assert_eq!(rt; text.len(), len);
-        text.truncate(len.saturating_sub(less));
+    for (blank, len, less, code) in rows {
+        let mut text = Vec::new(rt.alloc());
+        put(&mut text, b'\n', blank)?;
+        text.extend_from_slice(&head_of(rt.alloc(), len)?)?;
+        text.truncate(text.len().saturating_sub(less));
+        assert_eq!(rt; text.len(), blank.saturating_add(len).saturating_sub(less));
         let found = code_of(&next_head(rt.alloc(), &text, &LIMITS));
-        assert_eq!(rt; found, code, "at {len} less {less}");
+        assert_eq!(rt; found, code, "at {blank} and {len} less {less}");
     }
     for (len, code) in [(65_536, MORE), (65_537, 400)] {
         let mut blank = Vec::new(rt.alloc());
