@@ -85,6 +85,3 @@ pub fn pick_is_a_candidate()
     ensures chosen { (cs : List ChildCount) (k : ℕ) → pick_of cs ≡ Some k → IsPicked cs k }
     ensures none { (cs : List ChildCount) → (pick_of cs ≡ None) ↔ (candidates cs ≡ []) }
 {}
-
-#[cfg(test)]
-mod tests;

@@ -1,7 +1,7 @@
 //! The connection machine: what is done to the table of connections, event by event, as one thread would do it.
 //!
 //! A `State` is the table; the event table says which event is allowed in it, and what it does and replies.
-//! It is one definition, `allowed`, `next` and `reply` in `specs/Table.antt`, on one list of rows whose counts
+//! It is one definition, `is_allowed`, `next` and `reply` in `specs/Table.antt`, on one list of rows whose counts
 //! are filters. Histories of the machine, the order of each pass's entries, and what a pass may add stand in
 //! `specs/Runs.antt`. `may` and `step` are the same table as a plain program.
 //!
@@ -20,8 +20,6 @@ mod row;
 mod rows;
 mod state;
 mod stepping;
-#[cfg(test)]
-mod tests;
 
 pub use child::{Child, ChildPhase, Children};
 pub use conditions::{is_in_bounds, may};

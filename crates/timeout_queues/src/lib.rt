@@ -11,9 +11,6 @@ ghost use Rattle.std.specs.Option.{option_map_or};
 ghost use Rattle.timeout_queues.specs.declared.Due.{Due};
 ghost use Rattle.timeout_queues.specs.Waiting.{nothing_parked, IsFree, parked_of, parked_as, with_parked, without_name, Updates, overdue_at, least_deadline, IsOverdue, deadline_of};
 
-#[cfg(test)]
-mod tests;
-
 use mpm_base::{ConnName, Kind, Moment, NoMemory};
 use std::alloc::Global;
 use std::marker::Model;

@@ -1,5 +1,5 @@
 //! The record of a value that never folded.
-use crate::{Edition, Folded};
+use conn_machine::{Edition, Folded};
 use std::test::Fail;
 
 #[test]

@@ -1,6 +1,6 @@
 //! Children that start and retire, and connections that are taken for them.
 use super::*;
-use crate::ChildPhase;
+use conn_machine::ChildPhase;
 use std::test::Fail;
 
 // One worker, whose idleness lets one connection more wait.

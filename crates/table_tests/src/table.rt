@@ -11,7 +11,9 @@ mod serving;
 mod statements;
 mod waiting;
 
-use crate::{Child, Commanded, Event, Going, Phase, Place, Reply, Row, State, Why, may, step};
+use conn_machine::{
+    Child, Commanded, Event, Going, Phase, Place, Reply, Row, State, Why, may, step,
+};
 use mpm_base::{Ask, Cause, ConnName, Kind, Moment, NoMemory, Shape, Tail};
 use std::alloc::Global;
 use std::process::Abort;
@@ -171,7 +173,7 @@ fn picture_of(rt: &impl Abort, state: &State) -> Picture {
 }
 
 /// Does the event, which is to be allowed.
-#[tactic(auto, using(crate::proofs::SizeLemmas::sizes_kept))]
+#[tactic(auto, using(conn_machine::proofs::SizeLemmas::sizes_kept))]
 fn does(rt: &impl Abort, alloc: Global, state: &mut State, event: Event) -> Result<Reply, NoMemory>
     requires few_rows { length state.old.rows ≤ 8192 }
     requires few_children { length state.old.children ≤ 32 }

@@ -1,5 +1,5 @@
 //! The rule at its limit, and the choice on a tie.
-use crate::{ChildCount, admits, pick};
+use admission::{ChildCount, admits, pick};
 
 /// A child of 10 workers at a factor of 2, which runs and has 5 open connections.
 fn child(child: u32, idle: u32) -> ChildCount {

@@ -168,37 +168,3 @@ fn a_closed_connection_leaves_its_slot(rt: HostRuntime) -> Result<(), Fail> {
     assert_eq!(rt; (found.row.cause, found.row.last), (None, false));
     Ok(())
 }
-
-#[test]
-fn a_slot_is_spent_after_its_last_use(rt: HostRuntime) -> Result<(), Fail> {
-    let alloc = rt.alloc();
-    let mut state = after(&rt, alloc, 2, SHAPE, &[BEGIN])?;
-    state.rows.items[0].life = u32::MAX;
-    let name = ConnName {
-        slot: 0,
-        life: u32::MAX,
-    };
-    let close = Event::Close(name, Cause::LinkFailed, Tail::Direct);
-    let took = does(&rt, alloc, &mut state, TAKE)?;
-    assert_eq!(rt; took, Reply::Took(name, 0, 0));
-    plays(
-        &rt,
-        alloc,
-        &mut state,
-        &[
-            Event::Park(name, Kind::Reading),
-            STOP,
-            Event::Hold(name),
-            close,
-        ],
-    )?;
-
-    let row = row_at(&rt, &state, 0);
-    assert_eq!(rt; (row.place, row.life), (Place::Spent, u32::MAX));
-    assert!(rt; !row.is_live());
-    let refused = [TAKE, close, DROP, Event::Hold(name), Event::Start(name)];
-    for event in refused {
-        assert!(rt; !may(&state, &event), "{event:?}");
-    }
-    Ok(())
-}

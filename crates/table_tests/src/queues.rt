@@ -1,7 +1,9 @@
+//! Queues of those that wait, by example.
 ghost use Rattle.std.specs.Prelude.{◌≡◌};
 
-use super::*;
+use mpm_base::{ConnName, Kind, Moment};
 use std::test::Fail;
+use timeout_queues::Queues;
 
 #[derive(Clone, Copy)]
 enum Call {

@@ -1,5 +1,5 @@
 use Rattle.std.proofs.Common.{◌≡◌, length}
-use Rattle.conn_machine.proofs.tests.plays.Given as goal
+use Rattle.table_tests.proofs.table.plays.Given as goal
 
 -- the events that were done changed no size
 abbrev pub invariant-loop-event : goal.invariant-loop-event

@@ -2,7 +2,7 @@
 ghost use Rattle.std.specs.Prelude.{◌≡◌, ◌≤◌, length};
 
 use super::*;
-use crate::{ChildPhase, Owner};
+use conn_machine::{ChildPhase, Owner};
 use std::test::Fail;
 
 const THIRD: ConnName = ConnName { slot: 2, life: 0 };

@@ -1,6 +1,6 @@
 //! Commands, and the configurations that one may bring.
 use super::*;
-use crate::{ChildPhase, Refusal, is_in_bounds};
+use conn_machine::{ChildPhase, Refusal, is_in_bounds};
 use std::test::Fail;
 
 /// A stop that is to come by the moment.

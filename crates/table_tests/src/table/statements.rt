@@ -1,5 +1,5 @@
 //! The laws, each of which is called once.
-use crate::laws;
+use conn_machine::laws;
 
 #[test]
 fn the_laws_do_nothing() {

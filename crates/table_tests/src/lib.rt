@@ -1,0 +1,10 @@
+//! Tests of the crates of the table, by their public calls alone: the event table, the rule of admission, and the queues
+//! of those that wait.
+#![tactic(auto)]
+
+#[cfg(test)]
+mod admitting;
+#[cfg(test)]
+mod queues;
+#[cfg(test)]
+mod table;
