@@ -2,6 +2,7 @@
 use Rattle.std.proofs.Common.{◌≡◌, ◌≢◌, ◌⊎◌, ℕ, zero, suc, ◌+◌, ◌%◌, ◌^◌, ◌<◌, ◌≤◌, List, [], ◌∷◌, ◌++◌, length, set, replicate, Option, Some, None, Bool, true, false, true≢false, refl, sym, ap, ◌∙◌, subst, inl, inr, ⊎_elim, arith}
 use Rattle.std.specs.Prelude.{slice_index, nat_lt, if◌then◌else◌}
 use Rattle.std.proofs.lemmas.Bool.{ltb-true}
+use Rattle.std.proofs.lemmas.List.{length-replicate}
 use Rattle.std.proofs.Math.Nat.{mod-eq_of_lt}
 use mathlib.Core.Option as m
 use lib.ListN.{get_elem?}
@@ -22,6 +23,7 @@ use Rattle.table_rule.specs.IdleWords.{bit, permits, tries}
 use Rattle.table_rule.specs.Steps.{DrawsNext}
 use Rattle.table_rule.specs.Tie.{AreDrawn, AreFirstWords, IsNew, IsTied, IsViewOf, KeptIsHome, KeptIsOut, origin_of}
 use Rattle.table_rule.proofs.HistoryLemmas.{none_behind, row_none}
+use Rattle.table_rule.proofs.OrdinalLemmas.{no_ordinals}
 use Rattle.table_rule.proofs.RowLaws.{none_some}
 use Rattle.table_rule.proofs.SumLemmas.{sum_snoc}
 use Rattle.table_rule.proofs.TieLemmas.{Placed, drawn_same, first_is, idle_same, moved, same_place}
@@ -65,6 +67,8 @@ module _ {K : Type 0} (ledger : K → Ledger) (o : Ledger) where
             base = refl;
             record_is = new.folded;
             counted = ap (λ (f : Folded). f.entries) new.folded;
+            numbers = ap (λ (f : Folded). length f.ordinals) new.folded ∙ length-replicate o.passes 0;
+            ordinals = λ p lt. ap (λ (f : Folded). slice_index f.ordinals p) new.folded ∙ no_ordinals o.passes p;
             texts = (o.texts, refl);
             passes = refl;
           };

@@ -1,6 +1,6 @@
 -- The turn is given back.
 use Rattle.std.proofs.Common.{◌≡◌, ◌≢◌, ℕ, ◌+◌, ◌*◌, List, [], ◌∷◌, ◌++◌, length, set, Option, Some, None, refl, sym, ap, ◌∙◌, subst, inl, ⊎_elim, arith, append_assoc, append-nil, length-append}
-use Rattle.std.specs.Prelude.{slice_set}
+use Rattle.std.specs.Prelude.{slice_index, slice_set}
 use native.Mathlib.Decide.{ℕ_discrete}
 use mathlib.Core.Option as m
 use lib.ListN.{get_elem?}
@@ -13,6 +13,7 @@ use Rattle.conn_machine.specs.declared.kept.Ledger.{Ledger}
 use Rattle.conn_machine.specs.declared.state.State as machine
 use Rattle.conn_machine.specs.Runs.{after, entries_of, row_of, AreEntriesOf}
 use Rattle.conn_machine.specs.Runs.{Adds}
+use Rattle.conn_machine.specs.Folds.{ordinals_after}
 use Rattle.conn_machine.specs.Sound.{IsSound}
 use Rattle.conn_machine.proofs.ChildSound.{sound-opening}
 use Rattle.conn_machine.proofs.SoundRuns.{run_stays_sound}
@@ -21,12 +22,13 @@ use Rattle.table_rule.specs.declared.view.Origin.{Origin}
 use Rattle.table_rule.specs.declared.view.View.{View}
 use Rattle.conn_machine.specs.Made.{AreMade, IsOpened}
 use Rattle.table_rule.specs.Histories.{ArePermitted, Extends}
-use Rattle.table_rule.specs.Ledgers.{FoldsOn, IsLedgerLeft, IsSplit, KeepsOn, MayGiveBack, MayLeaveLedger}
+use Rattle.table_rule.specs.Ledgers.{EndsTurn, FoldsOn, IsLedgerLeft, IsSplit, KeepsOn, MayGiveBack, MayLeaveLedger}
 use Rattle.table_rule.specs.Views.{IsAwake, given_view}
 use Rattle.table_rule.specs.IdleWords.{HasPermit}
 use Rattle.table_rule.specs.Steps.{GivesBack}
 use Rattle.table_rule.specs.Tie.{IsTied, IsViewOf, KeptIsHome, KeptIsOut, origin_of}
 use Rattle.table_rule.proofs.HistoryLemmas.{after-append, entries_of-append, made_more, others, row_by, run_made, seen_more, seen_whole}
+use Rattle.table_rule.proofs.OrdinalLemmas.{ordinal_after, ordinals_length}
 use Rattle.table_rule.proofs.PermitLaws.{entries_credit, entries_permit}
 use Rattle.table_rule.proofs.RowLaws.{none_some, row_stays, some_is}
 use Rattle.table_rule.proofs.TieLemmas.{drawn_same, first_is, idle_kept, moved}
@@ -53,6 +55,8 @@ split_kept origin left found new whole added p k passes texts begins = record {
   base = k.base ∙ p.base;
   record_is = k.record_is ∙ p.record_is;
   counted = ap (λ (f : Folded). f.entries) k.record_is ∙ p.counted;
+  numbers = ap (λ (f : Folded). length f.ordinals) k.record_is ∙ p.numbers;
+  ordinals = λ q lt. ap (λ (f : Folded). slice_index f.ordinals q) k.record_is ∙ p.ordinals q lt;
   texts = begins;
   passes = passes ∙ p.passes;
 }
@@ -63,6 +67,7 @@ split_folded : (origin : Origin) (left : Left) (found new : Ledger) (whole added
 split_folded origin left found new whole added p k passes =
     let more = found.history ++ k.before in
     let count : new.folded.entries ≡ found.folded.entries + length more = ap (λ (f : Folded). f.entries) k.record_is in
+    let next : new.folded.ordinals ≡ ordinals_after more found.folded.ordinals = ap (λ (f : Folded). f.ordinals) k.record_is in
     record {
       whole_is =
           ap (λ l. l ++ added) p.whole_is ∙ append_assoc left.entries found.history added
@@ -73,6 +78,14 @@ split_folded origin left found new whole added p k passes =
       base = k.base ∙ ap (λ s. after s more) p.base ∙ sym (after-append origin.state left.entries more);
       record_is = refl;
       counted = (let c = p.counted in let d = length-append left.entries more in omega arith);
+      numbers = ap length next ∙ ordinals_length more found.folded.ordinals ∙ p.numbers;
+      ordinals = λ q lt.
+          let own : slice_index new.folded.ordinals q ≡ slice_index found.folded.ordinals q + length (entries_of q more) =
+          ap (λ l. slice_index l q) next ∙ ordinal_after more found.folded.ordinals q (let n = p.numbers in omega arith) in
+          let before = p.ordinals q lt in
+          let all : length (entries_of q (left.entries ++ more)) ≡ length (entries_of q left.entries) + length (entries_of q more) =
+          ap length (entries_of-append q left.entries more) ∙ length-append (entries_of q left.entries) (entries_of q more) in
+          omega (arith, own, before, all);
       texts = ([], sym (append-nil new.texts));
       passes = passes ∙ p.passes;
     }
@@ -245,7 +258,8 @@ module _ {K : Type 0} (ledger : K → Ledger) (o : Ledger) where
   given_back : (s : State (Option K) View) (t : IsTied ledger o s) (id : ℕ) (v : View) (k : K) (x : ℕ) → get_elem? s.views id ≡ m.some v → IsAwake v
       → (back : MayGiveBack v (ledger k)) → x ≡ 2 * ((ledger k).folded.entries + length (ledger k).history)
       → (w : View) × IsTied ledger o (stepped s 0 x id ((0, Some k) ∷ []) w gives)
-      × ((history : List Entry) × (left : Left) × (w ≡ given_view v history left) × Adds v.who.number v.origin.state v.seen history × IsLedgerLeft v (ledger k) history left)
+      × ((history : List Entry) × (left : Left) × (w ≡ given_view v history left) × Adds v.who.number v.origin.state v.seen history
+      × EndsTurn v (ledger k) history × IsLedgerLeft v (ledger k) history left)
   given_back s t id v k x at awake back word =
       let found = back.0 in let a = back.2 in
       let h = holder s t id v found at back.1 in
@@ -263,7 +277,14 @@ module _ {K : Type 0} (ledger : K → Ledger) (o : Ledger) where
       let len = split_length (origin_of o) f.view.left (ledger k) history (g.then_is f) in (
         w,
         given s t id v k found x at awake h a are permitted g (omega (arith, word, len)),
-        (history, g.left, refl, (a.added, ap (λ l. l ++ a.added) (sym h.seen), a.entries), g.is_left),
+        (
+          history,
+          g.left,
+          refl,
+          (a.added, ap (λ l. l ++ a.added) (sym h.seen), a.entries),
+          record { found = found; turn = back.1; change = a; seen = ap (λ l. l ++ a.added) (sym h.seen) },
+          g.is_left,
+        ),
       )
 
   pub gives_law : (slots id : ℕ) (me : Me (Option K) View) (k : K) (x : ℕ) → me.1 ≡ (0, Some k) ∷ [] → IsAwake me.0 → MayGiveBack me.0 (ledger k)
@@ -273,4 +294,4 @@ module _ {K : Type 0} (ledger : K → Ledger) (o : Ledger) where
       let P : List (ℕ × Option K) → Type 0 = λ l. Allows (IsTied ledger o) slots id (me.0, l) 0 (λ _. x) (λ _. GivesBack ledger (step slots 0 x 0 m.none) (me.0, l) x) in
       subst P (sym hand) (λ s t len at small.
       let g = given_back s t id me.0 k x at awake back word in
-      (g.0, gives, tt, g.1, (k, g.2.0, g.2.1, refl, refl, g.2.2, g.2.3, g.2.4)))
+      (g.0, gives, tt, g.1, (k, g.2.0, g.2.1, refl, refl, g.2.2, g.2.3, g.2.4, g.2.5)))

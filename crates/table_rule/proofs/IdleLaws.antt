@@ -12,6 +12,7 @@ use Rattle.atomic_table.specs.Table.Act.{keeps}
 use Rattle.atomic_table.proofs.Lists.{at_set}
 use Rattle.conn_machine.specs.declared.kept.Ledger.{Ledger}
 use Rattle.conn_machine.specs.Laws.{idle_in}
+use Rattle.conn_machine.specs.Made.{AreMade}
 use Rattle.conn_machine.specs.Runs.{after}
 use Rattle.table_rule.specs.declared.view.Hand.{Hand}
 use Rattle.table_rule.specs.declared.view.Origin.{Origin}
@@ -336,6 +337,7 @@ module _ {K : Type 0} (ledger : K → Ledger) (o : Ledger) where
           (
             t.history,
             subst (λ n. HasSeen n me.0.seen t.history) (sym number) (mine.seen awake.there awake.up),
+            subst (λ st. AreMade st t.history) (sym base) t.made,
             subst (λ i. slice_index s.words (k + 2) - bias ≤ idle_in (after me.0.origin.state t.history) i) (sym (word_child k))
                 (subst (λ st. slice_index s.words (k + 2) - bias ≤ idle_in (after st t.history) k) (sym base) below),
           ),

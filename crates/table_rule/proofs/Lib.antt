@@ -1,7 +1,9 @@
 mod DrawLaws
 mod GiveLaws
+mod HandLaws
 mod HistoryLemmas
 mod IdleLaws
+mod OrdinalLemmas
 mod PermitLaws
 mod RowLaws
 mod SumLemmas

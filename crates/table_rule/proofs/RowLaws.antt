@@ -18,40 +18,35 @@ use Rattle.conn_machine.specs.declared.event.Reply.{Reply}
 use Rattle.conn_machine.specs.declared.event.Entry.{Entry}
 use Rattle.conn_machine.specs.declared.state.State.{State}
 use Rattle.conn_machine.specs.Lists.{update}
-use Rattle.conn_machine.specs.Rows.{is_vacant, is_held, is_parked, is_queued, is_working, is_lingering, in_phase, is_live_as, row_where, live_row, lives_and}
+use Rattle.conn_machine.specs.Rows.{is_vacant, is_held, is_live, is_parked, is_queued, is_working, is_lingering, in_phase, is_live_as, row_where, live_row, lives_and}
 use Rattle.conn_machine.specs.States.{is_serving, is_halted, is_signalled, pick_child, unused_row, opening_state}
 use Rattle.conn_machine.specs.Table.{is_allowed, next, reply, may_accept, is_vacant_at, taken_row, life_at, may_wait, parked_row, may_be_held, held_row, may_be_queued, queued_row, served_row, answered_row, linger_cause_fits, lingering_row, closed_row, end_fits, greatest_life, next_command}
 use Rattle.conn_machine.specs.Runs.{after, entries_of, has_after, has_row, may_make, row_of, IsNextOf}
 use Rattle.conn_machine.proofs.RunLemmas.{entries_of-own, entries_of-other}
 use Rattle.conn_machine.proofs.UpdateLemmas.{get_changed}
 use Rattle.conn_machine.specs.Made.{AreMade, AreMadeBehind, IsOpened}
-use Rattle.table_rule.specs.Histories.{HasSeen}
+use Rattle.table_rule.specs.Histories.{HasSeen, is_in_hand}
 use Rattle.table_rule.proofs.HistoryLemmas.{after-snoc, entries_of-append, none_behind, row_by}
 
 -- ## Rows in hand
 
--- a pass has the row
-abbrev pub in_hand : Place → Bool
-in_hand Vacant = false
-in_hand Spent = false
-in_hand Held = true
-in_hand (Parked kind) = false
-in_hand Queued = true
-in_hand (Working cell phase) = true
-
 -- the rows and who has which
 pub record IsOwned (rows : List Row) (has : ℕ → Option ConnName) : Type 0 where
-  pub there : (p : ℕ) (name : ConnName) → has p ≡ Some name → (r : Row) × (slice_get rows name.slot ≡ Some r) × (in_hand r.place ≡ true)
-  pub someone : (slot : ℕ) (r : Row) → slice_get rows slot ≡ Some r → in_hand r.place ≡ true → (p : ℕ) × (name : ConnName) × (has p ≡ Some name) × (name.slot ≡ slot)
+  pub there : (p : ℕ) (name : ConnName) → has p ≡ Some name → (r : Row) × (slice_get rows name.slot ≡ Some r) × (is_in_hand r.place ≡ true) × (r.life ≡ name.life)
+  pub someone : (slot : ℕ) (r : Row) → slice_get rows slot ≡ Some r → is_in_hand r.place ≡ true → (p : ℕ) × (name : ConnName) × (has p ≡ Some name) × (name.slot ≡ slot)
   pub apart : (p q : ℕ) (a b : ConnName) → has p ≡ Some a → has q ≡ Some b → a.slot ≡ b.slot → p ≡ q
 
 -- the pass had this row before, or the row was in no hand and the pass had none
 abbrev pub HasOrFinds : ℕ → Row → Option ConnName → Type 0
-HasOrFinds slot r had = ((in_hand r.place ≡ false) × (had ≡ None)) ⊎ ((name : ConnName) × (had ≡ Some name) × (name.slot ≡ slot))
+HasOrFinds slot r had = ((is_in_hand r.place ≡ false) × (had ≡ None)) ⊎ ((name : ConnName) × (had ≡ Some name) × (name.slot ≡ slot))
+
+-- the pass has this row now
+abbrev pub Has : ℕ → Row → Option ConnName → Type 0
+Has slot r has = (name : ConnName) × (has ≡ Some name) × (name.slot ≡ slot) × (is_in_hand r.place ≡ true) × (r.life ≡ name.life)
 
 -- the pass has this row now, or it is in no hand and the pass has none
 abbrev pub HasOrLeaves : ℕ → Row → Option ConnName → Type 0
-HasOrLeaves slot r has = ((in_hand r.place ≡ false) × (has ≡ None)) ⊎ ((name : ConnName) × (has ≡ Some name) × (name.slot ≡ slot) × (in_hand r.place ≡ true))
+HasOrLeaves slot r has = ((is_in_hand r.place ≡ false) × (has ≡ None)) ⊎ Has slot r has
 
 -- one pass changed one row, which it had or found
 pub record Touches (rows rows' : List Row) (had has : Option ConnName) : Type 0 where
@@ -83,10 +78,10 @@ off p q = absurd (true≢false (sym q ∙ p))
 elsewhere : (rows rows' : List Row) (has : ℕ → Option ConnName) (p : ℕ) (now : Option ConnName) → IsOwned rows has → (t : Touches rows rows' (has p) now)
     → (q : ℕ) (name : ConnName) → q ≢ p → has q ≡ Some name → name.slot ≢ t.slot
 elsewhere rows rows' has p now owned t q name ne is same = ⊎_elim
-    (λ (found : (in_hand t.old.place ≡ false) × (has p ≡ None)).
+    (λ (found : (is_in_hand t.old.place ≡ false) × (has p ≡ None)).
     let here = owned.there q name is in
     let row : here.0 ≡ t.old = some_is (slice_get rows t.slot) here.0 t.old (subst (λ i. slice_get rows i ≡ Some here.0) same here.1) t.old_at in
-    off (ap (λ (r : Row). in_hand r.place) row ∙ found.0) here.2)
+    off (ap (λ (r : Row). is_in_hand r.place) row ∙ found.0) here.2)
     (λ (had : (a : ConnName) × (has p ≡ Some a) × (a.slot ≡ t.slot)). ne (owned.apart q p name had.0 is had.1 (same ∙ sym had.2)))
     t.before
 
@@ -101,23 +96,23 @@ touched rows rows' has has' p owned same t = record {
     | yes e ↦
         let now : has' p ≡ Some name = subst (λ k. has' k ≡ Some name) e is in
         ⊎_elim
-        (λ (left : (in_hand t.new.place ≡ false) × (has' p ≡ None)). none_some (has' p) name left.1 now)
-        (λ (got : (a : ConnName) × (has' p ≡ Some a) × (a.slot ≡ t.slot) × (in_hand t.new.place ≡ true)).
+        (λ (left : (is_in_hand t.new.place ≡ false) × (has' p ≡ None)). none_some (has' p) name left.1 now)
+        (λ (got : Has t.slot t.new (has' p)).
         let a : got.0 ≡ name = some_is (has' p) got.0 name got.1 now in
-        (t.new, subst (λ i. slice_get rows' i ≡ Some t.new) (sym got.2 ∙ ap (λ (n : ConnName). n.slot) a) t.new_at, got.3))
+        (t.new, subst (λ i. slice_get rows' i ≡ Some t.new) (sym got.2 ∙ ap (λ (n : ConnName). n.slot) a) t.new_at, got.3, got.4 ∙ ap (λ (n : ConnName). n.life) a))
         t.after_is
     | no ne ↦
         let was : has q ≡ Some name = sym (same q ne) ∙ is in
         let far = elsewhere rows rows' has p (has' p) owned t q name ne was in
         let here = owned.there q name was in
-        (here.0, t.others name.slot far ∙ here.1, here.2)
+        (here.0, t.others name.slot far ∙ here.1, here.2, here.3)
   ];
   someone = λ slot r at taken. elim (ℕ_discrete slot t.slot) [
     | yes e ↦
         let row : r ≡ t.new = some_is (slice_get rows' t.slot) r t.new (subst (λ i. slice_get rows' i ≡ Some r) e at) t.new_at in
         ⊎_elim
-        (λ (left : (in_hand t.new.place ≡ false) × (has' p ≡ None)). off (ap (λ (x : Row). in_hand x.place) row ∙ left.0) taken)
-        (λ (got : (a : ConnName) × (has' p ≡ Some a) × (a.slot ≡ t.slot) × (in_hand t.new.place ≡ true)). (p, got.0, got.1, got.2 ∙ sym e))
+        (λ (left : (is_in_hand t.new.place ≡ false) × (has' p ≡ None)). off (ap (λ (x : Row). is_in_hand x.place) row ∙ left.0) taken)
+        (λ (got : Has t.slot t.new (has' p)). (p, got.0, got.1, got.2 ∙ sym e))
         t.after_is
     | no ne ↦
         let who = owned.someone slot r (sym (t.others slot ne) ∙ at) taken in
@@ -125,7 +120,7 @@ touched rows rows' has has' p owned same t = record {
           | yes e ↦
               let had : has p ≡ Some who.1 = subst (λ k. has k ≡ Some who.1) e who.2 in
               ⊎_elim
-              (λ (found : (in_hand t.old.place ≡ false) × (has p ≡ None)). none_some (has p) who.1 found.1 had)
+              (λ (found : (is_in_hand t.old.place ≡ false) × (has p ≡ None)). none_some (has p) who.1 found.1 had)
               (λ (was : (a : ConnName) × (has p ≡ Some a) × (a.slot ≡ t.slot)).
               absurd (ne (sym who.3 ∙ ap (λ (n : ConnName). n.slot) (some_is (has p) who.1 was.0 had was.1) ∙ was.2)))
               t.before
@@ -149,15 +144,15 @@ touched rows rows' has has' p owned same t = record {
         let now : has' p ≡ Some a = subst (λ i. has' i ≡ Some a) e ea in
         let was : has k ≡ Some b = sym (same k ne) ∙ eb in
         ⊎_elim
-        (λ (left : (in_hand t.new.place ≡ false) × (has' p ≡ None)). none_some (has' p) a left.1 now)
-        (λ (got : (c : ConnName) × (has' p ≡ Some c) × (c.slot ≡ t.slot) × (in_hand t.new.place ≡ true)).
+        (λ (left : (is_in_hand t.new.place ≡ false) × (has' p ≡ None)). none_some (has' p) a left.1 now)
+        (λ (got : Has t.slot t.new (has' p)).
         elsewhere rows rows' has p (has' p) owned t k b ne was
         (sym slots ∙ ap (λ (n : ConnName). n.slot) (some_is (has' p) a got.0 now got.1) ∙ got.2))
         t.after_is
 
 same_owned : (rows rows' : List Row) (has has' : ℕ → Option ConnName) → rows' ≡ rows → ((q : ℕ) → has' q ≡ has q) → IsOwned rows has → IsOwned rows' has'
 same_owned rows rows' has has' same by owned = record {
-  there = λ p name is. let h = owned.there p name (sym (by p) ∙ is) in (h.0, ap (λ l. slice_get l name.slot) same ∙ h.1, h.2);
+  there = λ p name is. let h = owned.there p name (sym (by p) ∙ is) in (h.0, ap (λ l. slice_get l name.slot) same ∙ h.1, h.2, h.3);
   someone = λ slot r at taken. let h = owned.someone slot r (ap (λ l. slice_get l slot) (sym same) ∙ at) taken in (h.0, h.1, by h.0 ∙ h.2, h.3);
   apart = λ p q a b ea eb slots. owned.apart p q a b (sym (by p) ∙ ea) (sym (by q) ∙ eb) slots;
 }
@@ -192,6 +187,7 @@ pub record IsMetAt (test : Row → Bool) (rows : List Row) (name : ConnName) : T
   pub row : Row
   pub at : slice_get rows name.slot ≡ Some row
   pub live : live_row rows name ≡ Some row
+  pub life : row.life ≡ name.life
   pub passes : test row ≡ true
 
 pub met : (test : Row → Bool) (rows : List Row) (name : ConnName) → lives_and test rows name ≡ true → IsMetAt test rows name
@@ -203,6 +199,7 @@ met test rows name lives = by (slice_get rows name.slot) refl lives
       row = r;
       at = at;
       live = ap (row_where (is_live_as name)) at ∙ ap (λ b. if b then Some r else None) is;
+      life = eqb-true r.life name.life (and_parts (is_live r) (r.life == name.life) is).1;
       passes = passes;
     }
     named r false is at passes = absurd (cc)
@@ -216,11 +213,17 @@ pub had_row : (had : Option ConnName) (name : ConnName) → has_row had name ≡
 had_row None name has = absurd (cc)
 had_row (Some a) name has = (a, refl, sym (eqb-true name.slot a.slot (and_parts (name.slot == a.slot) (name.life == a.life) has).0))
 
+-- under that name
+had_life : (had : Option ConnName) (name a : ConnName) → has_row had name ≡ true → had ≡ Some a → name.life ≡ a.life
+had_life None name a has is = absurd (cc)
+had_life (Some b) name a has is =
+    eqb-true name.life b.life (and_parts (name.slot == b.slot) (name.life == b.life) has).1 ∙ ap (λ (n : ConnName). n.life) (some_is (Some b) b a refl is)
+
 no_row : (had : Option ConnName) → is_none had ≡ true → had ≡ None
 no_row None none = refl
 no_row (Some a) none = absurd (cc)
 
-parked_free : (place : Place) → is_parked place ≡ true → in_hand place ≡ false
+parked_free : (place : Place) → is_parked place ≡ true → is_in_hand place ≡ false
 parked_free Vacant is = refl
 parked_free Spent is = refl
 parked_free Held is = absurd (cc)
@@ -228,7 +231,7 @@ parked_free (Parked kind) is = refl
 parked_free Queued is = absurd (cc)
 parked_free (Working cell phase) is = absurd (cc)
 
-vacant_free : (place : Place) → is_vacant place ≡ true → in_hand place ≡ false
+vacant_free : (place : Place) → is_vacant place ≡ true → is_in_hand place ≡ false
 vacant_free Vacant is = refl
 vacant_free Spent is = refl
 vacant_free Held is = absurd (cc)
@@ -236,7 +239,7 @@ vacant_free (Parked kind) is = absurd (cc)
 vacant_free Queued is = absurd (cc)
 vacant_free (Working cell phase) is = absurd (cc)
 
-working_hand : (phase : Phase) (place : Place) → is_working place ≡ true → in_hand (in_phase phase place) ≡ true
+working_hand : (phase : Phase) (place : Place) → is_working place ≡ true → is_in_hand (in_phase phase place) ≡ true
 working_hand phase Vacant is = absurd (cc)
 working_hand phase Spent is = absurd (cc)
 working_hand phase Held is = absurd (cc)
@@ -244,10 +247,10 @@ working_hand phase (Parked kind) is = absurd (cc)
 working_hand phase Queued is = absurd (cc)
 working_hand phase (Working cell before) is = refl
 
-closed_free : (r : Row) → in_hand (closed_row r).place ≡ false
+closed_free : (r : Row) → is_in_hand (closed_row r).place ≡ false
 closed_free r = by (r.life == greatest_life)
   where
-    by : (b : Bool) → in_hand (if b then record r { place = Spent; notes = [] } else record r { life = r.life + 1; place = Vacant; notes = [] }).place ≡ false
+    by : (b : Bool) → is_in_hand (if b then record r { place = Spent; notes = [] } else record r { life = r.life + 1; place = Vacant; notes = [] }).place ≡ false
     by true = refl
     by false = refl
 
@@ -281,7 +284,7 @@ accept_moves s slot had may none =
         → Moves s.rows (update s.rows slot (taken_row s)) had (Some (record { slot = slot; life = life_at s.rows slot }))
     by None at vacant = absurd (cc)
     by (Some r) at vacant =
-        changed s.rows slot r (taken_row s) had _ at (inl (vacant_free r.place vacant, none)) (inr (_, refl, refl, refl))
+        changed s.rows slot r (taken_row s) had _ at (inl (vacant_free r.place vacant, none)) (inr (_, refl, refl, refl, ap (λ (x : Option Row). option_map_or (λ y. y.life) x 0) (sym at)))
 
 -- an event that a pass may make changes the row that it has or finds
 pub event_moves : (s : State) (p weight : ℕ) (had : Option ConnName) (e : Event) → is_allowed s e ≡ true → may_make p had weight e ≡ true
@@ -293,19 +296,19 @@ event_moves s p weight had (event.Park name kind) may role =
 event_moves s p weight had (event.Hold name) may role =
     let m = met (may_be_held s (is_signalled s name.slot)) s.rows name may in
     let parked = (and_parts (is_parked m.row.place) _ m.passes).0 in
-    changed s.rows name.slot m.row held_row had _ m.at (inl (parked_free m.row.place parked, no_row had (and_parts (p == 0) (is_none had) role).1)) (inr (name, refl, refl, refl))
+    changed s.rows name.slot m.row held_row had _ m.at (inl (parked_free m.row.place parked, no_row had (and_parts (p == 0) (is_none had) role).1)) (inr (name, refl, refl, refl, m.life))
 event_moves s p weight had (event.Queue name) may role =
     let m = met (may_be_queued s) s.rows name (and_parts (not (is_halted s.going) && is_signalled s name.slot) _ may).1 in
     let parked = (and_parts (is_parked m.row.place) (not (is_lingering m.row)) (and_parts (is_parked m.row.place && not (is_lingering m.row)) _ m.passes).0).0 in
-    changed s.rows name.slot m.row queued_row had _ m.at (inl (parked_free m.row.place parked, no_row had role)) (inr (name, refl, refl, refl))
+    changed s.rows name.slot m.row queued_row had _ m.at (inl (parked_free m.row.place parked, no_row had role)) (inr (name, refl, refl, refl, m.life))
 event_moves s p weight had (event.Start name) may role =
     let m = met (λ r. is_queued r.place) s.rows name may in
     let h = had_row had name role in
-    changed s.rows name.slot m.row (served_row s) had _ m.at (inr h) (inr (h.0, h.1, h.2, refl))
+    changed s.rows name.slot m.row (served_row s) had _ m.at (inr h) (inr (h.0, h.1, h.2, refl, m.life ∙ had_life had name h.0 role h.1))
 event_moves s p weight had (event.Answer name ask) may role =
     let m = met (λ r. is_working r.place && not r.last) s.rows name (and_parts (not (is_halted s.going)) _ may).1 in
     let h = had_row had name role in
-    changed s.rows name.slot m.row (answered_row s ask) had _ m.at (inr h) (inr (h.0, h.1, h.2, working_hand _ m.row.place (and_parts (is_working m.row.place) (not m.row.last) m.passes).0))
+    changed s.rows name.slot m.row (answered_row s ask) had _ m.at (inr h) (inr (h.0, h.1, h.2, working_hand _ m.row.place (and_parts (is_working m.row.place) (not m.row.last) m.passes).0, m.life ∙ had_life had name h.0 role h.1))
 event_moves s p weight had (event.Linger name why) may role =
     let m = met (λ r. not (is_lingering r) && linger_cause_fits s why (is_signalled s name.slot) r) s.rows name may in
     changed s.rows name.slot m.row (lingering_row s why) had _ m.at (inr (had_row had name role)) (inl (refl, refl))
@@ -372,7 +375,7 @@ unused_is (suc n) (suc slot) r at = unused_is n slot r at
 opening_owned : (slots children : ℕ) (shape : Shape) → IsOwned (opening_state slots children shape).rows (rows_of [])
 opening_owned slots children shape = record {
   there = λ p name is. none_some None name refl is;
-  someone = λ slot r at taken. off (ap (λ (x : Row). in_hand x.place) (unused_is slots slot r at)) taken;
+  someone = λ slot r at taken. off (ap (λ (x : Row). is_in_hand x.place) (unused_is slots slot r at)) taken;
   apart = λ p q a b ea eb slots. none_some None a refl ea;
 }
 

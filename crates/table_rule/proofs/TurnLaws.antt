@@ -62,6 +62,7 @@ module _ {K : Type 0} (ledger : K → Ledger) (o : Ledger) where
         parts = subst (λ (g : Origin). IsSplit g left found t.history) (sym origin) parts;
         own = λ z. same ∙ ap (λ (q : View). q.left) (sym (first_is ledger o s t id v at (sym number ∙ z)));
         row = home v.origin origin;
+        row_is = row ∙ ap (λ n. row_of n v.seen) (sym number);
         room = room v.origin origin;
       }
 
@@ -180,7 +181,7 @@ module _ {K : Type 0} (ledger : K → Ledger) (o : Ledger) where
               seen = λ _ _. seen_whole id t.history;
               row = sym (ap (λ (q : View). q.row) rests) ∙ mine.row;
             },
-        (refl, (origin_of o, t.history, refl)),
+        (refl, (origin_of o, t.history, refl, t.made, ap (λ n. row_of n t.history) (mine.number there) ∙ sym mine.row ∙ ap (λ (q : View). q.row) rests)),
       )
 
   pub took : (found first : ℕ) (v w : Me (Option K) View) → found ≡ first → IsTurnTaken ledger (found == first) v w → IsTurnTaken ledger true v w

@@ -16,11 +16,11 @@ use Rattle.conn_machine.specs.Runs.{after, entries_of, row_of}
 use Rattle.conn_machine.proofs.UpdateLemmas.{count_cons}
 use Rattle.table_rule.specs.declared.view.View.{View}
 use Rattle.conn_machine.specs.Made.{AreMade, IsOpened}
-use Rattle.table_rule.specs.Histories.{is_carried_at, threads_of}
+use Rattle.table_rule.specs.Histories.{is_carried_at, is_in_hand, threads_of}
 use Rattle.table_rule.specs.IdleWords.{bit, bit_at, sum_of, permits, AreIdleWords}
 use Rattle.table_rule.proofs.HistoryLemmas.{row_none}
 use Rattle.table_rule.proofs.SumLemmas.{sum_le, sum_less, sum_has, sum_add, sum_zero, bit_self}
-use Rattle.table_rule.proofs.RowLaws.{in_hand, owned, none_some}
+use Rattle.table_rule.proofs.RowLaws.{owned, none_some}
 use Rattle.table_rule.proofs.WordLemmas.{below_at}
 
 -- ## Counting by places
@@ -161,7 +161,7 @@ pub record AreViews (start : State) (history : List Entry) (words : List ℕ) (v
 carried_place : (k : ℕ) (r : Row) → is_carried_by k r ≡ true → (r.child ≡ k) × (is_carried_at r.place ≡ true)
 carried_place k r is = let b = and_parts (r.child == k) (is_carried_at r.place) is in (eqb-true r.child k b.0, b.1)
 
-carried_hand : (place : Place) → is_carried_at place ≡ true → in_hand place ≡ true
+carried_hand : (place : Place) → is_carried_at place ≡ true → is_in_hand place ≡ true
 carried_hand Vacant is = absurd (cc)
 carried_hand Spent is = absurd (cc)
 carried_hand Held is = refl
@@ -177,16 +177,22 @@ passes_at test rows slot is = by (slice_get rows slot) refl is
     by None e h = absurd (cc)
     by (Some r) e h = (r, e, h)
 
+-- each row that a pass has stands in a view
+pub stands_in_view : (start : State) (history : List Entry) (words : List ℕ) (views : List View) (credits : List ℕ) → AreViews start history words views credits
+    → (slot : ℕ) (r : Row) → slice_get (after start history).rows slot ≡ Some r → is_in_hand r.place ≡ true
+    → (id : ℕ) × (v : View) × (name : ConnName) × (get_elem? views id ≡ m.some v) × (v.row ≡ Some name) × (name.slot ≡ slot)
+stands_in_view start history words views credits a slot r at hand =
+    let who = (owned start a.opened history a.made).someone slot r at hand in
+    ⊎_elim
+    (λ (below : who.0 < length views). let v = below_at views who.0 below in (who.0, v.0, who.1, v.1, a.rows who.0 v.0 v.1 ∙ who.2, who.3))
+    (λ (above : length views ≤ who.0). none_some (row_of who.0 history) who.1 (row_none who.0 history (a.undrawn who.0 above)) who.2)
+    (nat_below who.0 (length views))
+
 module _ (start : State) (history : List Entry) (words : List ℕ) (views : List View) (credits : List ℕ) (a : AreViews start history words views credits) (k : ℕ) where
   stands : Stands (row_passes (is_carried_by k) (after start history).rows) (length (after start history).rows) views
   stands slot lt is =
       let row = passes_at (is_carried_by k) (after start history).rows slot is in
-      let o = owned start a.opened history a.made in
-      let who = o.someone slot row.0 row.1 (carried_hand row.0.place (carried_place k row.0 row.2).1) in
-      ⊎_elim
-      (λ (below : who.0 < length views). let v = below_at views who.0 below in (who.0, v.0, who.1, v.1, a.rows who.0 v.0 v.1 ∙ who.2, who.3))
-      (λ (above : length views ≤ who.0). none_some (row_of who.0 history) who.1 (row_none who.0 history (a.undrawn who.0 above)) who.2)
-      (nat_below who.0 (length views))
+      stands_in_view start history words views credits a slot row.0 row.1 (carried_hand row.0.place (carried_place k row.0 row.2).1)
 
   covers : (id : ℕ) (v : View) → get_elem? views id ≡ m.some v → Covers (row_passes (is_carried_by k) (after start history).rows) (permits k) v
   covers id v at name is passes =

@@ -6,7 +6,7 @@ use Rattle.conn_machine.specs.declared.event.Event.{Event}
 use Rattle.conn_machine.specs.declared.event.Event.TheVariants as event
 use Rattle.conn_machine.specs.declared.event.Entry.{Entry}
 use Rattle.conn_machine.specs.declared.state.State.{State}
-use Rattle.conn_machine.specs.Rows.{is_queued, is_working, live_row}
+use Rattle.conn_machine.specs.Rows.{is_held, is_queued, is_working, live_row}
 use Rattle.conn_machine.specs.Children.{child_at}
 use Rattle.conn_machine.specs.Table.{next}
 use Rattle.conn_machine.specs.Runs.{entries_of}
@@ -22,6 +22,10 @@ HasSeen p seen history = (rest : List Entry) × (history ≡ seen ++ rest) × (e
 -- a worker has the row, or will
 abbrev pub is_carried_at : Place → Bool
 is_carried_at place = is_queued place || is_working place
+
+-- a pass has the row: the listener holds it, or a worker has it, or will
+abbrev pub is_in_hand : Place → Bool
+is_in_hand place = is_held place || is_carried_at place
 
 -- the workers of the child
 abbrev pub threads_of : State → ℕ → ℕ

@@ -1,8 +1,8 @@
 -- How a kept value and what was folded make up one history, and what a turn makes of a value.
-use Rattle.std.specs.Prelude.{◌≡◌, ◌≢◌, ◌⊎◌, List, [], ◌++◌, length, Some}
+use Rattle.std.specs.Prelude.{◌≡◌, ◌≢◌, ◌⊎◌, ◌<◌, ℕ, List, [], ◌++◌, length, slice_index, Some}
 use Rattle.conn_machine.specs.declared.event.Entry.{Entry}
 use Rattle.conn_machine.specs.declared.kept.Ledger.{Ledger}
-use Rattle.conn_machine.specs.Runs.{after, AreEntriesOf}
+use Rattle.conn_machine.specs.Runs.{after, entries_of, AreEntriesOf}
 use Rattle.conn_machine.specs.Folds.{fold_of}
 use Rattle.table_rule.specs.declared.view.Left.{Left}
 use Rattle.table_rule.specs.declared.view.Origin.{Origin}
@@ -10,12 +10,14 @@ use Rattle.table_rule.specs.declared.view.View.{View}
 use Rattle.table_rule.specs.Histories.{ArePermitted, Extends}
 
 -- the history is the folded entries and then what the value keeps; its base is the state after them, its record is the one
--- that was left, and counts them; its texts begin with those that were left
+-- that was left, and counts them, those of each pass too; its texts begin with those that were left
 pub record IsSplit (origin : Origin) (left : Left) (l : Ledger) (whole : List Entry) : Type 0 where
   pub whole_is : whole ≡ left.entries ++ l.history
   pub base : l.base ≡ after origin.state left.entries
   pub record_is : l.folded ≡ left.folded
   pub counted : l.folded.entries ≡ length left.entries
+  pub numbers : length l.folded.ordinals ≡ origin.passes
+  pub ordinals : (p : ℕ) → p < origin.passes → slice_index l.folded.ordinals p ≡ length (entries_of p left.entries)
   pub texts : Extends left.texts l.texts
   pub passes : l.passes ≡ origin.passes
 
@@ -46,6 +48,13 @@ pub record MayLeaveLedger (v : View) (found new : Ledger) : Type 0 where
 -- the pass has the turn, and may leave the value so
 abbrev pub MayGiveBack : View → Ledger → Type 0
 MayGiveBack v new = (found : Ledger) × (v.turn ≡ Some found) × MayLeaveLedger v found new
+
+-- a turn ended: by the same entries the value that it found became this one, and what the pass had seen this history
+pub record EndsTurn (v : View) (new : Ledger) (history : List Entry) : Type 0 where
+  pub found : Ledger
+  pub turn : v.turn ≡ Some found
+  pub change : MayLeaveLedger v found new
+  pub seen : history ≡ v.seen ++ change.added
 
 -- what pass 0 left as it gave the turn back with this value; another pass leaves nothing
 pub record IsLedgerLeft (v : View) (new : Ledger) (history : List Entry) (left : Left) : Type 0 where

@@ -4,13 +4,13 @@ use Rattle.atomic_table.specs.Table.{Step, Me}
 use Rattle.conn_machine.specs.declared.event.Entry.{Entry}
 use Rattle.conn_machine.specs.declared.kept.Ledger.{Ledger}
 use Rattle.conn_machine.specs.Laws.{idle_in}
-use Rattle.conn_machine.specs.Runs.{after}
-use Rattle.conn_machine.specs.Runs.{Adds}
+use Rattle.conn_machine.specs.Made.{AreMade}
+use Rattle.conn_machine.specs.Runs.{Adds, after, row_of}
 use Rattle.table_rule.specs.declared.view.Left.{Left}
 use Rattle.table_rule.specs.declared.view.Origin.{Origin}
 use Rattle.table_rule.specs.declared.view.View.{View}
 use Rattle.table_rule.specs.Histories.{HasSeen}
-use Rattle.table_rule.specs.Ledgers.{IsLedgerLeft}
+use Rattle.table_rule.specs.Ledgers.{EndsTurn, IsLedgerLeft}
 use Rattle.table_rule.specs.Views.{IsFound, taken_view, given_view, drawn_view, resting_view, free_view, with_permit, with_try, credited_view, noting_view}
 use Rattle.table_rule.specs.IdleWords.{bias}
 
@@ -26,12 +26,12 @@ module _ {K : Type 0} (ledger : K → Ledger) where
   abbrev pub TakesTurn : Step (Option K) → Me (Option K) View → ℕ → Me (Option K) View → Type 0
   TakesTurn s v found w = IsTurnTaken (found == s.first) v w
 
-  -- the value in hand is at home again, and what was added is in the history
+  -- the value in hand is at home again, and what was added to the value that the turn found is in the history
   abbrev pub GivesBack : Step (Option K) → Me (Option K) View → ℕ → Me (Option K) View → Type 0
   GivesBack s v found w =
       (kept : K) × (history : List Entry) × (left : Left) × (v.1 ≡ (0, Some kept) ∷ []) × (w.1 ≡ [])
       × (w.0 ≡ given_view v.0 history left) × Adds v.0.who.number v.0.origin.state v.0.seen history
-      × IsLedgerLeft v.0 (ledger kept) history left
+      × EndsTurn v.0 (ledger kept) history × IsLedgerLeft v.0 (ledger kept) history left
 
 -- nothing changed
 abbrev pub LooksAtWord : {K : Type 0} → Step (Option K) → Me (Option K) View → ℕ → Me (Option K) View → Type 0
@@ -45,9 +45,11 @@ DrawsNext s v found w = (found ≡ v.0.draws.next) × (w.1 ≡ v.1) × (w.0 ≡ 
 abbrev pub LiesDown : {K : Type 0} → Step (Option K) → Me (Option K) View → ℕ → Me (Option K) View → Type 0
 LiesDown s v found w = (w.1 ≡ v.1) × (w.0 ≡ resting_view v.0.who.number)
 
--- the pass rests no more: it has nothing, and knows its number and some history that it has seen
+-- the pass rests no more: it has nothing, and knows its number and some history that it has seen, in which it has no connection
 abbrev pub WakesUp : {K : Type 0} → Step (Option K) → Me (Option K) View → ℕ → Me (Option K) View → Type 0
-WakesUp s v found w = (w.1 ≡ v.1) × ((origin : Origin) × (seen : List Entry) × (w.0 ≡ free_view origin v.0.who.number seen))
+WakesUp s v found w =
+    (w.1 ≡ v.1) × ((origin : Origin) × (seen : List Entry) × (w.0 ≡ free_view origin v.0.who.number seen)
+    × AreMade origin.state seen × (row_of v.0.who.number seen ≡ None))
 
 -- a permit of the child, or a try to undo
 abbrev pub tried_view : Bool → ℕ → View → View
@@ -84,5 +86,5 @@ Uncredits s v found w = (w.1 ≡ v.1) × (w.0 ≡ noting_view found (uncredited_
 abbrev pub LooksAtIdle : {K : Type 0} → Step (Option K) → Me (Option K) View → ℕ → Me (Option K) View → Type 0
 LooksAtIdle s v found w =
     (w.1 ≡ v.1) × (w.0 ≡ noting_view found v.0) × (found - bias ≤ 64)
-    × ((history : List Entry) × HasSeen v.0.who.number v.0.seen history
+    × ((history : List Entry) × HasSeen v.0.who.number v.0.seen history × AreMade v.0.origin.state history
     × (found - bias ≤ idle_in (after v.0.origin.state history) (s.word - 2)))

@@ -96,6 +96,7 @@ pub record IsFound (v : View) (found : Ledger) (history : List Entry) : Type 0 w
   pub parts : IsSplit v.origin left found history
   pub own : v.who.number ≡ 0 → left ≡ v.left
   pub row : RowStays v history
+  pub row_is : v.row ≡ row_of v.who.number v.seen
   pub room : HasFreeWorker v (after v.origin.state history)
 
 -- ## What steps make of one

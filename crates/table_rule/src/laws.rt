@@ -1,13 +1,21 @@
 //! Each kind of step keeps the rule, and tells what `specs/Steps.antt` says of it. Each law is the contract of a function
 //! that does nothing. That a value is taken out of its slot, or put in, is part of the take and of the give of the turn.
-ghost use Rattle.std.specs.Prelude.{◌≡◌, ◌≢◌, ◌<◌, ◌≤◌, ◌+◌, ◌-◌, ◌*◌, ◌%◌, ◌^◌, ◌==◌, ℕ, true, false, List, [], ◌∷◌, length, slice_index, Option, Some, None};
-ghost use mathlib.Core.Option.{none};
+ghost use Rattle.std.specs.Prelude.{◌≡◌, ◌≢◌, ◌<◌, ◌≤◌, ◌+◌, ◌-◌, ◌*◌, ◌%◌, ◌^◌, ◌==◌, ℕ, true, false, List, [], ◌∷◌, length, slice_index, Option, Some, None, slice_get};
+ghost use mathlib.Core.Option.{none, some};
+ghost use lib.ListN.{get_elem?};
 ghost use prog.Atomic.{either};
 ghost use Rattle.atomic_table.specs.Table.{Allows, Joins, Me, Splits, opening, step};
+ghost use Rattle.atomic_table.specs.Table as table;
+ghost use Rattle.mpm_base.specs.declared.conn.ConnName.{ConnName};
+ghost use Rattle.conn_machine.specs.declared.event.Entry.{Entry};
+ghost use Rattle.conn_machine.specs.declared.row.Row.{Row};
+ghost use Rattle.conn_machine.specs.declared.state.State.{State};
+ghost use Rattle.conn_machine.specs.Made.{AreMade, IsOpened};
+ghost use Rattle.conn_machine.specs.Rows.{carried_count, live_row};
 ghost use Rattle.conn_machine.specs.declared.kept.Ledger.{Ledger};
-ghost use Rattle.conn_machine.specs.Runs.{after};
+ghost use Rattle.conn_machine.specs.Runs.{after, row_of};
 ghost use Rattle.table_rule.specs.declared.view.View.{View};
-ghost use Rattle.table_rule.specs.Histories.{threads_of};
+ghost use Rattle.table_rule.specs.Histories.{HasSeen, is_in_hand, threads_of};
 ghost use Rattle.table_rule.specs.IdleWords.{bias};
 ghost use Rattle.table_rule.specs.Ledgers.{MayGiveBack};
 ghost use Rattle.table_rule.specs.Steps.{Credits, DrawsNext, GivesBack, LiesDown, LooksAtWord, LooksAtIdle, Releases, TakesTurn, Tries, Uncredits, Undoes, WakesUp};
@@ -89,4 +97,25 @@ pub fn child_is_uncredited<K: Kept>()
 /// An idle word is looked at.
 pub fn idle_word_is_looked_at<K: Kept>()
     ensures { (o : Ledger) (slots id k : ℕ) (me : Me (Option K) View) → k < 32 → IsAwake me.0 → Allows (IsTied K.ledger o) slots id me (k + 2) (λ n. n) (LooksAtIdle (step slots (k + 2) 0 0 none) me) }
+{}
+
+/// In a history that passes made as they may, the connection of a pass is live, and the listener holds it, or a worker has
+/// it, or will; two passes have different ones; and each connection that somebody holds or has is some pass's.
+pub fn each_pass_has_its_own_connection()
+    ensures live { (start : State) (history : List Entry) (p : ℕ) (name : ConnName) → IsOpened start → AreMade start history → row_of p history ≡ Some name → (r : Row) × (live_row (after start history).rows name ≡ Some r) × (is_in_hand r.place ≡ true) }
+    ensures apart { (start : State) (history : List Entry) (p q : ℕ) (name other : ConnName) → IsOpened start → AreMade start history → row_of p history ≡ Some name → row_of q history ≡ Some other → name.slot ≡ other.slot → p ≡ q }
+    ensures someone { (start : State) (history : List Entry) (slot : ℕ) (r : Row) → IsOpened start → AreMade start history → slice_get (after start history).rows slot ≡ Some r → is_in_hand r.place ≡ true → (p : ℕ) × (name : ConnName) × (row_of p history ≡ Some name) × (name.slot ≡ slot) × (live_row (after start history).rows name ≡ Some r) }
+{}
+
+/// While other passes go on, a pass keeps its connection, and the row of it stays as it was.
+pub fn connections_stay_while_others_go_on()
+    ensures name { (p : ℕ) (seen history : List Entry) → HasSeen p seen history → row_of p history ≡ row_of p seen }
+    ensures row { (start : State) (p : ℕ) (seen history : List Entry) (name : ConnName) → IsOpened start → AreMade start history → HasSeen p seen history → row_of p seen ≡ Some name → slice_get (after start history).rows name.slot ≡ slice_get (after start seen).rows name.slot }
+{}
+
+/// Where the rule holds, each connection that somebody holds or has stands in a pass's view, and a pass with a permit of a
+/// child and no connection leaves one of that child's workers free.
+pub fn views_tell_of_connections<K: Kept>()
+    ensures stands { (o : Ledger) (s : table.State (Option K) View) (tied : IsTied K.ledger o s) (slot : ℕ) (r : Row) → slice_get (after o.base tied.history).rows slot ≡ Some r → is_in_hand r.place ≡ true → (id : ℕ) × (v : View) × (name : ConnName) × (get_elem? s.views id ≡ some v) × (v.row ≡ Some name) × (name.slot ≡ slot) }
+    ensures room { (o : Ledger) (s : table.State (Option K) View) (tied : IsTied K.ledger o s) (id k : ℕ) (v : View) → get_elem? s.views id ≡ some v → v.row ≡ None → v.hand.permit ≡ Some k → carried_count (after o.base tied.history).rows k < threads_of (after o.base tied.history) k }
 {}
