@@ -2,6 +2,7 @@
 use Rattle.std.specs.Prelude.{◌≡◌, ◌≤◌, ℕ, ◌+◌, ◌-◌, ◌==◌, nat_lt, Bool, true, false, slice_index, List, Some}
 use Rattle.conn_machine.specs.declared.event.Entry.{Entry}
 use Rattle.conn_machine.specs.Laws.{idle_in}
+use Rattle.conn_machine.specs.Made.{AreMade}
 use Rattle.conn_machine.specs.Runs.{after}
 use Rattle.table_rule.specs.declared.view.View.{View}
 use Rattle.table_rule.specs.Histories.{HasSeen, threads_of}
@@ -16,14 +17,15 @@ pub record ReservesPermit (child : ℕ) (old : View) (done : Bool) (new : View) 
   pub kept : done ≡ true → new ≡ noting_view word (with_permit (Some child) old)
   pub undone : done ≡ false → new ≡ noting_view word old
 
--- the answer is the word less the bias, at that step; after some history that goes on from what the pass had seen at least so
--- many workers of the child carried no connection
+-- the answer is the word less the bias, at that step; after some history that passes made as they may, and that goes on from
+-- what the pass had seen, at least so many workers of the child carried no connection
 pub record FoundIdle (child : ℕ) (old : View) (count : ℕ) (new : View) : Type 0 where
   pub word : ℕ
   pub answer : count ≡ word - bias
   pub view : new ≡ noting_view word old
   pub history : List Entry
   pub seen : HasSeen old.who.number old.seen history
+  pub made : AreMade old.origin.state history
   pub free : count ≤ idle_in (after old.origin.state history) child
 
 -- the child lost its credit, exactly where the word that was found was the bias and its workers, so that no permit and no
