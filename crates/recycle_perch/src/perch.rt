@@ -1,6 +1,6 @@
 //! A row of places.
 ghost use Rattle.std.specs.Prelude.{◌≡◌, ◌≤◌, All, IfOk, IfSome, IfErr};
-ghost use Rattle.recycle_perch.specs.Resting.{IsFreeCarrier};
+ghost use Rattle.recycle_perch.specs.Resting.{IsFreeCarrier, IsWokenCarrier};
 
 use crate::place::Place;
 use board_lock::{Carrier, Shared, number};
@@ -48,6 +48,7 @@ impl<'a, K: Kept> Perch<'a, K> {
     pub fn take(&self) -> Option<Carrier<K>>
         ensures own { IfSome result (λ carrier. carrier.seat.table_id ≡ self.now.shared.now.table.shared.table_id) }
         ensures free { IfSome result (λ carrier. IsFreeCarrier carrier.seat.me) }
+        ensures woken { IfSome result (λ carrier. IsWokenCarrier carrier.seat.me) }
     {
         for place in &self.places {
             if let Some(carrier) = place.take(self.shared) {

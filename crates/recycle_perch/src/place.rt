@@ -1,6 +1,6 @@
 //! A place for the carrier of one number.
 ghost use Rattle.std.specs.Prelude.{◌≡◌, ◌≢◌, [], IfSome, IfErr};
-ghost use Rattle.recycle_perch.specs.Resting.{IsFreeCarrier};
+ghost use Rattle.recycle_perch.specs.Resting.{IsFreeCarrier, IsWokenCarrier};
 ghost use Rattle.table_rule.specs.Views.{resting_view};
 
 use atomic_table::{PerchPlay, PerchRule, RuledPerch, Seat};
@@ -50,6 +50,7 @@ fn wake_up<K: Kept>(shared: &Shared<K>, mut seat: Seat<Option<K>, View>, number:
     requires other { number ≢ 0 }
     ensures own { result.seat.table_id ≡ shared.now.table.shared.table_id }
     ensures free { IsFreeCarrier result.seat.me }
+    ensures woken { IsWokenCarrier result.seat.me }
     ensures number { result.seat.me.0.who.number ≡ number }
 {
     laws::pass_wakes_up::<K>();
@@ -77,6 +78,7 @@ impl<K: Kept> Place<K> {
         requires own { self.now.perch.table_id ≡ shared.now.table.shared.table_id }
         ensures own { IfSome result (λ carrier. carrier.seat.table_id ≡ shared.now.table.shared.table_id) }
         ensures free { IfSome result (λ carrier. IsFreeCarrier carrier.seat.me) }
+        ensures woken { IfSome result (λ carrier. IsWokenCarrier carrier.seat.me) }
         ensures number { IfSome result (λ carrier. carrier.seat.me.0.who.number ≡ self.now.number) }
     {
         let (_, _, seat) = self.perch.swap_new_mark::<Any>(0);
@@ -94,6 +96,7 @@ impl<K: Kept> Place<K> {
         requires number { carrier.seat.me.0.who.number ≡ self.now.number }
         ensures own { IfErr result (λ back. back.seat.table_id ≡ shared.now.table.shared.table_id) }
         ensures free { IfErr result (λ back. IsFreeCarrier back.seat.me) }
+        ensures woken { IfErr result (λ back. IsWokenCarrier back.seat.me) }
         ensures number { IfErr result (λ back. back.seat.me.0.who.number ≡ self.now.number) }
     {
         let seat = lay_down(shared, carrier);
