@@ -11,11 +11,18 @@ use conn_machine::Kept;
 use std::alloc::Global;
 use std::snapshot::Snapshot;
 use std::sync::Wait;
+use std::sync::atomic::{AtomicU64, Ordering};
 use std::thread;
 use table_rule::{GiveStep, TakeStep, Tie, View, laws};
 
 /// How often the turn is tried for before the thread lets another one go first.
 const TRIES: u32 = 30;
+
+/// How often the thread lets another one go first before it sleeps.
+const YIELDS: u32 = 3;
+
+/// A sleep on a word looks at what it is below this.
+const LOW: u64 = 4_294_967_296;
 
 /// The value, out of the lock. It has to be given back.
 pub struct Turn<K: Kept> {
@@ -26,6 +33,8 @@ pub struct Turn<K: Kept> {
 #[derive(Drop)]
 pub struct Shared<K: Kept> {
     pub table: Table<Option<K>, View, Snapshot<K>, Tie, Global>,
+    /// How many threads sleep, or are about to, until a turn is given back.
+    sleepers: AtomicU64,
     ghost words: { table.shared.table_id.words ≡ 34 },
     ghost slots: { table.shared.table_id.slots ≡ 1 },
 }
@@ -37,7 +46,10 @@ impl<K: Kept> Shared<K> {
         requires slots { table.shared.table_id.slots ≡ 1 }
         ensures { result.table ≡ table }
     {
-        Shared { table }
+        Shared {
+            table,
+            sleepers: AtomicU64::new(0),
+        }
     }
 
     /// Takes the turn, where it is free at this moment.
@@ -77,6 +89,33 @@ impl<K: Kept> Shared<K> {
         None
     }
 
+    /// Takes the turn, where it is free at one of some moments, between the last of which other threads may go first.
+    fn try_patiently(&self, pass: &mut Pass<K>) -> Option<Turn<K>>
+        requires own { pass.old.seat.table_id ≡ self.now.table.shared.table_id }
+        requires free { HasNoTurn pass.old.seat.me }
+        ensures own { pass.new.seat.table_id ≡ pass.old.seat.table_id }
+        ensures turn { MatchOption result (pass.new.seat.me ≡ pass.old.seat.me) (λ turn. TookTurn pass.old.seat.me pass.new.seat.me (K.ledger turn.kept)) }
+    {
+        for _ in 0..YIELDS {
+            if let Some(turn) = self.try_often(pass) {
+                return Some(turn);
+            }
+            thread::yield_now();
+        }
+        None
+    }
+
+    /// Sleeps while a pass has the turn, until one gives it back. May also return for no reason.
+    fn sleep<R: Wait>(&self, rt: &R) {
+        let shared = &self.table.shared;
+        let _ = self.sleepers.fetch_add(1, Ordering::SeqCst);
+        let found = shared.peek(0);
+        if found % 2 != 0 {
+            shared.park(rt, 0, (found % LOW) as u32);
+        }
+        let _ = self.sleepers.fetch_sub(1, Ordering::SeqCst);
+    }
+
     /// Takes the turn. Waits while another pass has it.
     pub fn turn<R: Wait>(&self, rt: &R, pass: &mut Pass<K>) -> Turn<K>
         requires own { pass.old.seat.table_id ≡ self.now.table.shared.table_id }
@@ -85,10 +124,10 @@ impl<K: Kept> Shared<K> {
         ensures turn { TookTurn pass.old.seat.me pass.new.seat.me (K.ledger result.kept) }
     {
         for _ in rt.forever() {
-            if let Some(turn) = self.try_often(pass) {
+            if let Some(turn) = self.try_patiently(pass) {
                 return turn;
             }
-            thread::yield_now();
+            self.sleep(rt);
         }
         unreachable!()
     }
@@ -109,6 +148,9 @@ impl<K: Kept> Shared<K> {
         };
         laws::turn_is_given_back::<K>();
         shared.store::<GiveStep>(&mut pass.seat, 0, 2 * length);
+        if self.sleepers.load(Ordering::SeqCst) != 0 {
+            shared.wake_one(0);
+        }
     }
 
     /// Takes the turn for good, and hands the value out. Waits while another pass has it.
