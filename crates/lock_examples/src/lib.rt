@@ -6,12 +6,16 @@
 
 mod idles;
 mod opening;
+mod resting;
 #[cfg(test)]
 mod tests;
+mod texts;
 mod toy;
 mod turns;
 
 pub use idles::{credits, reserves, reserves_once};
 pub use opening::{last_of, opened};
+pub use resting::rests_one;
+pub use texts::{Texts, folds_texts, writes};
 pub use toy::Toy;
 pub use turns::{goes_on, looks};
