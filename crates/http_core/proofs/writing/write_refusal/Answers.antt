@@ -12,7 +12,8 @@ returns c =
     let head = c.args.head.now in
     let first = first_lines c.args.code (date_text c.args.date.now) in
     let second = first ++ connection_line true 1 in
-    let connection = one_more head first _ _ _ c.in_ok-add_first_lines.ensures c.in_ok-add_connection.ensures in
+    let lines = c.in_ok-add_first_lines.ensures ∙ ap (λ t. t ++ first) c.reserve.ensures in
+    let connection = one_more head first _ _ _ lines c.in_ok-add_connection.ensures in
     let kind = one_more head second _ _ _ connection c.in_ok-add.ensures.ok in
     let size = ap (λ t. length t + 1) c.status_text.ensures ∙ sym (length_push (status_text c.args.code) 10) in
     on_ok_weaker c.add_last_lines.result
