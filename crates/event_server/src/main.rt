@@ -12,6 +12,8 @@ mod fault;
 mod folder;
 mod listing;
 mod output;
+#[cfg(test)]
+mod tests;
 mod whole_file;
 
 use command_line::{exit_of, words_of};
