@@ -16,7 +16,7 @@ ghost use Rattle.conn_machine.specs.declared.kept.Ledger.{Ledger};
 ghost use Rattle.conn_machine.specs.Runs.{after, row_of};
 ghost use Rattle.table_rule.specs.declared.view.View.{View};
 ghost use Rattle.table_rule.specs.Histories.{HasSeen, is_in_hand, threads_of};
-ghost use Rattle.table_rule.specs.IdleWords.{bias};
+ghost use Rattle.table_rule.specs.IdleWords.{bias, permits, sum_of};
 ghost use Rattle.table_rule.specs.Ledgers.{MayGiveBack};
 ghost use Rattle.table_rule.specs.Steps.{Credits, DrawsNext, GivesBack, LiesDown, LooksAtWord, LooksAtIdle, Releases, TakesTurn, Tries, Uncredits, Undoes, WakesUp};
 ghost use Rattle.table_rule.specs.Tie.{AreFirstWords, IsNew, IsTied, origin_of};
@@ -113,9 +113,10 @@ pub fn connections_stay_while_others_go_on()
     ensures row { (start : State) (p : ℕ) (seen history : List Entry) (name : ConnName) → IsOpened start → AreMade start history → HasSeen p seen history → row_of p seen ≡ Some name → slice_get (after start history).rows name.slot ≡ slice_get (after start seen).rows name.slot }
 {}
 
-/// Where the rule holds, each connection that somebody holds or has stands in a pass's view, and a pass with a permit of a
-/// child and no connection leaves one of that child's workers free.
+/// Where the rule holds, each connection that somebody holds or has stands in a pass's view; a child's workers carry no more
+/// connections than it has permits out; and a pass with a permit of it and no connection leaves one of them free.
 pub fn views_tell_of_connections<K: Kept>()
     ensures stands { (o : Ledger) (s : table.State (Option K) View) (tied : IsTied K.ledger o s) (slot : ℕ) (r : Row) → slice_get (after o.base tied.history).rows slot ≡ Some r → is_in_hand r.place ≡ true → (id : ℕ) × (v : View) × (name : ConnName) × (get_elem? s.views id ≡ some v) × (v.row ≡ Some name) × (name.slot ≡ slot) }
+    ensures carried { (o : Ledger) (s : table.State (Option K) View) (tied : IsTied K.ledger o s) (k : ℕ) → carried_count (after o.base tied.history).rows k ≤ sum_of (permits k) s.views }
     ensures room { (o : Ledger) (s : table.State (Option K) View) (tied : IsTied K.ledger o s) (id k : ℕ) (v : View) → get_elem? s.views id ≡ some v → v.row ≡ None → v.hand.permit ≡ Some k → carried_count (after o.base tied.history).rows k < threads_of (after o.base tied.history) k }
 {}
