@@ -10,11 +10,11 @@ use Rattle.conn_machine.specs.declared.state.State.{State}
 use Rattle.conn_machine.specs.Made.{AreMade, IsOpened}
 use Rattle.conn_machine.specs.Rows.{is_live, is_live_as, is_unused, live_row, row_where}
 use Rattle.conn_machine.specs.Runs.{after, row_of}
-use Rattle.table_rule.specs.Histories.{HasSeen, is_in_hand}
+use Rattle.table_rule.specs.Histories.{HasSeen, is_with_a_pass}
 use Rattle.table_rule.proofs.HistoryLemmas.{row_by, seen_same}
 use Rattle.table_rule.proofs.RowLaws.{owned}
 
-hand_live : (place : Place) → is_in_hand place ≡ true → not (is_unused place) ≡ true
+hand_live : (place : Place) → is_with_a_pass place ≡ true → not (is_unused place) ≡ true
 hand_live Vacant is = absurd (cc)
 hand_live Spent is = absurd (cc)
 hand_live Held is = refl
@@ -23,7 +23,7 @@ hand_live Queued is = refl
 hand_live (Working cell phase) is = refl
 
 -- a row in some pass's hand is live under the name that the pass has
-live_in_hand : (rows : List Row) (name : ConnName) (r : Row) → slice_get rows name.slot ≡ Some r → is_in_hand r.place ≡ true → r.life ≡ name.life
+live_in_hand : (rows : List Row) (name : ConnName) (r : Row) → slice_get rows name.slot ≡ Some r → is_with_a_pass r.place ≡ true → r.life ≡ name.life
     → live_row rows name ≡ Some r
 live_in_hand rows name r at hand life =
     let live : is_live r ≡ true = hand_live r.place hand in
@@ -32,7 +32,7 @@ live_in_hand rows name r at hand life =
     ap (row_where (is_live_as name)) at ∙ ap (λ b. if b then Some r else None) is
 
 pub has_live : (start : State) (history : List Entry) (p : ℕ) (name : ConnName) → IsOpened start → AreMade start history → row_of p history ≡ Some name
-    → (r : Row) × (live_row (after start history).rows name ≡ Some r) × (is_in_hand r.place ≡ true)
+    → (r : Row) × (live_row (after start history).rows name ≡ Some r) × (is_with_a_pass r.place ≡ true)
 has_live start history p name opened made is =
     let h = (owned start opened history made).there p name is in
     (h.0, live_in_hand (after start history).rows name h.0 h.1 h.2 h.3, h.2)
@@ -42,7 +42,7 @@ pub has_own : (start : State) (history : List Entry) (p q : ℕ) (name other : C
 has_own start history p q name other opened made is is' same = (owned start opened history made).apart p q name other is is' same
 
 pub someone_has : (start : State) (history : List Entry) (slot : ℕ) (r : Row) → IsOpened start → AreMade start history
-    → slice_get (after start history).rows slot ≡ Some r → is_in_hand r.place ≡ true
+    → slice_get (after start history).rows slot ≡ Some r → is_with_a_pass r.place ≡ true
     → (p : ℕ) × (name : ConnName) × (row_of p history ≡ Some name) × (name.slot ≡ slot) × (live_row (after start history).rows name ≡ Some r)
 someone_has start history slot r opened made at hand =
     let o = owned start opened history made in

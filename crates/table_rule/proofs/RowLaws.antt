@@ -25,28 +25,28 @@ use Rattle.conn_machine.specs.Runs.{after, entries_of, has_after, has_row, may_m
 use Rattle.conn_machine.proofs.RunLemmas.{entries_of-own, entries_of-other}
 use Rattle.conn_machine.proofs.UpdateLemmas.{get_changed}
 use Rattle.conn_machine.specs.Made.{AreMade, AreMadeBehind, IsOpened}
-use Rattle.table_rule.specs.Histories.{HasSeen, is_in_hand}
+use Rattle.table_rule.specs.Histories.{HasSeen, is_with_a_pass}
 use Rattle.table_rule.proofs.HistoryLemmas.{after-snoc, entries_of-append, none_behind, row_by}
 
 -- ## Rows in hand
 
 -- the rows and who has which
 pub record IsOwned (rows : List Row) (has : ℕ → Option ConnName) : Type 0 where
-  pub there : (p : ℕ) (name : ConnName) → has p ≡ Some name → (r : Row) × (slice_get rows name.slot ≡ Some r) × (is_in_hand r.place ≡ true) × (r.life ≡ name.life)
-  pub someone : (slot : ℕ) (r : Row) → slice_get rows slot ≡ Some r → is_in_hand r.place ≡ true → (p : ℕ) × (name : ConnName) × (has p ≡ Some name) × (name.slot ≡ slot)
+  pub there : (p : ℕ) (name : ConnName) → has p ≡ Some name → (r : Row) × (slice_get rows name.slot ≡ Some r) × (is_with_a_pass r.place ≡ true) × (r.life ≡ name.life)
+  pub someone : (slot : ℕ) (r : Row) → slice_get rows slot ≡ Some r → is_with_a_pass r.place ≡ true → (p : ℕ) × (name : ConnName) × (has p ≡ Some name) × (name.slot ≡ slot)
   pub apart : (p q : ℕ) (a b : ConnName) → has p ≡ Some a → has q ≡ Some b → a.slot ≡ b.slot → p ≡ q
 
 -- the pass had this row before, or the row was in no hand and the pass had none
 abbrev pub HasOrFinds : ℕ → Row → Option ConnName → Type 0
-HasOrFinds slot r had = ((is_in_hand r.place ≡ false) × (had ≡ None)) ⊎ ((name : ConnName) × (had ≡ Some name) × (name.slot ≡ slot))
+HasOrFinds slot r had = ((is_with_a_pass r.place ≡ false) × (had ≡ None)) ⊎ ((name : ConnName) × (had ≡ Some name) × (name.slot ≡ slot))
 
 -- the pass has this row now
 abbrev pub Has : ℕ → Row → Option ConnName → Type 0
-Has slot r has = (name : ConnName) × (has ≡ Some name) × (name.slot ≡ slot) × (is_in_hand r.place ≡ true) × (r.life ≡ name.life)
+Has slot r has = (name : ConnName) × (has ≡ Some name) × (name.slot ≡ slot) × (is_with_a_pass r.place ≡ true) × (r.life ≡ name.life)
 
 -- the pass has this row now, or it is in no hand and the pass has none
 abbrev pub HasOrLeaves : ℕ → Row → Option ConnName → Type 0
-HasOrLeaves slot r has = ((is_in_hand r.place ≡ false) × (has ≡ None)) ⊎ Has slot r has
+HasOrLeaves slot r has = ((is_with_a_pass r.place ≡ false) × (has ≡ None)) ⊎ Has slot r has
 
 -- one pass changed one row, which it had or found
 pub record Touches (rows rows' : List Row) (had has : Option ConnName) : Type 0 where
@@ -78,10 +78,10 @@ off p q = absurd (true≢false (sym q ∙ p))
 elsewhere : (rows rows' : List Row) (has : ℕ → Option ConnName) (p : ℕ) (now : Option ConnName) → IsOwned rows has → (t : Touches rows rows' (has p) now)
     → (q : ℕ) (name : ConnName) → q ≢ p → has q ≡ Some name → name.slot ≢ t.slot
 elsewhere rows rows' has p now owned t q name ne is same = ⊎_elim
-    (λ (found : (is_in_hand t.old.place ≡ false) × (has p ≡ None)).
+    (λ (found : (is_with_a_pass t.old.place ≡ false) × (has p ≡ None)).
     let here = owned.there q name is in
     let row : here.0 ≡ t.old = some_is (slice_get rows t.slot) here.0 t.old (subst (λ i. slice_get rows i ≡ Some here.0) same here.1) t.old_at in
-    off (ap (λ (r : Row). is_in_hand r.place) row ∙ found.0) here.2)
+    off (ap (λ (r : Row). is_with_a_pass r.place) row ∙ found.0) here.2)
     (λ (had : (a : ConnName) × (has p ≡ Some a) × (a.slot ≡ t.slot)). ne (owned.apart q p name had.0 is had.1 (same ∙ sym had.2)))
     t.before
 
@@ -96,7 +96,7 @@ touched rows rows' has has' p owned same t = record {
     | yes e ↦
         let now : has' p ≡ Some name = subst (λ k. has' k ≡ Some name) e is in
         ⊎_elim
-        (λ (left : (is_in_hand t.new.place ≡ false) × (has' p ≡ None)). none_some (has' p) name left.1 now)
+        (λ (left : (is_with_a_pass t.new.place ≡ false) × (has' p ≡ None)). none_some (has' p) name left.1 now)
         (λ (got : Has t.slot t.new (has' p)).
         let a : got.0 ≡ name = some_is (has' p) got.0 name got.1 now in
         (t.new, subst (λ i. slice_get rows' i ≡ Some t.new) (sym got.2 ∙ ap (λ (n : ConnName). n.slot) a) t.new_at, got.3, got.4 ∙ ap (λ (n : ConnName). n.life) a))
@@ -111,7 +111,7 @@ touched rows rows' has has' p owned same t = record {
     | yes e ↦
         let row : r ≡ t.new = some_is (slice_get rows' t.slot) r t.new (subst (λ i. slice_get rows' i ≡ Some r) e at) t.new_at in
         ⊎_elim
-        (λ (left : (is_in_hand t.new.place ≡ false) × (has' p ≡ None)). off (ap (λ (x : Row). is_in_hand x.place) row ∙ left.0) taken)
+        (λ (left : (is_with_a_pass t.new.place ≡ false) × (has' p ≡ None)). off (ap (λ (x : Row). is_with_a_pass x.place) row ∙ left.0) taken)
         (λ (got : Has t.slot t.new (has' p)). (p, got.0, got.1, got.2 ∙ sym e))
         t.after_is
     | no ne ↦
@@ -120,7 +120,7 @@ touched rows rows' has has' p owned same t = record {
           | yes e ↦
               let had : has p ≡ Some who.1 = subst (λ k. has k ≡ Some who.1) e who.2 in
               ⊎_elim
-              (λ (found : (is_in_hand t.old.place ≡ false) × (has p ≡ None)). none_some (has p) who.1 found.1 had)
+              (λ (found : (is_with_a_pass t.old.place ≡ false) × (has p ≡ None)). none_some (has p) who.1 found.1 had)
               (λ (was : (a : ConnName) × (has p ≡ Some a) × (a.slot ≡ t.slot)).
               absurd (ne (sym who.3 ∙ ap (λ (n : ConnName). n.slot) (some_is (has p) who.1 was.0 had was.1) ∙ was.2)))
               t.before
@@ -144,7 +144,7 @@ touched rows rows' has has' p owned same t = record {
         let now : has' p ≡ Some a = subst (λ i. has' i ≡ Some a) e ea in
         let was : has k ≡ Some b = sym (same k ne) ∙ eb in
         ⊎_elim
-        (λ (left : (is_in_hand t.new.place ≡ false) × (has' p ≡ None)). none_some (has' p) a left.1 now)
+        (λ (left : (is_with_a_pass t.new.place ≡ false) × (has' p ≡ None)). none_some (has' p) a left.1 now)
         (λ (got : Has t.slot t.new (has' p)).
         elsewhere rows rows' has p (has' p) owned t k b ne was
         (sym slots ∙ ap (λ (n : ConnName). n.slot) (some_is (has' p) a got.0 now got.1) ∙ got.2))
@@ -223,7 +223,7 @@ no_row : (had : Option ConnName) → is_none had ≡ true → had ≡ None
 no_row None none = refl
 no_row (Some a) none = absurd (cc)
 
-parked_free : (place : Place) → is_parked place ≡ true → is_in_hand place ≡ false
+parked_free : (place : Place) → is_parked place ≡ true → is_with_a_pass place ≡ false
 parked_free Vacant is = refl
 parked_free Spent is = refl
 parked_free Held is = absurd (cc)
@@ -231,7 +231,7 @@ parked_free (Parked kind) is = refl
 parked_free Queued is = absurd (cc)
 parked_free (Working cell phase) is = absurd (cc)
 
-vacant_free : (place : Place) → is_vacant place ≡ true → is_in_hand place ≡ false
+vacant_free : (place : Place) → is_vacant place ≡ true → is_with_a_pass place ≡ false
 vacant_free Vacant is = refl
 vacant_free Spent is = refl
 vacant_free Held is = absurd (cc)
@@ -239,7 +239,7 @@ vacant_free (Parked kind) is = absurd (cc)
 vacant_free Queued is = absurd (cc)
 vacant_free (Working cell phase) is = absurd (cc)
 
-working_hand : (phase : Phase) (place : Place) → is_working place ≡ true → is_in_hand (in_phase phase place) ≡ true
+working_hand : (phase : Phase) (place : Place) → is_working place ≡ true → is_with_a_pass (in_phase phase place) ≡ true
 working_hand phase Vacant is = absurd (cc)
 working_hand phase Spent is = absurd (cc)
 working_hand phase Held is = absurd (cc)
@@ -247,10 +247,10 @@ working_hand phase (Parked kind) is = absurd (cc)
 working_hand phase Queued is = absurd (cc)
 working_hand phase (Working cell before) is = refl
 
-closed_free : (r : Row) → is_in_hand (closed_row r).place ≡ false
+closed_free : (r : Row) → is_with_a_pass (closed_row r).place ≡ false
 closed_free r = by (r.life == greatest_life)
   where
-    by : (b : Bool) → is_in_hand (if b then record r { place = Spent; notes = [] } else record r { life = r.life + 1; place = Vacant; notes = [] }).place ≡ false
+    by : (b : Bool) → is_with_a_pass (if b then record r { place = Spent; notes = [] } else record r { life = r.life + 1; place = Vacant; notes = [] }).place ≡ false
     by true = refl
     by false = refl
 
@@ -375,7 +375,7 @@ unused_is (suc n) (suc slot) r at = unused_is n slot r at
 opening_owned : (slots children : ℕ) (shape : Shape) → IsOwned (opening_state slots children shape).rows (rows_of [])
 opening_owned slots children shape = record {
   there = λ p name is. none_some None name refl is;
-  someone = λ slot r at taken. off (ap (λ (x : Row). is_in_hand x.place) (unused_is slots slot r at)) taken;
+  someone = λ slot r at taken. off (ap (λ (x : Row). is_with_a_pass x.place) (unused_is slots slot r at)) taken;
   apart = λ p q a b ea eb slots. none_some None a refl ea;
 }
 

@@ -16,7 +16,7 @@ use Rattle.conn_machine.specs.Runs.{after, entries_of, row_of}
 use Rattle.conn_machine.proofs.UpdateLemmas.{count_cons}
 use Rattle.table_rule.specs.declared.view.View.{View}
 use Rattle.conn_machine.specs.Made.{AreMade, IsOpened}
-use Rattle.table_rule.specs.Histories.{is_carried_at, is_in_hand, threads_of}
+use Rattle.table_rule.specs.Histories.{is_carried_at, is_with_a_pass, threads_of}
 use Rattle.table_rule.specs.IdleWords.{bit, bit_at, sum_of, permits, AreIdleWords}
 use Rattle.table_rule.proofs.HistoryLemmas.{row_none}
 use Rattle.table_rule.proofs.SumLemmas.{sum_le, sum_less, sum_has, sum_add, sum_zero, bit_self}
@@ -161,7 +161,7 @@ pub record AreViews (start : State) (history : List Entry) (words : List ℕ) (v
 carried_place : (k : ℕ) (r : Row) → is_carried_by k r ≡ true → (r.child ≡ k) × (is_carried_at r.place ≡ true)
 carried_place k r is = let b = and_parts (r.child == k) (is_carried_at r.place) is in (eqb-true r.child k b.0, b.1)
 
-carried_hand : (place : Place) → is_carried_at place ≡ true → is_in_hand place ≡ true
+carried_hand : (place : Place) → is_carried_at place ≡ true → is_with_a_pass place ≡ true
 carried_hand Vacant is = absurd (cc)
 carried_hand Spent is = absurd (cc)
 carried_hand Held is = refl
@@ -179,7 +179,7 @@ passes_at test rows slot is = by (slice_get rows slot) refl is
 
 -- each row that a pass has stands in a view
 pub stands_in_view : (start : State) (history : List Entry) (words : List ℕ) (views : List View) (credits : List ℕ) → AreViews start history words views credits
-    → (slot : ℕ) (r : Row) → slice_get (after start history).rows slot ≡ Some r → is_in_hand r.place ≡ true
+    → (slot : ℕ) (r : Row) → slice_get (after start history).rows slot ≡ Some r → is_with_a_pass r.place ≡ true
     → (id : ℕ) × (v : View) × (name : ConnName) × (get_elem? views id ≡ m.some v) × (v.row ≡ Some name) × (name.slot ≡ slot)
 stands_in_view start history words views credits a slot r at hand =
     let who = (owned start a.opened history a.made).someone slot r at hand in

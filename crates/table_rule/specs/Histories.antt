@@ -24,8 +24,8 @@ abbrev pub is_carried_at : Place → Bool
 is_carried_at place = is_queued place || is_working place
 
 -- a pass has the row: the listener holds it, or a worker has it, or will
-abbrev pub is_in_hand : Place → Bool
-is_in_hand place = is_held place || is_carried_at place
+abbrev pub is_with_a_pass : Place → Bool
+is_with_a_pass place = is_held place || is_carried_at place
 
 -- the workers of the child
 abbrev pub threads_of : State → ℕ → ℕ

@@ -15,7 +15,7 @@ ghost use Rattle.conn_machine.specs.Rows.{carried_count, live_row};
 ghost use Rattle.conn_machine.specs.declared.kept.Ledger.{Ledger};
 ghost use Rattle.conn_machine.specs.Runs.{after, row_of};
 ghost use Rattle.table_rule.specs.declared.view.View.{View};
-ghost use Rattle.table_rule.specs.Histories.{HasSeen, is_in_hand, threads_of};
+ghost use Rattle.table_rule.specs.Histories.{HasSeen, is_with_a_pass, threads_of};
 ghost use Rattle.table_rule.specs.IdleWords.{bias, permits, sum_of};
 ghost use Rattle.table_rule.specs.Ledgers.{MayGiveBack};
 ghost use Rattle.table_rule.specs.Steps.{Credits, DrawsNext, GivesBack, LiesDown, LooksAtWord, LooksAtIdle, Releases, TakesTurn, Tries, Uncredits, Undoes, WakesUp};
@@ -102,9 +102,9 @@ pub fn idle_word_is_looked_at<K: Kept>()
 /// In a history that passes made as they may, the connection of a pass is live, and the listener holds it, or a worker has
 /// it, or will; two passes have different ones; and each connection that somebody holds or has is some pass's.
 pub fn each_pass_has_its_own_connection()
-    ensures live { (start : State) (history : List Entry) (p : ℕ) (name : ConnName) → IsOpened start → AreMade start history → row_of p history ≡ Some name → (r : Row) × (live_row (after start history).rows name ≡ Some r) × (is_in_hand r.place ≡ true) }
+    ensures live { (start : State) (history : List Entry) (p : ℕ) (name : ConnName) → IsOpened start → AreMade start history → row_of p history ≡ Some name → (r : Row) × (live_row (after start history).rows name ≡ Some r) × (is_with_a_pass r.place ≡ true) }
     ensures apart { (start : State) (history : List Entry) (p q : ℕ) (name other : ConnName) → IsOpened start → AreMade start history → row_of p history ≡ Some name → row_of q history ≡ Some other → name.slot ≡ other.slot → p ≡ q }
-    ensures someone { (start : State) (history : List Entry) (slot : ℕ) (r : Row) → IsOpened start → AreMade start history → slice_get (after start history).rows slot ≡ Some r → is_in_hand r.place ≡ true → (p : ℕ) × (name : ConnName) × (row_of p history ≡ Some name) × (name.slot ≡ slot) × (live_row (after start history).rows name ≡ Some r) }
+    ensures someone { (start : State) (history : List Entry) (slot : ℕ) (r : Row) → IsOpened start → AreMade start history → slice_get (after start history).rows slot ≡ Some r → is_with_a_pass r.place ≡ true → (p : ℕ) × (name : ConnName) × (row_of p history ≡ Some name) × (name.slot ≡ slot) × (live_row (after start history).rows name ≡ Some r) }
 {}
 
 /// While other passes go on, a pass keeps its connection, and the row of it stays as it was.
@@ -116,7 +116,7 @@ pub fn connections_stay_while_others_go_on()
 /// Where the rule holds, each connection that somebody holds or has stands in a pass's view; a child's workers carry no more
 /// connections than it has permits out; and a pass with a permit of it and no connection leaves one of them free.
 pub fn views_tell_of_connections<K: Kept>()
-    ensures stands { (o : Ledger) (s : table.State (Option K) View) (tied : IsTied K.ledger o s) (slot : ℕ) (r : Row) → slice_get (after o.base tied.history).rows slot ≡ Some r → is_in_hand r.place ≡ true → (id : ℕ) × (v : View) × (name : ConnName) × (get_elem? s.views id ≡ some v) × (v.row ≡ Some name) × (name.slot ≡ slot) }
+    ensures stands { (o : Ledger) (s : table.State (Option K) View) (tied : IsTied K.ledger o s) (slot : ℕ) (r : Row) → slice_get (after o.base tied.history).rows slot ≡ Some r → is_with_a_pass r.place ≡ true → (id : ℕ) × (v : View) × (name : ConnName) × (get_elem? s.views id ≡ some v) × (v.row ≡ Some name) × (name.slot ≡ slot) }
     ensures carried { (o : Ledger) (s : table.State (Option K) View) (tied : IsTied K.ledger o s) (k : ℕ) → carried_count (after o.base tied.history).rows k ≤ sum_of (permits k) s.views }
     ensures room { (o : Ledger) (s : table.State (Option K) View) (tied : IsTied K.ledger o s) (id k : ℕ) (v : View) → get_elem? s.views id ≡ some v → v.row ≡ None → v.hand.permit ≡ Some k → carried_count (after o.base tied.history).rows k < threads_of (after o.base tied.history) k }
 {}
