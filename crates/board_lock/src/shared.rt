@@ -21,8 +21,8 @@ const TRIES: u32 = 30;
 /// How often the thread lets another one go first before it sleeps.
 const YIELDS: u32 = 3;
 
-/// A sleep on a word looks at its lower half: what it is below this.
-const UPPER_HALF: u64 = 4_294_967_296;
+/// A sleep looks at the lower half of a word alone, which is below this.
+const HALF_WORD: u64 = 4_294_967_296;
 
 /// The value, out of the lock. It has to be given back.
 pub struct Turn<K: Kept> {
@@ -111,7 +111,7 @@ impl<K: Kept> Shared<K> {
         let _ = self.sleepers.fetch_add(1, Ordering::SeqCst);
         let found = shared.peek(0);
         if found % 2 != 0 {
-            shared.park(rt, 0, (found % UPPER_HALF) as u32);
+            shared.park(rt, 0, (found % HALF_WORD) as u32);
         }
         let _ = self.sleepers.fetch_sub(1, Ordering::SeqCst);
     }
