@@ -12,7 +12,7 @@ use Rattle.conn_machine.specs.declared.event.Event.TheVariants as event
 use Rattle.conn_machine.specs.declared.event.Entry.{Entry}
 use Rattle.conn_machine.specs.declared.state.State.{State}
 use Rattle.conn_machine.specs.Table.{is_allowed, next, reply}
-use Rattle.conn_machine.specs.Runs.{entries_of, asks_page, load, full_load}
+use Rattle.conn_machine.specs.Runs.{entries_of, asks_page, load, full_load, may_make, row_of}
 use Rattle.conn_machine.specs.Sound.{IsSound}
 use Rattle.conn_machine.specs.Children.{is_in_bounds, no_child}
 use Rattle.conn_machine.specs.States.{is_halted, opening_state, unused_row}
@@ -25,7 +25,8 @@ use Rattle.conn_machine.specs.declared.event.Reply.{Reply}
 use Rattle.board.specs.Faults.{IsOpen}
 use Rattle.board.specs.RoomInside.{row_owes, child_owes, owed_entries, is_sure}
 use Rattle.board.proofs.RoomLemmas.{owed-bound, owed-sure}
-use Rattle.board.proofs.StopLemmas.{stops_first, stops_more, tells_first, tells_more}
+use Rattle.board.proofs.PassLemmas.{made_snoc}
+use Rattle.board.proofs.StopLemmas.{stops_first, stops_more, stops_by_role, tells_first, tells_more}
 
 -- the pass of the entry counts one more, and the others stay
 next_by : (ordinals : List ℕ) (history : List Entry) (e : Entry) (p : ℕ) (own : Bool) → (e.pass == p) ≡ own
@@ -72,10 +73,13 @@ sure-pages e sure = refl
 kept_more : (base : State) (history : List Entry) (s : State) (ordinals ordinals' : List ℕ) (pages room room' : ℕ) (e : Entry)
     → IsKept base history s ordinals pages room → is_allowed s e.event ≡ true → e.reply ≡ reply s e.event
     → e.ordinal ≡ length (entries_of e.pass history) → AreNext ordinals' (history ++ e ∷ []) → IsSound (next s e.event)
-    → length (history ++ e ∷ []) + owed_entries (next s e.event) ≤ room' → (e.event ≡ full_stop → full_load ≤ load history)
+    → length (history ++ e ∷ []) + owed_entries (next s e.event) ≤ room'
+    → may_make e.pass (row_of e.pass history) (load history) e.event ≡ true
     → IsKept base (history ++ e ∷ []) (next s e.event) ordinals' (pages + (if asks_page e.event then 1 else 0)) room'
-kept_more base history s ordinals ordinals' pages room room' e before is_allowed replied ordinal numbers sound has_room full = record {
+kept_more base history s ordinals ordinals' pages room room' e before is_allowed replied ordinal numbers sound has_room role = record {
   is_history = history-snoc base history e before.is_history (rw before.state_is is_allowed) (rw before.state_is replied) ordinal;
+  made = made_snoc base history e before.made
+      (record { pass = refl; ordinal = ordinal; is_allowed = rw before.state_is is_allowed; replied = rw before.state_is replied; role = role });
   state_is = after-snoc base history e ∙ ap (λ (t : State). next t e.event) before.state_is;
   opened = before.opened;
   sound = sound;
@@ -83,7 +87,7 @@ kept_more base history s ordinals ordinals' pages room room' e before is_allowed
   pages_is = rw before.pages_is (sym (pages_more history e));
   sized = sized_more s e.event is_allowed before.sized;
   has_room = has_room;
-  stops = stops_more history e before.stops full;
+  stops = stops_more history e before.stops (stops_by_role e.pass (row_of e.pass history) (load history) e.event role);
   full = tells_more s history e before.full is_allowed;
 }
 
@@ -92,29 +96,31 @@ pub kept_with_room : (base : State) (history history' : List Entry) (s s' : Stat
     → IsKept base history s ordinals pages room → is_allowed s e.event ≡ true → e.reply ≡ reply s e.event
     → e.ordinal ≡ length (entries_of e.pass history) → AreNext ordinals' history' → (IsSound s → IsSound s')
     → history' ≡ history ++ e ∷ [] → s' ≡ next s e.event → pages' ≡ pages + (if asks_page e.event then 1 else 0)
-    → length history + (4 * length s.rows + length s.children + 2) ≤ room' → (e.event ≡ full_stop → full_load ≤ load history)
+    → length history + (4 * length s.rows + length s.children + 2) ≤ room'
+    → may_make e.pass (row_of e.pass history) (load history) e.event ≡ true
     → IsKept base history' s' ordinals' pages' room'
-kept_with_room base history history' s s' ordinals ordinals' pages pages' room room' e before is_allowed replied ordinal numbers sound history_is state_is pages_is space full =
+kept_with_room base history history' s s' ordinals ordinals' pages pages' room room' e before is_allowed replied ordinal numbers sound history_is state_is pages_is space role =
     let len : length (history ++ e ∷ []) ≡ length history + 1 = length-append history (e ∷ []) in
     let owes = owed-bound (next s e.event) in
     let rows = length-rows s e.event in
     let children = length-children s e.event in
     rw (history_is, state_is, pages_is)
     (kept_more base history s ordinals ordinals' pages room room' e before is_allowed replied ordinal (rw history_is at numbers)
-    (rw state_is at (sound before.sound)) (omega (arith, len, owes, rows, children, space)) full)
+    (rw state_is at (sound before.sound)) (omega (arith, len, owes, rows, children, space)) role)
 
 -- the same, where the room was taken before
 pub kept_sure : (base : State) (history history' : List Entry) (s s' : State) (ordinals ordinals' : List ℕ) (pages room room' : ℕ) (e : Entry)
     → IsKept base history s ordinals pages room → is_allowed s e.event ≡ true → e.reply ≡ reply s e.event
     → e.ordinal ≡ length (entries_of e.pass history) → AreNext ordinals' history' → (IsSound s → IsSound s')
-    → history' ≡ history ++ e ∷ [] → s' ≡ next s e.event → is_sure e.event ≡ true → room ≤ room' → (e.event ≡ full_stop → full_load ≤ load history)
+    → history' ≡ history ++ e ∷ [] → s' ≡ next s e.event → is_sure e.event ≡ true → room ≤ room'
+    → may_make e.pass (row_of e.pass history) (load history) e.event ≡ true
     → IsKept base history' s' ordinals' pages room'
-kept_sure base history history' s s' ordinals ordinals' pages room room' e before is_allowed replied ordinal numbers sound history_is state_is sure space full =
+kept_sure base history history' s s' ordinals ordinals' pages room room' e before is_allowed replied ordinal numbers sound history_is state_is sure space role =
     let len : length (history ++ e ∷ []) ≡ length history + 1 = length-append history (e ∷ []) in
     let owes = owed-sure s e.event is_allowed sure in
     let none = sure-pages e.event sure in
     let more = kept_more base history s ordinals ordinals' pages room room' e before is_allowed replied ordinal (rw history_is at numbers)
-    (rw state_is at (sound before.sound)) (omega (arith, len, owes, before.has_room, space)) full in
+    (rw state_is at (sound before.sound)) (omega (arith, len, owes, before.has_room, space)) role in
     let same : pages + (if asks_page e.event then 1 else 0) ≡ pages = rw none (omega arith) in
     rw (history_is, state_is)
     (subst (λ (n : ℕ). IsKept base (history ++ e ∷ []) (next s e.event) ordinals' n room') same more)
@@ -126,6 +132,7 @@ kept_first slots children passes room shape few_slots few_children bounds space 
     let sound = sound-opening slots children shape bounds in
     record {
       is_history = record { run = tt; order = λ p. refl };
+      made = tt;
       state_is = refl;
       opened = sound;
       sound = sound;

@@ -35,15 +35,15 @@ pub parked-home : (p : Place) → is_parked p ≡ true → is_home p ≡ true
 parked-home (Parked kind) at = refl
 parked-home p at = absurd (cc)
 
--- so is one that waits for a worker
-pub queued-home : (p : Place) → is_queued p ≡ true → is_home p ≡ true
-queued-home Queued at = refl
-queued-home p at = absurd (cc)
-
 -- a vacant row isn't at home
 vacant-away : (p : Place) → is_vacant p ≡ true → is_home p ≡ false
 vacant-away Vacant at = refl
 vacant-away p at = absurd (cc)
+
+-- nor is one that was handed to a worker
+queued-away : (p : Place) → is_queued p ≡ true → is_home p ≡ false
+queued-away Queued at = refl
+queued-away p at = absurd (cc)
 
 -- nor is one that is served
 working-away : (p : Place) → is_working p ≡ true → is_home p ≡ false
@@ -91,7 +91,7 @@ here_away Vacant r c here away = here
 here_away Spent r c here away = here
 here_away Held r c here away = here
 here_away (Parked kind) r c here away = absurd (cc)
-here_away Queued r c here away = absurd (cc)
+here_away Queued r c here away = here
 here_away (Working cell phase) r c here away = here
 
 -- so a slot whose row isn't at home has no connection
@@ -114,11 +114,6 @@ home-of rows conns slot r are at home = at_home slot r (conn_at conns slot) (are
 pub parked-settled : (p : Place) (r : Row) (c : SeenConn) → is_parked p ≡ true → KindFits p r → IsHeldHere p r c → IsSettledFrom r.from c
 parked-settled (Parked kind) r c at fits here = subst (λ (k : Option Kind). IsSettledFrom k c) (sym fits.own) here
 parked-settled p r c at fits here = absurd (cc)
-
--- so is one that waits for a worker
-pub queued-settled : (p : Place) (r : Row) (c : SeenConn) → is_queued p ≡ true → IsHeldHere p r c → IsSettledFrom r.from c
-queued-settled Queued r c at here = here
-queued-settled p r c at here = absurd (cc)
 
 -- ## Rows that change
 
@@ -209,45 +204,32 @@ hold-there s name conns ended room may there =
     there_set s.rows conns name.slot lives.row held_row None ended room there.waiting lives.at refl
     (omega (arith, count, there.has_room))
 
--- a worker takes a connection that waits for it
-pub start-there : (s : State) (name : ConnName) (conns : List (Option SeenConn)) (ended room : ℕ)
-    → is_allowed s (event.Start name) ≡ true → AreThere s.rows conns ended room
-    → AreThere (next s (event.Start name)).rows (set conns name.slot None) ended room
-start-there s name conns ended room may there =
-    let lives = lives_as s.rows name (λ (r : Row). is_queued r.place) may in
-    let count = live-same s.rows name.slot lives.row (served_row s) lives.at lives.live refl in
-    there_set s.rows conns name.slot lives.row (served_row s) None ended room there.waiting lives.at refl
-    (omega (arith, count, there.has_room))
-
 -- what may be handed to the workers waits for something
-queue-parked : (s : State) (r : Row) → may_be_queued s r ≡ true → is_parked r.place ≡ true
+pub queue-parked : (s : State) (r : Row) → may_be_queued s r ≡ true → is_parked r.place ≡ true
 queue-parked s r may =
     let parts = and_parts (is_parked r.place && not (is_lingering r)) (nat_lt (carried_count s.rows r.child) (child_of s r).shape.threads) may in
     (and_parts (is_parked r.place) (not (is_lingering r)) parts.0).0
 
--- a connection that waits is handed to the workers of its child, and stays in the board
-pub queue-there : (s : State) (name : ConnName) (conns : List (Option SeenConn)) (ended room : ℕ) → IsSound s
+-- a connection that waits is handed to the workers of its child
+pub queue-there : (s : State) (name : ConnName) (conns : List (Option SeenConn)) (ended room : ℕ)
     → is_allowed s (event.Queue name) ≡ true → AreThere s.rows conns ended room
-    → AreThere (next s (event.Queue name)).rows conns ended room
-queue-there s name conns ended room sound may there =
+    → AreThere (next s (event.Queue name)).rows (set conns name.slot None) ended room
+queue-there s name conns ended room may there =
     let lives = lives_as s.rows name (may_be_queued s)
     (and_parts (not (is_halted s.going) && is_signalled s name.slot) (lives_and (may_be_queued s) s.rows name) may).1 in
-    let r = lives.row in
-    let parked = queue-parked s r lives.passes in
-    let count = live-same s.rows name.slot r queued_row lives.at lives.live refl in
-    let here = home-of s.rows conns name.slot r there.waiting lives.at (parked-home r.place parked) in
-    let settled = parked-settled r.place r here.0 parked (sound.kinds name.slot r lives.at lives.live) here.2.here in
-    let same : set conns name.slot (Some here.0) ≡ conns =
-    ap (λ (c : Option SeenConn). set conns name.slot c) (sym here.1) ∙ set-get_or conns name.slot None in
-    let fits = here.2.fits in
-    subst (λ (cs : List (Option SeenConn)). AreThere (update s.rows name.slot queued_row) cs ended room) same
-    (there_set s.rows conns name.slot r queued_row (Some here.0) ended room there.waiting lives.at
-    (record {
-      name = here.2.name;
-      fits = record { child = fits.child; generation = fits.generation; notes = fits.notes; rank = fits.rank };
-      here = settled;
-    })
-    (omega (arith, count, there.has_room)))
+    let count = live-same s.rows name.slot lives.row queued_row lives.at lives.live refl in
+    there_set s.rows conns name.slot lives.row queued_row None ended room there.waiting lives.at refl
+    (omega (arith, count, there.has_room))
+
+-- a worker begins to serve a connection that was handed out
+pub start-there : (s : State) (name : ConnName) (conns : List (Option SeenConn)) (ended room : ℕ)
+    → is_allowed s (event.Start name) ≡ true → AreThere s.rows conns ended room
+    → AreThere (next s (event.Start name)).rows conns ended room
+start-there s name conns ended room may there =
+    let lives = lives_as s.rows name (λ (r : Row). is_queued r.place) may in
+    let count = live-same s.rows name.slot lives.row (served_row s) lives.at lives.live refl in
+    there_away s.rows conns name.slot lives.row (served_row s) ended room there.waiting lives.at (queued-away lives.row.place lives.passes) refl
+    (omega (arith, count, there.has_room))
 
 -- the phase of the worker that sends the response
 abbrev pub answer_phase : State → Ask → Row → Phase

@@ -1,5 +1,5 @@
 -- The connections that leave the board, and what a call needs and tells of one.
-use Rattle.std.proofs.Common.{◌≡◌, ◌⊎◌, inl, inr, ℕ, ◌<◌, Bool, true, false, not, ◌&&◌, ◌||◌, nat_le, List, [], length, Option, None, Some, slice_get, get_or, eq-eqb, refl, sym, ap, subst, ◌∙◌, arith}
+use Rattle.std.proofs.Common.{◌≡◌, ◌⊎◌, inl, inr, ℕ, zero, suc, ◌<◌, Bool, true, false, not, ◌&&◌, ◌||◌, ◌==◌, nat_le, List, [], ◌∷◌, length, Option, None, Some, slice_get, get_or, eq-eqb, eqb-true, refl, sym, ap, subst, ◌∙◌, arith}
 use Rattle.std.specs.Option.{option_map_or}
 use Rattle.std.proofs.Math.ListN.{set}
 use Rattle.std.proofs.lemmas.Bool.{and_parts}
@@ -15,19 +15,16 @@ use Rattle.conn_machine.specs.Lists.{update}
 use Rattle.conn_machine.specs.Rows.{is_parked, is_queued, is_working, is_live, is_lingering, is_from, is_live_as, row_where, live_row, lives_and}
 use Rattle.conn_machine.specs.Children.{is_stopping}
 use Rattle.conn_machine.specs.States.{is_signalled, is_halted, child_of}
-use Rattle.conn_machine.specs.Table.{is_allowed, next, may_be_held, held_row, served_row, is_last_for, noted_at}
+use Rattle.conn_machine.specs.Table.{is_allowed, next, may_be_held, may_be_queued, held_row, queued_row, served_row, is_last_for, noted_at}
 use Rattle.conn_machine.specs.Sound.{IsSound}
 use Rattle.conn_machine.proofs.UpdateLemmas.{get_changed}
 use Rattle.conn_state.specs.Conn.{SeenConn}
 use Rattle.board.specs.Fits.{Fits, IsTakenUp, IsSettledFrom}
-use Rattle.board.specs.Book.{SeenBook}
 use Rattle.board.specs.Board.{AreHome, ClosesFirst, IsAtHome, conn_at}
 use Rattle.board.specs.Events.{IsDecided}
-use Rattle.board.specs.EventsInside.{MayStop, decided_note}
-use Rattle.board.specs.HandsInside.{HandsOut}
-use Rattle.board.specs.RoomInside.{is_sure}
-use Rattle.board.proofs.BoardLemmas.{AreThere, get-below, lives_as}
-use Rattle.board.proofs.EventLemmas.{hold-there, start-there, parked-home, queued-home, home-of, parked-settled, queued-settled}
+use Rattle.board.specs.EventsInside.{decided_note}
+use Rattle.board.proofs.BoardLemmas.{LivesAs, get-below, get-update_other, lives_as}
+use Rattle.board.proofs.EventLemmas.{parked-home, home-of, parked-settled, queue-parked}
 
 -- ## A connection that is handed out
 
@@ -68,12 +65,21 @@ given s s' conns name r change x are at life has home rows_is live life' fits se
       };
     }
 
--- the connection that was taken out of the slot is that one
-pub given_is : (s s' : State) (conns : List (Option SeenConn)) (name : ConnName) (found : Option SeenConn) (x : SeenConn)
-    → (given : IsGiven s s' conns name) → found ≡ get_or conns name.slot found → found ≡ Some x → given.conn ≡ x
-given_is s s' conns name found x given at is =
-    let has : conn_at conns name.slot ≡ Some x = get_or_default {X = Option SeenConn} conns name.slot None found given.below ∙ sym at ∙ is in
-    cc (given.has, has)
+-- a slot that has a connection stands below the length
+pub at-below : (conns : List (Option SeenConn)) (slot : ℕ) (x : SeenConn) → conn_at conns slot ≡ Some x → slot < length conns
+at-below [] slot x is = absurd (cc)
+at-below (c ∷ conns) zero x is = omega arith
+at-below (c ∷ conns) (suc slot) x is = let h : slot < length conns = at-below conns slot x is in omega arith
+
+-- what was taken out of the slot is the connection that it had
+pub taken_is : (conns : List (Option SeenConn)) (slot : ℕ) (found : Option SeenConn) (x : SeenConn) → slot < length conns
+    → found ≡ get_or conns slot found → found ≡ Some x → conn_at conns slot ≡ Some x
+taken_is conns slot found x below at is = get_or_default {X = Option SeenConn} conns slot None found below ∙ sym at ∙ is
+
+-- so the connection that is given is that one
+pub given_is : (s s' : State) (conns : List (Option SeenConn)) (name : ConnName) (x : SeenConn) → (given : IsGiven s s' conns name)
+    → conn_at conns name.slot ≡ Some x → given.conn ≡ x
+given_is s s' conns name x given has = cc (given.has, has)
 
 -- what the listener may take waits for something
 hold-parked : (s : State) (signalled : Bool) (r : Row) → may_be_held s signalled r ≡ true → is_parked r.place ≡ true
@@ -84,7 +90,7 @@ hold-parked s signalled r may =
     || is_halted s.going) may).0
 
 -- the listener is given the connection
-hold-given : (s : State) (name : ConnName) (conns : List (Option SeenConn)) → IsSound s → is_allowed s (event.Hold name) ≡ true
+pub hold-given : (s : State) (name : ConnName) (conns : List (Option SeenConn)) → IsSound s → is_allowed s (event.Hold name) ≡ true
     → AreHome s.rows conns → IsGiven s (next s (event.Hold name)) conns name
 hold-given s name conns sound may are =
     let lives = lives_as s.rows name (may_be_held s (is_signalled s name.slot)) may in
@@ -96,69 +102,58 @@ hold-given s name conns sound may are =
     (record { child = fits.child; generation = fits.generation; notes = fits.notes; rank = fits.rank })
     (parked-settled r.place r here.0 parked (sound.kinds name.slot r lives.at lives.live) here.2.here)
 
--- a worker is given the connection
-start-given : (s : State) (name : ConnName) (conns : List (Option SeenConn)) → is_allowed s (event.Start name) ≡ true
-    → AreHome s.rows conns → IsGiven s (next s (event.Start name)) conns name
-start-given s name conns may are =
-    let lives = lives_as s.rows name (λ (r : Row). is_queued r.place) may in
+-- the worker of a queue is given the connection
+pub queue-given : (s : State) (name : ConnName) (conns : List (Option SeenConn)) → IsSound s → is_allowed s (event.Queue name) ≡ true
+    → AreHome s.rows conns → IsGiven s (next s (event.Queue name)) conns name
+queue-given s name conns sound may are =
+    let lives = lives_as s.rows name (may_be_queued s)
+    (and_parts (not (is_halted s.going) && is_signalled s name.slot) (lives_and (may_be_queued s) s.rows name) may).1 in
     let r = lives.row in
-    let here = home-of s.rows conns name.slot r are lives.at (queued-home r.place lives.passes) in
+    let parked = queue-parked s r lives.passes in
+    let here = home-of s.rows conns name.slot r are lives.at (parked-home r.place parked) in
     let fits = here.2.fits in
-    given s (next s (event.Start name)) conns name r (served_row s) here.0 are lives.at lives.life here.1 here.2 refl refl refl
+    given s (next s (event.Queue name)) conns name r queued_row here.0 are lives.at lives.life here.1 here.2 refl refl refl
     (record { child = fits.child; generation = fits.generation; notes = fits.notes; rank = fits.rank })
-    (queued-settled r.place r here.0 lives.passes here.2.here)
+    (parked-settled r.place r here.0 parked (sound.kinds name.slot r lives.at lives.live) here.2.here)
 
--- ## Both ways
+-- ## A connection that was handed out
 
--- an event that hands out a connection is one of two
-out_either : (name : ConnName) (e : Event) → HandsOut name e → (e ≡ event.Hold name) ⊎ (e ≡ event.Start name)
-out_either name (event.Accept slot) out = absurd out
-out_either name (event.Park other kind) out = absurd out
-out_either name (event.Hold other) out = inl (ap (λ (n : ConnName). event.Hold n) out)
-out_either name (event.Queue other) out = absurd out
-out_either name (event.Start other) out = inr (ap (λ (n : ConnName). event.Start n) out)
-out_either name (event.Answer other ask) out = absurd out
-out_either name (event.Linger other why) out = absurd out
-out_either name (event.Close other why how) out = absurd out
-out_either name (event.Ready slot) out = absurd out
-out_either name (event.Tick m) out = absurd out
-out_either name (event.StartChild k) out = absurd out
-out_either name (event.Command c) out = absurd out
-out_either name (event.Retire k) out = absurd out
+-- what the row of a name was, and is after one row was changed to another live one of that life
+changed_row : (rows : List Row) (name : ConnName) (r : Row) (change : Row → Row) (other : ConnName) (row : Row) → slice_get rows name.slot ≡ Some r
+    → is_live (change r) ≡ true → (change r).life ≡ r.life → live_row rows other ≡ Some row → (same : Bool) → (other.slot == name.slot) ≡ same
+    → ((row ≡ r) × (live_row (update rows name.slot change) other ≡ Some (change r))) ⊎ (live_row (update rows name.slot change) other ≡ Some row)
+changed_row rows name r change other row at live life found true is =
+    let slot : other.slot ≡ name.slot = eqb-true other.slot name.slot is in
+    let there : LivesAs rows other (λ (x : Row). true) = lives_as rows other (λ (x : Row). true) (ap (λ (o : Option Row). option_map_or (λ (x : Row). true) o false) found) in
+    let row_is : there.row ≡ row = cc (there.found, found) in
+    let at' : slice_get rows other.slot ≡ Some r = ap (λ (n : ℕ). slice_get rows n) slot ∙ at in
+    let r_is : there.row ≡ r = cc (there.at, at') in
+    let life' : (change r).life ≡ other.life = life ∙ ap (λ (x : Row). x.life) (sym r_is) ∙ there.life in
+    inl (
+      sym row_is ∙ r_is,
+      subst (λ (n : ℕ). live_row (update rows n change) other ≡ Some (change r)) slot
+          (live_row-update rows other r change at' live life'),
+    )
+changed_row rows name r change other row at live life found false is =
+    let differs : (other.slot ≡ name.slot → ⊥) = (λ (e : other.slot ≡ name.slot). let eq : (other.slot == name.slot) ≡ true = eq-eqb other.slot name.slot e in cc) in
+    inr (ap (row_where (is_live_as other)) (get-update_other rows name.slot other.slot change differs) ∙ found)
 
--- what both have, each such event has
-by_either : (P : Event → Type 0) (name : ConnName) (e : Event) → P (event.Hold name) → P (event.Start name)
-    → (e ≡ event.Hold name) ⊎ (e ≡ event.Start name) → P e
-by_either P name e held served (inl is) = subst P (sym is) held
-by_either P name e held served (inr is) = subst P (sym is) served
-
--- it closes nothing
-pub closes_none : (name : ConnName) (e : Event) → HandsOut name e → (s : State) → ClosesFirst s e (λ others. others ≡ []) []
-closes_none name e out s =
-    by_either (λ (x : Event). ClosesFirst s x (λ others. others ≡ []) []) name e refl refl (out_either name e out)
-
--- it finds its room taken before
-pub out_sure : (name : ConnName) (e : Event) → HandsOut name e → is_sure e ≡ true
-out_sure name e out = by_either (λ (x : Event). is_sure x ≡ true) name e refl refl (out_either name e out)
-
--- it stops nothing
-pub out_stops : (name : ConnName) (e : Event) (b : SeenBook) → HandsOut name e → MayStop e b
-out_stops name e b out = by_either (λ (x : Event). MayStop x b) name e tt tt (out_either name e out)
-
--- the connection is given
-pub given_out : (s : State) (e : Event) (name : ConnName) (conns : List (Option SeenConn)) → HandsOut name e → IsSound s
-    → is_allowed s e ≡ true → AreHome s.rows conns → IsGiven s (next s e) conns name
-given_out s e name conns out sound =
-    by_either (λ (x : Event). is_allowed s x ≡ true → AreHome s.rows conns → IsGiven s (next s x) conns name) name e
-    (hold-given s name conns sound) (start-given s name conns) (out_either name e out)
-
--- the others stay
-pub out_there : (s : State) (e : Event) (name : ConnName) (conns : List (Option SeenConn)) (ended room : ℕ) → HandsOut name e
-    → is_allowed s e ≡ true → AreThere s.rows conns ended room → AreThere (next s e).rows (set conns name.slot None) ended room
-out_there s e name conns ended room out =
-    by_either (λ (x : Event). is_allowed s x ≡ true → AreThere s.rows conns ended room
-    → AreThere (next s x).rows (set conns name.slot None) ended room) name e
-    (hold-there s name conns ended room) (start-there s name conns ended room) (out_either name e out)
+-- a connection that was handed out stays so while a worker begins to serve one
+pub start-taken : (s : State) (name : ConnName) (c : SeenConn) → is_allowed s (event.Start name) ≡ true → IsTakenUp s c
+    → IsTakenUp (next s (event.Start name)) c
+start-taken s name c may taken =
+    let lives = lives_as s.rows name (λ (r : Row). is_queued r.place) may in
+    elim (changed_row s.rows name lives.row (served_row s) c.name taken.row lives.at refl refl taken.found (c.name.slot == name.slot) refl) [
+      | inl own ↦
+          let fits = subst (Fits c) own.0 taken.fits in
+          record {
+            row = served_row s lives.row;
+            found = own.1;
+            fits = record { child = fits.child; generation = fits.generation; notes = fits.notes; rank = fits.rank };
+            settled = subst (λ (r : Row). IsSettledFrom r.from c) own.0 taken.settled;
+          }
+      | inr other ↦ record { row = taken.row; found = other; fits = taken.fits; settled = taken.settled }
+    ]
 
 -- ## A live connection
 

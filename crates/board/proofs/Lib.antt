@@ -4,6 +4,7 @@ pub mod ClosedLemmas
 pub mod EventLemmas
 pub mod FindLemmas
 pub mod HandLemmas
+pub mod PassLemmas
 pub mod RoomLemmas
 pub mod SlotLemmas
 pub mod StopLemmas

@@ -1,6 +1,7 @@
 -- The stop because a history is full, where the history goes on by one entry.
-use Rattle.std.proofs.Common.{◌≡◌, ◌≤◌, ◌⊎◌, inl, inr, Bool, true, not, ◌&&◌, List, [], ◌∷◌, ◌++◌, refl, sym, ap, subst, ◌∙◌}
-use Rattle.std.proofs.lemmas.Bool.{and_parts}
+use Rattle.std.proofs.Common.{◌≡◌, ℕ, ◌≤◌, ◌⊎◌, inl, inr, Bool, Option, nat_le, true, not, ◌&&◌, List, [], ◌∷◌, ◌++◌, refl, sym, ap, subst, ◌∙◌}
+use Rattle.std.proofs.lemmas.Bool.{and_parts, leb-true}
+use Rattle.mpm_base.specs.declared.conn.ConnName.{ConnName}
 use Rattle.std.proofs.lemmas.List.{append_assoc}
 use Rattle.conn_machine.specs.declared.event.Why.TheVariants as why
 use Rattle.conn_machine.specs.declared.event.Commanded.TheVariants.{Graceful, Refused, GracefulStop, Stop}
@@ -12,9 +13,8 @@ use Rattle.conn_machine.specs.declared.state.Going.TheVariants.{Serving, Halted}
 use Rattle.conn_machine.specs.declared.state.State.{State}
 use Rattle.conn_machine.specs.States.{is_halted}
 use Rattle.conn_machine.specs.Table.{is_allowed, next}
-use Rattle.conn_machine.specs.Runs.{load, full_load}
-use Rattle.board.specs.Book.{SeenBook, full_stop, HasFullStop, StopsWhereFull, TellsFullStop}
-use Rattle.board.specs.EventsInside.{MayStop}
+use Rattle.conn_machine.specs.Runs.{load, full_load, may_make}
+use Rattle.board.specs.Book.{full_stop, HasFullStop, StopsWhereFull, TellsFullStop}
 
 -- ## The machine
 
@@ -125,8 +125,9 @@ tells_more s history x tells may = record {
   ];
 }
 
--- an event that may stop the server may do so inside
-pub full_inside : (seen b : SeenBook) (e : Event) → seen ≡ b → MayStop e b → e ≡ full_stop → full_load ≤ load seen.history
-full_inside seen b e is may stops =
-    let full : full_load ≤ load b.history = subst (λ (x : Event). MayStop x b) stops may in
-    subst (λ (v : SeenBook). full_load ≤ load v.history) (sym is) full
+-- a pass may stop the server because the history is full only where it is
+pub stops_by_role : (who : ℕ) (had : Option ConnName) (weight : ℕ) (e : Event) → may_make who had weight e ≡ true → e ≡ full_stop
+    → full_load ≤ weight
+stops_by_role who had weight e role stops =
+    let full : nat_le full_load weight ≡ true = subst (λ (x : Event). may_make who had weight x ≡ true) stops role in
+    leb-true full_load weight full

@@ -12,7 +12,7 @@ use Rattle.conn_machine.specs.Table.{next}
 use Rattle.conn_state.specs.Conn.{SeenConn}
 use Rattle.conn_state.specs.Answered.{SeenEnded, IsEnded}
 use Rattle.board.specs.Book.{SeenBook}
-use Rattle.board.specs.Fits.{Fits, IsSettled, IsSettledFrom, IsClosing}
+use Rattle.board.specs.Fits.{Fits, IsSettled, IsClosing}
 
 -- a board: its history and state, the connections that it has by their slots, and those that ended
 pub record SeenBoard : Type 0 where
@@ -22,13 +22,13 @@ pub record SeenBoard : Type 0 where
 
 -- ## The connections that wait
 
--- the board has the connection of a row that waits, for something to come or for a worker
+-- the board has the connection of a row that waits for something to come
 abbrev pub IsHeldHere : Place → Row → SeenConn → Type 0
 IsHeldHere Vacant r c = ⊥
 IsHeldHere Spent r c = ⊥
 IsHeldHere Held r c = ⊥
 IsHeldHere (Parked kind) r c = IsSettled kind c
-IsHeldHere Queued r c = IsSettledFrom r.from c
+IsHeldHere Queued r c = ⊥
 IsHeldHere (Working cell phase) r c = ⊥
 
 -- a row of that place waits here
@@ -37,7 +37,7 @@ is_home Vacant = false
 is_home Spent = false
 is_home Held = false
 is_home (Parked kind) = true
-is_home Queued = true
+is_home Queued = false
 is_home (Working cell phase) = false
 
 -- the connection is that of the slot's row, which waits, and is as one that waits so

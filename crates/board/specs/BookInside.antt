@@ -3,6 +3,7 @@ use Rattle.std.specs.Prelude.{◌≡◌, ℕ, ◌+◌, ◌<◌, ◌≤◌, List,
 use Rattle.conn_machine.specs.declared.event.Entry.{Entry}
 use Rattle.conn_machine.specs.declared.state.State.{State}
 use Rattle.conn_machine.specs.Runs.{after, entries_of, asks_page, IsHistory}
+use Rattle.conn_machine.specs.Made.{AreMade}
 use Rattle.conn_machine.specs.Sound.{IsSound}
 use Rattle.board.specs.RoomInside.{owed_entries}
 use Rattle.board.specs.Book.{IsSized, StopsWhereFull, TellsFullStop}
@@ -15,11 +16,12 @@ AreNext ordinals history = (p : ℕ) → p < length ordinals → slice_index ord
 abbrev pub pages_of : List Entry → ℕ
 pages_of history = count_by (λ e. asks_page e.event) history
 
--- the history is one of the machine, from its base to its state, and the states are sound; each pass's next number and the
--- number of pages are known; there is room for what must follow; and a stop because the history is full stands only where it
--- is, and is told by the state
+-- the history is one of the machine, from its base to its state, and the states are sound; each entry is one that its pass may
+-- make; each pass's next number and the number of pages are known; there is room for what must follow; and a stop because the
+-- history is full stands only where it is, and is told by the state
 pub record IsKept (base : State) (history : List Entry) (state : State) (ordinals : List ℕ) (pages room : ℕ) : Type 0 where
   pub is_history : IsHistory base history
+  pub made : AreMade base history
   pub state_is : after base history ≡ state
   pub opened : IsSound base
   pub sound : IsSound state

@@ -1,18 +1,15 @@
 -- What an event leaves of a board, and what it gives.
-use Rattle.std.specs.Prelude.{◌≡◌, ℕ, ◌≤◌, Some, ⊤}
+use Rattle.std.specs.Prelude.{◌≡◌, ℕ, Some}
 use Rattle.mpm_base.specs.declared.conn.ConnName.{ConnName}
 use Rattle.mpm_base.specs.declared.conn.Ask.{Ask}
 use Rattle.mpm_base.specs.declared.note.Note.{Note}
 use Rattle.conn_machine.specs.declared.event.Event.{Event}
 use Rattle.conn_machine.specs.declared.event.Reply.TheVariants.{Took}
-use Rattle.conn_machine.specs.declared.event.Why.{Why}
-use Rattle.conn_machine.specs.declared.event.Why.TheVariants as why
 use Rattle.conn_machine.specs.declared.row.Row.{Row}
 use Rattle.conn_machine.specs.declared.state.State.{State}
 use Rattle.conn_machine.specs.Rows.{live_row}
 use Rattle.conn_machine.specs.Table.{note_for, taken_reply}
-use Rattle.conn_machine.specs.Runs.{load, full_load}
-use Rattle.board.specs.Book.{SeenBook, book_with_entry}
+use Rattle.board.specs.Book.{book_with_entry}
 use Rattle.board.specs.Board.{SeenBoard}
 use Rattle.board.specs.Faults.{IsOpen}
 
@@ -34,8 +31,3 @@ pub record IsDecided (s : State) (name : ConnName) (ask : Ask) (note : Note) : T
   pub row : Row
   pub found : live_row s.rows name ≡ Some row
   pub note_is : note ≡ note_for s ask row
-
--- a stop because the history is full needs that it is
-abbrev pub IsStoppable : Why → SeenBook → Type 0
-IsStoppable why.Full b = full_load ≤ load b.history
-IsStoppable other b = ⊤

@@ -7,7 +7,6 @@ pub mod Faults
 pub mod FaultsInside
 pub mod Finds
 pub mod Fits
-pub mod HandsInside
 pub mod Ledger
 pub mod ReportLine
 pub mod RoomInside

@@ -3,20 +3,21 @@ ghost use Rattle.std.specs.Prelude.{◌≡◌, ◌<◌, ◌≤◌, true, false, 
 ghost use Rattle.conn_machine.specs.Children.{is_in_bounds};
 ghost use Rattle.conn_machine.specs.States.{is_halted, opening_state};
 ghost use Rattle.conn_machine.specs.Table.{is_allowed, cell_at, reply, taken_reply};
-ghost use Rattle.conn_machine.specs.Runs.{IsHistory, after, load, full_load};
+ghost use Rattle.conn_machine.specs.Runs.{Adds, IsHistory, after, load, may_order, row_of};
+ghost use Rattle.conn_machine.specs.Made.{AreMade};
 ghost use Rattle.conn_machine.specs.Sound.{IsSound};
 ghost use Rattle.conn_machine.specs.declared.event.Event.TheVariants as event;
 ghost use Rattle.conn_machine.specs.declared.event.Commanded.TheVariants.{Stop};
 ghost use Rattle.conn_machine.specs.declared.event.Reply.TheVariants.{Took};
 ghost use Rattle.conn_machine.specs.declared.event.Why.TheVariants as why;
 ghost use Rattle.conn_state.specs.Answered.{IsEnded};
+ghost use Rattle.conn_state.specs.Conn.{SeenConn};
 ghost use Rattle.board.specs.Book.{IsSized, StopsWhereFull, TellsFullStop, book_with_entry};
 ghost use Rattle.board.specs.Board.{Agrees, conn_at};
-ghost use Rattle.board.specs.Events.{IsAdded, IsDecided, IsStoppable, IsTaken, with_recorded};
+ghost use Rattle.board.specs.Events.{IsAdded, IsDecided, IsTaken, with_recorded};
 ghost use Rattle.board.specs.EventsInside.{decided_note};
 ghost use Rattle.board.specs.Faults.{IsNotTakenFor, IsRefusedFor};
 ghost use Rattle.board.specs.Fits.{IsClosing, IsTakenUp, IsOf, IsSettled};
-ghost use Rattle.board.specs.HandsInside.{HandsOut};
 
 use crate::accept::slot_for_accept;
 use crate::book::Book;
@@ -122,10 +123,12 @@ impl<L: Link> Board<L> {
         self.ended.as_slice()
     }
 
-    /// What holds of every board: its history is one of the machine, from its base to its state, which are sound; a stop
-    /// because the history is full stands only where it is; and the connections agree with the history.
+    /// What holds of every board: its history is one of the machine, from its base to its state, which are sound; each entry
+    /// is one that its pass may make where it stands; a stop because the history is full stands only where it is; and the
+    /// connections agree with the history.
     pub fn show(&self)
         ensures history { IsHistory self.now.book.base self.now.book.history }
+        ensures made { AreMade self.now.book.base self.now.book.history }
         ensures state { after self.now.book.base self.now.book.history ≡ self.now.book.state }
         ensures opened { IsSound self.now.book.base }
         ensures sound { IsSound self.now.book.state }
@@ -141,10 +144,14 @@ impl<L: Link> Board<L> {
     /// needs.
     pub fn accept(&mut self, who: u32) -> Result<Taken, AcceptFault>
         requires who { who < self.old.book.passes }
+        requires listener { who ≡ 0 }
+        requires free { row_of who self.old.book.history ≡ None }
         ensures ok { IfOk result (λ taken. IsAdded who (event.Accept taken.name.slot) self.old self.new) }
         ensures taken { IfOk result (λ taken. IsTaken self.old.book.state taken.name taken.child taken.generation) }
         ensures why { IfErr result (λ fault. IsNotTakenFor fault self.old.book) }
         ensures err { OnErr result (self.new ≡ self.old) }
+        ensures entries { Adds who self.old.book.base self.old.book.history self.new.book.history }
+        ensures row { IfOk result (λ taken. row_of who self.new.book.history ≡ Some taken.name) }
     {
         let slot = slot_for_accept(&self.book)?;
         let slots = self.conns.len();
@@ -168,6 +175,7 @@ impl<L: Link> Board<L> {
     /// The connection waits. Where it is refused it comes back.
     pub fn park(&mut self, who: u32, kind: Kind, conn: Conn<L>) -> Result<(), (BoardFault, Conn<L>)>
         requires who { who < self.old.book.passes }
+        requires row { row_of who self.old.book.history ≡ Some conn.name }
         requires allowed { is_halted self.old.book.state.going ≡ false → is_allowed self.old.book.state (event.Park conn.name kind) ≡ true }
         requires fits { IsOf self.old.book.state conn }
         requires settled { IsSettled kind conn }
@@ -176,6 +184,8 @@ impl<L: Link> Board<L> {
         ensures why { IfErr result (λ e. IsRefusedFor e.0 self.old.book) }
         ensures back { IfErr result (λ e. e.1 ≡ conn) }
         ensures err { OnErr result (self.new ≡ self.old) }
+        ensures entries { Adds who self.old.book.base self.old.book.history self.new.book.history }
+        ensures row { OnOk result (row_of who self.new.book.history ≡ None) }
     {
         let name = conn.name();
         match self.book.record(who, Event::Park(name, kind)) {
@@ -190,72 +200,72 @@ impl<L: Link> Board<L> {
     /// The listener takes a connection that waits. Takes no memory.
     pub fn hold(&mut self, who: u32, name: ConnName) -> Conn<L>
         requires who { who < self.old.book.passes }
+        requires listener { who ≡ 0 }
+        requires free { row_of who self.old.book.history ≡ None }
         requires allowed { is_allowed self.old.book.state (event.Hold name) ≡ true }
         ensures is { self.new ≡ record (with_recorded who (event.Hold name) self.old) { conns = slice_set self.old.conns name.slot None } }
         ensures conn { conn_at self.old.conns name.slot ≡ Some result }
         ensures name { result.name ≡ name }
         ensures handed { IsTakenUp self.new.book.state result }
+        ensures entries { Adds who self.old.book.base self.old.book.history self.new.book.history }
+        ensures row { row_of who self.new.book.history ≡ Some name }
     {
-        self.hand_out(who, Event::Hold(name), name).1
+        self.book.show();
+        let _ = self.book.record_sure(who, Event::Hold(name));
+        take_out(&mut self.conns, name)
     }
 
-    /// The connection is handed to the workers of its child. Takes the room that its start and its closing need.
-    pub fn queue(&mut self, who: u32, name: ConnName) -> Result<(), BoardFault>
+    /// The connection is handed out, to a worker of its child. Takes the room that its start and its closing need. Where it is
+    /// refused it stays.
+    pub fn queue(&mut self, who: u32, name: ConnName) -> Result<Conn<L>, BoardFault>
         requires who { who < self.old.book.passes }
+        requires free { row_of who self.old.book.history ≡ None }
         requires allowed { is_halted self.old.book.state.going ≡ false → is_allowed self.old.book.state (event.Queue name) ≡ true }
-        ensures ok { OnOk result (IsAdded who (event.Queue name) self.old self.new) }
+        ensures ok { OnOk result (IsAdded who (event.Queue name) self.old (record self.new { conns = self.old.conns })) }
+        ensures emptied { OnOk result (self.new.conns ≡ slice_set self.old.conns name.slot None) }
+        ensures conn { IfOk result (λ conn. conn_at self.old.conns name.slot ≡ Some conn) }
+        ensures name { IfOk result (λ conn. conn.name ≡ name) }
+        ensures handed { IfOk result (λ conn. IsTakenUp self.new.book.state conn) }
         ensures why { IfErr result (λ fault. IsRefusedFor fault self.old.book) }
         ensures err { OnErr result (self.new ≡ self.old) }
+        ensures entries { Adds who self.old.book.base self.old.book.history self.new.book.history }
+        ensures row { OnOk result (row_of who self.new.book.history ≡ Some name) }
     {
         self.book.show();
         self.book.record(who, Event::Queue(name))?;
-        Ok(())
+        Ok(take_out(&mut self.conns, name))
     }
 
-    /// A worker begins to serve the connection: its cell, and the connection. Takes no memory.
-    pub fn start(&mut self, who: u32, name: ConnName) -> (u32, Conn<L>)
+    /// A worker begins to serve the connection: its cell. Takes no memory.
+    pub fn start(&mut self, who: u32, name: ConnName) -> u32
         requires who { who < self.old.book.passes }
+        requires row { row_of who self.old.book.history ≡ Some name }
         requires allowed { is_allowed self.old.book.state (event.Start name) ≡ true }
-        ensures is { self.new ≡ record (with_recorded who (event.Start name) self.old) { conns = slice_set self.old.conns name.slot None } }
-        ensures cell { result.0 ≡ cell_at self.old.book.state name.slot }
-        ensures conn { conn_at self.old.conns name.slot ≡ Some result.1 }
-        ensures name { result.1.name ≡ name }
-        ensures handed { IsTakenUp self.new.book.state result.1 }
-    {
-        let (Reply::Cell(cell), conn) = self.hand_out(who, Event::Start(name), name) else {
-            unreachable!()
-        };
-        (cell, conn)
-    }
-
-    /// Records the event, and hands out the connection of that name, which the event takes out of the board.
-    fn hand_out(&mut self, who: u32, taking: Event, name: ConnName) -> (Reply, Conn<L>)
-        requires who { who < self.old.book.passes }
-        requires allowed { is_allowed self.old.book.state taking ≡ true }
-        requires hands_out { HandsOut name taking }
-        ensures is { self.new ≡ record (with_recorded who taking self.old) { conns = slice_set self.old.conns name.slot None } }
-        ensures reply { result.0 ≡ reply self.old.book.state taking }
-        ensures conn { conn_at self.old.conns name.slot ≡ Some result.1 }
-        ensures name { result.1.name ≡ name }
-        ensures handed { IsTakenUp self.new.book.state result.1 }
+        ensures is { self.new ≡ with_recorded who (event.Start name) self.old }
+        ensures cell { result ≡ cell_at self.old.book.state name.slot }
+        ensures handed { (c : SeenConn) → IsTakenUp self.old.book.state c → IsTakenUp self.new.book.state c }
+        ensures entries { Adds who self.old.book.base self.old.book.history self.new.book.history }
+        ensures row { row_of who self.new.book.history ≡ Some name }
     {
         self.book.show();
-        let reply = self.book.record_sure(who, taking);
-        match self.conns[name.slot as usize].take() {
-            Some(conn) => (reply, conn),
-            None => unreachable!(),
-        }
+        let Reply::Cell(cell) = self.book.record_sure(who, Event::Start(name)) else {
+            unreachable!()
+        };
+        cell
     }
 
     /// A response is decided: its note.
     pub fn answer(&mut self, who: u32, name: ConnName, ask: Ask) -> Result<Note, BoardFault>
         requires who { who < self.old.book.passes }
+        requires row { row_of who self.old.book.history ≡ Some name }
         requires allowed { is_halted self.old.book.state.going ≡ false → is_allowed self.old.book.state (event.Answer name ask) ≡ true }
         ensures ok { OnOk result (IsAdded who (event.Answer name ask) self.old self.new) }
         ensures note { IfOk result (λ note. IsDecided self.old.book.state name ask note) }
         ensures date { IfOk result (λ note. note.date < 253402300800) }
         ensures why { IfErr result (λ fault. IsRefusedFor fault self.old.book) }
         ensures err { OnErr result (self.new ≡ self.old) }
+        ensures entries { Adds who self.old.book.base self.old.book.history self.new.book.history }
+        ensures row { row_of who self.new.book.history ≡ Some name }
     {
         self.book.show();
         let Reply::Noted(last) = self.book.record(who, Event::Answer(name, ask))? else {
@@ -267,10 +277,13 @@ impl<L: Link> Board<L> {
     /// The connection ended. Takes no memory.
     pub fn close(&mut self, who: u32, ended: Ended<L>)
         requires who { who < self.old.book.passes }
+        requires row { row_of who self.old.book.history ≡ Some ended.name }
         requires allowed { is_allowed self.old.book.state (event.Close ended.name ended.cause ended.tail) ≡ true }
         requires fits { IsClosing self.old.book.state ended.name ended.cause ended.tail ended }
         requires answered { IsEnded ended }
-        ensures { self.new ≡ record (with_recorded who (event.Close ended.name ended.cause ended.tail) self.old) { ended = self.old.ended ++ ended ∷ [] } }
+        ensures is { self.new ≡ record (with_recorded who (event.Close ended.name ended.cause ended.tail) self.old) { ended = self.old.ended ++ ended ∷ [] } }
+        ensures entries { Adds who self.old.book.base self.old.book.history self.new.book.history }
+        ensures row { row_of who self.new.book.history ≡ None }
     {
         self.book.show();
         let _ = self
@@ -285,10 +298,13 @@ impl<L: Link> Board<L> {
     /// Something may have come for the slot.
     pub fn ready(&mut self, who: u32, slot: u32) -> Result<(), BoardFault>
         requires who { who < self.old.book.passes }
+        requires listener { who ≡ 0 }
         requires allowed { is_halted self.old.book.state.going ≡ false → is_allowed self.old.book.state (event.Ready slot) ≡ true }
         ensures ok { OnOk result (IsAdded who (event.Ready slot) self.old self.new) }
         ensures why { IfErr result (λ fault. IsRefusedFor fault self.old.book) }
         ensures err { OnErr result (self.new ≡ self.old) }
+        ensures entries { Adds who self.old.book.base self.old.book.history self.new.book.history }
+        ensures row { row_of who self.new.book.history ≡ row_of who self.old.book.history }
     {
         self.book.record(who, Event::Ready(slot))?;
         Ok(())
@@ -297,10 +313,13 @@ impl<L: Link> Board<L> {
     /// Time passes, to the moment.
     pub fn tick(&mut self, who: u32, moment: Moment) -> Result<(), BoardFault>
         requires who { who < self.old.book.passes }
+        requires listener { who ≡ 0 }
         requires allowed { is_halted self.old.book.state.going ≡ false → is_allowed self.old.book.state (event.Tick moment) ≡ true }
         ensures ok { OnOk result (IsAdded who (event.Tick moment) self.old self.new) }
         ensures why { IfErr result (λ fault. IsRefusedFor fault self.old.book) }
         ensures err { OnErr result (self.new ≡ self.old) }
+        ensures entries { Adds who self.old.book.base self.old.book.history self.new.book.history }
+        ensures row { row_of who self.new.book.history ≡ row_of who self.old.book.history }
     {
         self.book.record(who, Event::Tick(moment))?;
         Ok(())
@@ -309,10 +328,13 @@ impl<L: Link> Board<L> {
     /// The child starts. Takes the room that letting go of it needs.
     pub fn start_child(&mut self, who: u32, child: u32) -> Result<(), BoardFault>
         requires who { who < self.old.book.passes }
+        requires listener { who ≡ 0 }
         requires allowed { is_halted self.old.book.state.going ≡ false → is_allowed self.old.book.state (event.StartChild child) ≡ true }
         ensures ok { OnOk result (IsAdded who (event.StartChild child) self.old self.new) }
         ensures why { IfErr result (λ fault. IsRefusedFor fault self.old.book) }
         ensures err { OnErr result (self.new ≡ self.old) }
+        ensures entries { Adds who self.old.book.base self.old.book.history self.new.book.history }
+        ensures row { row_of who self.new.book.history ≡ row_of who self.old.book.history }
     {
         self.book.record(who, Event::StartChild(child))?;
         Ok(())
@@ -321,9 +343,11 @@ impl<L: Link> Board<L> {
     /// The server stops: for a full history only where it is full. Takes no memory.
     pub fn halt(&mut self, who: u32, why: Why)
         requires who { who < self.old.book.passes }
+        requires role { may_order who (load self.old.book.history) (Stop why) ≡ true }
         requires allowed { is_allowed self.old.book.state (event.Command (Stop why)) ≡ true }
-        requires full { IsStoppable why self.old.book }
-        ensures { self.new ≡ with_recorded who (event.Command (Stop why)) self.old }
+        ensures is { self.new ≡ with_recorded who (event.Command (Stop why)) self.old }
+        ensures entries { Adds who self.old.book.base self.old.book.history self.new.book.history }
+        ensures row { row_of who self.new.book.history ≡ row_of who self.old.book.history }
     {
         let _ = self
             .book
@@ -333,10 +357,25 @@ impl<L: Link> Board<L> {
     /// The child is let go of. Takes no memory.
     pub fn retire(&mut self, who: u32, child: u32)
         requires who { who < self.old.book.passes }
+        requires listener { who ≡ 0 }
         requires allowed { is_allowed self.old.book.state (event.Retire child) ≡ true }
-        ensures { self.new ≡ with_recorded who (event.Retire child) self.old }
+        ensures is { self.new ≡ with_recorded who (event.Retire child) self.old }
+        ensures entries { Adds who self.old.book.base self.old.book.history self.new.book.history }
+        ensures row { row_of who self.new.book.history ≡ row_of who self.old.book.history }
     {
         let _ = self.book.record_sure(who, Event::Retire(child));
+    }
+}
+
+/// Takes the connection of that name out of its slot.
+fn take_out<L: Link>(conns: &mut Vec<Option<Conn<L>>>, name: ConnName) -> Conn<L>
+    requires { (c : SeenConn) × (conn_at conns.old.items name.slot ≡ Some c) }
+    ensures conn { conn_at conns.old.items name.slot ≡ Some result }
+    ensures emptied { conns.new.items ≡ slice_set conns.old.items name.slot None }
+{
+    match conns[name.slot as usize].take() {
+        Some(conn) => conn,
+        None => unreachable!(),
     }
 }
 

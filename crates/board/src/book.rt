@@ -3,11 +3,11 @@ ghost use Rattle.std.specs.Prelude.{◌≡◌, ◌<◌, ◌≤◌, ◌^◌, true
 ghost use Rattle.conn_machine.specs.Children.{is_in_bounds};
 ghost use Rattle.conn_machine.specs.States.{is_halted, opening_state};
 ghost use Rattle.conn_machine.specs.Table.{is_allowed, reply};
-ghost use Rattle.conn_machine.specs.Runs.{IsHistory, after, asks_page, load, full_load};
+ghost use Rattle.conn_machine.specs.Runs.{Adds, IsHistory, after, asks_page, full_load, has_after, load, may_make, row_of};
+ghost use Rattle.conn_machine.specs.Made.{AreMade};
 ghost use Rattle.conn_machine.specs.Sound.{IsSound};
 ghost use Rattle.board.specs.Book.{IsSized, StopsWhereFull, TellsFullStop, numbered_entry, book_with_entry};
 ghost use Rattle.board.specs.BookInside.{AreNext};
-ghost use Rattle.board.specs.EventsInside.{MayStop};
 ghost use Rattle.board.specs.Faults.{IsRefusedFor};
 ghost use Rattle.board.specs.FaultsInside.{IsRecorded};
 ghost use Rattle.board.specs.RoomInside.{is_sure};
@@ -93,9 +93,11 @@ impl Book {
         self.history.as_slice()
     }
 
-    /// The history is one of the machine, from its base to its state, and a stop because it is full stands only where it is.
+    /// The history is one of the machine, from its base to its state; each entry is one that its pass may make; and a stop
+    /// because it is full stands only where it is.
     pub fn show(&self)
         ensures history { IsHistory self.now.base self.now.history }
+        ensures made { AreMade self.now.base self.now.history }
         ensures state { after self.now.base self.now.history ≡ self.now.state }
         ensures opened { IsSound self.now.base }
         ensures sound { IsSound self.now.state }
@@ -114,12 +116,15 @@ impl Book {
         entries.saturating_add(self.pages.saturating_mul(64)) >= FULL_LOAD
     }
 
-    /// Records an event of the pass, and takes the room for what must follow it. Where it is refused nothing changes.
+    /// Records an event that the pass may make, and takes the room for what must follow it. Where it is refused nothing
+    /// changes.
     pub fn record(&mut self, who: u32, event: Event) -> Result<Reply, BoardFault>
         requires who { who < self.old.passes }
         requires allowed { is_halted self.old.state.going ≡ false → is_allowed self.old.state event ≡ true }
-        requires stops { MayStop event self.old }
+        requires role { may_make who (row_of who self.old.history) (load self.old.history) event ≡ true }
         ensures ok { OnOk result (IsRecorded who event self.old self.new) }
+        ensures entries { Adds who self.old.base self.old.history self.new.history }
+        ensures row { IfOk result (λ answer. row_of who self.new.history ≡ has_after (row_of who self.old.history) event answer) }
         ensures reply { IfOk result (λ answer. answer ≡ reply self.old.state event) }
         ensures why { IfErr result (λ fault. IsRefusedFor fault self.old) }
         ensures err { OnErr result (self.new ≡ self.old) }
@@ -147,8 +152,10 @@ impl Book {
         requires who { who < self.old.passes }
         requires allowed { is_allowed self.old.state event ≡ true }
         requires sure { is_sure event ≡ true }
-        requires stops { MayStop event self.old }
+        requires role { may_make who (row_of who self.old.history) (load self.old.history) event ≡ true }
         ensures is { self.new ≡ book_with_entry who event self.old }
+        ensures entries { Adds who self.old.base self.old.history self.new.history }
+        ensures row { row_of who self.new.history ≡ has_after (row_of who self.old.history) event result }
         ensures reply { result ≡ reply self.old.state event }
     {
         let Ok(reply) = step(self.alloc, &mut self.state, &event) else {

@@ -1,8 +1,9 @@
 //! The calls of a board, what its tests of the state say between them, and what it refuses.
-ghost use Rattle.std.specs.Prelude.{◌≡◌, ◌<◌, ◌≤◌, true, false, [], IfOk, OnOk};
+ghost use Rattle.std.specs.Prelude.{◌≡◌, ◌<◌, ◌≤◌, true, false, None, Some, [], IfOk, OnOk};
 ghost use Rattle.mpm_base.specs.Notes.{says_last};
 ghost use Rattle.mpm_base.specs.declared.conn.Kind.TheVariants.{Reading};
 ghost use Rattle.mpm_base.specs.declared.conn.Tail.TheVariants.{Direct};
+ghost use Rattle.conn_machine.specs.Runs.{row_of};
 ghost use Rattle.conn_machine.specs.Table.{is_allowed};
 ghost use Rattle.conn_state.specs.Answered.{IsShown};
 ghost use Rattle.conn_state.specs.Conn.{IsConn, is_usable};
@@ -54,6 +55,7 @@ fn allow(rt: &impl Abort, board: &Board<ScriptLink>, next: Event)
 /// No connection is to be taken, for this fault.
 fn refuses(rt: &impl Abort, board: &mut Board<ScriptLink>, fault: AcceptFault)
     requires who { 0 < board.old.book.passes }
+    requires free { row_of 0 board.old.book.history ≡ None }
     ensures { board.new ≡ board.old }
 {
     assert_eq!(rt; board.can_accept(), None);
@@ -66,7 +68,8 @@ fn refuses(rt: &impl Abort, board: &mut Board<ScriptLink>, fault: AcceptFault)
 /// A board of so many slots, whose child 0 runs.
 fn opened(rt: &impl Abort, alloc: Global, slots: u32) -> Result<Board<ScriptLink>, Fail>
     requires { (1 ≤ slots) × (slots ≤ 8192) }
-    ensures { IfOk result (λ board. board.book.passes ≡ 1) }
+    ensures passes { IfOk result (λ board. board.book.passes ≡ 1) }
+    ensures free { IfOk result (λ board. row_of 0 board.book.history ≡ None) }
 {
     let mut board = Board::make(alloc, slots, 2, 1, SHAPE)?;
     refuses(rt, &mut board, AcceptFault::NoChild);
@@ -88,9 +91,11 @@ fn arrives(
     ends: bool,
 ) -> Result<Conn<ScriptLink>, Fail>
     requires who { 0 < board.old.book.passes }
+    requires free { row_of 0 board.old.book.history ≡ None }
     ensures passes { OnOk result (board.new.book.passes ≡ board.old.book.passes) }
     ensures fits { IfOk result (λ conn. IsOf board.new.book.state conn) }
     ensures settled { IfOk result (λ conn. IsSettled Reading conn) }
+    ensures row { IfOk result (λ conn. row_of 0 board.new.book.history ≡ Some conn.name) }
 {
     let taken = board.accept(0)?;
     assert_eq!(rt; taken.name, FIRST);
@@ -122,9 +127,11 @@ fn waits(
     until: Moment,
 )
     requires who { 0 < board.old.book.passes }
+    requires row { row_of 0 board.old.book.history ≡ Some conn.name }
     requires fits { IsOf board.old.book.state conn }
     requires settled { IsSettled kind conn }
-    ensures { board.new.book.passes ≡ board.old.book.passes }
+    ensures passes { board.new.book.passes ≡ board.old.book.passes }
+    ensures free { row_of 0 board.new.book.history ≡ None }
 {
     let name = conn.name();
     allow(rt, board, Event::Park(name, kind));
@@ -142,23 +149,25 @@ fn waits(
 /// A worker begins to serve the connection of slot 0, for which something came.
 fn serves(rt: &impl Abort, board: &mut Board<ScriptLink>) -> Result<Conn<ScriptLink>, Fail>
     requires who { 0 < board.old.book.passes }
+    requires free { row_of 0 board.old.book.history ≡ None }
     ensures passes { OnOk result (board.new.book.passes ≡ board.old.book.passes) }
     ensures fits { IfOk result (λ conn. IsOf board.new.book.state conn) }
     ensures usable { IfOk result (λ conn. is_usable conn.turn ≡ true) }
     ensures sent { IfOk result (λ conn. conn.pending ≡ []) }
     ensures not_last { IfOk result (λ conn. says_last conn.notes ≡ false) }
+    ensures row { IfOk result (λ conn. row_of 0 board.new.book.history ≡ Some conn.name) }
 {
     allow(rt, board, Event::Ready(0));
     board.ready(0, 0)?;
     assert_eq!(rt; board.signalled(), Some(FIRST));
     allow(rt, board, Event::Queue(FIRST));
-    board.queue(0, FIRST)?;
+    let conn = board.queue(0, FIRST)?;
     assert!(rt; !board.quiet());
     assert_eq!(rt; board.signalled(), None);
     assert_eq!(rt; board.parked(), None);
     assert_eq!(rt; board.kind(FIRST), None);
     allow(rt, board, Event::Start(FIRST));
-    let (cell, conn) = board.start(0, FIRST);
+    let cell = board.start(0, FIRST);
     assert_eq!(rt; cell, 0);
     assert_eq!(rt; board.next_deadline(), None);
     assert!(rt; !conn.pending());
@@ -175,6 +184,7 @@ fn reads(rt: &impl Abort, board: &Board<ScriptLink>, conn: &mut Conn<ScriptLink>
     ensures fits { IsOf board.now.book.state conn.new }
     ensures turn { conn.new.turn ≡ after_reading wanted }
     ensures shown { IsConn conn.new }
+    ensures name { conn.new.name ≡ conn.old.name }
 {
     let found = conn.read_turn();
     assert_eq!(rt; found, wanted);
@@ -188,6 +198,7 @@ fn answers(
     conn: &mut Conn<ScriptLink>,
 ) -> Result<(), Fail>
     requires who { 0 < board.old.book.passes }
+    requires row { row_of 0 board.old.book.history ≡ Some conn.old.name }
     requires fits { IsOf board.old.book.state conn.old }
     requires usable { is_usable conn.old.turn ≡ true }
     requires sent { conn.old.pending ≡ [] }
@@ -197,6 +208,7 @@ fn answers(
     ensures usable { OnOk result (is_usable conn.new.turn ≡ true) }
     ensures sent { OnOk result (conn.new.pending ≡ []) }
     ensures not_last { OnOk result (says_last conn.new.notes ≡ false) }
+    ensures row { OnOk result (row_of 0 board.new.book.history ≡ Some conn.new.name) }
 {
     reads(rt, board, conn, ReadTurn::Asked(FOUND));
     let name = conn.name();
@@ -215,6 +227,7 @@ fn sends(rt: &impl Abort, board: &Board<ScriptLink>, conn: &mut Conn<ScriptLink>
     ensures usable { is_usable conn.new.turn ≡ true }
     ensures sent { conn.new.pending ≡ [] }
     ensures not_last { says_last conn.new.notes ≡ false }
+    ensures name { conn.new.name ≡ conn.old.name }
 {
     assert!(rt; conn.pending());
     let turn = conn.write_turn();
@@ -225,9 +238,11 @@ fn sends(rt: &impl Abort, board: &Board<ScriptLink>, conn: &mut Conn<ScriptLink>
 /// The connection ends for the cause.
 fn ends(rt: &impl Abort, board: &mut Board<ScriptLink>, conn: Conn<ScriptLink>, cause: Cause)
     requires who { 0 < board.old.book.passes }
+    requires row { row_of 0 board.old.book.history ≡ Some conn.name }
     requires fits { IsOf board.old.book.state conn }
     requires shown { IsShown cause Direct conn }
-    ensures { board.new.book.passes ≡ board.old.book.passes }
+    ensures passes { board.new.book.passes ≡ board.old.book.passes }
+    ensures free { row_of 0 board.new.book.history ≡ None }
 {
     let name = conn.name();
     allow(rt, board, Event::Close(name, cause, Tail::Direct));
@@ -238,7 +253,8 @@ fn ends(rt: &impl Abort, board: &mut Board<ScriptLink>, conn: Conn<ScriptLink>, 
 /// Time passes.
 fn ticks(rt: &impl Abort, board: &mut Board<ScriptLink>, moment: Moment) -> Result<(), Fail>
     requires who { 0 < board.old.book.passes }
-    ensures { OnOk result (board.new.book.passes ≡ board.old.book.passes) }
+    ensures passes { OnOk result (board.new.book.passes ≡ board.old.book.passes) }
+    ensures row { row_of 0 board.new.book.history ≡ row_of 0 board.old.book.history }
 {
     allow(rt, board, Event::Tick(moment));
     board.tick(0, moment)?;
@@ -249,7 +265,9 @@ fn ticks(rt: &impl Abort, board: &mut Board<ScriptLink>, moment: Moment) -> Resu
 /// The server stops, and refuses what comes then.
 fn stops(rt: &impl Abort, board: &mut Board<ScriptLink>)
     requires who { 0 < board.old.book.passes }
-    ensures { board.new.book.passes ≡ board.old.book.passes }
+    requires free { row_of 0 board.old.book.history ≡ None }
+    ensures passes { board.new.book.passes ≡ board.old.book.passes }
+    ensures free { row_of 0 board.new.book.history ≡ None }
 {
     assert_eq!(rt; board.going(), Going::Serving);
     assert_eq!(rt; board.can_retire(), None);

@@ -57,6 +57,18 @@ signals-kept (x ∷ signals) (suc slot) b was =
 
 -- ## The server
 
+-- it goes on as before where nothing was done
+pub stays-same : (b : SeenBook) → Stays b b
+stays-same b = record { base = refl; passes = refl; accepted = refl; signals = omega arith; hand = omega arith; going = refl }
+
+-- so it does unless the history is full
+pub goes-same : (b : SeenBook) → StaysUnlessFull b b
+goes-same b = record { base = refl; passes = refl; accepted = refl; signals = omega arith; hand = omega arith; going = inl refl }
+
+-- and is still the one that opened
+pub keeps-same : (b : SeenBook) → Keeps b b
+keeps-same b = record { base = refl; passes = refl; hand = omega arith }
+
 -- it is still the one that opened, twice
 pub keeps-trans : (a b c : SeenBook) → Keeps a b → Keeps b c → Keeps a c
 keeps-trans a b c first second = record {

@@ -1,20 +1,37 @@
--- Whose entries were added.
-use Rattle.std.proofs.Common.{◌≡◌, ◌≢◌, ◌==◌, ℕ, false, ◌∙◌, arith}
-use Rattle.std.proofs.lemmas.Bool.Decides.{nat_tests}
+-- What a pass added, and the connection that it has then.
+use Rattle.std.proofs.Common.{◌≡◌, ◌≢◌, ℕ, Option, Some, Result, Ok, Err, OnOk, OnErr, ap, refl, sym, ◌∙◌}
+use Rattle.mpm_base.specs.declared.conn.ConnName.{ConnName}
+use Rattle.conn_machine.specs.Runs.{row_of}
 use Rattle.conn_machine.specs.declared.event.Event.{Event}
-use Rattle.conn_machine.proofs.RunLemmas.{entries_of-other}
-use Rattle.board.specs.Book.{SeenBook, entry_of, book_with_entry}
-use Rattle.mpm_run.specs.ServeInside.{OthersStay}
+use Rattle.board.specs.Book.{SeenBook}
+use Rattle.board.specs.Board.{SeenBoard}
+use Rattle.board.specs.Events.{IsAdded}
+use Rattle.board.proofs.PassLemmas.{adds_none, adds_more, row-others}
+use Rattle.mpm_run.specs.ServeInside.{Acts}
 
--- two passes that differ
-another : (who p : ℕ) → p ≢ who → (who == p) ≡ false
-another who p differs = grind (arith, nat_tests)
+-- a pass that did nothing has what it had
+pub acts_none : (who : ℕ) (has : Option ConnName) (b : SeenBook) → row_of who b.history ≡ has → Acts who has b b
+acts_none who has b row = record { base = refl; entries = adds_none who b.base b.history; row = row }
 
--- an entry that was recorded is of its pass
-pub others-recorded : (who : ℕ) (event : Event) (b b' : SeenBook) → b' ≡ book_with_entry who event b → OthersStay who b b'
-others-recorded who event b b' is p differs =
-    rw is (entries_of-other p b.history (entry_of who event b) (another who p differs))
+-- it has it by another spelling of the name too
+pub acts_named : (who : ℕ) (name name' : ConnName) (b : SeenBook) → row_of who b.history ≡ Some name → name' ≡ name → Acts who (Some name') b b
+acts_named who name name' b row same = acts_none who (Some name') b (row ∙ ap (λ (n : ConnName). Some n) (sym same))
 
--- and so are those of two steps, one after the other
-pub others-more : (who : ℕ) (a b c : SeenBook) → OthersStay who a b → OthersStay who b c → OthersStay who a c
-others-more who a b c first second p differs = second p differs ∙ first p differs
+-- what a pass did in two steps, it did
+pub acts_more : (who : ℕ) (had has : Option ConnName) (a b c : SeenBook) → Acts who had a b → Acts who has b c → Acts who has a c
+acts_more who had has a b c first second = record {
+  base = second.base ∙ first.base;
+  entries = adds_more who a.base b.base a.history b.history c.history first.base first.entries second.entries;
+  row = second.row;
+}
+
+-- another pass has what it had
+pub acts_other : (who other : ℕ) (had has : Option ConnName) (a b : SeenBook) → Acts who had a b → other ≢ who → row_of other a.history ≡ has
+    → row_of other b.history ≡ has
+acts_other who other had has a b acts differs row = row-others who other a.base a.history b.history acts.entries differs ∙ row
+
+-- a call that recorded an event or changed nothing keeps the base
+pub base_either : {T E : Type 0} (r : Result T E) (who : ℕ) (e : Event) (b b' : SeenBoard) → OnOk r (IsAdded who e b b') → OnErr r (b' ≡ b)
+    → b'.book.base ≡ b.book.base
+base_either (Ok x) who e b b' ok err = ap (λ (v : SeenBoard). v.book.base) ok.new_is
+base_either (Err x) who e b b' ok err = ap (λ (v : SeenBoard). v.book.base) err

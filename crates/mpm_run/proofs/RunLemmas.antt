@@ -16,6 +16,7 @@ use Rattle.conn_machine.specs.Rows.{is_live}
 use Rattle.conn_machine.specs.States.{opening_state, unused_row}
 use Rattle.conn_machine.specs.Table.{next}
 use Rattle.conn_machine.specs.Runs.{Run, after, IsHistory}
+use Rattle.conn_machine.specs.Made.{AreMade}
 use Rattle.conn_machine.specs.Sound.{IsSound}
 use Rattle.conn_machine.specs.Events.{count_events, is_accept, is_close}
 use Rattle.conn_machine.specs.Laws.{StaysSound}
@@ -32,11 +33,12 @@ use Rattle.mpm_run.specs.Listen.{HasClosedAll, HasNoLive, IsClosedDown, IsRunFro
 -- the history of a board that opened so is a run from there, each state of which is sound
 pub run-from : (slots children : ℕ) (shape : Shape) (b : SeenBoard) → b.book.base ≡ opening_state slots children shape
     → ((s : State) (history : List Entry) → IsSound s → Run s history → StaysSound s history)
-    → IsHistory b.book.base b.book.history → after b.book.base b.book.history ≡ b.book.state → IsSound b.book.base
-    → StopsWhereFull b.book.history → TellsFullStop b.book.state.going b.book.history → Agrees b → IsRunFrom slots children shape b
-run-from slots children shape b opened law is_history state sound stops full agrees = record {
+    → IsHistory b.book.base b.book.history → AreMade b.book.base b.book.history → after b.book.base b.book.history ≡ b.book.state
+    → IsSound b.book.base → StopsWhereFull b.book.history → TellsFullStop b.book.state.going b.book.history → Agrees b → IsRunFrom slots children shape b
+run-from slots children shape b opened law is_history made state sound stops full agrees = record {
   opened = opened;
   is_history = subst (λ (s : State). IsHistory s b.book.history) opened is_history;
+  made = subst (λ (s : State). AreMade s b.book.history) opened made;
   state = subst (λ (s : State). after s b.book.history ≡ b.book.state) opened state;
   stays_sound = subst (λ (s : State). StaysSound s b.book.history) opened (law b.book.base b.book.history sound is_history.run);
   stops = stops;

@@ -11,7 +11,7 @@ use Rattle.conn_machine.specs.Rows.{is_queued, is_working, live_row, lives_and}
 use Rattle.conn_machine.specs.States.{is_halted, is_signalled}
 use Rattle.conn_machine.specs.Table.{is_allowed, next, may_be_queued, queued_row, served_row}
 use Rattle.conn_state.specs.Conn.{SeenConn, is_usable}
-use Rattle.board.specs.Book.{SeenBook}
+use Rattle.board.specs.Book.{SeenBook, book_with_entry}
 use Rattle.board.specs.Board.{SeenBoard, conn_at}
 use Rattle.board.specs.Events.{with_recorded}
 use Rattle.board.specs.Fits.{WaitsAs, IsSettledFrom, IsTakenUp}
@@ -128,23 +128,23 @@ pub record Starts (old new : SeenBook) : Type 0 where
   pub going : new.state.going ≡ old.state.going
 
 -- so it does after a connection was queued and started
-pub starts : (who : ℕ) (name : ConnName) (b b1 b2 : SeenBoard) (conns : List (Option SeenConn)) → is_allowed b.book.state (event.Queue name) ≡ true
-    → b1 ≡ with_recorded who (event.Queue name) b → b2 ≡ record (with_recorded who (event.Start name) b1) { conns = conns } → Starts b.book b2.book
-starts who name b b1 b2 conns may queued started =
+pub starts : (who : ℕ) (name : ConnName) (b b1 b2 : SeenBoard) → is_allowed b.book.state (event.Queue name) ≡ true
+    → b1.book ≡ book_with_entry who (event.Queue name) b.book → b2.book ≡ book_with_entry who (event.Start name) b1.book → Starts b.book b2.book
+starts who name b b1 b2 may queued started =
     let live = (may-queue b.book.state name may).lives in
-    let at : b1.book.state ≡ next b.book.state (event.Queue name) = ap (λ (x : SeenBoard). x.book.state) queued in
+    let at : b1.book.state ≡ next b.book.state (event.Queue name) = ap (λ (x : SeenBook). x.state) queued in
     let found : live_row b1.book.state.rows name ≡ Some (queued_row live.row) = rw at (queued-found b.book.state name live.row live.found) in
     let more = hand-more b.book.state b1.book.state name.slot queued_row (ap (λ (s : State). s.rows) at) in
-    let same = hand-started b1.book.state b2.book.state name (queued_row live.row) found refl (ap (λ (x : SeenBoard). x.book.state) started) in
+    let same = hand-started b1.book.state b2.book.state name (queued_row live.row) found refl (ap (λ (x : SeenBook). x.state) started) in
     let fewer : signalled_count b1.book.state ≤ signalled_count b.book.state =
     subst (λ (s : State). signalled_count s ≤ signalled_count b.book.state) (sym at) (signals-cleared b.book.state.signals name.slot) in
     record {
-      base = ap (λ (x : SeenBoard). x.book.base) started ∙ ap (λ (x : SeenBoard). x.book.base) queued;
-      passes = ap (λ (x : SeenBoard). x.book.passes) started ∙ ap (λ (x : SeenBoard). x.book.passes) queued;
-      accepted = ap (λ (x : SeenBoard). x.book.state.accepted) started ∙ ap (λ (s : State). s.accepted) at;
-      signals = subst (λ (x : SeenBoard). signalled_count x.book.state ≤ signalled_count b.book.state) (sym started) fewer;
+      base = ap (λ (x : SeenBook). x.base) started ∙ ap (λ (x : SeenBook). x.base) queued;
+      passes = ap (λ (x : SeenBook). x.passes) started ∙ ap (λ (x : SeenBook). x.passes) queued;
+      accepted = ap (λ (x : SeenBook). x.state.accepted) started ∙ ap (λ (s : State). s.accepted) at;
+      signals = subst (λ (x : SeenBook). signalled_count x.state ≤ signalled_count b.book.state) (sym started) fewer;
       hand = omega (arith, more, same);
-      going = ap (λ (x : SeenBoard). x.book.state.going) started ∙ ap (λ (s : State). s.going) at;
+      going = ap (λ (x : SeenBook). x.state.going) started ∙ ap (λ (s : State). s.going) at;
     }
 
 -- what goes on from there, and has one less in hand at the end, goes on from the server that it was
@@ -178,14 +178,11 @@ pub record StartTells (clients : List (List ℕ)) (b : SeenBoard) (c : SeenConn)
   pub others : AllTell clients b
   pub own : TellsFrom clients c.told
 
-pub start-tells : (clients : List (List ℕ)) (who slot : ℕ) (name : ConnName) (b b1 b2 : SeenBoard) (c : SeenConn) → b1 ≡ with_recorded who (event.Queue name) b
-    → b2 ≡ record (with_recorded who (event.Start name) b1) { conns = slice_set b1.conns slot None } → conn_at b1.conns slot ≡ Some c
-    → AllTell clients b → StartTells clients b2 c
-start-tells clients who slot name b b1 b2 c queued started at tells =
-    let tells1 = tell-same clients b b1 (record { conns = ap (λ (x : SeenBoard). x.conns) queued; ended = ap (λ (x : SeenBoard). x.ended) queued }) tells in
+pub start-tells : (clients : List (List ℕ)) (who slot : ℕ) (name : ConnName) (b b1 b2 : SeenBoard) (c : SeenConn) → b1.conns ≡ slice_set b.conns slot None → b1.ended ≡ b.ended
+    → b2 ≡ with_recorded who (event.Start name) b1 → conn_at b.conns slot ≡ Some c → AllTell clients b → StartTells clients b2 c
+start-tells clients who slot name b b1 b2 c emptied ended started at tells =
+    let tells1 = tell-set clients b b1 slot None emptied ended (λ c is. absurd (cc)) tells in
     record {
-      others =
-          tell-set clients b1 b2 slot None (ap (λ (x : SeenBoard). x.conns) started) (ap (λ (x : SeenBoard). x.ended) started)
-          (λ c is. absurd (cc)) tells1;
-      own = tells1.conns slot c at;
+      others = tell-same clients b1 b2 (record { conns = ap (λ (x : SeenBoard). x.conns) started; ended = ap (λ (x : SeenBoard). x.ended) started }) tells1;
+      own = tells.conns slot c at;
     }

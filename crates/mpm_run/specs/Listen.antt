@@ -10,6 +10,7 @@ use Rattle.conn_machine.specs.Children.{child_at, is_empty}
 use Rattle.conn_machine.specs.States.{opening_state}
 use Rattle.conn_machine.specs.Events.{count_events, is_accept}
 use Rattle.conn_machine.specs.Runs.{after, IsHistory}
+use Rattle.conn_machine.specs.Made.{AreMade}
 use Rattle.conn_machine.specs.Laws.{StaysSound}
 use Rattle.board.specs.Book.{StopsWhereFull, TellsFullStop}
 use Rattle.board.specs.Board.{SeenBoard, Agrees}
@@ -31,12 +32,13 @@ pub record IsClosedDown (s : State) : Type 0 where
 
 -- ## A run
 
--- the history that is kept is one of the machine, from the opening state on, in the order of its passes; each state on its
--- way is sound; a stop because the history is full stands only where it is, and is told by the state; and the connections agree
--- with the history
+-- the history that is kept is one of the machine, from the opening state on, in the order of its passes, and each entry is one
+-- that its pass may make where it stands; each state on its way is sound; a stop because the history is full stands only where
+-- it is, and is told by the state; and the connections agree with the history
 pub record IsRunFrom (slots children : ℕ) (shape : Shape) (b : SeenBoard) : Type 0 where
   pub opened : b.book.base ≡ opening_state slots children shape
   pub is_history : IsHistory (opening_state slots children shape) b.book.history
+  pub made : AreMade (opening_state slots children shape) b.book.history
   pub state : after (opening_state slots children shape) b.book.history ≡ b.book.state
   pub stays_sound : StaysSound (opening_state slots children shape) b.book.history
   pub stops : StopsWhereFull b.book.history

@@ -1,5 +1,5 @@
 -- What a worker knows of the connection that it serves, and how it may leave it.
-use Rattle.std.specs.Prelude.{◌≡◌, ◌≢◌, ◌⊎◌, ℕ, ◌-◌, ◌<◌, ◌≤◌, ◌||◌, Bool, true, false, length, count_by, Some, IfSome, ⊤}
+use Rattle.std.specs.Prelude.{◌≡◌, ◌⊎◌, ℕ, ◌-◌, ◌<◌, ◌≤◌, ◌||◌, Bool, true, false, length, count_by, Option, Some, IfSome, ⊤}
 use Rattle.mpm_base.specs.declared.conn.Kind.{Kind}
 use Rattle.mpm_base.specs.declared.conn.Kind.TheVariants.{Reading, KeepAlive, Writing, Linger, ShortLinger}
 use Rattle.mpm_base.specs.declared.conn.ConnName.{ConnName}
@@ -17,7 +17,7 @@ use Rattle.conn_machine.specs.Rows.{is_held, is_parked, is_working, is_lingering
 use Rattle.conn_machine.specs.Children.{child_at}
 use Rattle.conn_machine.specs.States.{is_halted}
 use Rattle.conn_machine.specs.Table.{direct_cause_fits}
-use Rattle.conn_machine.specs.Runs.{entries_of}
+use Rattle.conn_machine.specs.Runs.{Adds, row_of}
 use Rattle.conn_state.specs.Conn.{SeenConn, is_usable}
 use Rattle.conn_state.specs.Answered.{IsShown}
 use Rattle.board.specs.declared.faults.BoardFault.{BoardFault}
@@ -110,9 +110,11 @@ pub record StaysUnlessFull (old new : SeenBook) : Type 0 where
   pub hand : in_hand_count new.state ≤ in_hand_count old.state
   pub going : (new.state.going ≡ old.state.going) ⊎ (new.state.going ≡ Halted why.Full)
 
--- all entries that were added are of the pass: each other pass has the entries that it had
-abbrev pub OthersStay : ℕ → SeenBook → SeenBook → Type 0
-OthersStay who old new = (p : ℕ) → p ≢ who → entries_of p new.history ≡ entries_of p old.history
+-- all that was added are entries that the pass may make, and it has this connection then, or none
+pub record Acts (who : ℕ) (has : Option ConnName) (old new : SeenBook) : Type 0 where
+  pub base : new.base ≡ old.base
+  pub entries : Adds who old.base old.history new.history
+  pub row : row_of who new.history ≡ has
 
 -- whether the server goes on after a connection was given up for the fault: a full history stops it
 abbrev pub LeavesGoing : BoardFault → Going → Going → Type 0

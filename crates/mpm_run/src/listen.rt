@@ -1,14 +1,15 @@
 //! The listener: waits for what comes, takes connections, has them served, and stops the server when nothing more can come.
-ghost use Rattle.std.specs.Prelude.{◌≡◌, ◌⊎◌, ◌<◌, ◌≤◌, ◌+◌, ℕ, List, None, true, false, is_some, length, max, min, IfOk, IfErr, OnErr, OnOk};
+ghost use Rattle.std.specs.Prelude.{◌≡◌, ◌⊎◌, ◌<◌, ◌≤◌, ◌+◌, ℕ, List, None, Some, true, false, is_some, length, max, min, IfOk, IfErr, OnErr, OnOk};
 ghost use Rattle.std.specs.List.{list_any};
 ghost use Rattle.mpm_base.specs.Count.{next_count};
 ghost use Rattle.conn_machine.specs.Rows.{is_live};
+ghost use Rattle.conn_machine.specs.Runs.{row_of};
 ghost use Rattle.conn_machine.specs.States.{is_halted, is_signalled};
 ghost use Rattle.mpm_base.specs.Moment.{greatest_moment};
 ghost use Rattle.conn_machine.specs.declared.event.Why.TheVariants as why;
 ghost use Rattle.conn_machine.specs.declared.state.Going.TheVariants.{Halted, Serving};
 ghost use Rattle.board.specs.Finds.{acceptable, next_deadline_of, startable};
-ghost use Rattle.mpm_run.specs.ServeInside.{StaysUnlessFull, Stays, in_hand_count};
+ghost use Rattle.mpm_run.specs.ServeInside.{Acts, StaysUnlessFull, Stays, in_hand_count};
 ghost use Rattle.mpm_run.specs.Listen.{HasNoLive, IsClosedDown};
 ghost use Rattle.mpm_run.specs.ListenInside.{AreSignalled, TurnsEnd, Follows, HasClients, HasStopped, HasTaken, IsInStep, IsRestful, Keeps, LinksTell, MustStop, NoneDue, NoneOverdue, NoneParked, TookAll, outside};
 ghost use Rattle.mpm_run.specs.ListenInside.{AsksFor, IsInTime, waits_of};
@@ -62,6 +63,8 @@ pub fn listen<R: Wait, L: Link + Send, F: Front<L = L>, C: Clock>(
     ready: &mut Ready,
 )
     requires passes { board.old.book.passes ≡ 2 }
+    requires listener { row_of 0 board.old.book.history ≡ None }
+    requires server { row_of 1 board.old.book.history ≡ None }
     requires serving { board.old.book.state.going ≡ Serving }
     requires hand { in_hand_count board.old.book.state ≡ 0 }
     requires step { IsInStep (F.told front.old) board.old.book.state }
@@ -101,9 +104,12 @@ fn take_turns<R: Wait, L: Link + Send, F: Front<L = L>, C: Clock>(
     ready: &mut Ready,
 ) -> Result<End, BoardFault>
     requires passes { board.old.book.passes ≡ 2 }
+    requires listener { row_of 0 board.old.book.history ≡ None }
+    requires server { row_of 1 board.old.book.history ≡ None }
     requires serving { board.old.book.state.going ≡ Serving }
     requires step { IsInStep (F.told front.old) board.old.book.state }
     ensures keeps { Keeps board.old.book board.new.book }
+    ensures free { row_of 0 board.new.book.history ≡ None }
     ensures follows { Follows (outside (F.script front.old) (F.told front.old) (F.counts front.old)) (outside (F.script front.new) (F.told front.new) (F.counts front.new)) }
     ensures time { IsInTime (waits_of (F.told front.old)) (C.told clock.old) → IsInTime (waits_of (F.told front.new)) (C.told clock.new) }
     ensures ok { IfOk result (λ end. TurnsEnd end (outside (F.script front.old) (F.told front.old) (F.counts front.old)) (outside (F.script front.new) (F.told front.new) (F.counts front.new)) board.new.book.state) }
@@ -153,9 +159,11 @@ fn take_in<R: Wait, L: Link + Send, F: Front<L = L>>(
     moment: Moment,
 ) -> Result<(), BoardFault>
     requires passes { board.old.book.passes ≡ 2 }
+    requires free { row_of 0 board.old.book.history ≡ None }
     requires serving { board.old.book.state.going ≡ Serving }
     requires step { IsInStep (F.told front.old) board.old.book.state }
     ensures keeps { Keeps board.old.book board.new.book }
+    ensures acts { Acts 0 None board.old.book board.new.book }
     ensures going { OnOk result (board.new.book.state.going ≡ Serving) }
     ensures step { OnOk result (IsInStep (F.told front.new) board.new.book.state) }
     ensures follows { Follows (outside (F.script front.old) (F.told front.old) (F.counts front.old)) (outside (F.script front.new) (F.told front.new) (F.counts front.new)) }
@@ -195,8 +203,10 @@ fn has_live<L: Link>(board: &Board<L>) -> bool
 /// Lets time pass to the moment, where it is later than the present one. A connection that is late is closed before and after.
 fn pass_time<L: Link>(board: &mut Board<L>, moment: Moment) -> Result<(), BoardFault>
     requires passes { board.old.book.passes ≡ 2 }
+    requires free { row_of 0 board.old.book.history ≡ None }
     requires serving { board.old.book.state.going ≡ Serving }
     ensures stays { Stays board.old.book board.new.book }
+    ensures acts { Acts 0 None board.old.book board.new.book }
     ensures err { IfErr result (λ fault. MustStop fault board.new.book) }
     ensures moment { OnOk result (board.new.book.state.moment ≡ max board.old.book.state.moment (min moment greatest_moment)) }
     ensures tells { (clients : List (List ℕ)) → AllTell clients board.old → AllTell clients board.new }
@@ -213,9 +223,12 @@ fn pass_time<L: Link>(board: &mut Board<L>, moment: Moment) -> Result<(), BoardF
 
 /// Closes each connection that is late. Lingering closes are not built yet: such a connection ends for want of memory, the one
 /// cause that needs no other. Takes no memory.
+#[tactic(auto, using(crate::proofs::PassLemmas::acts_none))]
 fn close_overdue<L: Link>(board: &mut Board<L>)
     requires passes { board.old.book.passes ≡ 2 }
+    requires free { row_of 0 board.old.book.history ≡ None }
     ensures stays { Stays board.old.book board.new.book }
+    ensures acts { Acts 0 None board.old.book board.new.book }
     ensures none { NoneOverdue board.new.book.state }
     ensures moment { board.new.book.state.moment ≡ board.old.book.state.moment }
     ensures tells { (clients : List (List ℕ)) → AllTell clients board.old → AllTell clients board.new }
@@ -228,10 +241,13 @@ fn close_overdue<L: Link>(board: &mut Board<L>)
 }
 
 /// Signals each of the slots that the table has.
+#[tactic(auto, using(crate::proofs::PassLemmas::acts_none))]
 fn signal_all<L: Link>(board: &mut Board<L>, slots: &[u32]) -> Result<(), BoardFault>
     requires passes { board.old.book.passes ≡ 2 }
+    requires free { row_of 0 board.old.book.history ≡ None }
     requires serving { board.old.book.state.going ≡ Serving }
     ensures keeps { Keeps board.old.book board.new.book }
+    ensures acts { Acts 0 None board.old.book board.new.book }
     ensures going { board.new.book.state.going ≡ Serving }
     ensures taken { board.new.book.state.accepted ≡ board.old.book.state.accepted }
     ensures err { IfErr result (λ fault. MustStop fault board.new.book) }
@@ -246,10 +262,13 @@ fn signal_all<L: Link>(board: &mut Board<L>, slots: &[u32]) -> Result<(), BoardF
 }
 
 /// Signals the slot, where the table has it.
+#[tactic(auto, using(crate::proofs::PassLemmas::acts_none))]
 fn signal<L: Link>(board: &mut Board<L>, slot: u32) -> Result<(), BoardFault>
     requires passes { board.old.book.passes ≡ 2 }
+    requires free { row_of 0 board.old.book.history ≡ None }
     requires serving { board.old.book.state.going ≡ Serving }
     ensures keeps { Keeps board.old.book board.new.book }
+    ensures acts { Acts 0 None board.old.book board.new.book }
     ensures going { board.new.book.state.going ≡ Serving }
     ensures taken { board.new.book.state.accepted ≡ board.old.book.state.accepted }
     ensures err { IfErr result (λ fault. MustStop fault board.new.book) }
@@ -267,10 +286,13 @@ fn signal<L: Link>(board: &mut Board<L>, slot: u32) -> Result<(), BoardFault>
 }
 
 /// Starts children, while fewer run than should.
+#[tactic(auto, using(crate::proofs::PassLemmas::acts_none))]
 fn start_children<L: Link>(board: &mut Board<L>) -> Result<(), BoardFault>
     requires passes { board.old.book.passes ≡ 2 }
+    requires free { row_of 0 board.old.book.history ≡ None }
     requires serving { board.old.book.state.going ≡ Serving }
     ensures stays { Stays board.old.book board.new.book }
+    ensures acts { Acts 0 None board.old.book board.new.book }
     ensures err { IfErr result (λ fault. MustStop fault board.new.book) }
     ensures started { OnOk result (startable board.new.book.state ≡ None) }
     ensures moment { board.new.book.state.moment ≡ board.old.book.state.moment }
@@ -284,6 +306,7 @@ fn start_children<L: Link>(board: &mut Board<L>) -> Result<(), BoardFault>
 }
 
 /// Takes the connections that have arrived, while a child admits one and a slot is vacant.
+#[tactic(auto, using(crate::proofs::PassLemmas::acts_none))]
 fn take_all<R: Wait, L: Link + Send, F: Front<L = L>>(
     rt: &R,
     alloc: Global,
@@ -291,9 +314,11 @@ fn take_all<R: Wait, L: Link + Send, F: Front<L = L>>(
     front: &mut F,
 ) -> Result<(), BoardFault>
     requires passes { board.old.book.passes ≡ 2 }
+    requires free { row_of 0 board.old.book.history ≡ None }
     requires serving { board.old.book.state.going ≡ Serving }
     requires step { IsInStep (F.told front.old) board.old.book.state }
     ensures keeps { Keeps board.old.book board.new.book }
+    ensures acts { Acts 0 None board.old.book board.new.book }
     ensures going { OnOk result (board.new.book.state.going ≡ Serving) }
     ensures step { OnOk result (IsInStep (F.told front.new) board.new.book.state) }
     ensures follows { Follows (outside (F.script front.old) (F.told front.old) (F.counts front.old)) (outside (F.script front.new) (F.told front.new) (F.counts front.new)) }
@@ -317,6 +342,7 @@ fn take_all<R: Wait, L: Link + Send, F: Front<L = L>>(
 
 /// Takes the connection of the link into the table, and has the front watch it. Where the table refuses it, or the front
 /// can't watch it, it is closed.
+#[tactic(auto, using(crate::proofs::PassLemmas::acts_none))]
 fn take<L: Link + Send, F: Front<L = L>>(
     alloc: Global,
     board: &mut Board<L>,
@@ -324,11 +350,13 @@ fn take<L: Link + Send, F: Front<L = L>>(
     link: L,
 ) -> Result<(), BoardFault>
     requires passes { board.old.book.passes ≡ 2 }
+    requires free { row_of 0 board.old.book.history ≡ None }
     requires serving { board.old.book.state.going ≡ Serving }
     requires acceptable { is_some (acceptable board.old.book.state) ≡ true }
     requires arrival { IsArrival board.old.book.state.accepted (L.told link) }
     requires healthy { (L.counts link).faults ≡ 0 }
     ensures keeps { Keeps board.old.book board.new.book }
+    ensures acts { Acts 0 None board.old.book board.new.book }
     ensures going { OnOk result (board.new.book.state.going ≡ Serving) }
     ensures taken { OnOk result (board.new.book.state.accepted ≡ next_count board.old.book.state.accepted) }
     ensures step { IsInStep (F.told front.old) board.new.book.state → IsInStep (F.told front.new) board.new.book.state }
@@ -361,9 +389,11 @@ fn take<L: Link + Send, F: Front<L = L>>(
 /// Takes a connection into a slot, for the child that takes one. Where it is refused nothing changes.
 fn accept<L: Link>(board: &mut Board<L>) -> Result<Taken, BoardFault>
     requires passes { board.old.book.passes ≡ 2 }
+    requires free { row_of 0 board.old.book.history ≡ None }
     requires serving { board.old.book.state.going ≡ Serving }
     requires acceptable { is_some (acceptable board.old.book.state) ≡ true }
     ensures base { board.new.book.base ≡ board.old.book.base }
+    ensures acts { IfOk result (λ taken. Acts 0 (Some taken.name) board.old.book board.new.book) }
     ensures passes { board.new.book.passes ≡ board.old.book.passes }
     ensures hand { OnOk result (in_hand_count board.new.book.state ≤ in_hand_count board.old.book.state + 1) }
     ensures refused { OnErr result (board.new ≡ board.old) }
@@ -389,10 +419,13 @@ fn accept<L: Link>(board: &mut Board<L>) -> Result<Taken, BoardFault>
 }
 
 /// Serves each connection that is signalled and that a worker of its child is free for.
+#[tactic(auto, using(crate::proofs::PassLemmas::acts_none))]
 fn serve_all<L: Link>(board: &mut Board<L>) -> Result<(), BoardFault>
     requires passes { board.old.book.passes ≡ 2 }
+    requires free { row_of 1 board.old.book.history ≡ None }
     requires serving { board.old.book.state.going ≡ Serving }
     ensures goes { StaysUnlessFull board.old.book board.new.book }
+    ensures acts { Acts 1 None board.old.book board.new.book }
     ensures err { IfErr result (λ fault. MustStop fault board.new.book) }
     ensures served { OnOk result (NoneDue board.new.book.state) }
     ensures tells { (clients : List (List ℕ)) → AllTell clients board.old → AllTell clients board.new }
@@ -404,10 +437,13 @@ fn serve_all<L: Link>(board: &mut Board<L>) -> Result<(), BoardFault>
 }
 
 /// Stops the server for the fault, unless it was stopped. Takes no memory.
+#[tactic(auto, using(crate::proofs::PassLemmas::acts_none))]
 fn stop<L: Link>(board: &mut Board<L>, fault: BoardFault)
     requires passes { board.old.book.passes ≡ 2 }
+    requires free { row_of 0 board.old.book.history ≡ None }
     requires must { MustStop fault board.old.book }
     ensures keeps { Keeps board.old.book board.new.book }
+    ensures acts { Acts 0 None board.old.book board.new.book }
     ensures stopped { (board.new.book.state.going ≡ Halted why.Full) ⊎ (board.new.book.state.going ≡ Halted why.NoMemory) }
     ensures tells { (clients : List (List ℕ)) → AllTell clients board.old → AllTell clients board.new }
 {
@@ -422,10 +458,13 @@ fn stop<L: Link>(board: &mut Board<L>, fault: BoardFault)
 }
 
 /// Closes each connection that waits; none is live then where none was in hand. Takes no memory.
+#[tactic(auto, using(crate::proofs::PassLemmas::acts_none))]
 fn close_all<L: Link>(board: &mut Board<L>)
     requires passes { board.old.book.passes ≡ 2 }
+    requires free { row_of 0 board.old.book.history ≡ None }
     requires halted { is_halted board.old.book.state.going ≡ true }
     ensures stays { Stays board.old.book board.new.book }
+    ensures acts { Acts 0 None board.old.book board.new.book }
     ensures none { NoneParked board.new.book.state }
     ensures live { in_hand_count board.old.book.state ≡ 0 → HasNoLive board.new.book.state }
     ensures tells { (clients : List (List ℕ)) → AllTell clients board.old → AllTell clients board.new }
@@ -438,10 +477,13 @@ fn close_all<L: Link>(board: &mut Board<L>)
 }
 
 /// Lets go of each child that may be let go of: of each one where no connection is live. Takes no memory.
+#[tactic(auto, using(crate::proofs::PassLemmas::acts_none))]
 fn retire_all<L: Link>(board: &mut Board<L>)
     requires passes { board.old.book.passes ≡ 2 }
+    requires free { row_of 0 board.old.book.history ≡ None }
     requires halted { is_halted board.old.book.state.going ≡ true }
     ensures stays { Stays board.old.book board.new.book }
+    ensures acts { Acts 0 None board.old.book board.new.book }
     ensures down { HasNoLive board.old.book.state → IsClosedDown board.new.book.state }
     ensures tells { (clients : List (List ℕ)) → AllTell clients board.old → AllTell clients board.new }
 {

@@ -1,5 +1,6 @@
 //! The service of a connection by a worker, from its queue to a park or a close.
-ghost use Rattle.std.specs.Prelude.{◌≡◌, ◌<◌, ◌≤◌, ℕ, List, true, false, IfSome, IfNone, IfErr, OnOk, OnErr};
+ghost use Rattle.std.specs.Prelude.{◌≡◌, ◌<◌, ◌≤◌, ℕ, List, true, false, None, Some, IfSome, IfNone, IfErr, OnOk, OnErr};
+ghost use Rattle.conn_machine.specs.Runs.{row_of};
 ghost use Rattle.conn_machine.specs.States.{is_halted};
 ghost use Rattle.conn_machine.specs.Table.{is_allowed};
 ghost use Rattle.conn_machine.specs.declared.event.Event.TheVariants as event;
@@ -8,7 +9,7 @@ ghost use Rattle.board.specs.Book.{book_with_entry};
 ghost use Rattle.board.specs.Faults.{IsRefusedFor};
 ghost use Rattle.board.specs.Fits.{IsSettled};
 ghost use Rattle.conn_state.specs.declared.turn.LastTurn.TheVariants as turn;
-ghost use Rattle.mpm_run.specs.ServeInside.{StaysUnlessFull, IsClosable, IsInHand, IsServed, LeavesGoing, MayLeave, OthersStay, Stays, answers_left, after_give_up, in_hand_count, parked_count, signalled_count};
+ghost use Rattle.mpm_run.specs.ServeInside.{Acts, StaysUnlessFull, IsClosable, IsInHand, IsServed, LeavesGoing, MayLeave, Stays, answers_left, after_give_up, in_hand_count, parked_count, signalled_count};
 ghost use Rattle.mpm_run.specs.TellsInside.{AllTell, HasSame, TellsFrom};
 
 use board::{Board, BoardFault};
@@ -28,29 +29,33 @@ pub enum Exit {
 }
 
 /// Serves a signalled connection, as the pass `who`. Where its queueing is refused nothing changes.
+#[tactic(auto, using(crate::proofs::PassLemmas::acts_none))]
 pub fn serve<L: Link>(board: &mut Board<L>, who: u32, name: ConnName) -> Result<(), BoardFault>
     requires who { who < board.old.book.passes }
+    requires free { row_of who board.old.book.history ≡ None }
     requires allowed { is_halted board.old.book.state.going ≡ false → is_allowed board.old.book.state (event.Queue name) ≡ true }
     ensures goes { StaysUnlessFull board.old.book board.new.book }
-    ensures others { OthersStay who board.old.book board.new.book }
+    ensures acts { Acts who None board.old.book board.new.book }
     ensures fewer { OnOk result (signalled_count board.new.book.state < signalled_count board.old.book.state) }
     ensures tells { (clients : List (List ℕ)) → AllTell clients board.old → AllTell clients board.new }
     ensures why { IfErr result (λ fault. IsRefusedFor fault board.old.book) }
     ensures err { OnErr result (board.new ≡ board.old) }
 {
-    board.queue(who, name)?;
-    let (_, mut conn) = board.start(who, name);
+    let mut conn = board.queue(who, name)?;
+    let _ = board.start(who, name);
     let exit = converse(board, who, &mut conn);
     leave(board, who, conn, exit);
     Ok(())
 }
 
 /// Takes turns with the client, until the connection is to be left.
+#[tactic(auto, using(crate::proofs::PassLemmas::acts_none, crate::proofs::PassLemmas::acts_more))]
 fn converse<L: Link>(board: &mut Board<L>, who: u32, conn: &mut Conn<L>) -> Exit
     requires who { who < board.old.book.passes }
+    requires row { row_of who board.old.book.history ≡ Some conn.old.name }
     requires served { IsServed board.old.book.state conn.old }
     ensures stays { Stays board.old.book board.new.book }
-    ensures others { OthersStay who board.old.book board.new.book }
+    ensures acts { Acts who (Some conn.new.name) board.old.book board.new.book }
     ensures same { HasSame board.old board.new }
     ensures told { (clients : List (List ℕ)) → TellsFrom clients conn.old.told → TellsFrom clients conn.new.told }
     ensures may { MayLeave board.new.book conn.new result }
@@ -66,11 +71,13 @@ fn converse<L: Link>(board: &mut Board<L>, who: u32, conn: &mut Conn<L>) -> Exit
 ///
 /// Lingering closes are not built yet: once a last response was sent the connection ends for want of memory, the one
 /// cause that needs no other.
+#[tactic(auto, using(crate::proofs::PassLemmas::acts_none))]
 fn serve_turn<L: Link>(board: &mut Board<L>, who: u32, conn: &mut Conn<L>) -> Option<Exit>
     requires who { who < board.old.book.passes }
+    requires row { row_of who board.old.book.history ≡ Some conn.old.name }
     requires served { IsServed board.old.book.state conn.old }
     ensures stays { Stays board.old.book board.new.book }
-    ensures others { OthersStay who board.old.book board.new.book }
+    ensures acts { Acts who (Some conn.new.name) board.old.book board.new.book }
     ensures same { HasSame board.old board.new }
     ensures told { (clients : List (List ℕ)) → TellsFrom clients conn.old.told → TellsFrom clients conn.new.told }
     ensures may { IfSome result (MayLeave board.new.book conn.new) }
@@ -97,12 +104,14 @@ fn serve_turn<L: Link>(board: &mut Board<L>, who: u32, conn: &mut Conn<L>) -> Op
 }
 
 /// Decides the response to what was asked, and makes it pending. None where it is to be sent.
+#[tactic(auto, using(crate::proofs::PassLemmas::acts_none))]
 fn answer<L: Link>(board: &mut Board<L>, who: u32, conn: &mut Conn<L>, ask: Ask) -> Option<Exit>
     requires who { who < board.old.book.passes }
+    requires row { row_of who board.old.book.history ≡ Some conn.old.name }
     requires served { IsServed board.old.book.state conn.old }
     requires asked { conn.old.turn ≡ turn.Asked ask }
     ensures stays { Stays board.old.book board.new.book }
-    ensures others { OthersStay who board.old.book board.new.book }
+    ensures acts { Acts who (Some conn.new.name) board.old.book board.new.book }
     ensures same { HasSame board.old board.new }
     ensures told { conn.new.told ≡ conn.old.told }
     ensures may { IfSome result (MayLeave board.new.book conn.new) }
@@ -123,10 +132,11 @@ fn answer<L: Link>(board: &mut Board<L>, who: u32, conn: &mut Conn<L>, ask: Ask)
 /// Parks, closes or gives up the connection.
 fn leave<L: Link>(board: &mut Board<L>, who: u32, conn: Conn<L>, exit: Exit)
     requires who { who < board.old.book.passes }
+    requires row { row_of who board.old.book.history ≡ Some conn.name }
     requires may { MayLeave board.old.book conn exit }
     ensures goes { StaysUnlessFull board.old.book board.new.book }
     ensures hand { in_hand_count board.new.book.state < in_hand_count board.old.book.state }
-    ensures others { OthersStay who board.old.book board.new.book }
+    ensures acts { Acts who None board.old.book board.new.book }
     ensures tells { (clients : List (List ℕ)) → AllTell clients board.old → TellsFrom clients conn.told → AllTell clients board.new }
 {
     board.show();
@@ -148,12 +158,13 @@ pub fn park<L: Link>(
     kind: Kind,
 ) -> Result<(), BoardFault>
     requires who { who < board.old.book.passes }
+    requires row { row_of who board.old.book.history ≡ Some conn.name }
     requires allowed { is_halted board.old.book.state.going ≡ false → is_allowed board.old.book.state (event.Park conn.name kind) ≡ true }
     requires hand { IsInHand board.old.book.state conn }
     requires settled { IsSettled kind conn }
     ensures goes { StaysUnlessFull board.old.book board.new.book }
     ensures hand { in_hand_count board.new.book.state < in_hand_count board.old.book.state }
-    ensures others { OthersStay who board.old.book board.new.book }
+    ensures acts { Acts who None board.old.book board.new.book }
     ensures ok { OnOk result (board.new.book.state.going ≡ board.old.book.state.going) }
     ensures parked { OnOk result (board.new.book ≡ book_with_entry who (event.Park conn.name kind) board.old.book) }
     ensures moment { board.new.book.state.moment ≡ board.old.book.state.moment }
@@ -173,12 +184,13 @@ pub fn park<L: Link>(
 /// the server. Takes no memory.
 pub fn give_up<L: Link>(board: &mut Board<L>, who: u32, conn: Conn<L>, fault: BoardFault)
     requires who { who < board.old.book.passes }
+    requires row { row_of who board.old.book.history ≡ Some conn.name }
     requires hand { IsInHand board.old.book.state conn }
     requires why { IsRefusedFor fault board.old.book }
     ensures is { board.new.book ≡ after_give_up fault who conn.name board.old.book }
     ensures goes { StaysUnlessFull board.old.book board.new.book }
     ensures hand { in_hand_count board.new.book.state < in_hand_count board.old.book.state }
-    ensures others { OthersStay who board.old.book board.new.book }
+    ensures acts { Acts who None board.old.book board.new.book }
     ensures going { LeavesGoing fault board.old.book.state.going board.new.book.state.going }
     ensures tells { (clients : List (List ℕ)) → AllTell clients board.old → TellsFrom clients conn.told → AllTell clients board.new }
 {
@@ -195,11 +207,12 @@ pub fn give_up<L: Link>(board: &mut Board<L>, who: u32, conn: Conn<L>, fault: Bo
 /// Closes the connection. Takes no memory.
 pub fn close<L: Link>(board: &mut Board<L>, who: u32, conn: Conn<L>, cause: Cause)
     requires who { who < board.old.book.passes }
+    requires row { row_of who board.old.book.history ≡ Some conn.name }
     requires may { IsClosable board.old.book.state cause conn }
     ensures closed { board.new.book ≡ book_with_entry who (event.Close conn.name cause Direct) board.old.book }
     ensures stays { Stays board.old.book board.new.book }
     ensures hand { in_hand_count board.new.book.state < in_hand_count board.old.book.state }
-    ensures others { OthersStay who board.old.book board.new.book }
+    ensures acts { Acts who None board.old.book board.new.book }
     ensures parked { parked_count board.new.book.state ≤ parked_count board.old.book.state }
     ensures tells { (clients : List (List ℕ)) → AllTell clients board.old → TellsFrom clients conn.told → AllTell clients board.new }
 {

@@ -1,7 +1,8 @@
 //! Lives of connections, from their arrival to their close.
-ghost use Rattle.std.specs.Prelude.{◌≡◌, ◌<◌, true, false, []};
+ghost use Rattle.std.specs.Prelude.{◌≡◌, ◌<◌, true, false, None, Some, []};
 ghost use Rattle.mpm_base.specs.Notes.{says_last};
 ghost use Rattle.conn_state.specs.Conn.{is_usable};
+ghost use Rattle.conn_machine.specs.Runs.{row_of};
 ghost use Rattle.board.specs.Fits.{IsOf};
 
 use crate::board::Board;
@@ -20,11 +21,13 @@ use std::test::Fail;
 /// The connection waits for a further request, of which nothing is there yet.
 fn keeps(rt: &impl Abort, board: &mut Board<ScriptLink>, mut conn: Conn<ScriptLink>)
     requires who { 0 < board.old.book.passes }
+    requires row { row_of 0 board.old.book.history ≡ Some conn.name }
     requires fits { IsOf board.old.book.state conn }
     requires usable { is_usable conn.turn ≡ true }
     requires sent { conn.pending ≡ [] }
     requires not_last { says_last conn.notes ≡ false }
-    ensures { board.new.book.passes ≡ board.old.book.passes }
+    ensures passes { board.new.book.passes ≡ board.old.book.passes }
+    ensures free { row_of 0 board.new.book.history ≡ None }
 {
     reads(rt, board, &mut conn, ReadTurn::More);
     assert!(rt; conn.rest_empty());

@@ -27,3 +27,7 @@ returns-in-Ok-clause-held g c =
     (accept-allowed 0 t.name.slot c.args.board.now.book c.accept.new.self.book c.show.ensures.state c.show-in-Ok.ensures.history
     (ap (λ (b : SeenBoard). b.book) c.in-Ok.ensures.ok.new_is))
     (ap (λ (b : SeenBoard). b.book.state) c.in-Ok.ensures.ok.new_is) c.in-Ok.ensures.taken
+
+pub returns-in-Ok-clause-acts : goal.returns-in-Ok-clause-acts
+returns-in-Ok-clause-acts g c =
+    record { base = ap (λ (b : SeenBoard). b.book.base) c.in-Ok.ensures.ok.new_is; entries = c.accept.ensures.entries; row = c.in-Ok.ensures.row }

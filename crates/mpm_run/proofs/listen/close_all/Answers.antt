@@ -1,7 +1,9 @@
-use Rattle.std.proofs.Common.{ap, ◌∙◌, arith}
+use Rattle.std.proofs.Common.{ap, ◌∙◌, arith, Some, sym, None}
 use Rattle.conn_machine.specs.States.{is_halted}
+use Rattle.mpm_base.specs.declared.conn.ConnName.{ConnName}
 use Rattle.board.specs.Board.{SeenBoard}
-use Rattle.mpm_run.proofs.ListenLemmas.{stays-closed, fewer-parked, closes-held, none-left, tell-held}
+use Rattle.mpm_run.proofs.ListenLemmas.{stays-closed, fewer-parked, closes-held, none-left, tell-held, stays-same}
+use Rattle.mpm_run.proofs.PassLemmas.{acts_more, acts_none}
 use Rattle.mpm_run.proofs.listen.close_all.Goals as goal
 
 pub close-requires-clause-may : goal.close-requires-clause-may
@@ -22,6 +24,15 @@ loop-name-smaller g c =
 pub loop-name-preserved : goal.loop-name-preserved
 loop-name-preserved g c =
     record {
+      acts =
+          acts_more 0 _ _ c.args.board.now.book c.loop-name.board.book c.close.new.board.book c.loop-name.invariant.acts
+          (acts_more 0 _ _ c.loop-name.board.book c.hold-conn.new.self.book c.close.new.board.book
+          (record {
+            base = ap (λ (b : SeenBoard). b.book.base) c.hold-conn.ensures.is;
+            entries = c.hold-conn.ensures.entries;
+            row = c.hold-conn.ensures.row;
+          })
+          c.close.ensures.acts);
       stays =
           stays-closed 0 c.in-Some.name c.args.board.now.book c.loop-name.board c.hold-conn.new.self c.close.new.board.book _
           c.loop-name.invariant.stays c.hold-conn.ensures.is c.close.ensures.stays c.close.ensures.hand;
@@ -38,3 +49,14 @@ returns-clause-none g c = c.in_default.ensures
 pub returns-clause-live : goal.returns-clause-live
 returns-clause-live g c hand =
     none-left c.args.board.now.book.state c.loop-name.board.book.state hand c.loop-name.invariant.stays.hand c.in_default.ensures
+
+pub close-requires-clause-row : goal.close-requires-clause-row
+close-requires-clause-row g c = c.hold-conn.ensures.row ∙ ap (λ (n : ConnName). Some n) (sym c.hold-conn.ensures.name)
+
+pub loop-name-init : goal.loop-name-init
+loop-name-init g c =
+    record {
+      acts = acts_none 0 None c.args.board.now.book c.requires.free;
+      stays = stays-same c.args.board.now.book;
+      tells = λ clients tells. tells;
+    }

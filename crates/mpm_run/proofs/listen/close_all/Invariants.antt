@@ -1,5 +1,5 @@
-use Rattle.std.proofs.Common.{List, ℕ}
-use Rattle.mpm_run.specs.ServeInside.{Stays, parked_count}
+use Rattle.std.proofs.Common.{List, ℕ, None}
+use Rattle.mpm_run.specs.ServeInside.{Acts, Stays, parked_count}
 use Rattle.mpm_run.specs.TellsInside.{AllTell}
 use Rattle.mpm_run.proofs.listen.close_all.Given as goal
 
@@ -7,6 +7,7 @@ use Rattle.mpm_run.proofs.listen.close_all.Given as goal
 abbrev pub invariant-loop-name : goal.invariant-loop-name
 invariant-loop-name g l =
     record {
+      acts : Acts 0 None l.fn.board.book l.board.book;
       stays : Stays l.fn.board.book l.board.book;
       tells : (clients : List (List ℕ)) → AllTell clients l.fn.board → AllTell clients l.board;
     }

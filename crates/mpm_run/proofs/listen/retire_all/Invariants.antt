@@ -1,6 +1,6 @@
-use Rattle.std.proofs.Common.{◌≡◌, List, ℕ, count_by}
+use Rattle.std.proofs.Common.{◌≡◌, List, ℕ, count_by, None}
 use Rattle.conn_machine.specs.Children.{is_stopping}
-use Rattle.mpm_run.specs.ServeInside.{Stays}
+use Rattle.mpm_run.specs.ServeInside.{Acts, Stays}
 use Rattle.mpm_run.specs.TellsInside.{AllTell}
 use Rattle.mpm_run.proofs.listen.retire_all.Given as goal
 
@@ -8,6 +8,7 @@ use Rattle.mpm_run.proofs.listen.retire_all.Given as goal
 abbrev pub invariant-loop-child : goal.invariant-loop-child
 invariant-loop-child g l =
     record {
+      acts : Acts 0 None l.fn.board.book l.board.book;
       stays : Stays l.fn.board.book l.board.book;
       rows : l.board.book.state.rows ≡ l.fn.board.book.state.rows;
       tells : (clients : List (List ℕ)) → AllTell clients l.fn.board → AllTell clients l.board;

@@ -1,6 +1,7 @@
-use Rattle.std.proofs.Common.{◌≡◌, ◌<◌, List, ℕ, length, true, slice_index}
+use Rattle.std.proofs.Common.{◌≡◌, ◌<◌, List, ℕ, length, true, slice_index, None}
 use Rattle.conn_machine.specs.declared.state.Going.TheVariants.{Serving}
 use Rattle.conn_machine.specs.States.{is_signalled}
+use Rattle.mpm_run.specs.ServeInside.{Acts}
 use Rattle.mpm_run.specs.ListenInside.{Keeps}
 use Rattle.mpm_run.specs.TellsInside.{AllTell}
 use Rattle.mpm_run.proofs.listen.signal_all.Given as goal
@@ -9,6 +10,7 @@ use Rattle.mpm_run.proofs.listen.signal_all.Given as goal
 abbrev pub invariant-loop-slot : goal.invariant-loop-slot
 invariant-loop-slot g l =
     record {
+      acts : Acts 0 None l.fn.board.book l.board.book;
       keeps : Keeps l.fn.board.book l.board.book;
       going : l.board.book.state.going ≡ Serving;
       taken : l.board.book.state.accepted ≡ l.fn.board.book.state.accepted;

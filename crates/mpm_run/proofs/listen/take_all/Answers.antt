@@ -1,14 +1,16 @@
-use Rattle.std.proofs.Common.{subst, sym, ◌∙◌, arith}
+use Rattle.std.proofs.Common.{subst, sym, ◌∙◌, arith, None, refl}
 use Rattle.mpm_base.specs.Count.{NeverFalls}
 use Rattle.mpm_base.specs.Front.{FrontCounts}
-use Rattle.mpm_run.proofs.ListenLemmas.{keeps-trans}
+use Rattle.mpm_run.proofs.ListenLemmas.{keeps-trans, keeps-same}
 use Rattle.mpm_run.proofs.StepLemmas.{took-none}
-use Rattle.mpm_run.proofs.FrontLemmas.{rises-where, follows-trans, follows-accept, step-taken, step-none, tells-next, waits-accept}
+use Rattle.mpm_run.proofs.FrontLemmas.{rises-where, follows-same, follows-trans, follows-accept, step-taken, step-none, tells-next, waits-accept}
+use Rattle.mpm_run.proofs.PassLemmas.{acts_more, acts_none}
 use Rattle.mpm_run.proofs.listen.take_all.Goals as goal
 
 pub loop-preserved : goal.loop-preserved
 loop-preserved g c =
     record {
+      acts = acts_more 0 _ _ c.args.board.now.book c.loop.board.book c.take.new.board.book c.loop.invariant.acts c.take.ensures.acts;
       keeps = keeps-trans c.args.board.now.book c.loop.board.book c.take.new.board.book c.loop.invariant.keeps c.take.ensures.keeps;
       going = c.in_ok-take-in-Some-accept.ensures.going;
       step =
@@ -41,6 +43,7 @@ returns-in_err-take-in-Some-accept-clause-tells g c clients links has tells =
 pub returns-in-None-accept : goal.returns-in-None-accept
 returns-in-None-accept g c =
     record {
+      acts = c.loop.invariant.acts;
       keeps = c.loop.invariant.keeps;
       going = c.loop.invariant.going;
       step =
@@ -61,3 +64,21 @@ returns-in-None-accept g c =
 pub returns-in_err-take-in-Some-accept-clause-waits : goal.returns-in_err-take-in-Some-accept-clause-waits
 returns-in_err-take-in-Some-accept-clause-waits g c =
     c.take.ensures.waits ∙ waits-accept _ _ _ c.accept.ensures.accepts.told_is ∙ c.loop.invariant.waits
+
+pub returns-in_err-take-in-Some-accept-clause-acts : goal.returns-in_err-take-in-Some-accept-clause-acts
+returns-in_err-take-in-Some-accept-clause-acts g c =
+    acts_more 0 _ _ c.args.board.now.book c.loop.board.book c.take.new.board.book c.loop.invariant.acts c.take.ensures.acts
+
+pub loop-init : goal.loop-init
+loop-init g c =
+    record {
+      acts = acts_none 0 None c.args.board.now.book c.requires.free;
+      keeps = keeps-same c.args.board.now.book;
+      going = c.requires.serving;
+      step = c.requires.step;
+      follows = follows-same _;
+      waits = refl;
+      accept_faults = omega arith;
+      moment = refl;
+      tells = λ clients links has tells. tells;
+    }

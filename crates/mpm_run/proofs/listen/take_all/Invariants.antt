@@ -1,6 +1,7 @@
-use Rattle.std.proofs.Common.{◌≡◌, List, ℕ}
+use Rattle.std.proofs.Common.{◌≡◌, List, ℕ, None}
 use Rattle.conn_machine.specs.declared.state.Going.TheVariants.{Serving}
 use Rattle.mpm_base.specs.Count.{NeverFalls}
+use Rattle.mpm_run.specs.ServeInside.{Acts}
 use Rattle.mpm_run.specs.ListenInside.{Follows, HasClients, IsInStep, Keeps, LinksTell, outside}
 use Rattle.mpm_run.specs.ListenInside.{waits_of}
 use Rattle.mpm_run.specs.TellsInside.{AllTell}
@@ -10,6 +11,7 @@ use Rattle.mpm_run.proofs.listen.take_all.Given as goal
 abbrev pub invariant-loop : goal.invariant-loop
 invariant-loop g l =
     record {
+      acts : Acts 0 None l.fn.board.book l.board.book;
       keeps : Keeps l.fn.board.book l.board.book;
       going : l.board.book.state.going ≡ Serving;
       step : IsInStep (g.F.Front.told l.front) l.board.book.state;

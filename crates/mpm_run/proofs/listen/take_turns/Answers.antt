@@ -1,9 +1,10 @@
-use Rattle.std.proofs.Common.{ap, sym, ◌∙◌}
+use Rattle.std.proofs.Common.{ap, sym, ◌∙◌, ◌≡◌, None}
 use Rattle.mpm_base.specs.Front.{moments_in}
 use Rattle.conn_machine.specs.States.{is_halted}
 use Rattle.mpm_run.proofs.ListenLemmas.{keeps-trans, stays-keeps}
 use Rattle.mpm_run.proofs.FrontLemmas.{follows-same, follows-trans, follows-wait, step-kept, time-kept, time-unasked, time-wait}
 use Rattle.mpm_run.proofs.StepLemmas.{still-serving}
+use Rattle.mpm_run.proofs.PassLemmas.{acts_other}
 use Rattle.mpm_run.proofs.listen.take_turns.Goals as goal
 
 pub returns-in_err-start_children-clause-tells : goal.returns-in_err-start_children-clause-tells
@@ -12,6 +13,10 @@ returns-in_err-start_children-clause-tells g c clients links has tells = c.start
 pub loop-init : goal.loop-init
 loop-init g c =
     record {
+      listener = c.start_children.ensures.acts.row;
+      server =
+          acts_other 0 1 None None c.args.board.now.book c.start_children.new.board.book c.start_children.ensures.acts (λ (same : 1 ≡ 0). cc)
+          c.requires.server;
       keeps = stays-keeps c.args.board.now.book c.start_children.new.board.book c.start_children.ensures.stays;
       going = c.start_children.ensures.stays.going ∙ c.requires.serving;
       step =
@@ -60,6 +65,10 @@ loop-preserved g c =
     let waited = follows-wait _ _ _ _ _ _ _ _ c.wait-woke.ensures.script c.wait-woke.ensures.waits in
     let goes = c.serve_all.ensures.goes in
     record {
+      listener =
+          acts_other 1 0 None None c.take_in.new.board.book c.serve_all.new.board.book c.serve_all.ensures.acts (λ (same : 0 ≡ 1). cc)
+          c.take_in.ensures.acts.row;
+      server = c.serve_all.ensures.acts.row;
       keeps =
           keeps-trans c.args.board.now.book c.loop.board.book c.serve_all.new.board.book c.loop.invariant.keeps
           (keeps-trans c.loop.board.book c.take_in.new.board.book c.serve_all.new.board.book c.take_in.ensures.keeps
@@ -101,3 +110,22 @@ returns-in-Ended-clause-time g c time =
 pub returns-in-Failed-clause-time : goal.returns-in-Failed-clause-time
 returns-in-Failed-clause-time g c time =
     time-unasked _ _ _ _ (g.C.Clock.told c.loop.clock) c.wait-woke.ensures.waits.tells (ap moments_in c.in-Failed.is) (c.loop.invariant.time time)
+
+pub serve_all-requires-clause-free : goal.serve_all-requires-clause-free
+serve_all-requires-clause-free g c =
+    acts_other 0 1 None None c.loop.board.book c.take_in.new.board.book c.take_in.ensures.acts (λ (same : 1 ≡ 0). cc) c.loop.invariant.server
+
+pub returns-in_err-serve_all-clause-free : goal.returns-in_err-serve_all-clause-free
+returns-in_err-serve_all-clause-free g c =
+    acts_other 1 0 None None c.take_in.new.board.book c.serve_all.new.board.book c.serve_all.ensures.acts (λ (same : 0 ≡ 1). cc)
+    c.take_in.ensures.acts.row
+
+pub returns-then-is_halted-clause-free : goal.returns-then-is_halted-clause-free
+returns-then-is_halted-clause-free g c =
+    acts_other 1 0 None None c.take_in.new.board.book c.serve_all.new.board.book c.serve_all.ensures.acts (λ (same : 0 ≡ 1). cc)
+    c.take_in.ensures.acts.row
+
+pub returns-in_err-serve_all-clause-follows : goal.returns-in_err-serve_all-clause-follows
+returns-in_err-serve_all-clause-follows g c =
+    let waited = follows-wait _ _ _ _ _ _ _ _ c.wait-woke.ensures.script c.wait-woke.ensures.waits in
+    follows-trans _ _ _ c.loop.invariant.follows (follows-trans _ _ _ waited c.take_in.ensures.follows)

@@ -1,14 +1,17 @@
-use Rattle.std.proofs.Common.{◌≡◌, List, ℕ}
+use Rattle.std.proofs.Common.{◌≡◌, List, ℕ, None}
 use Rattle.conn_machine.specs.declared.state.Going.TheVariants.{Serving}
+use Rattle.conn_machine.specs.Runs.{row_of}
 use Rattle.mpm_run.specs.ListenInside.{Follows, HasClients, IsInStep, Keeps, LinksTell, outside}
 use Rattle.mpm_run.specs.ListenInside.{IsInTime, waits_of}
 use Rattle.mpm_run.specs.TellsInside.{AllTell}
 use Rattle.mpm_run.proofs.listen.take_turns.Given as goal
 
--- the server takes connections, and is in step with the front
+-- the server takes connections, and is in step with the front; between two turns no pass has a connection
 abbrev pub invariant-loop : goal.invariant-loop
 invariant-loop g l =
     record {
+      listener : row_of 0 l.board.book.history ≡ None;
+      server : row_of 1 l.board.book.history ≡ None;
       keeps : Keeps l.fn.board.book l.board.book;
       going : l.board.book.state.going ≡ Serving;
       step : IsInStep (g.F.Front.told l.front) l.board.book.state;

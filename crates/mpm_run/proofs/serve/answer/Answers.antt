@@ -1,4 +1,6 @@
-use Rattle.std.proofs.Common.{ap}
+use Rattle.std.proofs.Common.{Some, ap, sym, ◌∙◌}
+use Rattle.mpm_base.specs.declared.conn.ConnName.{ConnName}
+use Rattle.conn_state.specs.Conn.{SeenConn}
 use Rattle.board.specs.Board.{SeenBoard}
 use Rattle.mpm_run.proofs.AnswerLemmas.{asked-open, may-answer, answered-stays, served-answered, closes-unanswered, fewer-answered}
 use Rattle.mpm_run.proofs.serve.answer.Goals as goal
@@ -33,3 +35,24 @@ pub returns-in-Err-answer-clause-may : goal.returns-in-Err-answer-clause-may
 returns-in-Err-answer-clause-may g c =
     closes-unanswered c.args.board.now.book.state c.answer.new.self.book.state c.args.conn.now _ c.name.result c.args.ask c.in-Ok.note c.show.ensures.sound
     c.requires.served c.name.ensures c.in-Ok.ensures.note (ap (λ (b : SeenBoard). b.book.state) c.in-Ok.ensures.ok.new_is) c.in-Err-answer.ensures.err
+
+pub answer-requires-clause-row : goal.answer-requires-clause-row
+answer-requires-clause-row g c = c.requires.row ∙ ap (λ (n : ConnName). Some n) (sym c.name.ensures)
+
+pub returns-in-Ok-answer-clause-acts : goal.returns-in-Ok-answer-clause-acts
+returns-in-Ok-answer-clause-acts g c =
+    record {
+      base = ap (λ (b : SeenBoard). b.book.base) c.in-Ok.ensures.ok.new_is;
+      entries = c.answer.ensures.entries;
+      row = c.answer.ensures.row
+          ∙ ap (λ (n : ConnName). Some n) (c.name.ensures ∙ sym (ap (λ (x : SeenConn). x.name) c.in-Ok-answer.ensures.ok.new_is));
+    }
+
+pub returns-in-Err-answer-clause-acts : goal.returns-in-Err-answer-clause-acts
+returns-in-Err-answer-clause-acts g c =
+    record {
+      base = ap (λ (b : SeenBoard). b.book.base) c.in-Ok.ensures.ok.new_is;
+      entries = c.answer.ensures.entries;
+      row = c.answer.ensures.row
+          ∙ ap (λ (n : ConnName). Some n) (c.name.ensures ∙ sym (ap (λ (x : SeenConn). x.name) c.in-Err-answer.ensures.err));
+    }

@@ -1,5 +1,5 @@
-use Rattle.std.proofs.Common.{List, ℕ}
-use Rattle.mpm_run.specs.ServeInside.{IsServed, OthersStay, Stays, answers_left}
+use Rattle.std.proofs.Common.{List, ℕ, Some}
+use Rattle.mpm_run.specs.ServeInside.{Acts, IsServed, Stays, answers_left}
 use Rattle.mpm_run.specs.TellsInside.{HasSame, TellsFrom}
 use Rattle.mpm_run.proofs.serve.converse.Given as goal
 
@@ -9,7 +9,7 @@ invariant-loop-exit g l =
     record {
       served : IsServed l.board.book.state l.conn;
       stays : Stays l.fn.board.book l.board.book;
-      others : OthersStay l.fn.who l.fn.board.book l.board.book;
+      acts : Acts l.fn.who (Some l.conn.name) l.fn.board.book l.board.book;
       same : HasSame l.fn.board l.board;
       told : (clients : List (List ℕ)) → TellsFrom clients l.fn.conn.told → TellsFrom clients l.conn.told;
     }

@@ -5,6 +5,7 @@ use Rattle.std.proofs.lemmas.List.{nil_from_length}
 use Rattle.std.proofs.lemmas.Bool.{eqb-true}
 use Rattle.std.proofs.lemmas.Bool.Decides.{nat_tests}
 use Rattle.mpm_run.proofs.ServeLemmas.{served-written, served-read, closes-failed_write, closes-sent, closes-done, closes-failed_read, closes-unread}
+use Rattle.mpm_run.proofs.PassLemmas.{acts_named}
 use Rattle.mpm_run.proofs.serve.serve_turn.Goals as goal
 
 pub returns-in-LinkFailed-clause-may : goal.returns-in-LinkFailed-clause-may
@@ -38,3 +39,27 @@ pub returns-in-NoMemory-clause-may : goal.returns-in-NoMemory-clause-may
 returns-in-NoMemory-clause-may g c =
     let served = served-written c.args.board.now.book.state c.args.conn.now c.write_turn.new.self write.Done c.requires.served c.in-Done.ensures refl in
     closes-unread c.args.board.now.book.state c.write_turn.new.self _ c.show.ensures.sound served c.in-NoMemory.ensures.reads
+
+pub returns-in-LinkFailed-clause-acts : goal.returns-in-LinkFailed-clause-acts
+returns-in-LinkFailed-clause-acts g c =
+    acts_named c.args.who c.args.conn.now.name _ c.args.board.now.book c.requires.row c.in-LinkFailed.ensures.name
+
+pub returns-then-last-clause-acts : goal.returns-then-last-clause-acts
+returns-then-last-clause-acts g c =
+    acts_named c.args.who c.args.conn.now.name _ c.args.board.now.book c.requires.row c.in-Done.ensures.name
+
+pub returns-in-More-clause-acts : goal.returns-in-More-clause-acts
+returns-in-More-clause-acts g c =
+    acts_named c.args.who c.args.conn.now.name _ c.args.board.now.book c.requires.row (c.in-More.ensures.reads.name ∙ c.in-Done.ensures.name)
+
+pub returns-in-Gone-clause-acts : goal.returns-in-Gone-clause-acts
+returns-in-Gone-clause-acts g c =
+    acts_named c.args.who c.args.conn.now.name _ c.args.board.now.book c.requires.row (c.in-Gone.ensures.reads.name ∙ c.in-Done.ensures.name)
+
+pub returns-in-LinkFailed-read_turn-clause-acts : goal.returns-in-LinkFailed-read_turn-clause-acts
+returns-in-LinkFailed-read_turn-clause-acts g c =
+    acts_named c.args.who c.args.conn.now.name _ c.args.board.now.book c.requires.row (c.in-LinkFailed-read_turn.ensures.reads.name ∙ c.in-Done.ensures.name)
+
+pub returns-in-NoMemory-clause-acts : goal.returns-in-NoMemory-clause-acts
+returns-in-NoMemory-clause-acts g c =
+    acts_named c.args.who c.args.conn.now.name _ c.args.board.now.book c.requires.row (c.in-NoMemory.ensures.reads.name ∙ c.in-Done.ensures.name)

@@ -3,6 +3,7 @@ use Rattle.conn_machine.specs.declared.event.Event.TheVariants as event
 use Rattle.board.proofs.BoardLemmas.{there_of}
 use Rattle.board.proofs.ClosedLemmas.{board_on}
 use Rattle.board.proofs.EventLemmas.{accept-there}
+use Rattle.board.proofs.PassLemmas.{adds_inside}
 use Rattle.board.proofs.board.Board.accept.Goals as goal
 
 pub invariant_of-self-2 : goal.invariant_of-self-2
@@ -19,3 +20,6 @@ invariant_of-self-2 g c =
     (board_on inside.book conns conns ended room room' c.args.who (event.Accept slot) c.self.invariant (λ s. refl)
     (accept-there inside.book.state slot conns (length ended) room room' c.in_ok-slot.ensures.allowed
     (there_of inside.book conns ended room c.self.invariant) (omega (arith, space, slots))))
+
+pub returns-clause-entries : goal.returns-clause-entries
+returns-clause-entries g c = adds_inside c.args.who _ c.args.self.now _ c.self.view_is c.record.ensures.entries

@@ -10,6 +10,7 @@ use Rattle.board.proofs.BoardLemmas.{may_while, there_of}
 use Rattle.board.proofs.ClosedLemmas.{board_on}
 use Rattle.board.proofs.EventLemmas.{answer-there}
 use Rattle.board.proofs.HandLemmas.{answer-note}
+use Rattle.board.proofs.PassLemmas.{adds_inside, has_inside}
 use Rattle.board.proofs.board.Board.answer.Goals as goal
 
 pub invariant_of-self-2 : goal.invariant_of-self-2
@@ -38,3 +39,9 @@ returns-clause-note g c =
     ap (λ (s : State). s.moment) c.state.ensures ∙ ap (λ (b : SeenBook). b.state.moment) ok.new_is in
     subst (λ (v : SeenBoard). IsDecided v.book.state c.args.name c.args.ask c.note_of.result) c.self.view_is
     (rw c.note_of.ensures (answer-note inside.book.state c.args.name c.args.ask c.in-Noted.last c.state.result.now.moment may last moment))
+
+pub record-requires-clause-role : goal.record-requires-clause-role
+record-requires-clause-role g c = has_inside c.args.who _ c.args.self.now c.args.name c.self.view_is c.requires.row
+
+pub returns-clause-entries : goal.returns-clause-entries
+returns-clause-entries g c = adds_inside c.args.who _ c.args.self.now _ c.self.view_is c.record.ensures.entries

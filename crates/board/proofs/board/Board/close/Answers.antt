@@ -1,5 +1,6 @@
-use Rattle.std.proofs.Common.{◌≡◌, ◌++◌, ◌∷◌, [], ◌<◌, length, vec_capacity, subst, sym, rules}
+use Rattle.std.proofs.Common.{◌≡◌, ◌++◌, ◌∷◌, [], ◌<◌, true, length, vec_capacity, subst, sym, rules}
 use Rattle.conn_machine.specs.declared.event.Event.TheVariants as event
+use Rattle.conn_machine.specs.Runs.{has_row, row_of}
 use Rattle.conn_state.specs.Answered.{SeenEnded}
 use Rattle.board.specs.Book.{book_with_entry}
 use Rattle.board.specs.Fits.{IsClosing}
@@ -7,6 +8,7 @@ use Rattle.board.specs.Board.{SeenBoard, IsBoard}
 use Rattle.board.proofs.BoardLemmas.{may_inside, there_of}
 use Rattle.board.proofs.ClosedLemmas.{board_closed}
 use Rattle.board.proofs.EventLemmas.{close-there, close-room}
+use Rattle.board.proofs.PassLemmas.{adds_inside, has_inside}
 use Rattle.board.proofs.board.Board.close.Goals as goal
 
 pub unreachable-requires : goal.unreachable-requires
@@ -37,3 +39,11 @@ invariant_of-self g c =
     (board_closed inside.book conns ended e room (vec_capacity c.push.new.self) c.args.who c.self.invariant c.show.ensures.state closing c.requires.answered
     (close-there inside.book.state e.name e.cause e.tail conns (length ended) room (vec_capacity c.push.new.self) may
     (there_of inside.book conns ended room c.self.invariant) c.push.ensures.capacity)))
+
+pub record_sure-requires-clause-role : goal.record_sure-requires-clause-role
+record_sure-requires-clause-role g c =
+    subst (λ (v : SeenEnded). has_row (row_of c.args.who c.self.inside.book.history) v.name ≡ true) (sym c.ended.view_is)
+    (has_inside c.args.who _ c.args.self.now c.args.ended.name c.self.view_is c.requires.row)
+
+pub returns-clause-entries : goal.returns-clause-entries
+returns-clause-entries g c = adds_inside c.args.who _ c.args.self.now _ c.self.view_is c.record_sure.ensures.entries

@@ -1,12 +1,14 @@
 use Rattle.std.proofs.Common.{◌≡◌, true, Some, length, vec_capacity, subst, sym, refl, rules}
 use Rattle.mpm_base.specs.declared.conn.ConnName.{ConnName}
 use Rattle.conn_machine.specs.Rows.{live_row}
+use Rattle.conn_machine.specs.Runs.{has_row, row_of}
 use Rattle.conn_machine.specs.Table.{is_allowed}
 use Rattle.conn_machine.specs.declared.event.Event.TheVariants as event
 use Rattle.board.proofs.BoardLemmas.{may_while, there_of}
 use Rattle.board.proofs.ClosedLemmas.{board_on}
 use Rattle.board.proofs.EventLemmas.{park-there}
 use Rattle.board.proofs.HandLemmas.{live-below}
+use Rattle.board.proofs.PassLemmas.{adds_inside, has_inside}
 use Rattle.board.proofs.board.Board.park.Goals as goal
 
 pub index_mut-requires : goal.index_mut-requires
@@ -40,3 +42,11 @@ invariant_of-self g c =
     (board_on inside.book conns _ ended room room c.args.who e c.self.invariant (λ s. refl)
     (park-there inside.book.state name c.args.kind conns c.args.conn c.requires.fits.row (length ended) room may
     (there_of inside.book conns ended room c.self.invariant) found (sym c.name-name.ensures) c.requires.fits.fits c.requires.settled))
+
+pub record-requires-clause-role : goal.record-requires-clause-role
+record-requires-clause-role g c =
+    subst (λ (n : ConnName). has_row (row_of c.args.who c.self.inside.book.history) n ≡ true) (sym c.name-name.ensures)
+    (has_inside c.args.who _ c.args.self.now c.args.conn.name c.self.view_is c.requires.row)
+
+pub returns-in-Ok-clause-entries : goal.returns-in-Ok-clause-entries
+returns-in-Ok-clause-entries g c = adds_inside c.args.who _ c.args.self.now _ c.self.view_is c.record.ensures.entries

@@ -1,9 +1,22 @@
-use Rattle.std.proofs.Common.{length, vec_capacity, refl}
+use Rattle.std.proofs.Common.{◌≡◌, Some, length, vec_capacity, subst, sym, ap, ◌∙◌, refl}
 use Rattle.conn_machine.specs.declared.event.Event.TheVariants as event
+use Rattle.conn_state.specs.Conn.{SeenConn}
+use Rattle.board.specs.Book.{SeenBook}
+use Rattle.board.specs.Fits.{IsTakenUp}
+use Rattle.board.specs.Board.{SeenBoard}
 use Rattle.board.proofs.BoardLemmas.{may_while, there_of}
 use Rattle.board.proofs.ClosedLemmas.{board_on}
 use Rattle.board.proofs.EventLemmas.{queue-there}
+use Rattle.board.proofs.HandLemmas.{given_is, queue-given}
+use Rattle.board.proofs.PassLemmas.{adds_inside}
 use Rattle.board.proofs.board.Board.queue.Goals as goal
+
+pub take_out-requires : goal.take_out-requires
+take_out-requires g c =
+    let inside = c.self.inside in
+    let may = may_while _ c.args.self.now (event.Queue c.args.name) c.self.view_is c.requires.allowed c.in_ok-record.ensures.ok.was_open.going in
+    let given = queue-given inside.book.state c.args.name inside.conns.items c.show.ensures.sound may c.self.invariant.agrees.waiting in
+    (given.conn, given.has)
 
 pub invariant_of-self-2 : goal.invariant_of-self-2
 invariant_of-self-2 g c =
@@ -11,9 +24,27 @@ invariant_of-self-2 g c =
     let conns = inside.conns.items in
     let ended = inside.ended.items in
     let room = vec_capacity inside.ended in
-    let ok = c.in_ok-record.ensures.ok in
-    let may = may_while _ c.args.self.now (event.Queue c.args.name) c.self.view_is c.requires.allowed ok.was_open.going in
-    rw (ok.new_is)
-    (board_on inside.book conns conns ended room room c.args.who (event.Queue c.args.name) c.self.invariant (λ s. refl)
-    (queue-there inside.book.state c.args.name conns (length ended) room c.show.ensures.sound may
-    (there_of inside.book conns ended room c.self.invariant)))
+    let may = may_while _ c.args.self.now (event.Queue c.args.name) c.self.view_is c.requires.allowed c.in_ok-record.ensures.ok.was_open.going in
+    rw (c.in_ok-record.ensures.ok.new_is, c.take_out.ensures.emptied)
+    (board_on inside.book conns _ ended room room c.args.who (event.Queue c.args.name) c.self.invariant (λ s. refl)
+    (queue-there inside.book.state c.args.name conns (length ended) room may (there_of inside.book conns ended room c.self.invariant)))
+
+pub returns-clause-name : goal.returns-clause-name
+returns-clause-name g c =
+    let inside = c.self.inside in
+    let may = may_while _ c.args.self.now (event.Queue c.args.name) c.self.view_is c.requires.allowed c.in_ok-record.ensures.ok.was_open.going in
+    let given = queue-given inside.book.state c.args.name inside.conns.items c.show.ensures.sound may c.self.invariant.agrees.waiting in
+    let same = given_is _ _ inside.conns.items c.args.name c.take_out.result given c.take_out.ensures.conn in
+    ap (λ (x : SeenConn). x.name) (sym same) ∙ given.name_is
+
+pub returns-clause-handed : goal.returns-clause-handed
+returns-clause-handed g c =
+    let inside = c.self.inside in
+    let may = may_while _ c.args.self.now (event.Queue c.args.name) c.self.view_is c.requires.allowed c.in_ok-record.ensures.ok.was_open.going in
+    let given = queue-given inside.book.state c.args.name inside.conns.items c.show.ensures.sound may c.self.invariant.agrees.waiting in
+    let same = given_is _ _ inside.conns.items c.args.name c.take_out.result given c.take_out.ensures.conn in
+    subst (λ (b : SeenBook). IsTakenUp b.state c.take_out.result) (sym c.in_ok-record.ensures.ok.new_is)
+    (subst (IsTakenUp _) same given.handed)
+
+pub returns-clause-entries : goal.returns-clause-entries
+returns-clause-entries g c = adds_inside c.args.who _ c.args.self.now _ c.self.view_is c.record.ensures.entries

@@ -1,10 +1,11 @@
-use Rattle.std.proofs.Common.{◌≡◌, ◌+◌, ◌*◌, ◌≤◌, true, false, length, vec_capacity, if◌then◌else◌, subst, sym, refl, ◌∙◌, ap, rules}
+use Rattle.std.proofs.Common.{◌≡◌, List, ◌+◌, ◌*◌, ◌≤◌, true, false, length, vec_capacity, if◌then◌else◌, subst, sym, refl, ◌∙◌, ap, rules}
 use Rattle.conn_machine.specs.States.{is_halted}
 use Rattle.conn_machine.specs.Table.{is_allowed, reply}
-use Rattle.conn_machine.specs.Runs.{asks_page}
+use Rattle.conn_machine.specs.declared.event.Entry.{Entry}
+use Rattle.conn_machine.specs.Runs.{Adds, after, asks_page}
 use Rattle.board.specs.Book.{SeenBook, numbered_entry}
 use Rattle.board.proofs.BookLemmas.{open_if, kept_with_room, recorded_is}
-use Rattle.board.proofs.StopLemmas.{full_inside}
+use Rattle.board.proofs.PassLemmas.{adds_none, adds_recorded, role_inside, row-recorded}
 use Rattle.board.proofs.book.Book.record.Goals as goal
 
 pub step-requires-clause-allowed : goal.step-requires-clause-allowed
@@ -26,7 +27,7 @@ invariant_of-self-2 c =
     c.append.new.ordinals.items inside.pages (inside.pages + c.pages_in.result) (vec_capacity inside.history) (vec_capacity c.append.new.history)
     (numbered_entry c.args.who c.args.event c.in-Ok.reply inside.history.items) c.self.invariant may c.in-Ok.ensures.reply refl
     c.append.ensures.numbers c.step.ensures.sound (rw c.reserve.ensures.items at c.append.ensures.history) c.in-Ok.ensures.state pages space
-    (full_inside _ c.args.self.now c.args.event c.self.view_is c.requires.stops)
+    (role_inside c.args.who _ c.args.self.now c.args.event c.self.view_is c.requires.role)
 
 pub returns-clause-ok : goal.returns-clause-ok
 returns-clause-ok c =
@@ -42,3 +43,37 @@ returns-clause-ok c =
 pub returns-clause-reply : goal.returns-clause-reply
 returns-clause-reply c =
     c.in-Ok.ensures.reply ∙ ap (λ (v : SeenBook). reply v.state c.args.event) c.self.view_is
+
+pub returns-clause-entries : goal.returns-clause-entries
+returns-clause-entries c =
+    let inside = c.self.inside in
+    let b = c.args.self.now in
+    let going : is_halted b.state.going ≡ false = ap (λ (v : SeenBook). is_halted v.state.going) (sym c.self.view_is) ∙ sym c.is_halted.ensures ∙ c.if-is_halted.false in
+    let state_is = subst (λ (v : SeenBook). after v.base v.history ≡ v.state) c.self.view_is c.self.invariant.state_is in
+    adds_recorded c.args.who c.args.event b _
+    (recorded_is b inside.base.value inside.history.items c.append.new.history.items inside.state c.step.new.state _ _ c.args.who
+    c.args.event c.in-Ok.reply c.self.view_is (rw c.reserve.ensures.items at c.append.ensures.history) c.in-Ok.ensures.state
+    c.in-Ok.ensures.reply c.append.ensures.passes)
+    state_is (c.requires.allowed going) c.requires.role
+
+pub returns-clause-row : goal.returns-clause-row
+returns-clause-row c =
+    let inside = c.self.inside in
+    let b = c.args.self.now in
+    row-recorded c.args.who c.args.event c.in-Ok.reply b _
+    (recorded_is b inside.base.value inside.history.items c.append.new.history.items inside.state c.step.new.state _ _ c.args.who
+    c.args.event c.in-Ok.reply c.self.view_is (rw c.reserve.ensures.items at c.append.ensures.history) c.in-Ok.ensures.state
+    c.in-Ok.ensures.reply c.append.ensures.passes)
+    (c.in-Ok.ensures.reply ∙ ap (λ (v : SeenBook). reply v.state c.args.event) c.self.view_is)
+
+pub returns-then-is_err-clause-entries : goal.returns-then-is_err-clause-entries
+returns-then-is_err-clause-entries c =
+    let b = c.args.self.now in
+    subst (λ (h : List Entry). Adds c.args.who b.base b.history h) (sym (c.reserve.ensures.items ∙ ap (λ (v : SeenBook). v.history) c.self.view_is))
+    (adds_none c.args.who b.base b.history)
+
+pub returns-in_default-clause-entries : goal.returns-in_default-clause-entries
+returns-in_default-clause-entries c =
+    let b = c.args.self.now in
+    subst (λ (h : List Entry). Adds c.args.who b.base b.history h) (sym (c.reserve.ensures.items ∙ ap (λ (v : SeenBook). v.history) c.self.view_is))
+    (adds_none c.args.who b.base b.history)

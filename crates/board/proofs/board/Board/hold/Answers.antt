@@ -1,0 +1,50 @@
+use Rattle.std.proofs.Common.{◌≡◌, Some, length, vec_capacity, subst, sym, ap, ◌∙◌, refl}
+use Rattle.conn_machine.specs.declared.event.Event.TheVariants as event
+use Rattle.conn_state.specs.Conn.{SeenConn}
+use Rattle.board.specs.Book.{SeenBook}
+use Rattle.board.specs.Fits.{IsTakenUp}
+use Rattle.board.specs.Board.{SeenBoard}
+use Rattle.board.proofs.BoardLemmas.{may_inside, there_of}
+use Rattle.board.proofs.ClosedLemmas.{board_on}
+use Rattle.board.proofs.EventLemmas.{hold-there}
+use Rattle.board.proofs.HandLemmas.{given_is, hold-given}
+use Rattle.board.proofs.PassLemmas.{adds_inside}
+use Rattle.board.proofs.board.Board.hold.Goals as goal
+
+pub take_out-requires : goal.take_out-requires
+take_out-requires g c =
+    let inside = c.self.inside in
+    let may = may_inside _ c.args.self.now (event.Hold c.args.name) c.self.view_is c.requires.allowed in
+    let given = hold-given inside.book.state c.args.name inside.conns.items c.show.ensures.sound may c.self.invariant.agrees.waiting in
+    (given.conn, given.has)
+
+pub invariant_of-self : goal.invariant_of-self
+invariant_of-self g c =
+    let inside = c.self.inside in
+    let may = may_inside _ c.args.self.now (event.Hold c.args.name) c.self.view_is c.requires.allowed in
+    let conns = inside.conns.items in
+    let ended = inside.ended.items in
+    let room = vec_capacity inside.ended in
+    rw (c.record_sure.ensures.is, c.take_out.ensures.emptied)
+    (board_on inside.book conns _ ended room room c.args.who (event.Hold c.args.name) c.self.invariant (λ s. refl)
+    (hold-there inside.book.state c.args.name conns (length ended) room may (there_of inside.book conns ended room c.self.invariant)))
+
+pub returns-clause-name : goal.returns-clause-name
+returns-clause-name g c =
+    let inside = c.self.inside in
+    let may = may_inside _ c.args.self.now (event.Hold c.args.name) c.self.view_is c.requires.allowed in
+    let given = hold-given inside.book.state c.args.name inside.conns.items c.show.ensures.sound may c.self.invariant.agrees.waiting in
+    let same = given_is _ _ inside.conns.items c.args.name c.take_out.result given c.take_out.ensures.conn in
+    ap (λ (x : SeenConn). x.name) (sym same) ∙ given.name_is
+
+pub returns-clause-handed : goal.returns-clause-handed
+returns-clause-handed g c =
+    let inside = c.self.inside in
+    let may = may_inside _ c.args.self.now (event.Hold c.args.name) c.self.view_is c.requires.allowed in
+    let given = hold-given inside.book.state c.args.name inside.conns.items c.show.ensures.sound may c.self.invariant.agrees.waiting in
+    let same = given_is _ _ inside.conns.items c.args.name c.take_out.result given c.take_out.ensures.conn in
+    subst (λ (b : SeenBook). IsTakenUp b.state c.take_out.result) (sym c.record_sure.ensures.is)
+    (subst (IsTakenUp _) same given.handed)
+
+pub returns-clause-entries : goal.returns-clause-entries
+returns-clause-entries g c = adds_inside c.args.who _ c.args.self.now _ c.self.view_is c.record_sure.ensures.entries

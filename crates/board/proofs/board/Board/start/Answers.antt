@@ -1,0 +1,35 @@
+use Rattle.std.proofs.Common.{length, vec_capacity, subst, sym, refl}
+use Rattle.conn_machine.specs.declared.event.Event.TheVariants as event
+use Rattle.board.specs.Book.{SeenBook}
+use Rattle.board.specs.Fits.{IsTakenUp}
+use Rattle.board.specs.Board.{SeenBoard}
+use Rattle.board.proofs.BoardLemmas.{may_inside, there_of}
+use Rattle.board.proofs.ClosedLemmas.{board_on}
+use Rattle.board.proofs.EventLemmas.{start-there}
+use Rattle.board.proofs.HandLemmas.{start-taken}
+use Rattle.board.proofs.PassLemmas.{adds_inside, has_inside}
+use Rattle.board.proofs.board.Board.start.Goals as goal
+
+pub record_sure-requires-clause-role : goal.record_sure-requires-clause-role
+record_sure-requires-clause-role g c = has_inside c.args.who _ c.args.self.now c.args.name c.self.view_is c.requires.row
+
+pub invariant_of-self : goal.invariant_of-self
+invariant_of-self g c =
+    let inside = c.self.inside in
+    let may = may_inside _ c.args.self.now (event.Start c.args.name) c.self.view_is c.requires.allowed in
+    let conns = inside.conns.items in
+    let ended = inside.ended.items in
+    let room = vec_capacity inside.ended in
+    rw (c.record_sure.ensures.is)
+    (board_on inside.book conns conns ended room room c.args.who (event.Start c.args.name) c.self.invariant (λ s. refl)
+    (start-there inside.book.state c.args.name conns (length ended) room may (there_of inside.book conns ended room c.self.invariant)))
+
+pub returns-clause-handed : goal.returns-clause-handed
+returns-clause-handed g c x taken =
+    let inside = c.self.inside in
+    let may = may_inside _ c.args.self.now (event.Start c.args.name) c.self.view_is c.requires.allowed in
+    subst (λ (b : SeenBook). IsTakenUp b.state x) (sym c.record_sure.ensures.is)
+    (start-taken inside.book.state c.args.name x may (subst (λ (v : SeenBoard). IsTakenUp v.book.state x) (sym c.self.view_is) taken))
+
+pub returns-clause-entries : goal.returns-clause-entries
+returns-clause-entries g c = adds_inside c.args.who _ c.args.self.now _ c.self.view_is c.record_sure.ensures.entries
