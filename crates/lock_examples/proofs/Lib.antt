@@ -1,2 +1,4 @@
+pub mod EntryLemmas
+pub mod FoldLemmas
 mod TextLemmas
-mod ToyLemmas
+pub mod ToyLemmas

@@ -1,142 +1,26 @@
 -- A turn with the small value may be given back.
-use Rattle.std.proofs.Common.{◌≡◌, ◌⊎◌, inl, inr, ℕ, zero, suc, ◌+◌, ◌<◌, ◌==◌, Bool, true, false, List, [], ◌∷◌, ◌++◌, length, Option, Some, None, refl, sym, ap, subst, ◌∙◌, append-nil, arith}
-use Rattle.std.specs.Prelude.{slice_get, option_to_list, IfSome, Result, Ok, Err, OnOk, OnErr}
+use Rattle.std.proofs.Common.{◌≡◌, ◌⊎◌, inl, inr, ℕ, zero, suc, ◌+◌, ◌<◌, ◌≤◌, List, [], ◌∷◌, ◌++◌, length, Option, Some, None, refl, sym, ap, subst, ◌∙◌, add-zero, append-nil, length-append, arith}
+use Rattle.std.specs.Prelude.{replicate, slice_get, option_to_list, IfSome, Result, Ok, Err, OnOk, OnErr}
 use Rattle.atomic_table.specs.Table.{Me}
 use Rattle.mpm_base.specs.declared.memory.NoMemory.{NoMemory}
-use Rattle.conn_machine.specs.declared.event.Event.{Event}
 use Rattle.conn_machine.specs.declared.event.Entry.{Entry}
-use Rattle.conn_machine.specs.declared.folded.Folded.{Folded}
 use Rattle.conn_machine.specs.declared.kept.Ledger.{Ledger}
 use Rattle.conn_machine.specs.declared.state.State.{State}
-use Rattle.conn_machine.specs.declared.state.Going.TheVariants.{Serving}
-use Rattle.conn_machine.specs.Table.{is_allowed, next, reply}
-use Rattle.conn_machine.specs.Runs.{after, entries_of, load, may_make, row_of, IsNextOf, AreEntriesOf}
-use Rattle.conn_machine.proofs.RunLemmas.{after-snoc, entries_of-own}
+use Rattle.conn_machine.specs.Runs.{after, AreEntriesOf}
+use Rattle.conn_machine.proofs.RunLemmas.{after-snoc}
 use Rattle.table_rule.specs.declared.view.Left.{Left}
 use Rattle.table_rule.specs.declared.view.Origin.{Origin}
 use Rattle.table_rule.specs.declared.view.View.{View}
-use Rattle.table_rule.specs.Histories.{ArePermitted, threads_of}
-use Rattle.table_rule.specs.Ledgers.{KeepsOn, FoldsOn, IsSplit, MayGiveBack, MayLeaveLedger}
-use Rattle.table_rule.specs.Views.{IsFound}
-use Rattle.board_lock.specs.Passes.{TookTurn, fresh_view}
-use Rattle.lock_examples.specs.Toy.{IsReadyPass, SeenToy, first_of, toy_entry, toy_event, toy_ledger, toy_state}
+use Rattle.table_rule.specs.Histories.{threads_of}
+use Rattle.table_rule.specs.Ledgers.{MayGiveBack}
+use Rattle.table_rule.specs.Tie.{IsNew}
+use Rattle.board_lock.specs.Passes.{GaveBack, TookTurn, fresh_view}
+use Rattle.conn_machine.specs.Folds.{fold_of}
+use Rattle.lock_examples.specs.Toy.{FoldsBetween, IsAlone, IsReadyPass, SeenToy, entries_from, first_of, toy_entry, toy_ledger, toy_record, toy_shape, toy_state}
+use Rattle.lock_examples.proofs.EntryLemmas.{AreOwn, IsAt, after-append, after_more, are_more, more_from, own_all, own_append, own_first, own_from, own_made, own_where, permits_more, so_many, so_many_from}
+use Rattle.lock_examples.proofs.FoldLemmas.{record_more, record_opens}
 
--- a turn may be given back as it was found
-pub may_stay : {K : Type 0} (v w : Me (Option K) View) (found : Ledger) → TookTurn v w found → MayGiveBack w.0 found
-may_stay v w found took = (
-  found,
-  ap (λ (u : View). u.turn) took.view,
-  record {
-    added = [];
-    change = inl record { base = refl; record_is = refl; history = sym (append-nil found.history); texts = ([], sym (append-nil found.texts)) };
-    passes = refl;
-    entries = tt;
-    permitted = tt;
-  },
-)
-
--- the state after the first entries: it serves, and has its slot
-pub record IsGoing (s : State) : Type 0 where
-  pub going : s.going ≡ Serving
-  pub slots : s.rows ≡ toy_state.rows
-
-going_next : (n : ℕ) (s : State) → IsGoing s → IsGoing (next s (toy_event n))
-going_next zero s g = record { going = g.going; slots = g.slots }
-going_next (suc n) s g = record { going = g.going; slots = g.slots }
-
-going_after : (n : ℕ) → IsGoing (after toy_state (first_of n))
-going_after zero = record { going = refl; slots = refl }
-going_after (suc n) = subst IsGoing (sym (after-snoc toy_state (first_of n) (toy_entry n))) (going_next n (after toy_state (first_of n)) (going_after n))
-
--- the next event is allowed
-may_happen : (n : ℕ) → is_allowed (after toy_state (first_of n)) (toy_event n) ≡ true
-may_happen zero = refl
-may_happen (suc n) =
-    let g = going_after (suc n) in
-    by (after toy_state (first_of (suc n))) g
-  where
-    by : (s : State) → IsGoing s → is_allowed s (toy_event (suc n)) ≡ true
-    by s g = rw (g.going, g.slots) refl
-
--- all entries are of pass 0
-all_own : (n : ℕ) → entries_of 0 (first_of n) ≡ first_of n
-all_own zero = refl
-all_own (suc n) = entries_of-own 0 (first_of n) (toy_entry n) refl ∙ ap (λ (l : List Entry). l ++ toy_entry n ∷ []) (all_own n)
-
-so_many : (n : ℕ) → length (first_of n) ≡ n
-so_many zero = refl
-so_many (suc n) = let s = so_many n in snoc (first_of n) s
-  where
-    snoc : (l : List Entry) → length l ≡ n → length (l ++ toy_entry n ∷ []) ≡ suc n
-    snoc l e = let f = longer l in omega arith
-      where
-        longer : (k : List Entry) → length (k ++ toy_entry n ∷ []) ≡ length k + 1
-        longer [] = omega arith
-        longer (x ∷ k) = let f = longer k in omega arith
-
--- the next entry may be made by pass 0
-next_of : (n : ℕ) → IsNextOf 0 toy_state (first_of n) (toy_entry n)
-next_of n = record {
-  pass = refl;
-  ordinal = sym (ap length (all_own n) ∙ so_many n);
-  is_allowed = may_happen n;
-  replied = replies n;
-  role = roles n;
-}
-  where
-    replies : (k : ℕ) → (toy_entry k).reply ≡ reply (after toy_state (first_of n)) (toy_event k)
-    replies zero = refl
-    replies (suc k) = refl
-
-    roles : (k : ℕ) → may_make 0 (row_of 0 (first_of n)) (load (first_of n)) (toy_event k) ≡ true
-    roles zero = refl
-    roles (suc k) = refl
-
-permits_next : (n : ℕ) (permit : Option ℕ) (credits : List ℕ) (s : State) → ArePermitted permit credits s (toy_entry n ∷ [])
-permits_next zero permit credits s = (tt, tt)
-permits_next (suc n) permit credits s = (tt, tt)
-
-none_left : (l : List Entry) → 0 ≡ length l → l ≡ []
-none_left [] e = refl
-none_left (x ∷ l) e = absurd (omega arith)
-
--- pass 0 may add the next entry
-pub may_add : {K : Type 0} (v w : Me (Option K) View) (old : SeenToy) → TookTurn v w (toy_ledger old) → v.0.who.number ≡ 0
-    → MayGiveBack w.0 (toy_ledger (record old { count = old.count + 1 }))
-may_add v w old took number =
-    let n = old.count in
-    let found = toy_ledger old in
-    let f = took.is_found in
-    let none : f.left.entries ≡ [] = none_left f.left.entries f.parts.counted in
-    let whole : w.0.seen ≡ first_of n = f.parts.whole_is ∙ ap (λ (l : List Entry). l ++ first_of n) none in
-    let base : toy_state ≡ v.0.origin.state = f.parts.base ∙ ap (after v.0.origin.state) none in
-    let start : toy_state ≡ w.0.origin.state = base ∙ ap (λ (u : View). u.origin.state) (sym took.view) in
-    let who : 0 ≡ w.0.who.number = sym number ∙ ap (λ (u : View). u.who.number) (sym took.view) in
-    let more : first_of (n + 1) ≡ first_of n ++ toy_entry n ∷ [] = ap first_of (suc_is n) in
-    let is : AreEntriesOf 0 toy_state (first_of n) (toy_entry n ∷ []) = (next_of n, tt) in
-    let is' : AreEntriesOf w.0.who.number w.0.origin.state w.0.seen (toy_entry n ∷ []) =
-    subst (λ l. AreEntriesOf w.0.who.number w.0.origin.state l (toy_entry n ∷ [])) (sym whole)
-    (subst (λ s. AreEntriesOf w.0.who.number s (first_of n) (toy_entry n ∷ [])) start
-    (subst (λ p. AreEntriesOf p toy_state (first_of n) (toy_entry n ∷ [])) who is)) in (
-      found,
-      ap (λ (u : View). u.turn) took.view,
-      record {
-        added = toy_entry n ∷ [];
-        change = inl record { base = refl; record_is = refl; history = more; texts = ([], refl) };
-        passes = refl;
-        entries = is';
-        permitted = permits_next n w.0.hand.permit w.0.credits (after w.0.origin.state w.0.seen);
-      },
-    )
-  where
-    suc_is : (n : ℕ) → n + 1 ≡ suc n
-    suc_is n = omega arith
-
--- pass 0 may give the turn back after it tried to add the next entry
-pub may_end : {K : Type 0} (v w : Me (Option K) View) (old new : SeenToy) (r : Result (Unit {0}) NoMemory) → TookTurn v w (toy_ledger old) → v.0.who.number ≡ 0
-    → OnOk r (new ≡ record old { count = old.count + 1 }) → OnErr r (new ≡ old) → MayGiveBack w.0 (toy_ledger new)
-may_end v w old new (Ok x) took number ok err = subst (λ t. MayGiveBack w.0 (toy_ledger t)) (sym ok) (may_add v w old took number)
-may_end v w old new (Err e) took number ok err = subst (λ t. MayGiveBack w.0 (toy_ledger t)) (sym err) (may_stay v w (toy_ledger old) took)
+-- ## A turn without an entry
 
 -- a turn may be given back as it was found, whatever else the pass did
 pub may_leave : (u : View) (found : Ledger) → u.turn ≡ Some found → MayGiveBack u found
@@ -152,6 +36,153 @@ may_leave u found has = (
   },
 )
 
+-- a turn may be given back as it was found
+pub may_stay : {K : Type 0} (v w : Me (Option K) View) (found : Ledger) → TookTurn v w found → MayGiveBack w.0 found
+may_stay v w found took = may_leave w.0 found (ap (λ (u : View). u.turn) took.view)
+
+-- ## A turn with entries
+
+-- pass 0 found a history of entries of its own
+found_at : {K : Type 0} (v w : Me (Option K) View) (old : SeenToy) → TookTurn v w (toy_ledger old) → v.0.who.number ≡ 0 → IsAlone v
+    → IsAt (old.folded + old.count) w.0.origin.state w.0.seen
+found_at v w old took number alone =
+    let f = took.is_found in
+    let left : AreOwn f.left.entries = subst (λ (l : Left). AreOwn l.entries) (sym (f.own number)) (own_where v.0.left.entries alone) in
+    let kept = entries_from old.folded old.count in
+    let counted : length f.left.entries ≡ old.folded = counts (length f.left.entries) (length (first_of old.folded)) old.folded f.parts.counted (so_many old.folded) in
+    let base : after toy_state (first_of old.folded) ≡ after w.0.origin.state f.left.entries =
+    f.parts.base ∙ ap (λ (u : View). after u.origin.state f.left.entries) (sym took.view) in
+    record {
+      own = subst AreOwn (sym f.parts.whole_is) (own_append f.left.entries kept left (own_from old.folded old.count));
+      many =
+          ap length f.parts.whole_is ∙ length-append f.left.entries kept
+          ∙ sums (length f.left.entries) (length kept) old.folded old.count counted (so_many_from old.folded old.count);
+      state =
+          ap (after w.0.origin.state) f.parts.whole_is ∙ after-append w.0.origin.state f.left.entries kept
+          ∙ ap (λ s. after s kept) (sym base) ∙ after_more old.folded old.count;
+    }
+  where
+    counts : (x y n : ℕ) → 0 + y ≡ x → y ≡ n → x ≡ n
+    counts x y n e f = omega arith
+
+    sums : (x y n m : ℕ) → x ≡ n → y ≡ m → x + y ≡ n + m
+    sums x y n m e f = omega arith
+
+-- so it may add so many more
+may_make : {K : Type 0} (v w : Me (Option K) View) (old : SeenToy) (k : ℕ) → TookTurn v w (toy_ledger old) → v.0.who.number ≡ 0 → IsAlone v
+    → AreEntriesOf w.0.who.number w.0.origin.state w.0.seen (entries_from (old.folded + old.count) k)
+may_make v w old k took number alone =
+    let who : 0 ≡ w.0.who.number = sym number ∙ ap (λ (u : View). u.who.number) (sym took.view) in
+    subst (λ p. AreEntriesOf p w.0.origin.state w.0.seen (entries_from (old.folded + old.count) k)) who
+    (are_more (old.folded + old.count) k w.0.origin.state w.0.seen (found_at v w old took number alone)).0
+
+-- pass 0 may add so many entries
+pub may_add : {K : Type 0} (v w : Me (Option K) View) (old : SeenToy) (k : ℕ) → TookTurn v w (toy_ledger old) → v.0.who.number ≡ 0 → IsAlone v
+    → MayGiveBack w.0 (toy_ledger (record old { count = old.count + k }))
+may_add v w old k took number alone =
+    let added = entries_from (old.folded + old.count) k in (
+      toy_ledger old,
+      ap (λ (u : View). u.turn) took.view,
+      record {
+        added = added;
+        change = inl record { base = refl; record_is = refl; history = more_from old.folded old.count k; texts = ([], refl) };
+        passes = refl;
+        entries = may_make v w old k took number alone;
+        permitted = permits_more (old.folded + old.count) k w.0.hand.permit w.0.credits (after w.0.origin.state w.0.seen);
+      },
+    )
+
+-- pass 0 may add so many entries, fold all, and add so many entries more
+pub may_fold : {K : Type 0} (v w : Me (Option K) View) (old : SeenToy) (k j : ℕ) → TookTurn v w (toy_ledger old) → v.0.who.number ≡ 0 → IsAlone v
+    → MayGiveBack w.0 (toy_ledger (record old { folded = old.folded + (old.count + k); count = j }))
+may_fold v w old k j took number alone =
+    let at = old.folded + old.count in
+    let most = old.folded + (old.count + k) in
+    let who : w.0.who.number ≡ 0 = ap (λ (u : View). u.who.number) took.view ∙ number in
+    let both : at + k ≡ most = omega arith in
+    let all = more_from old.folded old.count k in
+    let split : entries_from at (k + j) ≡ entries_from at k ++ entries_from most j =
+    more_from at k j ∙ ap (λ i. entries_from at k ++ entries_from i j) both in (
+      toy_ledger old,
+      ap (λ (u : View). u.turn) took.view,
+      record {
+        added = entries_from at (k + j);
+        change =
+            inr (
+              who,
+              record {
+                before = entries_from at k;
+                behind = entries_from most j;
+                added_is = split;
+                base =
+                    sym (after_more old.folded (old.count + k)) ∙ ap (after (after toy_state (first_of old.folded))) all;
+                record_is = folded all;
+                history = refl;
+              },
+            );
+        passes = refl;
+        entries = may_make v w old (k + j) took number alone;
+        permitted = permits_more at (k + j) w.0.hand.permit w.0.credits (after w.0.origin.state w.0.seen);
+      },
+    )
+  where
+    folded : entries_from old.folded (old.count + k) ≡ entries_from old.folded old.count ++ entries_from (old.folded + old.count) k
+        → (toy_ledger (record old { folded = old.folded + (old.count + k); count = j })).folded
+        ≡ record (fold_of (after toy_state (first_of old.folded)) (entries_from old.folded old.count ++ entries_from (old.folded + old.count) k) [] (toy_record old.folded old.passes))
+        { lines = (toy_record (old.folded + (old.count + k)) old.passes).lines }
+    folded all =
+        subst (λ l. toy_record (old.folded + (old.count + k)) old.passes
+        ≡ record (fold_of (after toy_state (first_of old.folded)) l [] (toy_record old.folded old.passes)) { lines = (toy_record (old.folded + (old.count + k)) old.passes).lines })
+        all (record_more old.folded (old.count + k) old.passes)
+
+-- pass 0 may give the turn back after it tried to add the next entry
+pub may_end : {K : Type 0} (v w : Me (Option K) View) (old at new : SeenToy) (r : Result (Unit {0}) NoMemory) → TookTurn v w (toy_ledger old) → v.0.who.number ≡ 0
+    → IsAlone v → at ≡ old → OnOk r (new ≡ record at { count = at.count + 1 }) → OnErr r (new ≡ at) → MayGiveBack w.0 (toy_ledger new)
+may_end v w old at new (Ok x) took number alone same ok err =
+    subst (λ t. MayGiveBack w.0 (toy_ledger t)) (sym (ok ∙ ap (λ (t : SeenToy). record t { count = t.count + 1 }) same)) (may_add v w old 1 took number alone)
+may_end v w old at new (Err e) took number alone same ok err =
+    subst (λ t. MayGiveBack w.0 (toy_ledger t)) (sym (err ∙ same)) (may_stay v w (toy_ledger old) took)
+
+-- what a try to add an entry makes of a value: so many more
+tried : (old new : SeenToy) (r : Result (Unit {0}) NoMemory) → OnOk r (new ≡ record old { count = old.count + 1 }) → OnErr r (new ≡ old)
+    → (k : ℕ) × (new ≡ record old { count = old.count + k })
+tried old new (Ok x) ok err = (1, ok)
+tried old new (Err e) ok err = (0, err ∙ ap (λ n. record old { count = n }) (sym (add-zero old.count)))
+
+-- what a fold between two tries makes of a value
+pub folds_between : (old one two new : SeenToy) (r q : Result (Unit {0}) NoMemory)
+    → OnOk r (one ≡ record old { count = old.count + 1 }) → OnErr r (one ≡ old)
+    → two ≡ record one { folded = one.folded + one.count; count = 0 }
+    → OnOk q (new ≡ record two { count = two.count + 1 }) → OnErr q (new ≡ two) → FoldsBetween old new
+folds_between old one two new r q ok err folded ok' err' =
+    let before = tried old one r ok err in
+    let behind = tried two new q ok' err' in (
+      before.0,
+      0 + behind.0,
+      behind.1 ∙ ap (λ (t : SeenToy). record t { count = t.count + behind.0 }) (folded ∙ ap (λ (t : SeenToy). record t { folded = t.folded + t.count; count = 0 }) before.1),
+    )
+
+-- pass 0 may give the turn back after that
+pub may_end_folded : {K : Type 0} (v w : Me (Option K) View) (old at new : SeenToy) → TookTurn v w (toy_ledger old) → v.0.who.number ≡ 0
+    → IsAlone v → at ≡ old → FoldsBetween at new → MayGiveBack w.0 (toy_ledger new)
+may_end_folded v w old at new took number alone same folded =
+    let is = subst (λ t. FoldsBetween t new) same folded in
+    subst (λ t. MayGiveBack w.0 (toy_ledger t)) (sym is.2) (may_fold v w old is.0 is.1 took number alone)
+
+-- what pass 0 left folded stays its own
+pub stays_alone : {K : Type 0} (v w z : Me (Option K) View) (old : SeenToy) (left : Ledger) → TookTurn v w (toy_ledger old) → v.0.who.number ≡ 0
+    → IsAlone v → GaveBack w z left → IsAlone z
+stays_alone v w z old left took number alone gave =
+    let who : w.0.who.number ≡ 0 = ap (λ (u : View). u.who.number) took.view ∙ number in
+    let found = found_at v w old took number alone in
+    let more = gave.adds in
+    let made = subst (λ p. AreEntriesOf p w.0.origin.state w.0.seen more.0) who more.2 in
+    let all : AreOwn z.0.seen = subst AreOwn (sym more.1) (own_append w.0.seen more.0 found.own (own_made w.0.origin.state w.0.seen more.0 made)) in
+    let split = (gave.is_left.own who).0 in
+    own_all z.0.left.entries (own_first z.0.left.entries left.history (subst AreOwn split.whole_is all))
+
+-- ## The child
+
 -- once it was started the child has its workers
 started : (n : ℕ) → threads_of (after toy_state (first_of (suc n))) 0 ≡ 2
 started zero = refl
@@ -159,25 +190,49 @@ started (suc n) =
     ap (λ (s : State). threads_of s 0) (after-snoc toy_state (first_of (suc n)) (toy_entry (suc n))) ∙ started n
 
 -- so the turn found them
-pub has_workers : {K : Type 0} (v w : Me (Option K) View) (old : SeenToy) → TookTurn v w (toy_ledger old) → 0 < old.count
+pub has_workers : {K : Type 0} (v w : Me (Option K) View) (old : SeenToy) (n : ℕ) → TookTurn v w (toy_ledger old)
+    → n ≡ 0 + length (first_of old.folded) + length (entries_from old.folded old.count) → 0 < n
     → 2 ≡ threads_of (after w.0.origin.state w.0.seen) 0
-has_workers v w old took some =
-    let n = old.count in
+has_workers v w old n took is some =
     let f = took.is_found in
-    let none : f.left.entries ≡ [] = none_left f.left.entries f.parts.counted in
-    let whole : w.0.seen ≡ first_of n = f.parts.whole_is ∙ ap (λ (l : List Entry). l ++ first_of n) none in
-    let start : toy_state ≡ w.0.origin.state = f.parts.base ∙ ap (after v.0.origin.state) none ∙ ap (λ (u : View). u.origin.state) (sym took.view) in
-    let is : 2 ≡ threads_of (after toy_state (first_of n)) 0 = by n some in
-    subst (λ l. 2 ≡ threads_of (after w.0.origin.state l) 0) (sym whole) (subst (λ s. 2 ≡ threads_of (after s (first_of n)) 0) start is)
+    let kept = entries_from old.folded old.count in
+    let base : after toy_state (first_of old.folded) ≡ after w.0.origin.state f.left.entries =
+    f.parts.base ∙ ap (λ (u : View). after u.origin.state f.left.entries) (sym took.view) in
+    let state : after w.0.origin.state w.0.seen ≡ after toy_state (first_of (old.folded + old.count)) =
+    ap (after w.0.origin.state) f.parts.whole_is ∙ after-append w.0.origin.state f.left.entries kept
+    ∙ ap (λ s. after s kept) (sym base) ∙ after_more old.folded old.count in
+    subst (λ s. 2 ≡ threads_of s 0) (sym state)
+    (by (old.folded + old.count) (sum (length (first_of old.folded)) (length kept) (so_many old.folded) (so_many_from old.folded old.count) is))
   where
+    sum : (p q : ℕ) → p ≡ old.folded → q ≡ old.count → n ≡ 0 + p + q → 0 < old.folded + old.count
+    sum p q e d is = let more = some in omega arith
+
     by : (n : ℕ) → 0 < n → 2 ≡ threads_of (after toy_state (first_of n)) 0
     by zero lt = absurd (omega arith)
     by (suc n) lt = sym (started n)
 
+-- ## A new lock
+
+-- the value without entries may be put into a lock
+pub opens : (passes : ℕ) → 1 ≤ passes → passes ≤ 4099 → IsNew (toy_ledger (record { folded = 0; count = 0; passes = passes }))
+opens passes some few = record {
+  opened = record { slots = 1; children = 1; shape = toy_shape; bounds = refl; state = refl };
+  some = some;
+  few = few;
+  history = refl;
+  texts = refl;
+  folded = record_opens passes;
+}
+
+some_children : 0 < length {A = ℕ} (replicate 32 0)
+some_children = omega arith
+
 -- a fresh pass is ready
 pub ready : {K : Type 0} (origin : Origin) (p : ℕ) (me : Me (Option K) View) → me ≡ (fresh_view origin p, []) → IsReadyPass me
-ready origin zero me is = subst IsReadyPass (sym is) record { free = record { hand = refl; turn = refl }; idle = record { turn = refl; hand = refl; row = refl }; credits = refl }
-ready origin (suc p) me is = subst IsReadyPass (sym is) record { free = record { hand = refl; turn = refl }; idle = record { turn = refl; hand = refl; row = refl }; credits = refl }
+ready origin zero me is = subst IsReadyPass (sym is) record { free = record { hand = refl; turn = refl }; idle = record { turn = refl; hand = refl; row = refl }; alone = refl; credits = refl; room = λ e. some_children }
+ready origin (suc p) me is = subst IsReadyPass (sym is) record { free = record { hand = refl; turn = refl }; idle = record { turn = refl; hand = refl; row = refl }; alone = refl; credits = refl; room = λ e. absurd (cc) }
+
+-- ## Lists
 
 -- an item between two lists
 pub at_between : {X : Type 0} (xs ys : List X) (x : X) → slice_get (xs ++ x ∷ ys) (length xs) ≡ Some x

@@ -1,13 +1,15 @@
--- A small value that keeps a history.
-use Rattle.std.specs.Prelude.{◌≡◌, ◌≤◌, ℕ, zero, suc, true, List, [], ◌∷◌, ◌++◌, Option, slice_index}
+-- A small value that keeps a history, and folds it.
+use Rattle.std.specs.Prelude.{◌≡◌, ◌<◌, ◌≤◌, ℕ, zero, suc, ◌+◌, true, List, [], ◌∷◌, ◌++◌, length, Option, slice_index}
 use Rattle.mpm_base.specs.declared.shape.Shape.{Shape}
 use Rattle.conn_machine.specs.declared.event.Event.{Event}
 use Rattle.conn_machine.specs.declared.event.Event.TheVariants as event
 use Rattle.conn_machine.specs.declared.event.Reply.TheVariants.{Done}
 use Rattle.conn_machine.specs.declared.event.Entry.{Entry}
+use Rattle.conn_machine.specs.declared.folded.Folded.{Folded}
 use Rattle.conn_machine.specs.declared.kept.Ledger.{Ledger}
 use Rattle.conn_machine.specs.declared.state.State.{State}
-use Rattle.conn_machine.specs.Folds.{opening_record}
+use Rattle.conn_machine.specs.Folds.{fold_of, opening_record}
+use Rattle.conn_machine.specs.Runs.{after, entries_of}
 use Rattle.conn_machine.specs.States.{opening_state}
 use Rattle.atomic_table.specs.Table.{Me}
 use Rattle.table_rule.specs.declared.view.View.{View}
@@ -36,24 +38,45 @@ abbrev pub first_of : ℕ → List Entry
 first_of zero = []
 first_of (suc n) = first_of n ++ toy_entry n ∷ []
 
--- a value with so many entries, for so many passes
+-- so many entries, the first of which has that number
+abbrev pub entries_from : ℕ → ℕ → List Entry
+entries_from n zero = []
+entries_from n (suc m) = entries_from n m ++ toy_entry (n + m) ∷ []
+
+-- a value that folded so many entries, and keeps so many, for so many passes
 pub record SeenToy : Type 0 where
+  pub folded : ℕ
   pub count : ℕ
   pub passes : ℕ
+
+-- what is known of so many folded entries
+abbrev pub toy_record : ℕ → ℕ → Folded
+toy_record folded passes = fold_of toy_state (first_of folded) [] (opening_record passes)
 
 -- what it tells
 abbrev pub toy_ledger : SeenToy → Ledger
 toy_ledger t =
     record {
-      base = toy_state;
-      folded = opening_record t.passes;
-      history = first_of t.count;
+      base = after toy_state (first_of t.folded);
+      folded = toy_record t.folded t.passes;
+      history = entries_from t.folded t.count;
       texts = [];
       passes = t.passes;
     }
 
--- a pass of a new lock with the value: it has nothing, and no child has a credit
+-- some entries were added, then all were folded, and then some were added behind them
+abbrev pub FoldsBetween : SeenToy → SeenToy → Type 0
+FoldsBetween old new =
+    (before : ℕ) × (behind : ℕ) × (new ≡ record old { folded = old.folded + (old.count + before); count = behind })
+
+-- all entries that the pass left folded are those of pass 0
+abbrev pub IsAlone : {K : Type 0} → Me (Option K) View → Type 0
+IsAlone me = entries_of 0 me.0.left.entries ≡ me.0.left.entries
+
+-- a pass of a new lock with the value: it has nothing, nothing was folded, and no child has a credit
 pub record IsReadyPass {K : Type 0} (me : Me (Option K) View) : Type 0 where
   pub free : HasNoTurn me
   pub idle : IsIdle me.0
+  pub alone : IsAlone me
   pub credits : slice_index me.0.credits 0 ≡ 0
+  pub room : me.0.who.number ≡ 0 → 0 < length me.0.credits

@@ -1,7 +1,7 @@
-//! A small value under the lock, and tests of the lock, the idle words, the perch and the queue with it.
+//! Small values under the lock, and tests of the lock, the idle words, the perch and the queue with them.
 //!
-//! The value's machine has one child with two workers. Its history begins with the start of the child, and goes on with
-//! signals (`specs/Toy.antt`), all of them made by pass 0.
+//! The machine of the first one has one child with two workers. Its history begins with the start of the child, and goes on with
+//! signals (`specs/Toy.antt`), all of them made by pass 0, which may fold them.
 #![tactic(auto)]
 
 mod idles;
@@ -14,8 +14,8 @@ mod toy;
 mod turns;
 
 pub use idles::{credits, reserves, reserves_once};
-pub use opening::{last_of, opened};
+pub use opening::{last_of, opened, opened_plain};
 pub use resting::rests_one;
 pub use texts::{Texts, folds_texts, writes};
 pub use toy::Toy;
-pub use turns::{goes_on, looks};
+pub use turns::{folds, goes_on, looks};

@@ -11,7 +11,7 @@ credit-requires-clause-may g c = record {
   number = search rules;
   none = search rules;
   few = search rules;
-  there = has_workers _ _ c.turn-turn.result.kept c.turn-turn.ensures.turn (search rules);
+  there = has_workers _ _ c.turn-turn.result.kept.value _ c.turn-turn.ensures.turn c.length.ensures.is (search rules);
 }
 
 pub done-requires-2-clause-left : goal.done-requires-2-clause-left
