@@ -72,8 +72,8 @@ fn what_waits_late_is_held_and_closed_after_a_stop(rt: HostRuntime) -> Result<()
     let mut board = opened(&rt, alloc, 1)?;
     ticks(&rt, &mut board, 1_000)?;
     let conn = arrives(&rt, alloc, &mut board, REQUEST, false)?;
-    refuses(&rt, &mut board, AcceptFault::NoSlot);
     waits(&rt, &mut board, conn, Kind::Reading, 61_000);
+    refuses(&rt, &mut board, AcceptFault::NoSlot);
     ticks(&rt, &mut board, 60_999)?;
     assert_eq!(rt; board.overdue(), None);
     ticks(&rt, &mut board, 61_000)?;
