@@ -1,6 +1,6 @@
 //! Which texts are lines of a script, and what they say.
 use crate::line_reader::line_of;
-use mpm_base::{ClientAct, LinkCall, Octets, ScriptLine, SiteLine};
+use mpm_base::{ClientAct, LinkCall, NoMemory, Octets, ScriptLine, SiteLine};
 use std::alloc::Global;
 use std::process::Abort;
 use std::test::Fail;
@@ -139,20 +139,24 @@ fn a_line_keeps_its_parts(rt: HostRuntime) -> Result<(), Fail> {
     Ok(())
 }
 
-#[test]
-fn the_name_of_a_file_has_at_most_255_bytes(rt: HostRuntime) -> Result<(), Fail> {
-    let mut text = Octets::of(rt.alloc(), b"unfile ")?;
-    for _ in 0..255 {
+/// The bytes, and so many tildes behind them.
+fn with_tildes(alloc: Global, front: &[u8], count: usize) -> Result<Octets, NoMemory> {
+    let mut text = Octets::of(alloc, front)?;
+    for _ in 0..count {
         text.add(b"~")?;
     }
-    reads(&rt, rt.alloc(), &[text.as_slice()], true)?;
-    text.add(b"~")?;
-    reads(&rt, rt.alloc(), &[text.as_slice()], false)?;
-    let mut name = Octets::of(rt.alloc(), b"file ")?;
-    name.add(&text.as_slice()[7..262])?;
-    let mut line = Octets::of(rt.alloc(), name.as_slice())?;
-    line.add(b" a")?;
-    reads(&rt, rt.alloc(), &[line.as_slice()], true)?;
-    name.add(b"~ a")?;
-    reads(&rt, rt.alloc(), &[name.as_slice()], false)
+    Ok(text)
+}
+
+#[test]
+fn the_name_of_a_file_has_at_most_255_bytes(rt: HostRuntime) -> Result<(), Fail> {
+    let alloc = rt.alloc();
+    for (count, read) in [(255, true), (256, false)] {
+        let unfile = with_tildes(alloc, b"unfile ", count)?;
+        reads(&rt, alloc, &[unfile.as_slice()], read)?;
+        let mut file = with_tildes(alloc, b"file ", count)?;
+        file.add(b" a")?;
+        reads(&rt, alloc, &[file.as_slice()], read)?;
+    }
+    Ok(())
 }
