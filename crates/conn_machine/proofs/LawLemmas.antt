@@ -21,6 +21,7 @@ use Rattle.conn_machine.specs.Table.{is_allowed, next, reply, is_vacant_at, life
 use Rattle.conn_machine.specs.Runs.{after, Run}
 use Rattle.conn_machine.specs.Laws.{idle_in, IsChosen, IsTakenFor}
 use Rattle.conn_machine.proofs.PickLemmas.{pick_is_chosen}
+use Rattle.conn_machine.proofs.RunLemmas.{after-append}
 use Rattle.conn_machine.proofs.UpdateLemmas.{get_changed}
 
 -- ---- an entry of a run
@@ -29,11 +30,6 @@ use Rattle.conn_machine.proofs.UpdateLemmas.{get_changed}
 pub run_after : (s : State) (before rest : List Entry) → Run s (before ++ rest) → Run (after s before) rest
 run_after s [] rest run = run
 run_after s (e ∷ before) rest run = run_after (next s e.event) before rest run.2
-
--- a history goes on from the state after its first entries
-pub after-append : (s : State) (before rest : List Entry) → after s (before ++ rest) ≡ after (after s before) rest
-after-append s [] rest = refl
-after-append s (e ∷ before) rest = after-append (next s e.event) before rest
 
 -- the state before an entry allows its event
 pub run-allowed : (s : State) (before rest : List Entry) (e : Entry) (event : Event) → Run s (before ++ e ∷ rest)

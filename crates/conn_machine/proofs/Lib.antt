@@ -9,6 +9,8 @@ pub mod ChildLemmas
 pub mod ChildSound
 pub mod FairLemmas
 pub mod FreshLaw
+pub mod HandLaw
+pub mod HistoryLemmas
 pub mod HoldLaw
 pub mod LawLemmas
 pub mod LingerLaw
@@ -17,6 +19,8 @@ pub mod NameLaw
 pub mod NamedLaw
 pub mod NoteLaw
 pub mod OwnerLaw
+pub mod PassLaw
+pub mod PassRows
 pub mod PickLemmas
 pub mod QueueLaw
 pub mod RowLemmas

@@ -22,7 +22,8 @@ use Rattle.conn_machine.specs.Runs.{Run, after, is_name}
 use Rattle.conn_machine.specs.Laws.{IsTakenFor, is_alive, closes_name, is_alive_or_closed}
 use Rattle.conn_machine.proofs.AllowedLemmas.{accept-row}
 use Rattle.conn_machine.proofs.ChangeLaw.{is_met, unused-in_phase}
-use Rattle.conn_machine.proofs.LawLemmas.{after-append, run_after, taken-chosen}
+use Rattle.conn_machine.proofs.LawLemmas.{run_after, taken-chosen}
+use Rattle.conn_machine.proofs.RunLemmas.{after-append}
 use Rattle.conn_machine.proofs.NameLaw.{vacant_live}
 
 -- the slot of the name has a row with the name

@@ -9,9 +9,14 @@ use Rattle.conn_machine.specs.declared.state.State.{State}
 use Rattle.conn_machine.specs.Table.{is_allowed, next, reply}
 use Rattle.conn_machine.specs.Runs.{after, Run, is_of_pass, entries_of, IsNumbered, IsInPassOrder, IsHistory}
 
+-- a history goes on from the state after its first entries
+pub after-append : (s : State) (a b : List Entry) → after s (a ++ b) ≡ after (after s a) b
+after-append s [] b = refl
+after-append s (e ∷ a) b = after-append (next s e.event) a b
+
+-- by one entry too
 pub after-snoc : (s : State) (history : List Entry) (e : Entry) → after s (history ++ e ∷ []) ≡ next (after s history) e.event
-after-snoc s [] e = refl
-after-snoc s (x ∷ history) e = after-snoc (next s x.event) history e
+after-snoc s history e = after-append s history (e ∷ [])
 
 pub run_snoc : (s : State) (history : List Entry) (e : Entry) → Run s history
     → is_allowed (after s history) e.event ≡ true → e.reply ≡ reply (after s history) e.event → Run s (history ++ e ∷ [])

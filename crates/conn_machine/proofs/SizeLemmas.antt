@@ -1,5 +1,5 @@
 -- No event changes how many rows, signals and children there are, nor leads the moment out of its range.
-use Rattle.std.proofs.Common.{◌≡◌, ◌≤◌, ℕ, zero, suc, Bool, true, false, not, ◌&&◌, nat_lt, nat_le, List, [], ◌∷◌, length, refl, ap}
+use Rattle.std.proofs.Common.{◌≡◌, ◌≤◌, ℕ, zero, suc, Bool, true, false, not, ◌&&◌, nat_lt, nat_le, List, [], ◌∷◌, length, refl, sym, ap, subst, ◌∙◌, arith}
 use Rattle.std.proofs.Math.ListN.{length-set}
 use Rattle.std.proofs.lemmas.List.{length-map}
 use Rattle.conn_machine.specs.declared.event.Event.{Event}
@@ -13,6 +13,7 @@ use Rattle.std.proofs.lemmas.Bool.{leb-true}
 use Rattle.std.specs.List.{list_any}
 use Rattle.conn_machine.specs.States.{is_halted, is_overdue}
 use Rattle.mpm_base.specs.Moment.{greatest_moment}
+use Rattle.conn_machine.specs.Sizes.{HasSizesOf, IsSized}
 use Rattle.conn_machine.specs.Table.{is_allowed, next, next_command}
 
 pub length-update : {X : Type 0} (xs : List X) (i : ℕ) (change : X → X) → length (update xs i change) ≡ length xs
@@ -115,3 +116,20 @@ moment-within s (event.Tick m) may before =
 moment-within s (event.StartChild k) may before = before
 moment-within s (event.Command c) may before = rw (moment_of-command s c) before
 moment-within s (event.Retire k) may before = before
+
+-- the state that an event makes has the sizes that there were
+pub sizes_step : (s s' : State) (e : Event) → s' ≡ next s e → HasSizesOf s s'
+sizes_step s s' e made = subst (HasSizesOf s) (sym made) record {
+  rows = length-rows s e;
+  children = length-children s e;
+  signals = length-signals s e;
+}
+
+-- and a size that the machine takes, where the event is allowed
+pub sized_step : (s s' : State) (e : Event) → is_allowed s e ≡ true → s' ≡ next s e → IsSized s → IsSized s'
+sized_step s s' e may made before = subst IsSized (sym made) record {
+  rows = omega (arith, before.rows, length-rows s e);
+  children = omega (arith, before.children, length-children s e);
+  signals = length-signals s e ∙ before.signals ∙ sym (length-rows s e);
+  moment = moment-within s e may before.moment;
+}

@@ -45,7 +45,7 @@ test_le_one true = omega arith
 test_le_one false = omega arith
 
 -- and no more than a test that passes where it does
-test_le : (b a : Bool) → (b ≡ true → a ≡ true) → cond b 1 0 ≤ cond a 1 0
+pub test_le : (b a : Bool) → (b ≡ true → a ≡ true) → cond b 1 0 ≤ cond a 1 0
 test_le true a passes = rw (passes refl) (omega arith)
 test_le false true passes = omega arith
 test_le false false passes = omega arith

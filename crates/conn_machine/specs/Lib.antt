@@ -5,8 +5,10 @@ pub mod FoldsInside
 pub mod Laws
 pub mod Lists
 pub mod Made
+pub mod Passes
 pub mod Rows
 pub mod Runs
+pub mod Sizes
 pub mod Sound
 pub mod States
 pub mod Table

@@ -1,11 +1,11 @@
 -- Histories that passes made, and states in which a server opens.
-use Rattle.std.specs.Prelude.{◌≡◌, ℕ, true, List, [], ◌∷◌, ◌++◌, ⊤}
+use Rattle.std.specs.Prelude.{◌≡◌, ℕ, ◌≤◌, true, List, [], ◌∷◌, ◌++◌, ⊤}
 use Rattle.mpm_base.specs.declared.shape.Shape.{Shape}
 use Rattle.conn_machine.specs.declared.event.Entry.{Entry}
 use Rattle.conn_machine.specs.declared.state.State.{State}
 use Rattle.conn_machine.specs.Children.{is_in_bounds}
 use Rattle.conn_machine.specs.States.{opening_state}
-use Rattle.conn_machine.specs.Runs.{IsNextOf}
+use Rattle.conn_machine.specs.Runs.{IsNextOf, entries_of}
 
 -- the state is one in which a server opens
 pub record IsOpened (s : State) : Type 0 where
@@ -23,3 +23,11 @@ AreMadeBehind start before (e ∷ entries) = IsNextOf e.pass start before e × A
 -- each entry of the history is one that its pass may make where it stands
 abbrev pub AreMade : State → List Entry → Type 0
 AreMade start history = AreMadeBehind start [] history
+
+-- no pass but the first so many made an entry
+abbrev pub AreOfPasses : ℕ → List Entry → Type 0
+AreOfPasses passes history = (p : ℕ) → passes ≤ p → entries_of p history ≡ []
+
+-- the pass has seen the first of the history, and made no entry behind that
+abbrev pub HasSeen : ℕ → List Entry → List Entry → Type 0
+HasSeen p seen history = (rest : List Entry) × (history ≡ seen ++ rest) × (entries_of p rest ≡ [])

@@ -68,6 +68,14 @@ is_working (Parked kind) = false
 is_working Queued = false
 is_working (Working cell phase) = true
 
+-- a worker has the connection of the place, or will
+abbrev pub is_carried_at : Place → Bool
+is_carried_at place = is_queued place || is_working place
+
+-- a pass has the connection of the place: the listener holds it, or a worker has it, or will
+abbrev pub is_with_a_pass : Place → Bool
+is_with_a_pass place = is_held place || is_carried_at place
+
 -- the worker of that cell serves it
 abbrev pub is_in_cell : ℕ → Place → Bool
 is_in_cell c Vacant = false

@@ -1,6 +1,6 @@
 //! Laws of the machine: what holds of every state, and of every run, that the event table allows. Each is the contract
 //! of a function that does nothing.
-ghost use Rattle.std.specs.Prelude.{◌≡◌, ◌<◌, ◌↔◌, ℕ, ◌+◌, true, false, List, ◌∷◌, ◌++◌, count_by, min, None, Some, slice_get};
+ghost use Rattle.std.specs.Prelude.{◌≡◌, ◌≢◌, ◌<◌, ◌≤◌, ◌↔◌, ℕ, ◌+◌, true, false, List, ◌∷◌, ◌++◌, count_by, map, min, None, Some, slice_get};
 ghost use Rattle.std.specs.List.{list_any};
 ghost use Rattle.mpm_base.specs.Count.{greatest_count};
 ghost use Rattle.mpm_base.specs.declared.conn.ConnName.{ConnName};
@@ -17,14 +17,16 @@ ghost use Rattle.conn_machine.specs.declared.event.Commanded.TheVariants.{Gracef
 ghost use Rattle.conn_machine.specs.declared.event.Reply.TheVariants.{Took};
 ghost use Rattle.conn_machine.specs.declared.event.Entry.{Entry};
 ghost use Rattle.conn_machine.specs.declared.state.State.{State};
-ghost use Rattle.conn_machine.specs.Rows.{is_live, is_live_in, is_lingering, live_row, owner_of};
+ghost use Rattle.conn_machine.specs.Rows.{is_live, is_live_in, is_lingering, is_with_a_pass, live_row, owner_of};
 ghost use Rattle.conn_machine.specs.Children.{is_in_bounds};
-ghost use Rattle.conn_machine.specs.States.{opening_state};
+ghost use Rattle.conn_machine.specs.States.{opening_state, pick_child};
 ghost use Rattle.conn_machine.specs.Table.{is_allowed, next};
-ghost use Rattle.conn_machine.specs.Runs.{Run, after};
+ghost use Rattle.conn_machine.specs.Runs.{Adds, Run, after, entries_of, row_of};
+ghost use Rattle.conn_machine.specs.Made.{AreMade, AreOfPasses, HasSeen, IsOpened};
+ghost use Rattle.conn_machine.specs.Passes.{HasNoneInHand, OnlyServes, asking_count};
 ghost use Rattle.conn_machine.specs.Events.{count_events, is_accept, is_close};
 ghost use Rattle.conn_machine.specs.Sound.{IsSound};
-ghost use Rattle.conn_machine.specs.Laws.{IsEarned, IsTakenFor, LingersOn, OnlyGrows, StartsFresh, StaysSound, is_alive, is_alive_or_closed};
+ghost use Rattle.conn_machine.specs.Laws.{IsChosen, IsEarned, IsTakenFor, LingersOn, OnlyGrows, StartsFresh, StaysSound, is_alive, is_alive_or_closed};
 
 /// The opening state is sound, every event that the table allows keeps a sound state sound, and so does every run.
 pub fn events_keep_states_sound()
@@ -80,7 +82,8 @@ pub fn retired_children_are_drained()
 /// Each connection is taken for the child that the rule of admission names: of those that take one, the one with most idle
 /// workers, and of those with as many the one with the lowest number.
 pub fn connections_go_to_the_chosen_child()
-    ensures { (s : State) (before rest : List Entry) (e : Entry) (slot : ℕ) → Run s (before ++ e ∷ rest) → e.event ≡ event.Accept slot → IsTakenFor (after s before) slot e.reply }
+    ensures picked { (s : State) (k : ℕ) → pick_child s ≡ Some k → IsChosen s k }
+    ensures taken { (s : State) (before rest : List Entry) (e : Entry) (slot : ℕ) → Run s (before ++ e ∷ rest) → e.event ≡ event.Accept slot → IsTakenFor (after s before) slot e.reply }
 {}
 
 /// A connection that is taken starts afresh: its row has no flag, no response and no cause, and its slot no signal, of the
@@ -97,4 +100,30 @@ pub fn lingering_deadlines_never_move()
 /// The responses of a live connection only grow, and none comes after one that says that it is the last.
 pub fn responses_only_grow()
     ensures { (s : State) (history : List Entry) (name : ConnName) (r r' : Row) → IsSound s → Run s history → live_row s.rows name ≡ Some r → live_row (after s history).rows name ≡ Some r' → OnlyGrows r.notes r'.notes }
+{}
+
+/// In a history that passes made as they may, the connection of a pass is live, and the listener holds it, or a worker has
+/// it, or will; two passes have different ones; and each connection that somebody holds or has is some pass's, so that there is
+/// none where no pass has one, nor, of so many passes, any of them.
+pub fn each_pass_has_its_own_connection()
+    ensures live { (start : State) (history : List Entry) (p : ℕ) (name : ConnName) → IsOpened start → AreMade start history → row_of p history ≡ Some name → (r : Row) × (live_row (after start history).rows name ≡ Some r) × (is_with_a_pass r.place ≡ true) }
+    ensures apart { (start : State) (history : List Entry) (p q : ℕ) (name other : ConnName) → IsOpened start → AreMade start history → row_of p history ≡ Some name → row_of q history ≡ Some other → name.slot ≡ other.slot → p ≡ q }
+    ensures someone { (start : State) (history : List Entry) (slot : ℕ) (r : Row) → IsOpened start → AreMade start history → slice_get (after start history).rows slot ≡ Some r → is_with_a_pass r.place ≡ true → (p : ℕ) × (name : ConnName) × (row_of p history ≡ Some name) × (name.slot ≡ slot) × (live_row (after start history).rows name ≡ Some r) }
+    ensures nobody { (start : State) (history : List Entry) → IsOpened start → AreMade start history → ((p : ℕ) → row_of p history ≡ None) → HasNoneInHand (after start history) }
+    ensures nobody_of { (start : State) (passes : ℕ) (history : List Entry) → IsOpened start → AreMade start history → AreOfPasses passes history → ((p : ℕ) → p < passes → row_of p history ≡ None) → HasNoneInHand (after start history) }
+{}
+
+/// While other passes go on, a pass keeps its connection, and the row of it stays as it was.
+pub fn connections_stay_while_others_go_on()
+    ensures name { (p : ℕ) (seen history : List Entry) → HasSeen p seen history → row_of p history ≡ row_of p seen }
+    ensures row { (start : State) (p : ℕ) (seen history : List Entry) (name : ConnName) → IsOpened start → AreMade start history → HasSeen p seen history → row_of p seen ≡ Some name → slice_get (after start history).rows name.slot ≡ slice_get (after start seen).rows name.slot }
+{}
+
+/// What a pass other than the listener adds leaves all that the listener alone decides as it was, but that it may stop the
+/// server because the history is full. It signals nothing but a connection that lingers, so no more slots ask for service,
+/// and fewer once it handed a connection to the workers.
+pub fn passes_leave_the_rest_to_the_listener()
+    ensures rest { (p : ℕ) (base : State) (old new : List Entry) → p ≢ 0 → Adds p base old new → OnlyServes (after base old) (after base new) }
+    ensures asking { (p : ℕ) (base : State) (old new : List Entry) → p ≢ 0 → Adds p base old new → asking_count (after base new) ≤ asking_count (after base old) }
+    ensures queued { (p : ℕ) (base : State) (old new : List Entry) (name : ConnName) (events : List Event) → p ≢ 0 → Adds p base old new → map (λ e. e.event) (entries_of p new) ≡ map (λ e. e.event) (entries_of p old) ++ event.Queue name ∷ events → asking_count (after base new) < asking_count (after base old) }
 {}

@@ -3,7 +3,8 @@
 //! A `State` is the table; the event table says which event is allowed in it, and what it does and replies.
 //! It is one definition, `is_allowed`, `next` and `reply` in `specs/Table.antt`, on one list of rows whose counts
 //! are filters. Histories of the machine, the order of each pass's entries, and what a pass may add stand in
-//! `specs/Runs.antt`. `may` and `step` are the same table as a plain program.
+//! `specs/Runs.antt`. `may` and `step` are the same table as a plain program. What the table is worth is said by `laws`, how
+//! histories go on by `laws_of_runs`.
 //!
 //! A value that is `Kept` tells a ledger: a history, the state before it, and a record of the entries before that state, which
 //! were folded. What a fold makes stands in `specs/Folds.antt`.
@@ -16,6 +17,7 @@ mod event;
 mod folded;
 mod kept;
 pub mod laws;
+pub mod laws_of_runs;
 mod row;
 mod rows;
 mod state;

@@ -3,6 +3,7 @@ ghost use Rattle.std.specs.Prelude.{◌≡◌, ◌≤◌, ◌<◌, true, false, 
 ghost use Rattle.conn_machine.specs.Rows as rows;
 ghost use Rattle.conn_machine.specs.States as states;
 ghost use Rattle.conn_machine.specs.Table as table;
+ghost use Rattle.conn_machine.specs.Sizes.{HasSizesOf, IsSized};
 ghost use Rattle.conn_machine.specs.Sound.{IsSound};
 ghost use Rattle.conn_machine.specs.declared.event.Reply.TheVariants.{Done, Cell, Noted};
 
@@ -15,7 +16,7 @@ use std::alloc::Global;
 /// Does what the event table says of the event, and gives its reply. Only a noted response takes memory;
 /// where it lacks the state stays as it was. The state has at most 8,192 rows and 32 children, and as many
 /// signals as rows.
-#[tactic(auto, using(crate::proofs::SoundRuns::sound_step))]
+#[tactic(auto, using(crate::proofs::SoundRuns::sound_step, crate::proofs::SizeLemmas::sizes_step, crate::proofs::SizeLemmas::sized_step))]
 pub fn step(alloc: Global, state: &mut State, event: &Event) -> Result<Reply, NoMemory>
     requires allowed { table.is_allowed state.old event.now ≡ true }
     requires few_rows { length state.old.rows ≤ 8192 }
@@ -26,6 +27,8 @@ pub fn step(alloc: Global, state: &mut State, event: &Event) -> Result<Reply, No
     ensures err { OnErr result (state.new ≡ state.old) }
     ensures sure { table.takes_memory event.now ≡ false → IsOk result }
     ensures sound { IsSound state.old → IsSound state.new }
+    ensures sizes { HasSizesOf state.old state.new }
+    ensures sized { IsSized state.old → IsSized state.new }
 {
     let _ = alloc;
     match *event {

@@ -27,10 +27,11 @@ use Rattle.table_rule.specs.Views.{IsAwake, given_view}
 use Rattle.table_rule.specs.IdleWords.{HasPermit}
 use Rattle.table_rule.specs.Steps.{GivesBack}
 use Rattle.table_rule.specs.Tie.{IsTied, IsViewOf, KeptIsHome, KeptIsOut, origin_of}
-use Rattle.table_rule.proofs.HistoryLemmas.{after-append, entries_of-append, made_more, others, row_by, run_made, seen_more, seen_whole}
+use Rattle.conn_machine.proofs.HistoryLemmas.{entries_of-append, made_more, others, row_by, run_made, seen_more, seen_whole}
+use Rattle.conn_machine.proofs.RunLemmas.{after-append}
 use Rattle.table_rule.proofs.OrdinalLemmas.{ordinal_after, ordinals_length}
 use Rattle.table_rule.proofs.PermitLaws.{entries_credit, entries_permit}
-use Rattle.table_rule.proofs.RowLaws.{none_some, row_stays, some_is}
+use Rattle.conn_machine.proofs.PassRows.{none_some, row_stays, some_is}
 use Rattle.table_rule.proofs.TieLemmas.{drawn_same, first_is, idle_kept, moved}
 use Rattle.table_rule.proofs.TurnLaws.{idle_else, second_else, turn_here}
 use Rattle.table_rule.proofs.WordLemmas.{FirstAfter, at_below, at_same, first_after, first_same, none_is, set_length}

@@ -12,17 +12,17 @@ use Rattle.atomic_table.specs.Table.Act.{keeps}
 use Rattle.atomic_table.proofs.Lists.{at_set}
 use Rattle.conn_machine.specs.declared.kept.Ledger.{Ledger}
 use Rattle.conn_machine.specs.Laws.{idle_in}
-use Rattle.conn_machine.specs.Made.{AreMade}
+use Rattle.conn_machine.specs.Made.{AreMade, HasSeen}
 use Rattle.conn_machine.specs.Runs.{after}
 use Rattle.table_rule.specs.declared.view.Hand.{Hand}
 use Rattle.table_rule.specs.declared.view.Origin.{Origin}
 use Rattle.table_rule.specs.declared.view.View.{View}
-use Rattle.table_rule.specs.Histories.{HasSeen, threads_of}
+use Rattle.table_rule.specs.Histories.{threads_of}
 use Rattle.table_rule.specs.Views.{IsAwake, IsIdle, credited_view, with_permit, with_try, noting_view}
 use Rattle.table_rule.specs.IdleWords.{bias, bit_at, sum_of, permits, tries, HasPermit, AreIdleWords}
 use Rattle.table_rule.specs.Steps.{Credits, LooksAtIdle, Releases, Tries, Uncredits, Undoes, tried_view, uncredited_view}
 use Rattle.table_rule.specs.Tie.{IsTied, origin_of}
-use Rattle.table_rule.proofs.RowLaws.{none_some, some_is}
+use Rattle.conn_machine.proofs.PassRows.{none_some, some_is}
 use Rattle.table_rule.proofs.SumLemmas.{bit_other, bit_self, sum_has, sum_same, sum_set, tries_le}
 use Rattle.table_rule.proofs.TieLemmas.{drawn_same, first_is, moved, same_place, views_of}
 use Rattle.table_rule.proofs.GiveLaws.{holder}

@@ -1,11 +1,8 @@
 mod DrawLaws
 mod GiveLaws
-mod HandLaws
-mod HistoryLemmas
 mod IdleLaws
 mod OrdinalLemmas
 mod PermitLaws
-mod RowLaws
 mod SumLemmas
 mod TieLemmas
 mod TurnLaws

@@ -18,7 +18,7 @@ use Rattle.conn_machine.specs.declared.event.Reply.{Reply}
 use Rattle.conn_machine.specs.declared.event.Entry.{Entry}
 use Rattle.conn_machine.specs.declared.state.State.{State}
 use Rattle.conn_machine.specs.Lists.{update}
-use Rattle.conn_machine.specs.Rows.{is_queued, is_working}
+use Rattle.conn_machine.specs.Rows.{is_carried_at, is_queued, is_working}
 use Rattle.conn_machine.specs.Children.{child_at, all_stopped, stopped_child, is_empty, is_running, started_child, retired_child}
 use Rattle.conn_machine.specs.States.{is_serving, is_halted, is_signalled}
 use Rattle.conn_machine.specs.Table.{is_allowed, next, reply, may_be_queued, next_command, taken_row, held_row, queued_row, served_row, answered_row, child_passes}
@@ -26,9 +26,9 @@ use Rattle.conn_machine.specs.Runs.{after, has_after, may_make, row_of, load, Ar
 use Rattle.conn_machine.specs.Sound.{IsSound}
 use Rattle.conn_machine.proofs.SoundLemmas.{keeps_sound}
 use Rattle.conn_machine.proofs.UpdateLemmas.{get_changed}
-use Rattle.table_rule.specs.Histories.{ArePermitted, IsPermitted, is_carried_at, threads_of}
-use Rattle.table_rule.proofs.HistoryLemmas.{after-snoc}
-use Rattle.table_rule.proofs.RowLaws.{met, had_row, some_is, none_some, off, row_own}
+use Rattle.table_rule.specs.Histories.{ArePermitted, IsPermitted, threads_of}
+use Rattle.conn_machine.proofs.RunLemmas.{after-snoc}
+use Rattle.conn_machine.proofs.PassRows.{met, had_row, some_is, none_some, off, row_own}
 
 -- ## The permit of the pass
 

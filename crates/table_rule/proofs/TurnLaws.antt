@@ -12,14 +12,13 @@ use Rattle.conn_machine.specs.Runs.{after, row_of}
 use Rattle.table_rule.specs.declared.view.Left.{Left}
 use Rattle.table_rule.specs.declared.view.Origin.{Origin}
 use Rattle.table_rule.specs.declared.view.View.{View}
-use Rattle.conn_machine.specs.Made.{AreMade}
-use Rattle.table_rule.specs.Histories.{HasSeen}
+use Rattle.conn_machine.specs.Made.{AreMade, HasSeen}
 use Rattle.table_rule.specs.Ledgers.{IsSplit}
 use Rattle.table_rule.specs.Views.{IsAwake, IsFound, IsIdle, HasFreeWorker, resting_view, free_view, taken_view}
 use Rattle.table_rule.specs.Steps.{IsTurnTaken, TakesTurn, LooksAtWord, LiesDown, WakesUp}
 use Rattle.table_rule.specs.Tie.{IsTied, IsViewOf, KeptIsHome, KeptIsOut, origin_of}
-use Rattle.table_rule.proofs.HistoryLemmas.{seen_whole, seen_same, row_by}
-use Rattle.table_rule.proofs.RowLaws.{row_stays, none_some}
+use Rattle.conn_machine.proofs.HistoryLemmas.{seen_whole, seen_same, row_by}
+use Rattle.conn_machine.proofs.PassRows.{row_stays, none_some}
 use Rattle.table_rule.proofs.TieLemmas.{drawn_same, first_is, idle_same, moved, number_below, same_place, stays, views_of}
 use Rattle.table_rule.proofs.WordLemmas.{at_below, first_after, first_other, first_same, set_length, word_again, word_else, word_here}
 use Rattle.table_rule.proofs.WorkerLaws.{free_worker}

@@ -11,16 +11,16 @@ use Rattle.conn_machine.specs.declared.row.Place.TheVariants.{Vacant, Spent, Hel
 use Rattle.conn_machine.specs.declared.row.Row.{Row}
 use Rattle.conn_machine.specs.declared.event.Entry.{Entry}
 use Rattle.conn_machine.specs.declared.state.State.{State}
-use Rattle.conn_machine.specs.Rows.{is_carried_by, carried_count, row_passes}
+use Rattle.conn_machine.specs.Rows.{carried_count, is_carried_at, is_carried_by, is_with_a_pass, row_passes}
 use Rattle.conn_machine.specs.Runs.{after, entries_of, row_of}
 use Rattle.conn_machine.proofs.UpdateLemmas.{count_cons}
 use Rattle.table_rule.specs.declared.view.View.{View}
 use Rattle.conn_machine.specs.Made.{AreMade, IsOpened}
-use Rattle.table_rule.specs.Histories.{is_carried_at, is_with_a_pass, threads_of}
+use Rattle.table_rule.specs.Histories.{threads_of}
 use Rattle.table_rule.specs.IdleWords.{bit, bit_at, sum_of, permits, AreIdleWords}
-use Rattle.table_rule.proofs.HistoryLemmas.{row_none}
+use Rattle.conn_machine.proofs.HistoryLemmas.{row_none}
 use Rattle.table_rule.proofs.SumLemmas.{sum_le, sum_less, sum_has, sum_add, sum_zero, bit_self}
-use Rattle.table_rule.proofs.RowLaws.{owned, none_some}
+use Rattle.conn_machine.proofs.PassRows.{owned, none_some}
 use Rattle.table_rule.proofs.WordLemmas.{below_at}
 
 -- ## Counting by places

@@ -1,31 +1,17 @@
 -- What passes know of a history, and what they may add to it.
-use Rattle.std.specs.Prelude.{◌≡◌, ℕ, Bool, ◌||◌, List, [], ◌∷◌, ◌++◌, Option, Some, slice_index, ⊤}
-use Rattle.conn_machine.specs.declared.row.Place.{Place}
+use Rattle.std.specs.Prelude.{◌≡◌, ℕ, List, [], ◌∷◌, ◌++◌, Option, Some, slice_index, ⊤}
 use Rattle.conn_machine.specs.declared.row.Row.{Row}
 use Rattle.conn_machine.specs.declared.event.Event.{Event}
 use Rattle.conn_machine.specs.declared.event.Event.TheVariants as event
 use Rattle.conn_machine.specs.declared.event.Entry.{Entry}
 use Rattle.conn_machine.specs.declared.state.State.{State}
-use Rattle.conn_machine.specs.Rows.{is_held, is_queued, is_working, live_row}
+use Rattle.conn_machine.specs.Rows.{live_row}
 use Rattle.conn_machine.specs.Children.{child_at}
 use Rattle.conn_machine.specs.Table.{next}
-use Rattle.conn_machine.specs.Runs.{entries_of}
 
 -- the second list begins with the first
 abbrev pub Extends : {X : Type 0} → List X → List X → Type 0
 Extends {X} xs ys = (rest : List X) × (ys ≡ xs ++ rest)
-
--- the pass has seen the first of the history, and made no entry behind that
-abbrev pub HasSeen : ℕ → List Entry → List Entry → Type 0
-HasSeen p seen history = (rest : List Entry) × (history ≡ seen ++ rest) × (entries_of p rest ≡ [])
-
--- a worker has the row, or will
-abbrev pub is_carried_at : Place → Bool
-is_carried_at place = is_queued place || is_working place
-
--- a pass has the row: the listener holds it, or a worker has it, or will
-abbrev pub is_with_a_pass : Place → Bool
-is_with_a_pass place = is_held place || is_carried_at place
 
 -- the workers of the child
 abbrev pub threads_of : State → ℕ → ℕ

@@ -6,7 +6,8 @@ use Rattle.mpm_base.specs.declared.conn.ConnName.{ConnName}
 use Rattle.conn_machine.specs.declared.row.Row.{Row}
 use Rattle.conn_machine.specs.declared.state.State.{State}
 use Rattle.table_rule.specs.declared.view.View.{View}
-use Rattle.table_rule.specs.Histories.{is_carried_at, threads_of}
+use Rattle.conn_machine.specs.Rows.{is_carried_at}
+use Rattle.table_rule.specs.Histories.{threads_of}
 
 -- what stands on the idle word of a child without workers
 abbrev pub bias : ℕ

@@ -4,12 +4,11 @@ use Rattle.atomic_table.specs.Table.{Step, Me}
 use Rattle.conn_machine.specs.declared.event.Entry.{Entry}
 use Rattle.conn_machine.specs.declared.kept.Ledger.{Ledger}
 use Rattle.conn_machine.specs.Laws.{idle_in}
-use Rattle.conn_machine.specs.Made.{AreMade}
+use Rattle.conn_machine.specs.Made.{AreMade, HasSeen}
 use Rattle.conn_machine.specs.Runs.{Adds, after, row_of}
 use Rattle.table_rule.specs.declared.view.Left.{Left}
 use Rattle.table_rule.specs.declared.view.Origin.{Origin}
 use Rattle.table_rule.specs.declared.view.View.{View}
-use Rattle.table_rule.specs.Histories.{HasSeen}
 use Rattle.table_rule.specs.Ledgers.{EndsTurn, IsLedgerLeft}
 use Rattle.table_rule.specs.Views.{IsFound, taken_view, given_view, drawn_view, resting_view, free_view, with_permit, with_try, credited_view, noting_view}
 use Rattle.table_rule.specs.IdleWords.{bias}

@@ -11,8 +11,8 @@ use Rattle.table_rule.specs.declared.view.Draws.{Draws}
 use Rattle.table_rule.specs.declared.view.Left.{Left}
 use Rattle.table_rule.specs.declared.view.Origin.{Origin}
 use Rattle.table_rule.specs.declared.view.View.{View}
-use Rattle.conn_machine.specs.Made.{AreMade, IsOpened}
-use Rattle.table_rule.specs.Histories.{Extends, HasSeen}
+use Rattle.conn_machine.specs.Made.{AreMade, HasSeen, IsOpened}
+use Rattle.table_rule.specs.Histories.{Extends}
 use Rattle.table_rule.specs.Ledgers.{IsSplit}
 use Rattle.table_rule.specs.IdleWords.{bias, bit, AreIdleWords}
 

@@ -12,8 +12,8 @@ use Rattle.table_rule.specs.declared.view.Hand.{Hand}
 use Rattle.table_rule.specs.declared.view.Left.{Left}
 use Rattle.table_rule.specs.declared.view.Origin.{Origin}
 use Rattle.table_rule.specs.declared.view.View.{View}
-use Rattle.conn_machine.specs.Made.{AreMade}
-use Rattle.table_rule.specs.Histories.{HasSeen, threads_of}
+use Rattle.conn_machine.specs.Made.{AreMade, HasSeen}
+use Rattle.table_rule.specs.Histories.{threads_of}
 use Rattle.table_rule.specs.Ledgers.{IsSplit}
 
 -- ## Views

@@ -7,15 +7,13 @@ ghost use prog.Atomic.{either};
 ghost use Rattle.atomic_table.specs.Table.{Allows, Joins, Me, Splits, opening, step};
 ghost use Rattle.atomic_table.specs.Table as table;
 ghost use Rattle.mpm_base.specs.declared.conn.ConnName.{ConnName};
-ghost use Rattle.conn_machine.specs.declared.event.Entry.{Entry};
 ghost use Rattle.conn_machine.specs.declared.row.Row.{Row};
 ghost use Rattle.conn_machine.specs.declared.state.State.{State};
-ghost use Rattle.conn_machine.specs.Made.{AreMade, IsOpened};
-ghost use Rattle.conn_machine.specs.Rows.{carried_count, live_row};
+ghost use Rattle.conn_machine.specs.Rows.{carried_count, is_with_a_pass};
 ghost use Rattle.conn_machine.specs.declared.kept.Ledger.{Ledger};
-ghost use Rattle.conn_machine.specs.Runs.{after, row_of};
+ghost use Rattle.conn_machine.specs.Runs.{after};
 ghost use Rattle.table_rule.specs.declared.view.View.{View};
-ghost use Rattle.table_rule.specs.Histories.{HasSeen, is_with_a_pass, threads_of};
+ghost use Rattle.table_rule.specs.Histories.{threads_of};
 ghost use Rattle.table_rule.specs.IdleWords.{bias, permits, sum_of};
 ghost use Rattle.table_rule.specs.Ledgers.{MayGiveBack};
 ghost use Rattle.table_rule.specs.Steps.{Credits, DrawsNext, GivesBack, LiesDown, LooksAtWord, LooksAtIdle, Releases, TakesTurn, Tries, Uncredits, Undoes, WakesUp};
@@ -97,20 +95,6 @@ pub fn child_is_uncredited<K: Kept>()
 /// An idle word is looked at.
 pub fn idle_word_is_looked_at<K: Kept>()
     ensures { (o : Ledger) (slots id k : ℕ) (me : Me (Option K) View) → k < 32 → IsAwake me.0 → Allows (IsTied K.ledger o) slots id me (k + 2) (λ n. n) (LooksAtIdle (step slots (k + 2) 0 0 none) me) }
-{}
-
-/// In a history that passes made as they may, the connection of a pass is live, and the listener holds it, or a worker has
-/// it, or will; two passes have different ones; and each connection that somebody holds or has is some pass's.
-pub fn each_pass_has_its_own_connection()
-    ensures live { (start : State) (history : List Entry) (p : ℕ) (name : ConnName) → IsOpened start → AreMade start history → row_of p history ≡ Some name → (r : Row) × (live_row (after start history).rows name ≡ Some r) × (is_with_a_pass r.place ≡ true) }
-    ensures apart { (start : State) (history : List Entry) (p q : ℕ) (name other : ConnName) → IsOpened start → AreMade start history → row_of p history ≡ Some name → row_of q history ≡ Some other → name.slot ≡ other.slot → p ≡ q }
-    ensures someone { (start : State) (history : List Entry) (slot : ℕ) (r : Row) → IsOpened start → AreMade start history → slice_get (after start history).rows slot ≡ Some r → is_with_a_pass r.place ≡ true → (p : ℕ) × (name : ConnName) × (row_of p history ≡ Some name) × (name.slot ≡ slot) × (live_row (after start history).rows name ≡ Some r) }
-{}
-
-/// While other passes go on, a pass keeps its connection, and the row of it stays as it was.
-pub fn connections_stay_while_others_go_on()
-    ensures name { (p : ℕ) (seen history : List Entry) → HasSeen p seen history → row_of p history ≡ row_of p seen }
-    ensures row { (start : State) (p : ℕ) (seen history : List Entry) (name : ConnName) → IsOpened start → AreMade start history → HasSeen p seen history → row_of p seen ≡ Some name → slice_get (after start history).rows name.slot ≡ slice_get (after start seen).rows name.slot }
 {}
 
 /// Where the rule holds, each connection that somebody holds or has stands in a pass's view; a child's workers carry no more

@@ -5,7 +5,7 @@
 //! the kept value. What a pass knows is a `View`. The rule is `IsTied` in `specs/Tie.antt`: there is one history, of which
 //! each pass has seen a beginning; one pass at a time has the turn; and each idle word is what it ought to be (`specs/IdleWords.antt`).
 //! What each kind of step tells stands in `specs/Steps.antt`. That each keeps the rule is a function of `laws`, which does
-//! nothing.
+//! nothing. Which connection a pass has, and that it stays, are laws of `conn_machine`.
 #![tactic(auto)]
 
 pub mod laws;

@@ -1,5 +1,5 @@
 //! The laws, each of which is called once.
-use conn_machine::laws;
+use conn_machine::{laws, laws_of_runs};
 
 #[test]
 fn the_laws_do_nothing() {
@@ -15,4 +15,12 @@ fn the_laws_do_nothing() {
     laws::taken_connections_start_afresh();
     laws::lingering_deadlines_never_move();
     laws::responses_only_grow();
+    laws::each_pass_has_its_own_connection();
+    laws::connections_stay_while_others_go_on();
+    laws::passes_leave_the_rest_to_the_listener();
+    laws_of_runs::histories_go_on_by_one_entry();
+    laws_of_runs::passes_add_entries();
+    laws_of_runs::histories_join();
+    laws_of_runs::made_histories_are_runs();
+    laws_of_runs::rows_change_one_at_a_time();
 }

@@ -1,6 +1,6 @@
-use Rattle.table_rule.proofs.HandLaws.{name_stays}
-use Rattle.table_rule.proofs.RowLaws.{row_stays}
-use Rattle.table_rule.proofs.laws.connections_stay_while_others_go_on.Goals as goal
+use Rattle.conn_machine.proofs.HandLaw.{name_stays}
+use Rattle.conn_machine.proofs.PassRows.{row_stays}
+use Rattle.conn_machine.proofs.laws.connections_stay_while_others_go_on.Goals as goal
 
 pub returns-clause-name : goal.returns-clause-name
 returns-clause-name c = name_stays

@@ -7,12 +7,11 @@ use Rattle.conn_machine.specs.declared.row.Place.TheVariants.{Vacant, Spent, Hel
 use Rattle.conn_machine.specs.declared.row.Row.{Row}
 use Rattle.conn_machine.specs.declared.event.Entry.{Entry}
 use Rattle.conn_machine.specs.declared.state.State.{State}
-use Rattle.conn_machine.specs.Made.{AreMade, IsOpened}
-use Rattle.conn_machine.specs.Rows.{is_live, is_live_as, is_unused, live_row, row_where}
+use Rattle.conn_machine.specs.Made.{AreMade, HasSeen, IsOpened}
+use Rattle.conn_machine.specs.Rows.{is_live, is_live_as, is_unused, is_with_a_pass, live_row, row_where}
 use Rattle.conn_machine.specs.Runs.{after, row_of}
-use Rattle.table_rule.specs.Histories.{HasSeen, is_with_a_pass}
-use Rattle.table_rule.proofs.HistoryLemmas.{row_by, seen_same}
-use Rattle.table_rule.proofs.RowLaws.{owned}
+use Rattle.conn_machine.proofs.HistoryLemmas.{row_by, seen_same}
+use Rattle.conn_machine.proofs.PassRows.{owned}
 
 hand_live : (place : Place) → is_with_a_pass place ≡ true → not (is_unused place) ≡ true
 hand_live Vacant is = absurd (cc)

@@ -1,5 +1,5 @@
 -- Which pass has which row: the laws of histories whose entries are each one that its pass may make.
-use Rattle.std.proofs.Common.{◌≡◌, ◌≢◌, ◌⊎◌, inl, inr, ⊎_elim, ℕ, zero, suc, ◌+◌, ◌==◌, Bool, true, false, true≢false, not, ◌&&◌, ◌||◌, List, [], ◌∷◌, ◌++◌, fold, Option, Some, None, slice_get, eq-eqb, ne_eqb, refl, sym, ap, subst, ◌∙◌, append-nil, append_assoc, replicate, is_some, is_none}
+use Rattle.std.proofs.Common.{◌≡◌, ◌≢◌, ◌⊎◌, inl, inr, ⊎_elim, ℕ, zero, suc, ◌+◌, ◌==◌, Bool, true, false, true≢false, not, ◌&&◌, ◌||◌, List, [], ◌∷◌, ◌++◌, Option, Some, None, slice_get, eq-eqb, ne_eqb, refl, sym, ap, subst, ◌∙◌, append-nil, append_assoc, replicate, is_some, is_none}
 use Rattle.std.specs.Prelude.{if◌then◌else◌}
 use Rattle.std.specs.Option.{option_map_or}
 use Rattle.std.proofs.lemmas.Bool.{and_parts, eqb-true}
@@ -18,15 +18,14 @@ use Rattle.conn_machine.specs.declared.event.Reply.{Reply}
 use Rattle.conn_machine.specs.declared.event.Entry.{Entry}
 use Rattle.conn_machine.specs.declared.state.State.{State}
 use Rattle.conn_machine.specs.Lists.{update}
-use Rattle.conn_machine.specs.Rows.{is_vacant, is_held, is_live, is_parked, is_queued, is_working, is_lingering, in_phase, is_live_as, row_where, live_row, lives_and}
+use Rattle.conn_machine.specs.Rows.{is_vacant, is_held, is_live, is_parked, is_queued, is_working, is_lingering, is_with_a_pass, in_phase, is_live_as, row_where, live_row, lives_and}
 use Rattle.conn_machine.specs.States.{is_serving, is_halted, is_signalled, pick_child, unused_row, opening_state}
 use Rattle.conn_machine.specs.Table.{is_allowed, next, reply, may_accept, is_vacant_at, taken_row, life_at, may_wait, parked_row, may_be_held, held_row, may_be_queued, queued_row, served_row, answered_row, linger_cause_fits, lingering_row, closed_row, end_fits, greatest_life, next_command}
 use Rattle.conn_machine.specs.Runs.{after, entries_of, has_after, has_row, may_make, row_of, IsNextOf}
-use Rattle.conn_machine.proofs.RunLemmas.{entries_of-own, entries_of-other}
+use Rattle.conn_machine.proofs.RunLemmas.{after-snoc, entries_of-other}
 use Rattle.conn_machine.proofs.UpdateLemmas.{get_changed}
-use Rattle.conn_machine.specs.Made.{AreMade, AreMadeBehind, IsOpened}
-use Rattle.table_rule.specs.Histories.{HasSeen, is_with_a_pass}
-use Rattle.table_rule.proofs.HistoryLemmas.{after-snoc, entries_of-append, none_behind, row_by}
+use Rattle.conn_machine.specs.Made.{AreMade, AreMadeBehind, HasSeen, IsOpened}
+use Rattle.conn_machine.proofs.HistoryLemmas.{entries_of-append, none_behind, row-own, row_by}
 
 -- ## Rows in hand
 
@@ -175,7 +174,8 @@ moved_stays rows rows' has p now owned (inr t) q name ne is = t.others name.slot
 
 -- ## What an event does
 
-get_else : (change : Row → Row) (rows : List Row) (i j : ℕ) → j ≢ i → slice_get (update rows i change) j ≡ slice_get rows j
+-- each other item stays
+pub get_else : (change : Row → Row) (rows : List Row) (i j : ℕ) → j ≢ i → slice_get (update rows i change) j ≡ slice_get rows j
 get_else change [] i j ne = refl
 get_else change (x ∷ rows) zero zero ne = absurd (ne refl)
 get_else change (x ∷ rows) zero (suc j) ne = refl
@@ -327,15 +327,9 @@ event_moves s p weight had (event.Retire k) may role = inl (refl, refl)
 abbrev pub rows_of : List Entry → ℕ → Option ConnName
 rows_of history p = row_of p history
 
-fold_snoc : {X A : Type 0} (f : A → X → A) (z : A) (xs : List X) (x : X) → fold f z (xs ++ x ∷ []) ≡ f (fold f z xs) x
-fold_snoc f z [] x = refl
-fold_snoc f z (y ∷ xs) x = fold_snoc f (f z y) xs x
-
 -- an entry of the pass gives it its next row
 pub row_own : (p : ℕ) (history : List Entry) (e : Entry) → e.pass ≡ p → row_of p (history ++ e ∷ []) ≡ has_after (row_of p history) e.event e.reply
-row_own p history e own =
-    ap (λ (es : List Entry). fold (λ had x. has_after had x.event x.reply) None es) (entries_of-own p history e (eq-eqb e.pass p own))
-    ∙ fold_snoc (λ had x. has_after had x.event x.reply) None (entries_of p history) e
+row_own p history e own = row-own p history e (eq-eqb e.pass p own)
 
 -- an entry of another pass leaves it
 row_other : (p : ℕ) (history : List Entry) (e : Entry) → e.pass ≢ p → row_of p (history ++ e ∷ []) ≡ row_of p history

@@ -1,0 +1,53 @@
+-- What passes leave of a state: the listener, which is pass 0, and the others, which serve.
+use Rattle.std.specs.Prelude.{◌≡◌, ℕ, ◌⊎◌, Bool, true, false, not, ◌&&◌, count_by, length, Some, slice_get}
+use Rattle.std.specs.List.{range_with_len}
+use Rattle.conn_machine.specs.declared.event.Why.TheVariants as why
+use Rattle.conn_machine.specs.declared.row.Row.{Row}
+use Rattle.conn_machine.specs.declared.state.Going.TheVariants.{Halted}
+use Rattle.conn_machine.specs.declared.state.State.{State}
+use Rattle.conn_machine.specs.Rows.{is_lingering, is_parked, is_with_a_pass, row_passes}
+use Rattle.conn_machine.specs.Children.{all_stopped}
+use Rattle.conn_machine.specs.States.{is_halted, is_signalled}
+
+-- no connection is with a pass: the listener holds none, and no worker has one, or will
+pub record HasNoneInHand (s : State) : Type 0 where
+  pub each : (slot : ℕ) (r : Row) → slice_get s.rows slot ≡ Some r → is_with_a_pass r.place ≡ false
+  pub count : count_by (λ (r : Row). is_with_a_pass r.place) s.rows ≡ 0
+
+-- the row waits, and lingers
+abbrev pub waits_lingering : Row → Bool
+waits_lingering r = is_parked r.place && is_lingering r
+
+-- the connection of the slot waits, and lingers
+abbrev pub lingers_at : State → ℕ → Bool
+lingers_at s slot = row_passes waits_lingering s.rows slot
+
+-- the slot is signalled, and its connection doesn't linger
+abbrev pub asks_service : State → ℕ → Bool
+asks_service s slot = is_signalled s slot && not (lingers_at s slot)
+
+-- how many slots are signalled without a connection that lingers
+abbrev pub asking_count : State → ℕ
+asking_count s = count_by (asks_service s) (range_with_len 0 (length s.rows))
+
+-- the server goes on as before, or has stopped as before, and so does each child
+pub record GoesOnAs (old new : State) : Type 0 where
+  pub going : new.going ≡ old.going
+  pub children : new.children ≡ old.children
+
+-- the server was stopped because its history is full, and each child that ran with it
+pub record StopsFull (old new : State) : Type 0 where
+  pub before : is_halted old.going ≡ false
+  pub going : new.going ≡ Halted why.Full
+  pub children : new.children ≡ all_stopped old.children
+
+-- what the listener alone decides is as it was: no time has passed, no connection was taken, no generation began, and the server
+-- goes on as before, unless it was stopped because its history is full; and a slot is signalled only where it was before, or
+-- where its connection lingers
+pub record OnlyServes (old new : State) : Type 0 where
+  pub moment : new.moment ≡ old.moment
+  pub accepted : new.accepted ≡ old.accepted
+  pub newest : new.newest ≡ old.newest
+  pub shape : new.shape ≡ old.shape
+  pub server : GoesOnAs old new ⊎ StopsFull old new
+  pub signals : (slot : ℕ) → is_signalled new slot ≡ true → (is_signalled old slot ≡ true) ⊎ (lingers_at new slot ≡ true)
