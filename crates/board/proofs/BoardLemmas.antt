@@ -14,6 +14,7 @@ use Rattle.conn_machine.proofs.SizeLemmas.{length-update}
 use Rattle.conn_machine.proofs.UpdateLemmas.{get_changed}
 use Rattle.conn_state.specs.Conn.{SeenConn}
 use Rattle.conn_state.specs.Answered.{SeenEnded}
+use Rattle.conn_state.specs.Known.{KnownOutside}
 use Rattle.board.specs.Book.{SeenBook}
 use Rattle.board.specs.Board.{SeenBoard, IsHome, AreHome, IsBoard, conn_at}
 
@@ -107,9 +108,9 @@ pub record AreThere (rows : List Row) (conns : List (Option SeenConn)) (ended ro
   pub has_room : ended + count_by is_live rows ≤ room
 
 -- a board has its connections so
-pub there_of : (book : SeenBook) (conns : List (Option SeenConn)) (ended : List SeenEnded) (room : ℕ)
-    → IsBoard (record { book = book; conns = conns; ended = ended }) room → AreThere book.state.rows conns (length ended) room
-there_of book conns ended room is = record { waiting = is.agrees.waiting; has_room = is.has_room }
+pub there_of : (known : Option KnownOutside) (book : SeenBook) (conns : List (Option SeenConn)) (ended : List SeenEnded) (room : ℕ)
+    → IsBoard known (record { book = book; conns = conns; ended = ended }) room → AreThere book.state.rows conns (length ended) room
+there_of known book conns ended room is = record { waiting = is.agrees.waiting; has_room = is.has_room }
 
 -- the connection of a slot, once that of this slot was set
 homes_by : (rows : List Row) (conns : List (Option SeenConn)) (slot : ℕ) (r : Row) (change : Row → Row) (c : Option SeenConn)

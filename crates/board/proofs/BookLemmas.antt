@@ -12,53 +12,47 @@ use Rattle.conn_machine.specs.declared.event.Event.TheVariants as event
 use Rattle.conn_machine.specs.declared.event.Entry.{Entry}
 use Rattle.conn_machine.specs.declared.state.State.{State}
 use Rattle.conn_machine.specs.Table.{is_allowed, next, reply}
-use Rattle.conn_machine.specs.Runs.{entries_of, asks_page, load, full_load, may_make, row_of}
+use Rattle.conn_machine.specs.Runs.{after, entries_of, is_of_pass, asks_page, load, full_load, may_make, row_of, IsHistory, IsNextOf}
+use Rattle.conn_machine.specs.Made.{AreMade}
+use Rattle.conn_machine.specs.Sizes.{HasSizesOf, IsSized}
 use Rattle.conn_machine.specs.Sound.{IsSound}
-use Rattle.conn_machine.specs.Children.{is_in_bounds, no_child}
+use Rattle.conn_machine.specs.Children.{no_child}
 use Rattle.conn_machine.specs.States.{is_halted, opening_state, unused_row}
-use Rattle.conn_machine.proofs.ChildSound.{sound-opening}
-use Rattle.conn_machine.proofs.RunLemmas.{after-snoc, history-snoc, entries_of-own, entries_of-other}
-use Rattle.conn_machine.proofs.SizeLemmas.{length-rows, length-children, length-signals, moment-within}
-use Rattle.board.specs.Book.{IsSized, SeenBook, full_stop, numbered_entry, book_with_entry}
+use Rattle.board.specs.Book.{SeenBook, numbered_entry, book_with_entry}
 use Rattle.board.specs.BookInside.{AreNext, IsKept, pages_of}
 use Rattle.conn_machine.specs.declared.event.Reply.{Reply}
 use Rattle.board.specs.Faults.{IsOpen}
 use Rattle.board.specs.RoomInside.{row_owes, child_owes, owed_entries, is_sure}
 use Rattle.board.proofs.RoomLemmas.{owed-bound, owed-sure}
-use Rattle.board.proofs.PassLemmas.{made_snoc}
 use Rattle.board.proofs.StopLemmas.{stops_first, stops_more, stops_by_role, tells_first, tells_more}
 
+-- the entry is the last of its pass, and no other pass has it
+pub record IsLastOf (history : List Entry) (e : Entry) : Type 0 where
+  pub own : (p : ℕ) → is_of_pass p e ≡ true → entries_of p (history ++ e ∷ []) ≡ entries_of p history ++ e ∷ []
+  pub other : (p : ℕ) → is_of_pass p e ≡ false → entries_of p (history ++ e ∷ []) ≡ entries_of p history
+
 -- the pass of the entry counts one more, and the others stay
-next_by : (ordinals : List ℕ) (history : List Entry) (e : Entry) (p : ℕ) (own : Bool) → (e.pass == p) ≡ own
+next_by : (ordinals : List ℕ) (history : List Entry) (e : Entry) (p : ℕ) (own : Bool) → (e.pass == p) ≡ own → IsLastOf history e
     → AreNext ordinals history → e.pass < length ordinals → p < length ordinals
     → get_or (set ordinals e.pass (length (entries_of e.pass history) + 1)) p 0 ≡ length (entries_of p (history ++ e ∷ []))
-next_by ordinals history e p true own before within below =
+next_by ordinals history e p true own last before within below =
     let same : e.pass ≡ p = eqb-true e.pass p own in
     let len : length (entries_of p history ++ e ∷ []) ≡ length (entries_of p history) + 1 = length-append (entries_of p history) (e ∷ []) in
-    rw (entries_of-own p history e own)
+    rw (last.own p own)
     (subst (λ (q : ℕ). get_or (set ordinals q (length (entries_of q history) + 1)) p 0 ≡ length (entries_of p history) + 1)
     (sym same) (get_or-set_same ordinals p (length (entries_of p history) + 1) 0 below)
     ∙ sym len)
-next_by ordinals history e p false other before within below =
+next_by ordinals history e p false other last before within below =
     let differs : (p ≡ e.pass → ⊥) = (λ (q : p ≡ e.pass). let eq : (e.pass == p) ≡ true = eq-eqb e.pass p (sym q) in cc) in
-    rw (entries_of-other p history e other)
+    rw (last.other p other)
     (get_or-set_other ordinals e.pass p (length (entries_of e.pass history) + 1) 0 differs ∙ before p below)
 
 -- so the numbers stay known where an entry takes the next of its pass
-pub next_more : (ordinals : List ℕ) (history : List Entry) (e : Entry) → AreNext ordinals history → e.pass < length ordinals
+pub next_more : (ordinals : List ℕ) (history : List Entry) (e : Entry) → IsLastOf history e → AreNext ordinals history → e.pass < length ordinals
     → AreNext (set ordinals e.pass (length (entries_of e.pass history) + 1)) (history ++ e ∷ [])
-next_more ordinals history e before within p below =
-    next_by ordinals history e p (e.pass == p) refl before within
+next_more ordinals history e last before within p below =
+    next_by ordinals history e p (e.pass == p) refl last before within
     (omega (arith, length-set ordinals e.pass (length (entries_of e.pass history) + 1)))
-
--- the state has the size that it had
-sized_more : (s : State) (e : Event) → is_allowed s e ≡ true → IsSized s → IsSized (next s e)
-sized_more s e may before = record {
-  rows = omega (arith, before.rows, length-rows s e);
-  children = omega (arith, before.children, length-children s e);
-  signals = length-signals s e ∙ before.signals ∙ sym (length-rows s e);
-  moment = moment-within s e may before.moment;
-}
 
 -- the pages of a history that goes on by one entry
 pages_more : (history : List Entry) (e : Entry) → pages_of (history ++ e ∷ []) ≡ pages_of history + (if asks_page e.event then 1 else 0)
@@ -69,23 +63,51 @@ pub sure-pages : (e : Event) → is_sure e ≡ true → asks_page e ≡ false
 sure-pages (event.Answer name ask) sure = absurd (cc)
 sure-pages e sure = refl
 
+-- what a history that goes on by the entry is
+pub record GoesOn (base : State) (history : List Entry) (e : Entry) : Type 0 where
+  pub is_history : IsHistory base (history ++ e ∷ [])
+  pub made : AreMade base (history ++ e ∷ [])
+  pub state : after base (history ++ e ∷ []) ≡ next (after base history) e.event
+
+-- what a step keeps of a state
+pub record IsStepped (s s' : State) : Type 0 where
+  pub sound : IsSound s → IsSound s'
+  pub sizes : HasSizesOf s s'
+  pub sized : IsSized s → IsSized s'
+
+-- the history goes on by an entry that its pass may make, as the machine says of one entry
+pub goes_by : (base : State) (history : List Entry) (s : State) (ordinals : List ℕ) (pages room : ℕ) (e : Entry) → IsKept base history s ordinals pages room
+    → is_allowed s e.event ≡ true → e.reply ≡ reply s e.event → e.ordinal ≡ length (entries_of e.pass history)
+    → may_make e.pass (row_of e.pass history) (load history) e.event ≡ true
+    → ((b : State) (h : List Entry) (x : Entry) → after b (h ++ x ∷ []) ≡ next (after b h) x.event)
+    → ((b : State) (h : List Entry) (x : Entry) → IsHistory b h → is_allowed (after b h) x.event ≡ true → x.reply ≡ reply (after b h) x.event
+    → x.ordinal ≡ length (entries_of x.pass h) → IsHistory b (h ++ x ∷ []))
+    → ((b : State) (h : List Entry) (x : Entry) → AreMade b h → IsNextOf x.pass b h x → AreMade b (h ++ x ∷ []))
+    → GoesOn base history e
+goes_by base history s ordinals pages room e before allowed replied ordinal role by_state by_history by_made =
+    let may : is_allowed (after base history) e.event ≡ true = rw before.state_is allowed in
+    let answered : e.reply ≡ reply (after base history) e.event = rw before.state_is replied in
+    record {
+      is_history = by_history base history e before.is_history may answered ordinal;
+      made = by_made base history e before.made (record { pass = refl; ordinal = ordinal; is_allowed = may; replied = answered; role = role });
+      state = by_state base history e;
+    }
+
 -- the history is kept, where the room suffices
 kept_more : (base : State) (history : List Entry) (s : State) (ordinals ordinals' : List ℕ) (pages room room' : ℕ) (e : Entry)
-    → IsKept base history s ordinals pages room → is_allowed s e.event ≡ true → e.reply ≡ reply s e.event
-    → e.ordinal ≡ length (entries_of e.pass history) → AreNext ordinals' (history ++ e ∷ []) → IsSound (next s e.event)
-    → length (history ++ e ∷ []) + owed_entries (next s e.event) ≤ room'
-    → may_make e.pass (row_of e.pass history) (load history) e.event ≡ true
+    → IsKept base history s ordinals pages room → is_allowed s e.event ≡ true → AreNext ordinals' (history ++ e ∷ []) → IsSound (next s e.event)
+    → IsSized (next s e.event) → length (history ++ e ∷ []) + owed_entries (next s e.event) ≤ room'
+    → may_make e.pass (row_of e.pass history) (load history) e.event ≡ true → GoesOn base history e
     → IsKept base (history ++ e ∷ []) (next s e.event) ordinals' (pages + (if asks_page e.event then 1 else 0)) room'
-kept_more base history s ordinals ordinals' pages room room' e before is_allowed replied ordinal numbers sound has_room role = record {
-  is_history = history-snoc base history e before.is_history (rw before.state_is is_allowed) (rw before.state_is replied) ordinal;
-  made = made_snoc base history e before.made
-      (record { pass = refl; ordinal = ordinal; is_allowed = rw before.state_is is_allowed; replied = rw before.state_is replied; role = role });
-  state_is = after-snoc base history e ∙ ap (λ (t : State). next t e.event) before.state_is;
+kept_more base history s ordinals ordinals' pages room room' e before is_allowed numbers sound sized has_room role goes = record {
+  is_history = goes.is_history;
+  made = goes.made;
+  state_is = goes.state ∙ ap (λ (t : State). next t e.event) before.state_is;
   opened = before.opened;
   sound = sound;
   numbers = numbers;
   pages_is = rw before.pages_is (sym (pages_more history e));
-  sized = sized_more s e.event is_allowed before.sized;
+  sized = sized;
   has_room = has_room;
   stops = stops_more history e before.stops (stops_by_role e.pass (row_of e.pass history) (load history) e.event role);
   full = tells_more s history e before.full is_allowed;
@@ -93,43 +115,41 @@ kept_more base history s ordinals ordinals' pages room room' e before is_allowed
 
 -- the same, where memory was found for all that may follow
 pub kept_with_room : (base : State) (history history' : List Entry) (s s' : State) (ordinals ordinals' : List ℕ) (pages pages' room room' : ℕ) (e : Entry)
-    → IsKept base history s ordinals pages room → is_allowed s e.event ≡ true → e.reply ≡ reply s e.event
-    → e.ordinal ≡ length (entries_of e.pass history) → AreNext ordinals' history' → (IsSound s → IsSound s')
+    → IsKept base history s ordinals pages room → is_allowed s e.event ≡ true → AreNext ordinals' history' → IsStepped s s'
     → history' ≡ history ++ e ∷ [] → s' ≡ next s e.event → pages' ≡ pages + (if asks_page e.event then 1 else 0)
     → length history + (4 * length s.rows + length s.children + 2) ≤ room'
-    → may_make e.pass (row_of e.pass history) (load history) e.event ≡ true
+    → may_make e.pass (row_of e.pass history) (load history) e.event ≡ true → GoesOn base history e
     → IsKept base history' s' ordinals' pages' room'
-kept_with_room base history history' s s' ordinals ordinals' pages pages' room room' e before is_allowed replied ordinal numbers sound history_is state_is pages_is space role =
+kept_with_room base history history' s s' ordinals ordinals' pages pages' room room' e before is_allowed numbers stepped history_is state_is pages_is space role goes =
     let len : length (history ++ e ∷ []) ≡ length history + 1 = length-append history (e ∷ []) in
     let owes = owed-bound (next s e.event) in
-    let rows = length-rows s e.event in
-    let children = length-children s e.event in
+    let sizes : HasSizesOf s (next s e.event) = subst (HasSizesOf s) state_is stepped.sizes in
     rw (history_is, state_is, pages_is)
-    (kept_more base history s ordinals ordinals' pages room room' e before is_allowed replied ordinal (rw history_is at numbers)
-    (rw state_is at (sound before.sound)) (omega (arith, len, owes, rows, children, space)) role)
+    (kept_more base history s ordinals ordinals' pages room room' e before is_allowed (rw history_is at numbers)
+    (rw state_is at (stepped.sound before.sound)) (rw state_is at (stepped.sized before.sized))
+    (omega (arith, len, owes, sizes.rows, sizes.children, space)) role goes)
 
 -- the same, where the room was taken before
 pub kept_sure : (base : State) (history history' : List Entry) (s s' : State) (ordinals ordinals' : List ℕ) (pages room room' : ℕ) (e : Entry)
-    → IsKept base history s ordinals pages room → is_allowed s e.event ≡ true → e.reply ≡ reply s e.event
-    → e.ordinal ≡ length (entries_of e.pass history) → AreNext ordinals' history' → (IsSound s → IsSound s')
+    → IsKept base history s ordinals pages room → is_allowed s e.event ≡ true → AreNext ordinals' history' → IsStepped s s'
     → history' ≡ history ++ e ∷ [] → s' ≡ next s e.event → is_sure e.event ≡ true → room ≤ room'
-    → may_make e.pass (row_of e.pass history) (load history) e.event ≡ true
+    → may_make e.pass (row_of e.pass history) (load history) e.event ≡ true → GoesOn base history e
     → IsKept base history' s' ordinals' pages room'
-kept_sure base history history' s s' ordinals ordinals' pages room room' e before is_allowed replied ordinal numbers sound history_is state_is sure space role =
+kept_sure base history history' s s' ordinals ordinals' pages room room' e before is_allowed numbers stepped history_is state_is sure space role goes =
     let len : length (history ++ e ∷ []) ≡ length history + 1 = length-append history (e ∷ []) in
     let owes = owed-sure s e.event is_allowed sure in
     let none = sure-pages e.event sure in
-    let more = kept_more base history s ordinals ordinals' pages room room' e before is_allowed replied ordinal (rw history_is at numbers)
-    (rw state_is at (sound before.sound)) (omega (arith, len, owes, before.has_room, space)) role in
+    let more = kept_more base history s ordinals ordinals' pages room room' e before is_allowed (rw history_is at numbers)
+    (rw state_is at (stepped.sound before.sound)) (rw state_is at (stepped.sized before.sized))
+    (omega (arith, len, owes, before.has_room, space)) role goes in
     let same : pages + (if asks_page e.event then 1 else 0) ≡ pages = rw none (omega arith) in
     rw (history_is, state_is)
     (subst (λ (n : ℕ). IsKept base (history ++ e ∷ []) (next s e.event) ordinals' n room') same more)
 
 -- an empty history is kept, from a sound state that it leaves as it is
-pub kept_first : (slots children passes room : ℕ) (shape : Shape) → slots ≤ 8192 → children ≤ 32 → is_in_bounds shape ≡ true → 1 ≤ room
+pub kept_first : (slots children passes room : ℕ) (shape : Shape) → slots ≤ 8192 → children ≤ 32 → IsSound (opening_state slots children shape) → 1 ≤ room
     → IsKept (opening_state slots children shape) [] (opening_state slots children shape) (replicate passes 0) 0 room
-kept_first slots children passes room shape few_slots few_children bounds space =
-    let sound = sound-opening slots children shape bounds in
+kept_first slots children passes room shape few_slots few_children sound space =
     record {
       is_history = record { run = tt; order = λ p. refl };
       made = tt;

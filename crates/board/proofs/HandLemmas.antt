@@ -19,8 +19,12 @@ use Rattle.conn_machine.specs.Table.{is_allowed, next, may_be_held, may_be_queue
 use Rattle.conn_machine.specs.Sound.{IsSound}
 use Rattle.conn_machine.proofs.UpdateLemmas.{get_changed}
 use Rattle.conn_state.specs.Conn.{SeenConn}
+use Rattle.board.specs.declared.faults.BoardFault.{BoardFault}
+use Rattle.board.specs.declared.faults.BoardFault.TheVariants as fault
+use Rattle.board.specs.Book.{SeenBook}
+use Rattle.board.specs.Faults.{IsNotTakenFor, IsRefusedFor, accept_fault}
 use Rattle.board.specs.Fits.{Fits, IsTakenUp, IsSettledFrom}
-use Rattle.board.specs.Board.{AreHome, ClosesFirst, IsAtHome, conn_at}
+use Rattle.board.specs.Board.{SeenBoard, AreHome, ClosesFirst, IsAtHome, conn_at}
 use Rattle.board.specs.Events.{IsDecided}
 use Rattle.board.specs.EventsInside.{decided_note}
 use Rattle.board.proofs.BoardLemmas.{LivesAs, get-below, get-update_other, lives_as}
@@ -182,3 +186,15 @@ answer-note s name ask last moment may last_is moment_is =
       found = lives.found;
       note_is = rw (last_is, moment_is, same) refl;
     }
+
+-- ## A refusal
+
+-- what a call that takes a connection answers for a refusal is the reason of that
+not_taken_at : (f : BoardFault) (b : SeenBook) → IsRefusedFor f b → IsNotTakenFor (accept_fault f) b
+not_taken_at fault.Halted b refused = refused
+not_taken_at fault.Full b refused = refused
+not_taken_at fault.NoMemory b refused = refused
+
+-- the same of the board from outside
+pub not_taken_for : (f : BoardFault) (seen b : SeenBoard) → seen ≡ b → IsRefusedFor f seen.book → IsNotTakenFor (accept_fault f) b.book
+not_taken_for f seen b is refused = subst (λ (v : SeenBoard). IsNotTakenFor (accept_fault f) v.book) is (not_taken_at f seen.book refused)

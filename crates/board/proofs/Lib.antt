@@ -1,5 +1,6 @@
 pub mod BoardLemmas
 pub mod BookLemmas
+pub mod ClientLemmas
 pub mod ClosedLemmas
 pub mod EventLemmas
 pub mod FindLemmas

@@ -11,6 +11,7 @@ use Rattle.conn_machine.specs.Rows.{is_live}
 use Rattle.conn_machine.specs.Table.{next}
 use Rattle.conn_state.specs.Conn.{SeenConn}
 use Rattle.conn_state.specs.Answered.{SeenEnded, IsEnded}
+use Rattle.conn_state.specs.Known.{KnownOutside, IsOfClient}
 use Rattle.board.specs.Book.{SeenBook}
 use Rattle.board.specs.Fits.{Fits, IsSettled, IsClosing}
 
@@ -86,7 +87,27 @@ pub record Agrees (b : SeenBoard) : Type 0 where
   pub closed : AreClosed b.book.base b.book.history b.ended
   pub answered : AreEnded b.ended
 
--- and each live connection finds room among those that ended
-pub record IsBoard (b : SeenBoard) (room : ℕ) : Type 0 where
+-- ## Clients
+
+-- where the type knows the clients, the link of each connection that the board has is that of one of them
+abbrev pub WaitForClients : Option KnownOutside → List (Option SeenConn) → Type 0
+WaitForClients known conns = (slot : ℕ) (c : SeenConn) → conn_at conns slot ≡ Some c → IsOfClient known c.told
+
+-- where the type knows the clients, the link of each connection that ended is that of one of them
+abbrev pub EndedForClients : Option KnownOutside → List SeenEnded → Type 0
+EndedForClients known [] = ⊤
+EndedForClients known (e ∷ ended) = IsOfClient known e.told × EndedForClients known ended
+
+-- where the type knows the clients, the links of the connections that a board has, and of those that ended, are links of theirs
+pub record AreOfClients (known : Option KnownOutside) (b : SeenBoard) : Type 0 where
+  pub conns : WaitForClients known b.conns
+  pub ended : EndedForClients known b.ended
+
+-- ## Every board
+
+-- a board whose type knows this agrees with its history, its links are those of clients, and each live connection finds room
+-- among those that ended
+pub record IsBoard (known : Option KnownOutside) (b : SeenBoard) (room : ℕ) : Type 0 where
   pub agrees : Agrees b
+  pub clients : AreOfClients known b
   pub has_room : length b.ended + count_by is_live b.book.state.rows ≤ room

@@ -1,5 +1,5 @@
 -- What a board keeps of its history.
-use Rattle.std.specs.Prelude.{◌≡◌, ℕ, ◌+◌, ◌≤◌, List, [], ◌∷◌, ◌++◌, length}
+use Rattle.std.specs.Prelude.{◌≡◌, ℕ, ◌≤◌, List, [], ◌∷◌, ◌++◌, length}
 use Rattle.conn_machine.specs.declared.event.Why.TheVariants as why
 use Rattle.conn_machine.specs.declared.event.Commanded.TheVariants.{Stop}
 use Rattle.conn_machine.specs.declared.event.Event.{Event}
@@ -9,7 +9,6 @@ use Rattle.conn_machine.specs.declared.event.Entry.{Entry}
 use Rattle.conn_machine.specs.declared.state.Going.{Going}
 use Rattle.conn_machine.specs.declared.state.Going.TheVariants.{Halted}
 use Rattle.conn_machine.specs.declared.state.State.{State}
-use Rattle.mpm_base.specs.Moment.{greatest_moment}
 use Rattle.conn_machine.specs.Table.{next, reply}
 use Rattle.conn_machine.specs.Runs.{entries_of, load, full_load}
 
@@ -32,13 +31,6 @@ entry_of who event b = numbered_entry who event (reply b.state event) b.history
 -- the history went on by an entry of the pass, and the state by the machine's step
 abbrev pub book_with_entry : ℕ → Event → SeenBook → SeenBook
 book_with_entry who event b = record b { history = b.history ++ entry_of who event b ∷ []; state = next b.state event }
-
--- the state has a size that the machine takes, and its moment is in range
-pub record IsSized (s : State) : Type 0 where
-  pub rows : length s.rows ≤ 8192
-  pub children : length s.children ≤ 32
-  pub signals : length s.signals ≡ length s.rows
-  pub moment : s.moment ≤ greatest_moment
 
 -- the event that stops the server because the history is full
 abbrev pub full_stop : Event

@@ -4,9 +4,10 @@ use Rattle.conn_machine.specs.declared.event.Entry.{Entry}
 use Rattle.conn_machine.specs.declared.state.State.{State}
 use Rattle.conn_machine.specs.Runs.{after, entries_of, asks_page, IsHistory}
 use Rattle.conn_machine.specs.Made.{AreMade}
+use Rattle.conn_machine.specs.Sizes.{IsSized}
 use Rattle.conn_machine.specs.Sound.{IsSound}
 use Rattle.board.specs.RoomInside.{owed_entries}
-use Rattle.board.specs.Book.{IsSized, StopsWhereFull, TellsFullStop}
+use Rattle.board.specs.Book.{StopsWhereFull, TellsFullStop}
 
 -- the numbers that the entries of the passes have next
 abbrev pub AreNext : List ℕ → List Entry → Type 0

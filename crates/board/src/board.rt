@@ -5,6 +5,7 @@ ghost use Rattle.conn_machine.specs.States.{is_halted, opening_state};
 ghost use Rattle.conn_machine.specs.Table.{is_allowed, cell_at, reply, taken_reply};
 ghost use Rattle.conn_machine.specs.Runs.{Adds, IsHistory, after, load, may_order, row_of};
 ghost use Rattle.conn_machine.specs.Made.{AreMade};
+ghost use Rattle.conn_machine.specs.Sizes.{IsSized};
 ghost use Rattle.conn_machine.specs.Sound.{IsSound};
 ghost use Rattle.conn_machine.specs.declared.event.Event.TheVariants as event;
 ghost use Rattle.conn_machine.specs.declared.event.Commanded.TheVariants.{Stop};
@@ -12,8 +13,9 @@ ghost use Rattle.conn_machine.specs.declared.event.Reply.TheVariants.{Took};
 ghost use Rattle.conn_machine.specs.declared.event.Why.TheVariants as why;
 ghost use Rattle.conn_state.specs.Answered.{IsEnded};
 ghost use Rattle.conn_state.specs.Conn.{SeenConn};
-ghost use Rattle.board.specs.Book.{IsSized, StopsWhereFull, TellsFullStop, book_with_entry};
-ghost use Rattle.board.specs.Board.{Agrees, conn_at};
+ghost use Rattle.conn_state.specs.Known.{IsOfClient};
+ghost use Rattle.board.specs.Book.{StopsWhereFull, TellsFullStop, book_with_entry};
+ghost use Rattle.board.specs.Board.{Agrees, AreOfClients, WaitForClients, conn_at};
 ghost use Rattle.board.specs.Events.{IsAdded, IsDecided, IsTaken, with_recorded};
 ghost use Rattle.board.specs.EventsInside.{decided_note};
 ghost use Rattle.board.specs.Faults.{IsNotTakenFor, IsRefusedFor};
@@ -23,10 +25,10 @@ use crate::accept::slot_for_accept;
 use crate::book::Book;
 use crate::faults::{AcceptFault, BoardFault};
 use conn_machine::{Commanded, Entry, Event, Kept, Reply, State, Why};
-use conn_state::{Conn, Ended};
+use conn_state::{Conn, Ended, Known, Nothing};
 use mpm_base::{Ask, ConnName, Kind, Link, Moment, NoMemory, Note, Shape};
 use std::alloc::Global;
-use std::marker::Model;
+use std::marker::{Model, PhantomData};
 
 /// The connection that was taken.
 #[derive(Clone, Copy, Debug, PartialEq, Eq)]
@@ -39,15 +41,18 @@ pub struct Taken {
     pub generation: u32,
 }
 
-/// The table of connections: its history, the connections that wait, and those that ended.
+/// The table of connections: its history, the connections that wait, and those that ended. Where `N` knows what the clients
+/// send, each link is that of one of them.
 #[derive(Drop)]
-pub struct Board<L: Link> {
+pub struct Board<L: Link, N: Known> {
     pub(crate) book: Book,
-    conns: Vec<Option<Conn<L>>>,
+    // What `N` knows of them is kept by the board itself, so that a board forgets it without a move.
+    conns: Vec<Option<Conn<L, Nothing>>>,
     ended: Vec<Ended<L>>,
+    of: PhantomData<N>,
 }
 
-impl<L: Link> Model for Board<L> {
+impl<L: Link, N: Known> Model for Board<L, N> {
     ghost use Rattle.std.specs.Prelude.{vec_capacity};
     ghost use Rattle.board.specs.Board.{SeenBoard, IsBoard};
 
@@ -55,10 +60,10 @@ impl<L: Link> Model for Board<L> {
 
     ghost view = { λ b. record { book = b.book; conns = b.conns.items; ended = b.ended.items } };
 
-    ghost invariant = { λ b. IsBoard (record { book = b.book; conns = b.conns.items; ended = b.ended.items }) (vec_capacity b.ended) };
+    ghost invariant = { λ b. IsBoard N.known (record { book = b.book; conns = b.conns.items; ended = b.ended.items }) (vec_capacity b.ended) };
 }
 
-impl<L: Link> Kept for Board<L> {
+impl<L: Link, N: Known> Kept for Board<L, N> {
     ghost use Rattle.board.specs.Ledger.{ledger_of};
 
     ghost ledger = { ledger_of };
@@ -68,7 +73,7 @@ impl<L: Link> Kept for Board<L> {
     }
 }
 
-impl<L: Link> Board<L> {
+impl<L: Link, N: Known> Board<L, N> {
     /// A board without connections, in its opening state, for passes with the numbers below `passes`. Takes the room that
     /// stopping it needs.
     pub fn make(
@@ -77,7 +82,7 @@ impl<L: Link> Board<L> {
         children: u32,
         passes: u32,
         shape: Shape,
-    ) -> Result<Board<L>, NoMemory>
+    ) -> Result<Board<L, N>, NoMemory>
         requires slots { (1 ≤ slots) × (slots ≤ 8192) }
         requires children { (1 ≤ children) × (children ≤ 32) }
         requires passes { (1 ≤ passes) × (passes ≤ 4099) }
@@ -99,7 +104,27 @@ impl<L: Link> Board<L> {
             book,
             conns,
             ended: Vec::new(alloc),
+            of: PhantomData,
         })
+    }
+
+    /// The same board, of a type that knows nothing of the outside. What the type knew of each link is said of the board.
+    pub fn forget(self) -> Board<L, Nothing>
+        ensures same { result ≡ self }
+        ensures clients { AreOfClients N.known self }
+    {
+        let Board {
+            book,
+            conns,
+            ended,
+            of: _,
+        } = self;
+        Board {
+            book,
+            conns,
+            ended,
+            of: PhantomData,
+        }
     }
 
     /// The entries of the history, oldest first.
@@ -125,7 +150,7 @@ impl<L: Link> Board<L> {
 
     /// What holds of every board: its history is one of the machine, from its base to its state, which are sound; each entry
     /// is one that its pass may make where it stands; a stop because the history is full stands only where it is; and the
-    /// connections agree with the history.
+    /// connections agree with the history. Where `N` knows what the clients send, each link is that of one of them.
     pub fn show(&self)
         ensures history { IsHistory self.now.book.base self.now.book.history }
         ensures made { AreMade self.now.book.base self.now.book.history }
@@ -136,6 +161,7 @@ impl<L: Link> Board<L> {
         ensures stops { StopsWhereFull self.now.book.history }
         ensures full { TellsFullStop self.now.book.state.going self.now.book.history }
         ensures agrees { Agrees self.now }
+        ensures clients { AreOfClients N.known self.now }
     {
         self.book.show();
     }
@@ -173,7 +199,12 @@ impl<L: Link> Board<L> {
     }
 
     /// The connection waits. Where it is refused it comes back.
-    pub fn park(&mut self, who: u32, kind: Kind, conn: Conn<L>) -> Result<(), (BoardFault, Conn<L>)>
+    pub fn park(
+        &mut self,
+        who: u32,
+        kind: Kind,
+        conn: Conn<L, N>,
+    ) -> Result<(), (BoardFault, Conn<L, N>)>
         requires who { who < self.old.book.passes }
         requires row { row_of who self.old.book.history ≡ Some conn.name }
         requires allowed { is_halted self.old.book.state.going ≡ false → is_allowed self.old.book.state (event.Park conn.name kind) ≡ true }
@@ -187,10 +218,11 @@ impl<L: Link> Board<L> {
         ensures entries { Adds who self.old.book.base self.old.book.history self.new.book.history }
         ensures row { OnOk result (row_of who self.new.book.history ≡ None) }
     {
+        conn.show();
         let name = conn.name();
         match self.book.record(who, Event::Park(name, kind)) {
             Ok(_) => {
-                self.conns[name.slot as usize] = Some(conn);
+                self.conns[name.slot as usize] = Some(conn.forget());
                 Ok(())
             }
             Err(fault) => Err((fault, conn)),
@@ -198,7 +230,7 @@ impl<L: Link> Board<L> {
     }
 
     /// The listener takes a connection that waits. Takes no memory.
-    pub fn hold(&mut self, who: u32, name: ConnName) -> Conn<L>
+    pub fn hold(&mut self, who: u32, name: ConnName) -> Conn<L, N>
         requires who { who < self.old.book.passes }
         requires listener { who ≡ 0 }
         requires free { row_of who self.old.book.history ≡ None }
@@ -217,7 +249,7 @@ impl<L: Link> Board<L> {
 
     /// The connection is handed out, to a worker of its child. Takes the room that its start and its closing need. Where it is
     /// refused it stays.
-    pub fn queue(&mut self, who: u32, name: ConnName) -> Result<Conn<L>, BoardFault>
+    pub fn queue(&mut self, who: u32, name: ConnName) -> Result<Conn<L, N>, BoardFault>
         requires who { who < self.old.book.passes }
         requires free { row_of who self.old.book.history ≡ None }
         requires allowed { is_halted self.old.book.state.going ≡ false → is_allowed self.old.book.state (event.Queue name) ≡ true }
@@ -281,6 +313,7 @@ impl<L: Link> Board<L> {
         requires allowed { is_allowed self.old.book.state (event.Close ended.name ended.cause ended.tail) ≡ true }
         requires fits { IsClosing self.old.book.state ended.name ended.cause ended.tail ended }
         requires answered { IsEnded ended }
+        requires client { IsOfClient N.known ended.told }
         ensures is { self.new ≡ record (with_recorded who (event.Close ended.name ended.cause ended.tail) self.old) { ended = self.old.ended ++ ended ∷ [] } }
         ensures entries { Adds who self.old.book.base self.old.book.history self.new.book.history }
         ensures row { row_of who self.new.book.history ≡ None }
@@ -368,13 +401,17 @@ impl<L: Link> Board<L> {
 }
 
 /// Takes the connection of that name out of its slot.
-fn take_out<L: Link>(conns: &mut Vec<Option<Conn<L>>>, name: ConnName) -> Conn<L>
-    requires { (c : SeenConn) × (conn_at conns.old.items name.slot ≡ Some c) }
+fn take_out<L: Link, N: Known>(
+    conns: &mut Vec<Option<Conn<L, Nothing>>>,
+    name: ConnName,
+) -> Conn<L, N>
+    requires there { (c : SeenConn) × (conn_at conns.old.items name.slot ≡ Some c) }
+    requires clients { WaitForClients N.known conns.old.items }
     ensures conn { conn_at conns.old.items name.slot ≡ Some result }
     ensures emptied { conns.new.items ≡ slice_set conns.old.items name.slot None }
 {
     match conns[name.slot as usize].take() {
-        Some(conn) => conn,
+        Some(conn) => conn.known_as(),
         None => unreachable!(),
     }
 }

@@ -5,14 +5,17 @@ ghost use Rattle.conn_machine.specs.States.{is_halted, opening_state};
 ghost use Rattle.conn_machine.specs.Table.{is_allowed, reply};
 ghost use Rattle.conn_machine.specs.Runs.{Adds, IsHistory, after, asks_page, full_load, has_after, load, may_make, row_of};
 ghost use Rattle.conn_machine.specs.Made.{AreMade};
+ghost use Rattle.conn_machine.specs.Sizes.{IsSized};
 ghost use Rattle.conn_machine.specs.Sound.{IsSound};
-ghost use Rattle.board.specs.Book.{IsSized, StopsWhereFull, TellsFullStop, numbered_entry, book_with_entry};
+ghost use Rattle.board.specs.Book.{StopsWhereFull, TellsFullStop, numbered_entry, book_with_entry};
 ghost use Rattle.board.specs.BookInside.{AreNext};
 ghost use Rattle.board.specs.Faults.{IsRefusedFor};
 ghost use Rattle.board.specs.FaultsInside.{IsRecorded};
 ghost use Rattle.board.specs.RoomInside.{is_sure};
 
 use crate::faults::BoardFault;
+use conn_machine::laws::events_keep_states_sound;
+use conn_machine::laws_of_runs::{histories_go_on_by_one_entry, passes_add_entries};
 use conn_machine::{Entry, Event, Reply, State, step};
 use mpm_base::{NoMemory, Shape};
 use std::alloc::Global;
@@ -62,6 +65,7 @@ impl Book {
         ensures state { IfOk result (λ book. book.state ≡ opening_state slots children shape) }
         ensures passes { IfOk result (λ book. book.passes ≡ passes) }
     {
+        events_keep_states_sound();
         let state = State::opening(alloc, slots, children, shape)?;
         let Ok(ordinals) = vec![in alloc; 0u64; passes as usize] else {
             return Err(NoMemory);
@@ -129,6 +133,8 @@ impl Book {
         ensures why { IfErr result (λ fault. IsRefusedFor fault self.old) }
         ensures err { OnErr result (self.new ≡ self.old) }
     {
+        histories_go_on_by_one_entry();
+        passes_add_entries();
         if self.state.going.is_halted() {
             return Err(BoardFault::Halted);
         }
@@ -158,6 +164,8 @@ impl Book {
         ensures row { row_of who self.new.history ≡ has_after (row_of who self.old.history) event result }
         ensures reply { result ≡ reply self.old.state event }
     {
+        histories_go_on_by_one_entry();
+        passes_add_entries();
         let Ok(reply) = step(self.alloc, &mut self.state, &event) else {
             unreachable!()
         };
@@ -176,6 +184,7 @@ fn append(history: &mut Vec<Entry>, ordinals: &mut Vec<u64>, who: u32, event: Ev
     ensures passes { length ordinals.new.items ≡ length ordinals.old.items }
     ensures room { vec_capacity history.old ≤ vec_capacity history.new }
 {
+    histories_go_on_by_one_entry();
     let ordinal = ordinals[who as usize];
     ordinals[who as usize] = ordinal + 1;
     let entry = Entry {

@@ -9,9 +9,10 @@ ghost use Rattle.board.specs.Finds.{FindsRetirable, FindsRow, acceptable, is_due
 
 use crate::board::Board;
 use conn_machine::{Going, Place, Row, State};
+use conn_state::Known;
 use mpm_base::{ConnName, Kind, Link, Moment};
 
-impl<L: Link> Board<L> {
+impl<L: Link, N: Known> Board<L, N> {
     /// The child that the next connection goes to, while the server takes connections and a slot is vacant.
     pub fn can_accept(&self) -> Option<u32>
         ensures { result ≡ acceptable self.now.book.state }

@@ -15,7 +15,7 @@ mod lives;
 use crate::board::Board;
 use crate::faults::{AcceptFault, BoardFault};
 use conn_machine::{Commanded, Event, Going, Why, may};
-use conn_state::{Conn, ReadTurn, WriteTurn};
+use conn_state::{Conn, Nothing, ReadTurn, WriteTurn};
 use mpm_base::{Ask, Cause, ConnName, Kind, Moment, Octets, Shape, Tail};
 use stand_ins::{Calls, ScriptLink};
 use std::alloc::Global;
@@ -45,7 +45,7 @@ const FOUND: Ask = Ask {
 };
 
 /// The event is to be allowed.
-fn allow(rt: &impl Abort, board: &Board<ScriptLink>, next: Event)
+fn allow(rt: &impl Abort, board: &Board<ScriptLink, Nothing>, next: Event)
     ensures { is_allowed board.now.book.state next ≡ true }
 {
     board.show();
@@ -53,7 +53,7 @@ fn allow(rt: &impl Abort, board: &Board<ScriptLink>, next: Event)
 }
 
 /// No connection is to be taken, for this fault.
-fn refuses(rt: &impl Abort, board: &mut Board<ScriptLink>, fault: AcceptFault)
+fn refuses(rt: &impl Abort, board: &mut Board<ScriptLink, Nothing>, fault: AcceptFault)
     requires who { 0 < board.old.book.passes }
     requires free { row_of 0 board.old.book.history ≡ None }
     ensures { board.new ≡ board.old }
@@ -66,7 +66,7 @@ fn refuses(rt: &impl Abort, board: &mut Board<ScriptLink>, fault: AcceptFault)
 }
 
 /// A board of so many slots, whose child 0 runs.
-fn opened(rt: &impl Abort, alloc: Global, slots: u32) -> Result<Board<ScriptLink>, Fail>
+fn opened(rt: &impl Abort, alloc: Global, slots: u32) -> Result<Board<ScriptLink, Nothing>, Fail>
     requires { (1 ≤ slots) × (slots ≤ 8192) }
     ensures passes { IfOk result (λ board. board.book.passes ≡ 1) }
     ensures free { IfOk result (λ board. row_of 0 board.book.history ≡ None) }
@@ -86,10 +86,10 @@ fn opened(rt: &impl Abort, alloc: Global, slots: u32) -> Result<Board<ScriptLink
 fn arrives(
     rt: &impl Abort,
     alloc: Global,
-    board: &mut Board<ScriptLink>,
+    board: &mut Board<ScriptLink, Nothing>,
     coming: &[u8],
     ends: bool,
-) -> Result<Conn<ScriptLink>, Fail>
+) -> Result<Conn<ScriptLink, Nothing>, Fail>
     requires who { 0 < board.old.book.passes }
     requires free { row_of 0 board.old.book.history ≡ None }
     ensures passes { OnOk result (board.new.book.passes ≡ board.old.book.passes) }
@@ -121,8 +121,8 @@ fn arrives(
 /// The connection waits for this, until then.
 fn waits(
     rt: &impl Abort,
-    board: &mut Board<ScriptLink>,
-    conn: Conn<ScriptLink>,
+    board: &mut Board<ScriptLink, Nothing>,
+    conn: Conn<ScriptLink, Nothing>,
     kind: Kind,
     until: Moment,
 )
@@ -147,7 +147,10 @@ fn waits(
 }
 
 /// A worker begins to serve the connection of slot 0, for which something came.
-fn serves(rt: &impl Abort, board: &mut Board<ScriptLink>) -> Result<Conn<ScriptLink>, Fail>
+fn serves(
+    rt: &impl Abort,
+    board: &mut Board<ScriptLink, Nothing>,
+) -> Result<Conn<ScriptLink, Nothing>, Fail>
     requires who { 0 < board.old.book.passes }
     requires free { row_of 0 board.old.book.history ≡ None }
     ensures passes { OnOk result (board.new.book.passes ≡ board.old.book.passes) }
@@ -176,7 +179,12 @@ fn serves(rt: &impl Abort, board: &mut Board<ScriptLink>) -> Result<Conn<ScriptL
 }
 
 /// A turn of reading is to find this.
-fn reads(rt: &impl Abort, board: &Board<ScriptLink>, conn: &mut Conn<ScriptLink>, wanted: ReadTurn)
+fn reads(
+    rt: &impl Abort,
+    board: &Board<ScriptLink, Nothing>,
+    conn: &mut Conn<ScriptLink, Nothing>,
+    wanted: ReadTurn,
+)
     requires fits { IsOf board.now.book.state conn.old }
     requires usable { is_usable conn.old.turn ≡ true }
     requires sent { conn.old.pending ≡ [] }
@@ -194,8 +202,8 @@ fn reads(rt: &impl Abort, board: &Board<ScriptLink>, conn: &mut Conn<ScriptLink>
 /// The next request is answered, and its response sent.
 fn answers(
     rt: &impl Abort,
-    board: &mut Board<ScriptLink>,
-    conn: &mut Conn<ScriptLink>,
+    board: &mut Board<ScriptLink, Nothing>,
+    conn: &mut Conn<ScriptLink, Nothing>,
 ) -> Result<(), Fail>
     requires who { 0 < board.old.book.passes }
     requires row { row_of 0 board.old.book.history ≡ Some conn.old.name }
@@ -220,7 +228,7 @@ fn answers(
 }
 
 /// What is pending is sent. The response isn't the last.
-fn sends(rt: &impl Abort, board: &Board<ScriptLink>, conn: &mut Conn<ScriptLink>)
+fn sends(rt: &impl Abort, board: &Board<ScriptLink, Nothing>, conn: &mut Conn<ScriptLink, Nothing>)
     requires fits { IsOf board.now.book.state conn.old }
     requires usable { is_usable conn.old.turn ≡ true }
     ensures fits { IsOf board.now.book.state conn.new }
@@ -236,7 +244,12 @@ fn sends(rt: &impl Abort, board: &Board<ScriptLink>, conn: &mut Conn<ScriptLink>
 }
 
 /// The connection ends for the cause.
-fn ends(rt: &impl Abort, board: &mut Board<ScriptLink>, conn: Conn<ScriptLink>, cause: Cause)
+fn ends(
+    rt: &impl Abort,
+    board: &mut Board<ScriptLink, Nothing>,
+    conn: Conn<ScriptLink, Nothing>,
+    cause: Cause,
+)
     requires who { 0 < board.old.book.passes }
     requires row { row_of 0 board.old.book.history ≡ Some conn.name }
     requires fits { IsOf board.old.book.state conn }
@@ -251,7 +264,11 @@ fn ends(rt: &impl Abort, board: &mut Board<ScriptLink>, conn: Conn<ScriptLink>, 
 }
 
 /// Time passes.
-fn ticks(rt: &impl Abort, board: &mut Board<ScriptLink>, moment: Moment) -> Result<(), Fail>
+fn ticks(
+    rt: &impl Abort,
+    board: &mut Board<ScriptLink, Nothing>,
+    moment: Moment,
+) -> Result<(), Fail>
     requires who { 0 < board.old.book.passes }
     ensures passes { OnOk result (board.new.book.passes ≡ board.old.book.passes) }
     ensures row { row_of 0 board.new.book.history ≡ row_of 0 board.old.book.history }
@@ -263,7 +280,7 @@ fn ticks(rt: &impl Abort, board: &mut Board<ScriptLink>, moment: Moment) -> Resu
 }
 
 /// The server stops, and refuses what comes then.
-fn stops(rt: &impl Abort, board: &mut Board<ScriptLink>)
+fn stops(rt: &impl Abort, board: &mut Board<ScriptLink, Nothing>)
     requires who { 0 < board.old.book.passes }
     requires free { row_of 0 board.old.book.history ≡ None }
     ensures passes { board.new.book.passes ≡ board.old.book.passes }
@@ -285,7 +302,7 @@ fn stops(rt: &impl Abort, board: &mut Board<ScriptLink>)
 /// Child 0 is let go of. So many entries were made, and the one connection ended for the cause, with so many responses.
 fn retires(
     rt: &impl Abort,
-    board: &mut Board<ScriptLink>,
+    board: &mut Board<ScriptLink, Nothing>,
     entries: usize,
     cause: Cause,
     notes: usize,

@@ -8,6 +8,7 @@ use Rattle.http_read.specs.declared.root_head.RootHead.{RootHead}
 use Rattle.conn_state.specs.declared.turn.LastTurn.{LastTurn}
 use Rattle.conn_state.specs.declared.turn.LastTurn.TheVariants as turn
 use Rattle.conn_state.specs.Items.{Item, BeginsItem, ask_of}
+use Rattle.conn_state.specs.Known.{KnownOutside}
 use Rattle.conn_state.specs.Response.{IsResponse, response_at}
 use Rattle.conn_state.specs.Replies.{IsNoteFor, first_part}
 use Rattle.conn_state.specs.Conn.{SeenConn, is_usable, Streams, TurnFits}
@@ -72,7 +73,7 @@ told-answered (Some t) notes rest item behind note response s goes_on begins not
 abbrev after_answer : SeenConn → Note → List ℕ → List ℕ → SeenConn
 after_answer c note pending behind = record c { notes = c.notes ++ note ∷ []; pending = pending; rest = behind; turn = turn.Answered }
 
-module _ (c seen : SeenConn) (size : ℕ) (note : Note) (response : List ℕ) (held : IsHeld c size) (is : c ≡ seen) (asked : IsNoteOf seen.turn note)
+module _ (known : Option KnownOutside) (c seen : SeenConn) (size : ℕ) (note : Note) (response : List ℕ) (held : IsHeld known c size) (is : c ≡ seen) (asked : IsNoteOf seen.turn note)
     (file : note.code ≡ 200 → (request : RootHead) → IsResponse (inl request) note response)
     (refusal : ¬ (note.code ≡ 200) → IsResponse (inr note.code) note response) where
   -- the item that was asked
@@ -99,7 +100,7 @@ module _ (c seen : SeenConn) (size : ℕ) (note : Note) (response : List ℕ) (h
   })
 
   -- the connection holds then
-  pub held-answered : IsHeld (after_answer c note response (drop size c.rest)) size
+  pub held-answered : IsHeld known (after_answer c note response (drop size c.rest)) size
   held-answered =
       let streams = subst (λ xs. IfSome c.told (Streams c.notes xs c.rest)) ready-here.none_pending (usable-streams c held.conn ready-here.usable) in
       let answered = told-answered c.told c.notes c.rest ready-here.item (drop size c.rest) note response streams ready-here.goes_on ready-here.begins
@@ -111,13 +112,15 @@ module _ (c seen : SeenConn) (size : ℕ) (note : Note) (response : List ℕ) (h
           streams = subst (λ xs. IfSome c.told (Streams (c.notes ++ note ∷ []) xs (drop size c.rest))) pending-here answered;
         };
         size_is = tt;
+        client = held.client;
       }
 
 -- a connection holds where memory lacks
-pub held-no_memory : (c : SeenConn) (size : ℕ) (notes' : List Note) → IsHeld c size → notes' ≡ c.notes
-    → IsHeld (record c { notes = notes'; turn = turn.NoMemory }) size
-held-no_memory c size notes' held same =
-    subst (λ ns. IsHeld (record c { notes = ns; turn = turn.NoMemory }) size) (sym same) (record {
+pub held-no_memory : (known : Option KnownOutside) (c : SeenConn) (size : ℕ) (notes' : List Note) → IsHeld known c size → notes' ≡ c.notes
+    → IsHeld known (record c { notes = notes'; turn = turn.NoMemory }) size
+held-no_memory known c size notes' held same =
+    subst (λ ns. IsHeld known (record c { notes = ns; turn = turn.NoMemory }) size) (sym same) (record {
       conn = record { turn_fits = tt; ended = λ e. absurd (cc); streams = told-broken (is_usable c.turn) c.told c.notes c.pending c.rest held.conn.streams };
       size_is = tt;
+      client = held.client;
     })

@@ -13,12 +13,14 @@ use Rattle.conn_state.specs.declared.turn.ReadTurn.TheVariants as read
 use Rattle.conn_state.specs.declared.turn.WriteTurn.{WriteTurn}
 use Rattle.conn_state.specs.declared.turn.WriteTurn.TheVariants as write
 use Rattle.conn_state.specs.Items.{Item, BeginsItem, IsAskedIn, ask_of}
+use Rattle.conn_state.specs.Known.{KnownOutside}
 use Rattle.conn_state.specs.Response.{IsResponse}
 use Rattle.conn_state.specs.Replies.{IsFitting, AreReplies, IsNoteFor, first_part}
 use Rattle.conn_state.specs.Conn.{SeenConn, is_usable, IsOpenLink, Streams, BrokeOff, StreamsWhile, TurnFits, IsConn}
 use Rattle.conn_state.specs.Turns.{after_reading, is_gone, KeepsRead, AsksNothing, after_writing, with_sent}
 use Rattle.conn_state.specs.Held.{IsSizeOf, IsHeld}
 use Rattle.conn_state.specs.ExchangeInside.{TakesIn, IsSame, SendsOn}
+use Rattle.conn_state.proofs.KnownLemmas.{client-received, client-sent}
 use Rattle.conn_state.proofs.StreamLemmas.{fitting-more, fitting-snoc, replies-snoc}
 
 -- ## The reply stream
@@ -141,16 +143,16 @@ pub usable-streams : (c : SeenConn) → IsConn c → is_usable c.turn ≡ true �
 usable-streams c is usable = subst (λ b. IfSome c.told (StreamsWhile b c.notes c.pending c.rest)) usable is.streams
 
 -- a connection holds after a turn of reading
-pub held-read : (c seen : SeenConn) (size size' : ℕ) (told' : Option LinkTold) (counts' : LinkCounts) (rest' : List ℕ) (answer : ReadTurn) (turn' : LastTurn)
-    → IsHeld c size → c ≡ seen → is_usable seen.turn ≡ true → seen.pending ≡ [] → says_last seen.notes ≡ false
+pub held-read : (known : Option KnownOutside) (c seen : SeenConn) (size size' : ℕ) (told' : Option LinkTold) (counts' : LinkCounts) (rest' : List ℕ) (answer : ReadTurn) (turn' : LastTurn)
+    → IsHeld known c size → c ≡ seen → is_usable seen.turn ≡ true → seen.pending ≡ [] → says_last seen.notes ≡ false
     → TakesIn c.told told' c.counts counts' c.rest rest' answer → turn' ≡ after_reading answer → IsSizeOf (after_reading answer) rest' size'
-    → IsHeld (record c { told = told'; counts = counts'; rest = rest'; turn = turn' }) size'
-held-read c seen size size' told' counts' rest' answer turn' held is usable sent goes_on takes turn_is sized =
+    → IsHeld known (record c { told = told'; counts = counts'; rest = rest'; turn = turn' }) size'
+held-read known c seen size size' told' counts' rest' answer turn' held is usable sent goes_on takes turn_is sized =
     let usable' : is_usable c.turn ≡ true = ap (λ (x : SeenConn). is_usable x.turn) is ∙ usable in
     let sent' : c.pending ≡ [] = ap (λ (x : SeenConn). x.pending) is ∙ sent in
     let goes_on' : says_last c.notes ≡ false = ap (λ (x : SeenConn). says_last x.notes) is ∙ goes_on in
     let streams = told-read answer c.notes c.pending c.rest rest' takes.got c.told (usable-streams c held.conn usable') takes.gives takes.bytes_are in
-    subst (λ (u : LastTurn). IsHeld (record c { told = told'; counts = counts'; rest = rest'; turn = u }) size') (sym turn_is)
+    subst (λ (u : LastTurn). IsHeld known (record c { told = told'; counts = counts'; rest = rest'; turn = u }) size') (sym turn_is)
     (record {
       conn = record {
         turn_fits = fits-read answer c told' counts' rest' sent' goes_on' takes;
@@ -161,6 +163,7 @@ held-read c seen size size' told' counts' rest' answer turn' held is usable sent
         streams = subst (λ o. IfSome o (StreamsWhile (is_usable (after_reading answer)) c.notes c.pending rest')) (sym takes.told_is) streams;
       };
       size_is = sized;
+      client = client-received known c.told told' (length takes.got) takes.told_is held.client;
     })
 
 -- where the next item was there, the link was asked for nothing
@@ -210,14 +213,14 @@ size-written write.NotReady rest size = tt
 size-written write.LinkFailed rest size = tt
 
 -- a connection holds after a turn of writing
-pub held-written : (c seen : SeenConn) (size : ℕ) (told' : Option LinkTold) (counts' : LinkCounts) (left : List ℕ) (answer : WriteTurn) (turn' : LastTurn)
-    → IsHeld c size → c ≡ seen → is_usable seen.turn ≡ true
+pub held-written : (known : Option KnownOutside) (c seen : SeenConn) (size : ℕ) (told' : Option LinkTold) (counts' : LinkCounts) (left : List ℕ) (answer : WriteTurn) (turn' : LastTurn)
+    → IsHeld known c size → c ≡ seen → is_usable seen.turn ≡ true
     → SendsOn c.told told' c.counts counts' c.pending left answer → turn' ≡ after_writing answer
-    → IsHeld (record c { told = told'; counts = counts'; pending = left; turn = turn' }) size
-held-written c seen size told' counts' left answer turn' held is usable sends turn_is =
+    → IsHeld known (record c { told = told'; counts = counts'; pending = left; turn = turn' }) size
+held-written known c seen size told' counts' left answer turn' held is usable sends turn_is =
     let usable' : is_usable c.turn ≡ true = ap (λ (x : SeenConn). is_usable x.turn) is ∙ usable in
     let streams = told-written answer c.notes c.pending sends.sent left c.rest c.told (usable-streams c held.conn usable') sends.front in
-    subst (λ (u : LastTurn). IsHeld (record c { told = told'; counts = counts'; pending = left; turn = u }) size) (sym turn_is)
+    subst (λ (u : LastTurn). IsHeld known (record c { told = told'; counts = counts'; pending = left; turn = u }) size) (sym turn_is)
     (record {
       conn = record {
         turn_fits = fits-written answer c told' counts' left sends;
@@ -225,4 +228,5 @@ held-written c seen size told' counts' left answer turn' held is usable sends tu
         streams = subst (λ o. IfSome o (StreamsWhile (is_usable (after_writing answer)) c.notes left c.rest)) (sym sends.told_is) streams;
       };
       size_is = size-written answer c.rest size;
+      client = client-sent known c.told told' sends.sent sends.told_is held.client;
     })

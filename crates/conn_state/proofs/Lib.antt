@@ -3,4 +3,5 @@ pub mod ConnLemmas
 pub mod EndLemmas
 pub mod ExchangeLemmas
 pub mod ItemLemmas
+pub mod KnownLemmas
 pub mod StreamLemmas

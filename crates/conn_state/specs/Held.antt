@@ -1,9 +1,10 @@
 -- What holds of the fields of a connection beside what is seen of them.
-use Rattle.std.specs.Prelude.{◌≡◌, ℕ, ◌≤◌, List, drop, length, ⊤}
+use Rattle.std.specs.Prelude.{◌≡◌, ℕ, ◌≤◌, List, drop, length, Option, ⊤}
 use Rattle.mpm_base.specs.declared.conn.Ask.{Ask}
 use Rattle.conn_state.specs.declared.turn.LastTurn.{LastTurn}
 use Rattle.conn_state.specs.declared.turn.LastTurn.TheVariants as turn
 use Rattle.conn_state.specs.Items.{Item, BeginsItem, ask_of}
+use Rattle.conn_state.specs.Known.{KnownOutside, IsOfClient}
 use Rattle.conn_state.specs.Conn.{SeenConn, IsConn}
 
 -- the item at the front of the bytes asks this, and has so many of them: a refusal none
@@ -25,7 +26,8 @@ IsSizeOf turn.NotReady rest size = ⊤
 IsSizeOf turn.LinkFailed rest size = ⊤
 IsSizeOf turn.NoMemory rest size = ⊤
 
--- what holds of a connection, and of the size that it keeps
-pub record IsHeld (c : SeenConn) (size : ℕ) : Type 0 where
+-- what holds of a connection whose type knows this, and of the size that it keeps
+pub record IsHeld (known : Option KnownOutside) (c : SeenConn) (size : ℕ) : Type 0 where
   pub conn : IsConn c
   pub size_is : IsSizeOf c.turn c.rest size
+  pub client : IsOfClient known c.told

@@ -4,6 +4,7 @@ pub mod ExchangeInside
 pub mod FindsInside
 pub mod Held
 pub mod Items
+pub mod Known
 pub mod Replies
 pub mod Response
 pub mod Turns

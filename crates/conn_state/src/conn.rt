@@ -6,6 +6,7 @@ ghost use Rattle.mpm_base.specs.declared.conn.Ask.{Ask};
 ghost use Rattle.http_read.specs.declared.root_head.RootHead.{RootHead};
 ghost use Rattle.conn_state.specs.declared.turn.LastTurn.TheVariants as turn;
 ghost use Rattle.conn_state.specs.Items.{IsAskedIn};
+ghost use Rattle.conn_state.specs.Known.{IsOfClient};
 ghost use Rattle.conn_state.specs.Conn.{IsConn, IsFresh, is_usable, new_conn};
 ghost use Rattle.conn_state.specs.Turns.{ReadsOn, AsksNothing, IsNoteOf, TakesNote, WritesOn};
 ghost use Rattle.conn_state.specs.Answered.{IsShown, IsEnded, IsEndOf};
@@ -14,15 +15,16 @@ ghost use Rattle.conn_state.specs.Response.{IsResponse};
 use crate::buffers::{Pending, Received};
 use crate::ended::Ended;
 use crate::exchange::{read_item, send};
+use crate::known::{Known, Nothing};
 use crate::response::response;
 use crate::turn::{LastTurn, ReadTurn, WriteTurn};
 use mpm_base::{Cause, ConnName, Link, NoMemory, Note, Notes, Octets, Tail};
 use std::alloc::Global;
-use std::marker::Model;
+use std::marker::{Model, PhantomData};
 
-/// A connection over a link.
+/// A connection over a link. Where `N` knows what the clients send, the link is that of one of them.
 #[derive(Drop)]
-pub struct Conn<L: Link> {
+pub struct Conn<L: Link, N: Known> {
     alloc: Global,
     name: ConnName,
     child: u32,
@@ -34,9 +36,10 @@ pub struct Conn<L: Link> {
     turn: LastTurn,
     // How many bytes the item has that the last turn asked.
     size: usize,
+    of: PhantomData<N>,
 }
 
-impl<L: Link> Model for Conn<L> {
+impl<L: Link, N: Known> Model for Conn<L, N> {
     ghost use Rattle.conn_state.specs.Conn.{SeenConn};
     ghost use Rattle.conn_state.specs.Held.{IsHeld};
 
@@ -54,7 +57,7 @@ impl<L: Link> Model for Conn<L> {
       turn = c.turn;
     } };
 
-    ghost invariant = { λ c. IsHeld (record {
+    ghost invariant = { λ c. IsHeld N.known (record {
       told = L.told c.link;
       counts = L.counts c.link;
       name = c.name;
@@ -67,10 +70,11 @@ impl<L: Link> Model for Conn<L> {
     }) c.size };
 }
 
-impl<L: Link> Conn<L> {
+impl<L: Link, N: Known> Conn<L, N> {
     /// A connection of that name over a link of which nothing was read, and to which nothing was written. Takes no memory.
-    pub fn new(alloc: Global, name: ConnName, child: u32, generation: u32, link: L) -> Conn<L>
+    pub fn new(alloc: Global, name: ConnName, child: u32, generation: u32, link: L) -> Conn<L, N>
         requires fresh { IfSome (L.told link) IsFresh }
+        requires client { IsOfClient N.known (L.told link) }
         ensures { result ≡ new_conn (L.told link) (L.counts link) name child generation }
     {
         Conn {
@@ -84,12 +88,41 @@ impl<L: Link> Conn<L> {
             rest: Received::make(alloc),
             turn: LastTurn::New,
             size: 0,
+            of: PhantomData,
         }
     }
 
-    /// Shows what holds of each connection. Does nothing.
+    /// The same connection, of a type that knows this of its link.
+    pub fn known_as<M: Known>(self) -> Conn<L, M>
+        requires client { IsOfClient M.known self.told }
+        ensures same { result ≡ self }
+    {
+        Conn {
+            alloc: self.alloc,
+            name: self.name,
+            child: self.child,
+            generation: self.generation,
+            link: self.link,
+            notes: self.notes,
+            pending: self.pending,
+            rest: self.rest,
+            turn: self.turn,
+            size: self.size,
+            of: PhantomData,
+        }
+    }
+
+    /// The same connection, of a type that knows nothing of the outside.
+    pub fn forget(self) -> Conn<L, Nothing>
+        ensures same { result ≡ self }
+    {
+        self.known_as()
+    }
+
+    /// Shows what holds of each connection, and what its type knows of its link. Does nothing.
     pub fn show(&self)
-        ensures { IsConn self.now }
+        ensures conn { IsConn self.now }
+        ensures client { IsOfClient N.known self.now.told }
     {
         let _ = &self.turn;
     }
@@ -187,6 +220,7 @@ impl<L: Link> Conn<L> {
         requires shown { IsShown cause tail self }
         ensures ends { IsEndOf self cause tail result }
         ensures ended { IsEnded result }
+        ensures client { IsOfClient N.known result.told }
     {
         let Conn {
             alloc: _,
@@ -199,6 +233,7 @@ impl<L: Link> Conn<L> {
             rest: _,
             turn: _,
             size: _,
+            of: _,
         } = self;
         link.close();
         Ended {

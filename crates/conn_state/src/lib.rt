@@ -3,7 +3,8 @@
 //! What was sent, followed by what is pending, is at every turn the reply stream of the responses that were noted and the
 //! bytes that were received. The items of the bytes stand in `specs/Items.antt`, a response in `specs/Response.antt`, the
 //! reply stream in `specs/Replies.antt`, what is seen of a connection and holds of it in `specs/Conn.antt`, what each
-//! turn leaves in `specs/Turns.antt`, and what an ended connection shows in `specs/Answered.antt`. The site is one file.
+//! turn leaves in `specs/Turns.antt`, and what an ended connection shows in `specs/Answered.antt`. The type of a
+//! connection says what is known of the outside, which stands in `specs/Known.antt`. The site is one file.
 #![tactic(auto)]
 
 mod buffers;
@@ -11,6 +12,7 @@ mod conn;
 mod ended;
 mod exchange;
 mod item;
+mod known;
 mod response;
 #[cfg(test)]
 mod tests;
@@ -18,4 +20,5 @@ mod turn;
 
 pub use conn::Conn;
 pub use ended::Ended;
+pub use known::{Known, Nothing};
 pub use turn::{LastTurn, ReadTurn, WriteTurn};

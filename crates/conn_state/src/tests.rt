@@ -9,6 +9,7 @@ mod pieces;
 
 use crate::conn::Conn;
 use crate::ended::Ended;
+use crate::known::Nothing;
 use crate::turn::{ReadTurn, WriteTurn};
 use mpm_base::{Ask, Cause, ConnName, NoMemory, Note, Octets, Tail};
 use stand_ins::{Calls, ScriptLink};
@@ -47,7 +48,7 @@ fn over(
     ends: bool,
     bad_read: bool,
     bad_write: bool,
-) -> Result<Conn<ScriptLink>, NoMemory>
+) -> Result<Conn<ScriptLink, Nothing>, NoMemory>
     ensures usable { IfOk result (λ conn. is_usable conn.turn ≡ true) }
     ensures sent { IfOk result (λ conn. conn.pending ≡ []) }
     ensures not_last { IfOk result (λ conn. says_last conn.notes ≡ false) }
@@ -80,7 +81,7 @@ fn a_new_connection_has_its_name_and_nothing_else(rt: HostRuntime) -> Result<(),
 /// Reads what is asked, and answers it.
 fn read_and_answer(
     rt: &impl Abort,
-    conn: &mut Conn<ScriptLink>,
+    conn: &mut Conn<ScriptLink, Nothing>,
     asked: Ask,
     last: bool,
 ) -> Result<(), Fail>
@@ -106,7 +107,7 @@ fn read_and_answer(
 /// Reads what is asked, answers it and sends the response.
 fn answer_next(
     rt: &impl Abort,
-    conn: &mut Conn<ScriptLink>,
+    conn: &mut Conn<ScriptLink, Nothing>,
     asked: Ask,
     last: bool,
 ) -> Result<(), Fail>
@@ -127,7 +128,10 @@ fn answer_next(
 }
 
 /// Answers two requests, and ends the connection, whose client sends no more.
-fn answer_both(rt: &impl Abort, mut conn: Conn<ScriptLink>) -> Result<Ended<ScriptLink>, Fail>
+fn answer_both(
+    rt: &impl Abort,
+    mut conn: Conn<ScriptLink, Nothing>,
+) -> Result<Ended<ScriptLink>, Fail>
     requires usable { is_usable conn.turn ≡ true }
     requires sent { conn.pending ≡ [] }
     requires not_last { says_last conn.notes ≡ false }

@@ -12,14 +12,18 @@ use crate::tests::{
     ticks, waits,
 };
 use conn_machine::Event;
-use conn_state::{Conn, ReadTurn};
+use conn_state::{Conn, Nothing, ReadTurn};
 use mpm_base::{Cause, Kind};
 use stand_ins::ScriptLink;
 use std::process::Abort;
 use std::test::Fail;
 
 /// The connection waits for a further request, of which nothing is there yet.
-fn keeps(rt: &impl Abort, board: &mut Board<ScriptLink>, mut conn: Conn<ScriptLink>)
+fn keeps(
+    rt: &impl Abort,
+    board: &mut Board<ScriptLink, Nothing>,
+    mut conn: Conn<ScriptLink, Nothing>,
+)
     requires who { 0 < board.old.book.passes }
     requires row { row_of 0 board.old.book.history ≡ Some conn.name }
     requires fits { IsOf board.old.book.state conn }
@@ -73,6 +77,7 @@ fn what_waits_late_is_held_and_closed_after_a_stop(rt: HostRuntime) -> Result<()
     ticks(&rt, &mut board, 1_000)?;
     let conn = arrives(&rt, alloc, &mut board, REQUEST, false)?;
     waits(&rt, &mut board, conn, Kind::Reading, 61_000);
+    let mut board = board.forget();
     refuses(&rt, &mut board, AcceptFault::NoSlot);
     ticks(&rt, &mut board, 60_999)?;
     assert_eq!(rt; board.overdue(), None);

@@ -5,6 +5,7 @@ ghost use Rattle.conn_state.specs.Conn.{IsFresh, is_usable};
 
 use crate::conn::Conn;
 use crate::ended::Ended;
+use crate::known::Nothing;
 use crate::tests::counting::Counting;
 use crate::tests::pieces::Pieces;
 use crate::turn::{LastTurn, ReadTurn};
@@ -36,7 +37,7 @@ const REPLY: &[u8] =
     b"HTTP/1.1 200 OK\r\nDate: Sun, 06 Nov 1994 08:49:37 GMT\r\nContent-Type: text/html\r\nContent-Length: 6\r\n\r\nhello\n";
 
 /// One turn: sends what is pending, or else reads, and answers what is asked.
-fn step<L: Link>(conn: &mut Conn<L>) -> Result<LastTurn, NoMemory>
+fn step<L: Link>(conn: &mut Conn<L, Nothing>) -> Result<LastTurn, NoMemory>
     requires usable { is_usable conn.old.turn ≡ true }
     requires open { conn.old.pending ≡ [] → says_last conn.old.notes ≡ false }
     ensures turn { IfOk result (λ turn. conn.new.turn ≡ turn) }
@@ -63,7 +64,7 @@ fn step<L: Link>(conn: &mut Conn<L>) -> Result<LastTurn, NoMemory>
 fn converse<L: Link>(alloc: Global, link: L, turns: u64) -> Result<(Ended<L>, LastTurn), NoMemory>
     requires fresh { IfSome (L.told link) IsFresh }
 {
-    let mut conn = Conn::new(alloc, NAME, 2, 5, link);
+    let mut conn = Conn::<L, Nothing>::new(alloc, NAME, 2, 5, link);
     let mut turn = LastTurn::New;
     for _ in 0..turns {
         if conn.last() && !conn.pending() {
@@ -89,7 +90,7 @@ fn goes_on(turn: LastTurn) -> bool
 }
 
 /// Ends a connection for the cause that its last turn is.
-fn close<L: Link>(conn: Conn<L>, turn: LastTurn) -> Ended<L>
+fn close<L: Link>(conn: Conn<L, Nothing>, turn: LastTurn) -> Ended<L>
     requires turn { conn.turn ≡ turn }
 {
     conn.show();

@@ -5,6 +5,7 @@ use Rattle.conn_machine.specs.Runs.{has_row, row_of}
 use Rattle.conn_machine.specs.Table.{is_allowed}
 use Rattle.conn_machine.specs.declared.event.Event.TheVariants as event
 use Rattle.board.proofs.BoardLemmas.{may_while, there_of}
+use Rattle.board.proofs.ClientLemmas.{clients_put}
 use Rattle.board.proofs.ClosedLemmas.{board_on}
 use Rattle.board.proofs.EventLemmas.{park-there}
 use Rattle.board.proofs.HandLemmas.{live-below}
@@ -38,10 +39,11 @@ invariant_of-self g c =
     let may : is_allowed inside.book.state e ≡ true =
     subst (λ (n : ConnName). is_allowed inside.book.state (event.Park n c.args.kind) ≡ true) (sym c.name-name.ensures)
     (may_while _ c.args.self.now (event.Park c.args.conn.name c.args.kind) c.self.view_is c.requires.allowed ok.was_open.going) in
-    rw (ok.new_is)
-    (board_on inside.book conns _ ended room room c.args.who e c.self.invariant (λ s. refl)
+    rw (ok.new_is, c.forget.ensures.same)
+    (board_on _ inside.book conns _ ended room room c.args.who e c.self.invariant (λ s. refl)
     (park-there inside.book.state name c.args.kind conns c.args.conn c.requires.fits.row (length ended) room may
-    (there_of inside.book conns ended room c.self.invariant) found (sym c.name-name.ensures) c.requires.fits.fits c.requires.settled))
+    (there_of _ inside.book conns ended room c.self.invariant) found (sym c.name-name.ensures) c.requires.fits.fits c.requires.settled)
+    (clients_put _ conns name.slot c.args.conn c.show.ensures.client c.self.invariant.clients.conns))
 
 pub record-requires-clause-role : goal.record-requires-clause-role
 record-requires-clause-role g c =

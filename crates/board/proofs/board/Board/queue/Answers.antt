@@ -5,14 +5,15 @@ use Rattle.board.specs.Book.{SeenBook}
 use Rattle.board.specs.Fits.{IsTakenUp}
 use Rattle.board.specs.Board.{SeenBoard}
 use Rattle.board.proofs.BoardLemmas.{may_while, there_of}
+use Rattle.board.proofs.ClientLemmas.{clients_taken}
 use Rattle.board.proofs.ClosedLemmas.{board_on}
 use Rattle.board.proofs.EventLemmas.{queue-there}
 use Rattle.board.proofs.HandLemmas.{given_is, queue-given}
 use Rattle.board.proofs.PassLemmas.{adds_inside}
 use Rattle.board.proofs.board.Board.queue.Goals as goal
 
-pub take_out-requires : goal.take_out-requires
-take_out-requires g c =
+pub take_out-requires-clause-there : goal.take_out-requires-clause-there
+take_out-requires-clause-there g c =
     let inside = c.self.inside in
     let may = may_while _ c.args.self.now (event.Queue c.args.name) c.self.view_is c.requires.allowed c.in_ok-record.ensures.ok.was_open.going in
     let given = queue-given inside.book.state c.args.name inside.conns.items c.show.ensures.sound may c.self.invariant.agrees.waiting in
@@ -26,8 +27,9 @@ invariant_of-self-2 g c =
     let room = vec_capacity inside.ended in
     let may = may_while _ c.args.self.now (event.Queue c.args.name) c.self.view_is c.requires.allowed c.in_ok-record.ensures.ok.was_open.going in
     rw (c.in_ok-record.ensures.ok.new_is, c.take_out.ensures.emptied)
-    (board_on inside.book conns _ ended room room c.args.who (event.Queue c.args.name) c.self.invariant (λ s. refl)
-    (queue-there inside.book.state c.args.name conns (length ended) room may (there_of inside.book conns ended room c.self.invariant)))
+    (board_on _ inside.book conns _ ended room room c.args.who (event.Queue c.args.name) c.self.invariant (λ s. refl)
+    (queue-there inside.book.state c.args.name conns (length ended) room may (there_of _ inside.book conns ended room c.self.invariant))
+    (clients_taken _ conns c.args.name.slot c.self.invariant.clients.conns))
 
 pub returns-clause-name : goal.returns-clause-name
 returns-clause-name g c =
@@ -48,3 +50,6 @@ returns-clause-handed g c =
 
 pub returns-clause-entries : goal.returns-clause-entries
 returns-clause-entries g c = adds_inside c.args.who _ c.args.self.now _ c.self.view_is c.record.ensures.entries
+
+pub take_out-requires-clause-clients : goal.take_out-requires-clause-clients
+take_out-requires-clause-clients g c = c.self.invariant.clients.conns

@@ -8,4 +8,5 @@ invariant_of-result c =
     let ordinals : c.in-Ok.ordinals.items ≡ replicate c.args.passes 0 = search rules in
     rw (c.of.ensures, c.in_ok-state.ensures, c.in-Ok-with_capacity.ensures.items, ordinals)
     (kept_first c.args.slots c.args.children c.args.passes (vec_capacity c.in-Ok-with_capacity.history) c.args.shape
-    c.requires.slots c.requires.children c.requires.shape space)
+    c.requires.slots c.requires.children
+    (c.events_keep_states_sound.ensures.opening c.args.slots c.args.children c.args.shape c.requires.shape) space)

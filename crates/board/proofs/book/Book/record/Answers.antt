@@ -3,9 +3,9 @@ use Rattle.conn_machine.specs.States.{is_halted}
 use Rattle.conn_machine.specs.Table.{is_allowed, reply}
 use Rattle.conn_machine.specs.declared.event.Entry.{Entry}
 use Rattle.conn_machine.specs.Runs.{Adds, after, asks_page}
-use Rattle.board.specs.Book.{SeenBook, numbered_entry}
-use Rattle.board.proofs.BookLemmas.{open_if, kept_with_room, recorded_is}
-use Rattle.board.proofs.PassLemmas.{adds_none, adds_recorded, role_inside, row-recorded}
+use Rattle.board.specs.Book.{SeenBook, entry_of, numbered_entry}
+use Rattle.board.proofs.BookLemmas.{goes_by, open_if, kept_with_room, recorded_is}
+use Rattle.board.proofs.PassLemmas.{adds_recorded, is_own, may_be_next, role_inside, row-recorded}
 use Rattle.board.proofs.book.Book.record.Goals as goal
 
 pub step-requires-clause-allowed : goal.step-requires-clause-allowed
@@ -23,11 +23,18 @@ invariant_of-self-2 c =
     let space : length inside.history.items + (4 * length inside.state.rows + length inside.state.children + 2) ≤ vec_capacity c.append.new.history =
     search rules in
     let pages : inside.pages + c.pages_in.result ≡ inside.pages + (if asks_page c.args.event then 1 else 0) = search rules in
-    kept_with_room inside.base.value inside.history.items c.append.new.history.items inside.state c.step.new.state inside.ordinals.items
+    let base = inside.base.value in
+    let history = inside.history.items in
+    let e = numbered_entry c.args.who c.args.event c.in-Ok.reply history in
+    let role = role_inside c.args.who _ c.args.self.now c.args.event c.self.view_is c.requires.role in
+    let goes_on = c.histories_go_on_by_one_entry.ensures in
+    kept_with_room base history c.append.new.history.items inside.state c.step.new.state inside.ordinals.items
     c.append.new.ordinals.items inside.pages (inside.pages + c.pages_in.result) (vec_capacity inside.history) (vec_capacity c.append.new.history)
-    (numbered_entry c.args.who c.args.event c.in-Ok.reply inside.history.items) c.self.invariant may c.in-Ok.ensures.reply refl
-    c.append.ensures.numbers c.step.ensures.sound (rw c.reserve.ensures.items at c.append.ensures.history) c.in-Ok.ensures.state pages space
-    (role_inside c.args.who _ c.args.self.now c.args.event c.self.view_is c.requires.role)
+    e c.self.invariant may c.append.ensures.numbers
+    (record { sound = c.step.ensures.sound; sizes = c.step.ensures.sizes; sized = c.step.ensures.sized })
+    (rw c.reserve.ensures.items at c.append.ensures.history) c.in-Ok.ensures.state pages space role
+    (goes_by base history inside.state inside.ordinals.items inside.pages (vec_capacity inside.history) e c.self.invariant may c.in-Ok.ensures.reply refl role
+    goes_on.state goes_on.history goes_on.made)
 
 pub returns-clause-ok : goal.returns-clause-ok
 returns-clause-ok c =
@@ -54,7 +61,8 @@ returns-clause-entries c =
     (recorded_is b inside.base.value inside.history.items c.append.new.history.items inside.state c.step.new.state _ _ c.args.who
     c.args.event c.in-Ok.reply c.self.view_is (rw c.reserve.ensures.items at c.append.ensures.history) c.in-Ok.ensures.state
     c.in-Ok.ensures.reply c.append.ensures.passes)
-    state_is (c.requires.allowed going) c.requires.role
+    (c.passes_add_entries.ensures.one c.args.who b.base b.history (entry_of c.args.who c.args.event b)
+    (may_be_next c.args.who b c.args.event state_is (c.requires.allowed going) c.requires.role))
 
 pub returns-clause-row : goal.returns-clause-row
 returns-clause-row c =
@@ -65,15 +73,16 @@ returns-clause-row c =
     c.args.event c.in-Ok.reply c.self.view_is (rw c.reserve.ensures.items at c.append.ensures.history) c.in-Ok.ensures.state
     c.in-Ok.ensures.reply c.append.ensures.passes)
     (c.in-Ok.ensures.reply ∙ ap (λ (v : SeenBook). reply v.state c.args.event) c.self.view_is)
+    (c.histories_go_on_by_one_entry.ensures.row c.args.who b.history (entry_of c.args.who c.args.event b) (is_own c.args.who c.args.event b))
 
 pub returns-then-is_err-clause-entries : goal.returns-then-is_err-clause-entries
 returns-then-is_err-clause-entries c =
     let b = c.args.self.now in
     subst (λ (h : List Entry). Adds c.args.who b.base b.history h) (sym (c.reserve.ensures.items ∙ ap (λ (v : SeenBook). v.history) c.self.view_is))
-    (adds_none c.args.who b.base b.history)
+    (c.passes_add_entries.ensures.none c.args.who b.base b.history)
 
 pub returns-in_default-clause-entries : goal.returns-in_default-clause-entries
 returns-in_default-clause-entries c =
     let b = c.args.self.now in
     subst (λ (h : List Entry). Adds c.args.who b.base b.history h) (sym (c.reserve.ensures.items ∙ ap (λ (v : SeenBook). v.history) c.self.view_is))
-    (adds_none c.args.who b.base b.history)
+    (c.passes_add_entries.ensures.none c.args.who b.base b.history)

@@ -1,11 +1,11 @@
 use Rattle.std.proofs.Common.{◌≡◌, ◌+◌, ◌≤◌, ◌<◌, true, length, vec_capacity, subst, sym, refl, ap, ◌∙◌, rules, arith}
 use Rattle.conn_machine.specs.Table.{is_allowed, next, reply}
 use Rattle.conn_machine.specs.Runs.{after}
-use Rattle.board.specs.Book.{SeenBook, numbered_entry}
+use Rattle.board.specs.Book.{SeenBook, entry_of, numbered_entry}
 use Rattle.board.specs.RoomInside.{owed_entries}
-use Rattle.board.proofs.BookLemmas.{kept_sure, recorded_is}
+use Rattle.board.proofs.BookLemmas.{goes_by, kept_sure, recorded_is}
 use Rattle.board.proofs.RoomLemmas.{owed-sure}
-use Rattle.board.proofs.PassLemmas.{adds_recorded, role_inside, row-recorded}
+use Rattle.board.proofs.PassLemmas.{adds_recorded, is_own, may_be_next, role_inside, row-recorded}
 use Rattle.board.proofs.book.Book.record_sure.Goals as goal
 
 pub append-requires-clause-room : goal.append-requires-clause-room
@@ -21,11 +21,18 @@ pub invariant_of-self : goal.invariant_of-self
 invariant_of-self c =
     let inside = c.self.inside in
     let may = subst (λ (v : SeenBook). is_allowed v.state c.args.event ≡ true) (sym c.self.view_is) c.requires.allowed in
-    kept_sure inside.base.value inside.history.items c.append.new.history.items inside.state c.step.new.state inside.ordinals.items
+    let base = inside.base.value in
+    let history = inside.history.items in
+    let e = numbered_entry c.args.who c.args.event c.in-Ok.reply history in
+    let role = role_inside c.args.who _ c.args.self.now c.args.event c.self.view_is c.requires.role in
+    let goes_on = c.histories_go_on_by_one_entry.ensures in
+    kept_sure base history c.append.new.history.items inside.state c.step.new.state inside.ordinals.items
     c.append.new.ordinals.items inside.pages (vec_capacity inside.history) (vec_capacity c.append.new.history)
-    (numbered_entry c.args.who c.args.event c.in-Ok.reply inside.history.items) c.self.invariant may c.in-Ok.ensures.reply refl
-    c.append.ensures.numbers c.step.ensures.sound c.append.ensures.history c.in-Ok.ensures.state c.requires.sure c.append.ensures.room
-    (role_inside c.args.who _ c.args.self.now c.args.event c.self.view_is c.requires.role)
+    e c.self.invariant may c.append.ensures.numbers
+    (record { sound = c.step.ensures.sound; sizes = c.step.ensures.sizes; sized = c.step.ensures.sized })
+    c.append.ensures.history c.in-Ok.ensures.state c.requires.sure c.append.ensures.room role
+    (goes_by base history inside.state inside.ordinals.items inside.pages (vec_capacity inside.history) e c.self.invariant may c.in-Ok.ensures.reply refl role
+    goes_on.state goes_on.history goes_on.made)
 
 pub returns-clause-entries : goal.returns-clause-entries
 returns-clause-entries c =
@@ -35,7 +42,8 @@ returns-clause-entries c =
     adds_recorded c.args.who c.args.event b _
     (recorded_is b inside.base.value inside.history.items c.append.new.history.items inside.state c.step.new.state _ _ c.args.who
     c.args.event c.in-Ok.reply c.self.view_is c.append.ensures.history c.in-Ok.ensures.state c.in-Ok.ensures.reply c.append.ensures.passes)
-    state_is c.requires.allowed c.requires.role
+    (c.passes_add_entries.ensures.one c.args.who b.base b.history (entry_of c.args.who c.args.event b)
+    (may_be_next c.args.who b c.args.event state_is c.requires.allowed c.requires.role))
 
 pub returns-clause-row : goal.returns-clause-row
 returns-clause-row c =
@@ -45,3 +53,4 @@ returns-clause-row c =
     (recorded_is b inside.base.value inside.history.items c.append.new.history.items inside.state c.step.new.state _ _ c.args.who
     c.args.event c.in-Ok.reply c.self.view_is c.append.ensures.history c.in-Ok.ensures.state c.in-Ok.ensures.reply c.append.ensures.passes)
     (c.in-Ok.ensures.reply ∙ ap (λ (v : SeenBook). reply v.state c.args.event) c.self.view_is)
+    (c.histories_go_on_by_one_entry.ensures.row c.args.who b.history (entry_of c.args.who c.args.event b) (is_own c.args.who c.args.event b))
