@@ -1,0 +1,113 @@
+-- What a pass does, in steps, and what another pass keeps meanwhile.
+use Rattle.std.proofs.Common.{◌≡◌, ◌≢◌, ℕ, true, false, List, [], ◌∷◌, ◌++◌, map, Option, Some, ap, refl, sym, subst, ◌∙◌, append_assoc, append-nil, eq-eqb, ne_eqb}
+use Rattle.std.proofs.lemmas.List.{map-append}
+use Rattle.std.proofs.lemmas.List.Elements.{filter-append}
+use Rattle.mpm_base.specs.declared.conn.ConnName.{ConnName}
+use Rattle.conn_machine.specs.declared.event.Event.{Event}
+use Rattle.conn_machine.specs.declared.event.Entry.{Entry}
+use Rattle.conn_machine.specs.declared.state.State.{State}
+use Rattle.conn_machine.specs.Runs.{is_of_pass, entries_of, row_of, AreEntriesOf, Adds}
+use Rattle.conn_machine.proofs.RunLemmas.{entries_of-own}
+use Rattle.board.specs.Book.{SeenBook, book_with_entry, entry_of}
+use Rattle.board.specs.Board.{SeenBoard}
+use Rattle.board.specs.Events.{with_recorded}
+use Rattle.conn_machine.proofs.HistoryLemmas.{adds_none, adds_more, row-others}
+use Rattle.worker_group.specs.Acts.{Acts, events_of}
+
+-- ## Events of a history
+
+-- an entry of the pass adds its event
+pub events-own : (who : ℕ) (history : List Entry) (e : Entry) → is_of_pass who e ≡ true
+    → events_of who (history ++ e ∷ []) ≡ events_of who history ++ e.event ∷ []
+events-own who history e own =
+    ap (map (λ (x : Entry). x.event)) (entries_of-own who history e own)
+    ∙ map-append (λ (x : Entry). x.event) (entries_of who history) (e ∷ [])
+
+-- the entries of one pass are none of another's
+none-of_other : (p q : ℕ) (base : State) (before added : List Entry) → AreEntriesOf p base before added → q ≢ p → entries_of q added ≡ []
+none-of_other p q base before [] are differs = refl
+none-of_other p q base before (e ∷ added) are differs =
+    let off : is_of_pass q e ≡ false = ne_eqb e.pass q (λ same. differs (sym same ∙ are.0.pass)) in
+    rw off (none-of_other p q base (before ++ e ∷ []) added are.1 differs)
+
+-- the entries of a pass stay while another adds some
+pub entries-others : (p q : ℕ) (base : State) (old new : List Entry) → Adds p base old new → q ≢ p → entries_of q new ≡ entries_of q old
+entries-others p q base old new adds differs =
+    ap (entries_of q) adds.1 ∙ filter-append (is_of_pass q) old adds.0
+    ∙ ap (λ (es : List Entry). entries_of q old ++ es) (none-of_other p q base old adds.0 adds.2 differs)
+    ∙ append-nil (entries_of q old)
+
+-- and so do their events
+pub events-others : (p q : ℕ) (base : State) (old new : List Entry) → Adds p base old new → q ≢ p → events_of q new ≡ events_of q old
+events-others p q base old new adds differs = ap (map (λ (x : Entry). x.event)) (entries-others p q base old new adds differs)
+
+-- ## Steps of a pass
+
+-- a pass that does nothing has what it had
+pub acts_none : (who : ℕ) (has : Option ConnName) (b : SeenBook) → row_of who b.history ≡ has → Acts who [] has b b
+acts_none who has b row = record {
+  base = refl;
+  passes = refl;
+  entries = adds_none who b.base b.history;
+  made = sym (append-nil (events_of who b.history));
+  row = row;
+}
+
+-- so does one whose call left the book as it was
+pub acts_same : (who : ℕ) (has : Option ConnName) (b b' : SeenBook) → b' ≡ b → row_of who b.history ≡ has → Acts who [] has b b'
+acts_same who has b b' same row = subst (λ (v : SeenBook). Acts who [] has b v) (sym same) (acts_none who has b row)
+
+-- a pass that recorded an event made that, and has what the row says
+pub acts_one : (who : ℕ) (e : Event) (has : Option ConnName) (b b' : SeenBook) → b' ≡ book_with_entry who e b → Adds who b.base b.history b'.history
+    → row_of who b'.history ≡ has → Acts who (e ∷ []) has b b'
+acts_one who e has b b' is adds row = record {
+  base = ap (λ (v : SeenBook). v.base) is;
+  passes = ap (λ (v : SeenBook). v.passes) is;
+  entries = adds;
+  made =
+      ap (λ (v : SeenBook). events_of who v.history) is
+      ∙ events-own who b.history (entry_of who e b) (eq-eqb who who refl);
+  row = row;
+}
+
+-- the same of a call of the board that records it, and changes nothing else of the book
+pub acts_recorded : (who : ℕ) (e : Event) (has : Option ConnName) (b b' : SeenBoard) → b' ≡ with_recorded who e b
+    → Adds who b.book.base b.book.history b'.book.history → row_of who b'.book.history ≡ has → Acts who (e ∷ []) has b.book b'.book
+acts_recorded who e has b b' is adds row = acts_one who e has b.book b'.book (ap (λ (v : SeenBoard). v.book) is) adds row
+
+-- what a pass does in two steps, it es
+pub acts_more : (who : ℕ) (es fs : List Event) (had has : Option ConnName) (a b c : SeenBook) → Acts who es had a b → Acts who fs has b c
+    → Acts who (es ++ fs) has a c
+acts_more who es fs had has a b c before behind = record {
+  base = behind.base ∙ before.base;
+  passes = behind.passes ∙ before.passes;
+  entries = adds_more who a.base b.base a.history b.history c.history before.base before.entries behind.entries;
+  made =
+      behind.made ∙ ap (λ (xs : List Event). xs ++ fs) before.made
+      ∙ append_assoc (events_of who a.history) es fs;
+  row = behind.row;
+}
+
+-- the events and the connection by other spellings
+pub acts_as : (who : ℕ) (es fs : List Event) (had has : Option ConnName) (a b : SeenBook) → Acts who es had a b → es ≡ fs → had ≡ has
+    → Acts who fs has a b
+acts_as who es fs had has a b acts same_events same_row =
+    subst (λ (xs : List Event). Acts who xs has a b) same_events (subst (λ (o : Option ConnName). Acts who es o a b) same_row acts)
+
+-- the connection by another spelling of its name
+pub acts_named : (who : ℕ) (es : List Event) (name name' : ConnName) (a b : SeenBook) → Acts who es (Some name) a b → name' ≡ name
+    → Acts who es (Some name') a b
+acts_named who es name name' a b acts same =
+    acts_as who es es (Some name) (Some name') a b acts refl (ap (λ (n : ConnName). Some n) (sym same))
+
+-- ## Other passes
+
+-- another pass has the connection that it had
+pub acts-row_other : (who other : ℕ) (es : List Event) (has : Option ConnName) (a b : SeenBook) → Acts who es has a b → other ≢ who
+    → row_of other b.history ≡ row_of other a.history
+acts-row_other who other es has a b acts differs = row-others who other a.base a.history b.history acts.entries differs
+
+-- and made no event
+pub acts-events_other : (who other : ℕ) (es : List Event) (has : Option ConnName) (a b : SeenBook) → Acts who es has a b → other ≢ who
+    → events_of other b.history ≡ events_of other a.history
+acts-events_other who other es has a b acts differs = events-others who other a.base a.history b.history acts.entries differs

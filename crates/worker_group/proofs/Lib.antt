@@ -1,0 +1,5 @@
+pub mod ActsLemmas
+pub mod AnswerLemmas
+pub mod ExitLemmas
+pub mod ServeLemmas
+pub mod StartLemmas

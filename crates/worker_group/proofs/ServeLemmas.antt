@@ -1,0 +1,257 @@
+-- What a worker may do with the connection that it serves.
+use Rattle.std.proofs.Common.{◌≡◌, ◌⊎◌, ◌==◌, ℕ, ◌<◌, Bool, true, false, not, ◌&&◌, ◌||◌, cond, List, length, Option, None, Some, is_none, option_map, IfSome, slice_get, refl, sym, ap, subst, ◌∙◌, inl, inr, arith}
+use Rattle.std.proofs.lemmas.Bool.{and_parts}
+use Rattle.std.proofs.lemmas.Bool.Decides.{nat_tests}
+use Rattle.std.specs.Option.{option_map_or}
+use Rattle.mpm_base.specs.Link.{LinkTold}
+use Rattle.mpm_base.specs.Count.{Rises}
+use Rattle.mpm_base.specs.Notes.{says_last}
+use Rattle.mpm_base.specs.declared.conn.ConnName.{ConnName}
+use Rattle.mpm_base.specs.declared.conn.Kind.{Kind}
+use Rattle.mpm_base.specs.declared.conn.Kind.TheVariants.{Reading, KeepAlive, Writing, Linger, ShortLinger}
+use Rattle.mpm_base.specs.declared.conn.Cause.{Cause}
+use Rattle.mpm_base.specs.declared.conn.Cause.TheVariants as cause
+use Rattle.mpm_base.specs.declared.conn.Tail.TheVariants as tail
+use Rattle.mpm_base.specs.declared.note.Note.{Note}
+use Rattle.conn_machine.specs.declared.row.Place.{Place}
+use Rattle.conn_machine.specs.declared.row.Place.TheVariants.{Vacant, Spent, Held, Parked, Queued, Working}
+use Rattle.conn_machine.specs.declared.row.Row.{Row}
+use Rattle.conn_machine.specs.declared.event.Event.TheVariants as event
+use Rattle.conn_machine.specs.declared.state.State.{State}
+use Rattle.conn_machine.specs.Rows.{is_held, is_working, is_live, is_lingering, is_live_as, has_note, row_where, live_row, lives_and}
+use Rattle.conn_machine.specs.States.{is_halted}
+use Rattle.conn_machine.specs.Table.{is_allowed, may_wait, direct_cause_fits}
+use Rattle.conn_machine.specs.Sound.{IsSound}
+use Rattle.conn_machine.proofs.RowLemmas.{IsSoundRow, sound_row, served_by, in_service}
+use Rattle.conn_state.specs.declared.turn.LastTurn.{LastTurn}
+use Rattle.conn_state.specs.declared.turn.LastTurn.TheVariants as turn
+use Rattle.conn_state.specs.declared.turn.WriteTurn.{WriteTurn}
+use Rattle.conn_state.specs.declared.turn.WriteTurn.TheVariants as write
+use Rattle.conn_state.specs.declared.turn.ReadTurn.{ReadTurn}
+use Rattle.conn_state.specs.declared.turn.ReadTurn.TheVariants as read
+use Rattle.conn_state.specs.Conn.{SeenConn, is_usable, TurnFits, IsConn}
+use Rattle.conn_state.specs.Answered.{IsShown}
+use Rattle.conn_state.specs.Turns.{WritesOn, ReadsOn, after_writing, after_reading}
+use Rattle.board.specs.Fits.{Fits, WaitsAs, NotesEnd}
+use Rattle.worker_group.specs.InHand.{IsInHand, IsServed, IsClosable}
+use Rattle.worker_group.specs.Service.{KeepsNoted}
+
+-- ## The row of a name
+
+-- the row lives in the slot of the name, with its life
+pub record IsAlive (rows : List Row) (name : ConnName) (row : Row) : Type 0 where
+  pub at : slice_get rows name.slot ≡ Some row
+  pub live : is_live row ≡ true
+  pub life : (row.life == name.life) ≡ true
+
+-- a row that was read and passes the test of the name
+named-alive : (rows : List Row) (name : ConnName) (r row : Row) (b : Bool) → slice_get rows name.slot ≡ Some r → is_live_as name r ≡ b
+    → cond b (Some r) None ≡ Some row → IsAlive rows name row
+named-alive rows name r row true at named is =
+    let same : r ≡ row = cc in
+    let parts = and_parts (is_live r) (r.life == name.life) named in
+    subst (IsAlive rows name) same (record { at = at; live = parts.0; life = parts.1 })
+named-alive rows name r row false at named is = absurd (cc)
+
+found-alive : (rows : List Row) (name : ConnName) (row : Row) (o : Option Row) → slice_get rows name.slot ≡ o
+    → row_where (is_live_as name) o ≡ Some row → IsAlive rows name row
+found-alive rows name row None at is = absurd (cc)
+found-alive rows name row (Some r) at is = named-alive rows name r row (is_live_as name r) at refl is
+
+-- the row of a connection that lives
+pub alive : (rows : List Row) (name : ConnName) (row : Row) → live_row rows name ≡ Some row → IsAlive rows name row
+alive rows name row found = found-alive rows name row (slice_get rows name.slot) refl found
+
+-- a test of a row that is known
+pub test-at : (rows : List Row) (name : ConnName) (row : Row) (test : Row → Bool) → live_row rows name ≡ Some row
+    → lives_and test rows name ≡ test row
+test-at rows name row test found = ap (λ (o : Option Row). option_map_or test o false) found
+
+-- ## What a sound state says of a row that is served
+
+-- it is a sound one
+pub served-row : (s : State) (name : ConnName) (row : Row) → IsSound s → live_row s.rows name ≡ Some row → IsSoundRow s row
+served-row s name row sound found =
+    let lives = alive s.rows name row found in
+    sound_row s name.slot row sound lives.at lives.live
+
+-- it doesn't linger
+pub served-stays : (s : State) (name : ConnName) (row : Row) → IsSound s → live_row s.rows name ≡ Some row → is_working row.place ≡ true
+    → is_lingering row ≡ false
+served-stays s name row sound found working =
+    (in_service s row (served_by row.place working) (served-row s name row sound found)).stays
+
+-- its last note says whether it was the last
+pub row-last : (s : State) (name : ConnName) (row : Row) → IsSound s → live_row s.rows name ≡ Some row → row.last ≡ says_last row.notes
+row-last s name row sound found = (served-row s name row sound found).notes.last
+
+-- a worker has it
+pub working-in_hand : (p : Place) → is_working p ≡ true → (is_held p || is_working p) ≡ true
+working-in_hand Vacant at = absurd (cc)
+working-in_hand Spent at = absurd (cc)
+working-in_hand Held at = refl
+working-in_hand (Parked kind) at = absurd (cc)
+working-in_hand Queued at = absurd (cc)
+working-in_hand (Working cell phase) at = refl
+
+-- a connection that is served is in hand
+pub in-hand : (s : State) (c : SeenConn) → IsSound s → IsServed s c → IsInHand s c
+in-hand s c sound served = record {
+  row = served.row;
+  found = served.found;
+  in_hand = working-in_hand served.row.place served.working;
+  serves = served-stays s c.name served.row sound served.found served.working;
+  fits = served.fits;
+}
+
+-- ## Turns
+
+-- a change of what the link tells keeps its rank
+rank-map : (change : LinkTold → LinkTold) (told told' : Option LinkTold) (n : ℕ) → ((t : LinkTold) → (change t).rank ≡ t.rank)
+    → told' ≡ option_map change told → IfSome told (λ t. t.rank ≡ n) → IfSome told' (λ t. t.rank ≡ n)
+rank-map change None told' n keeps is rank = subst (λ (o : Option LinkTold). IfSome o (λ t. t.rank ≡ n)) (sym is) tt
+rank-map change (Some t) told' n keeps is rank = subst (λ (o : Option LinkTold). IfSome o (λ u. u.rank ≡ n)) (sym is) (keeps t ∙ rank)
+
+-- a turn of writing leaves the connection that of its row
+fits-written : (c c' : SeenConn) (answer : WriteTurn) (r : Row) → WritesOn c c' answer → Fits c r → Fits c' r
+fits-written c c' answer r writes fits = record {
+  child = writes.child ∙ fits.child;
+  generation = writes.generation ∙ fits.generation;
+  notes = writes.notes ∙ fits.notes;
+  rank = rank-map _ c.told c'.told r.arrival (λ t. refl) writes.told fits.rank;
+}
+
+-- and so does a turn of reading
+fits-read : (c c' : SeenConn) (answer : ReadTurn) (r : Row) → ReadsOn c c' answer → Fits c r → Fits c' r
+fits-read c c' answer r reads fits = record {
+  child = reads.child ∙ fits.child;
+  generation = reads.generation ∙ fits.generation;
+  notes = reads.notes ∙ fits.notes;
+  rank = rank-map _ c.told c'.told r.arrival (λ t. refl) reads.told fits.rank;
+}
+
+-- the connection that was written on is served on
+pub served-written : (s : State) (c c' : SeenConn) (answer : WriteTurn) → IsServed s c → WritesOn c c' answer
+    → is_usable (after_writing answer) ≡ true → IsServed s c'
+served-written s c c' answer served writes usable = record {
+  row = served.row;
+  found = subst (λ (n : ConnName). live_row s.rows n ≡ Some served.row) (sym writes.name) served.found;
+  working = served.working;
+  fits = fits-written c c' answer served.row writes served.fits;
+  usable = ap is_usable writes.turn ∙ usable;
+}
+
+-- so is the connection that was read on
+pub served-read : (s : State) (c c' : SeenConn) (answer : ReadTurn) → IsServed s c → ReadsOn c c' answer
+    → is_usable (after_reading answer) ≡ true → IsServed s c'
+served-read s c c' answer served reads usable = record {
+  row = served.row;
+  found = subst (λ (n : ConnName). live_row s.rows n ≡ Some served.row) (sym reads.name) served.found;
+  working = served.working;
+  fits = fits-read c c' answer served.row reads served.fits;
+  usable = ap is_usable reads.turn ∙ usable;
+}
+
+-- ## Closes
+
+-- a connection with the notes of its row may be closed for a cause that is shown
+closable : (s : State) (why : Cause) (c : SeenConn) (row : Row) → IsSound s → live_row s.rows c.name ≡ Some row → is_working row.place ≡ true
+    → Fits c row → direct_cause_fits s why row ≡ true → NotesEnd why c.notes row.notes → IsShown why tail.Direct c → IsClosable s why c
+closable s why c row sound found working fits cause_fits notes shown = record {
+  row = row;
+  found = found;
+  in_hand = working-in_hand row.place working;
+  serves = served-stays s c.name row sound found working;
+  cause_fits = cause_fits;
+  child = fits.child;
+  generation = fits.generation;
+  notes = notes;
+  rank = fits.rank;
+  shown = shown;
+}
+
+-- a link that failed in a turn of writing shows it
+rises-some : (old new : ℕ) → Rises old new → 0 < new
+rises-some old new rises = grind (arith, rises.0, rises.1)
+
+-- the direct close for a cause that only the link shows
+pub closes-failed_write : (s : State) (c c' : SeenConn) → IsSound s → IsServed s c → WritesOn c c' write.LinkFailed → IsClosable s cause.LinkFailed c'
+closes-failed_write s c c' sound served writes =
+    let found' = subst (λ (n : ConnName). live_row s.rows n ≡ Some served.row) (sym writes.name) served.found in
+    let fits' = fits-written c c' write.LinkFailed served.row writes served.fits in
+    closable s cause.LinkFailed c' served.row sound found' served.working fits' refl fits'.notes
+    (rises-some c.counts.faults c'.counts.faults writes.faults)
+
+-- a last response was sent whole
+pub closes-sent : (s : State) (c c' : SeenConn) → IsSound s → IsServed s c → WritesOn c c' write.Done → IsClosable s cause.NoMemory c'
+closes-sent s c c' sound served writes =
+    let found' = subst (λ (n : ConnName). live_row s.rows n ≡ Some served.row) (sym writes.name) served.found in
+    let fits' = fits-written c c' write.Done served.row writes served.fits in
+    closable s cause.NoMemory c' served.row sound found' served.working fits' refl (inl fits'.notes) tt
+
+-- a link that failed in a turn of reading
+pub closes-failed_read : (s : State) (c c' : SeenConn) → IsSound s → IsServed s c → ReadsOn c c' read.LinkFailed → IsClosable s cause.LinkFailed c'
+closes-failed_read s c c' sound served reads =
+    let found' = subst (λ (n : ConnName). live_row s.rows n ≡ Some served.row) (sym reads.name) served.found in
+    let fits' = fits-read c c' read.LinkFailed served.row reads served.fits in
+    closable s cause.LinkFailed c' served.row sound found' served.working fits' refl fits'.notes
+    (rises-some c.counts.faults c'.counts.faults reads.faults)
+
+-- memory lacked for what was read
+pub closes-unread : (s : State) (c c' : SeenConn) → IsSound s → IsServed s c → ReadsOn c c' read.NoMemory → IsClosable s cause.NoMemory c'
+closes-unread s c c' sound served reads =
+    let found' = subst (λ (n : ConnName). live_row s.rows n ≡ Some served.row) (sym reads.name) served.found in
+    let fits' = fits-read c c' read.NoMemory served.row reads served.fits in
+    closable s cause.NoMemory c' served.row sound found' served.working fits' refl (inl fits'.notes) tt
+
+-- the row of a connection whose last response wasn't decided
+pub row-open : (s : State) (c : SeenConn) → IsSound s → (served : IsServed s c) → says_last c.notes ≡ false → served.row.last ≡ false
+row-open s c sound served goes_on =
+    row-last s c.name served.row sound served.found ∙ ap says_last (sym served.fits.notes) ∙ goes_on
+
+-- the client sends no more
+pub closes-done : (s : State) (c c' : SeenConn) → IsSound s → IsServed s c → says_last c.notes ≡ false → ReadsOn c c' read.Gone
+    → IsClosable s cause.ClientDone c'
+closes-done s c c' sound served goes_on reads =
+    let found' = subst (λ (n : ConnName). live_row s.rows n ≡ Some served.row) (sym reads.name) served.found in
+    let fits' = fits-read c c' read.Gone served.row reads served.fits in
+    let fits_cause : direct_cause_fits s cause.ClientDone served.row ≡ true = rw (served.working, row-open s c sound served goes_on) refl in
+    closable s cause.ClientDone c' served.row sound found' served.working fits' fits_cause fits'.notes reads.turn
+
+-- ## Parks
+
+-- a connection that waits for a request, or did, goes on
+waits-on : (c : SeenConn) → IsConn c → (c.turn ≡ turn.New) ⊎ (c.turn ≡ turn.More) → says_last c.notes ≡ false
+waits-on c is (inl new) =
+    let untouched = subst (λ (u : LastTurn). TurnFits u c) new is.turn_fits in
+    ap says_last untouched.none_noted
+waits-on c is (inr more) = (subst (λ (u : LastTurn). TurnFits u c) more is.turn_fits).goes_on
+
+or-right : (a b : Bool) → b ≡ true → (a || b) ≡ true
+or-right true b at = refl
+or-right false b at = at
+
+-- a number that isn't 0
+some-number : (n : ℕ) → 0 < n → not (n == 0) ≡ true
+some-number n some = grind (arith, nat_tests)
+
+may-wait : (s : State) (kind : Kind) (c : SeenConn) → IsSound s → IsConn c → (served : IsServed s c) → WaitsAs kind c → KeepsNoted kind c
+    → may_wait s.moment kind served.row ≡ true
+may-wait s Reading c sound is served waits noted =
+    let goes_on = waits-on c is waits in
+    or-right (is_held served.row.place && is_none served.row.from) (is_working served.row.place && not served.row.last)
+    (rw (served.working, row-open s c sound served goes_on) refl)
+may-wait s KeepAlive c sound is served waits noted =
+    let goes_on = waits-on c is (inr waits.turn) in
+    let has : has_note served.row ≡ true = ap (λ (ns : List Note). not (length ns == 0)) (sym served.fits.notes) ∙ some-number (length c.notes) noted in
+    rw (served.working, row-open s c sound served goes_on, has) refl
+may-wait s Writing c sound is served waits noted = served.working
+may-wait s Linger c sound is served waits noted = absurd waits
+may-wait s ShortLinger c sound is served waits noted = absurd waits
+
+-- a connection that is served may wait so
+pub may-park : (s : State) (kind : Kind) (c : SeenConn) → IsSound s → IsConn c → IsServed s c → WaitsAs kind c → KeepsNoted kind c
+    → is_halted s.going ≡ false → is_allowed s (event.Park c.name kind) ≡ true
+may-park s kind c sound is served waits noted going =
+    let passes = test-at s.rows c.name served.row (may_wait s.moment kind) served.found ∙ may-wait s kind c sound is served waits noted in
+    rw (going, passes) refl

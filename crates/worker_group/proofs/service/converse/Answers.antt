@@ -1,0 +1,30 @@
+use Rattle.std.proofs.Common.{◌<◌, [], Some, refl, ap, sym, subst, ◌∙◌}
+use Rattle.mpm_base.specs.declared.conn.ConnName.{ConnName}
+use Rattle.worker_group.proofs.ActsLemmas.{acts_none}
+use Rattle.worker_group.proofs.AnswerLemmas.{answers_more}
+use Rattle.worker_group.proofs.service.converse.Goals as goal
+
+pub loop-exit-init : goal.loop-exit-init
+loop-exit-init g c =
+    record { name = refl; served = c.requires.served; acts = ([], acts_none c.args.who (Some c.args.conn.now.name) c.args.board.now.book c.requires.row) }
+
+pub serve_turn-requires-clause-row : goal.serve_turn-requires-clause-row
+serve_turn-requires-clause-row g c = c.loop-exit.invariant.acts.1.row ∙ ap (λ (n : ConnName). Some n) (sym c.loop-exit.invariant.name)
+
+pub serve_turn-requires-clause-who : goal.serve_turn-requires-clause-who
+serve_turn-requires-clause-who g c = subst (λ n. c.args.who < n) (sym c.loop-exit.invariant.acts.1.passes) c.requires.who
+
+pub returns-in-Some-clause-acts : goal.returns-in-Some-clause-acts
+returns-in-Some-clause-acts g c =
+    answers_more c.args.who c.args.conn.now.name c.loop-exit.conn.name c.args.board.now.book c.loop-exit.board.book c.serve_turn.new.board.book
+    c.loop-exit.invariant.name c.loop-exit.invariant.acts c.serve_turn.ensures.acts
+
+pub loop-exit-preserved : goal.loop-exit-preserved
+loop-exit-preserved g c =
+    record {
+      name = c.serve_turn.ensures.name ∙ c.loop-exit.invariant.name;
+      served = c.in_default.ensures.served;
+      acts =
+          answers_more c.args.who c.args.conn.now.name c.loop-exit.conn.name c.args.board.now.book c.loop-exit.board.book c.serve_turn.new.board.book
+          c.loop-exit.invariant.name c.loop-exit.invariant.acts c.serve_turn.ensures.acts;
+    }

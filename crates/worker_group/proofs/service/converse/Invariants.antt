@@ -1,0 +1,19 @@
+use Rattle.std.proofs.Common.{◌≡◌, List, Some}
+use Rattle.mpm_base.specs.declared.conn.Ask.{Ask}
+use Rattle.worker_group.specs.Acts.{Acts}
+use Rattle.worker_group.specs.InHand.{IsServed, answers_left}
+use Rattle.worker_group.specs.Service.{answer_events}
+use Rattle.worker_group.proofs.service.converse.Given as goal
+
+-- the connection is served on, and responses were decided
+abbrev pub invariant-loop-exit : goal.invariant-loop-exit
+invariant-loop-exit g l =
+    record {
+      name : l.conn.name ≡ l.fn.conn.name;
+      served : IsServed l.board.book.state l.conn;
+      acts : (asks : List Ask) × Acts l.fn.who (answer_events l.fn.conn.name asks) (Some l.fn.conn.name) l.fn.board.book l.board.book;
+    }
+
+-- how many more responses the connection may have
+abbrev pub decreases-loop-exit : goal.decreases-loop-exit
+decreases-loop-exit g l = answers_left l.board.book.state l.conn

@@ -1,0 +1,35 @@
+use Rattle.std.proofs.Common.{None, Some, ap, subst, sym, ◌∙◌}
+use Rattle.conn_machine.specs.Runs.{row_of}
+use Rattle.conn_machine.specs.declared.event.Event.TheVariants as event
+use Rattle.conn_state.specs.Conn.{SeenConn}
+use Rattle.board.specs.Board.{SeenBoard}
+use Rattle.worker_group.specs.Acts.{Acts}
+use Rattle.worker_group.specs.Service.{LeavesRest, given_up}
+use Rattle.worker_group.proofs.ActsLemmas.{acts_one}
+use Rattle.worker_group.proofs.ExitLemmas.{rest_parked}
+use Rattle.worker_group.proofs.service.park.Goals as goal
+
+pub give_up-requires-clause-row : goal.give_up-requires-clause-row
+give_up-requires-clause-row g c =
+    ap (λ (b : SeenBoard). row_of c.args.who b.book.history) c.in-Err.ensures.err ∙ c.requires.row
+    ∙ ap (λ (x : SeenConn). Some x.name) (sym c.in-Err.ensures.back)
+
+pub returns-in-Ok-clause-parked : goal.returns-in-Ok-clause-parked
+returns-in-Ok-clause-parked g c =
+    acts_one c.args.who (event.Park c.args.conn.name c.args.kind) None c.args.board.now.book c.park.new.self.book
+    (ap (λ (b : SeenBoard). b.book) c.in-Ok.ensures.ok.new_is) c.park.ensures.entries c.in-Ok.ensures.row
+
+pub returns-in-Ok-clause-rest : goal.returns-in-Ok-clause-rest
+returns-in-Ok-clause-rest g c listener =
+    rest_parked c.args.who c.args.conn.name c.args.kind c.args.board.now.book c.park.new.self.book
+    (ap (λ (b : SeenBoard). b.book) c.in-Ok.ensures.ok.new_is)
+
+pub returns-in-Err-clause-given_up : goal.returns-in-Err-clause-given_up
+returns-in-Err-clause-given_up g c =
+    subst (λ (b : SeenBoard). Acts c.args.who (given_up c.in-Err.fault c.args.conn.name) None b.book c.give_up.new.board.book) c.in-Err.ensures.err
+    (subst (λ (x : SeenConn). Acts c.args.who (given_up c.in-Err.fault x.name) None c.park.new.self.book c.give_up.new.board.book)
+    c.in-Err.ensures.back c.give_up.ensures.acts)
+
+pub returns-in-Err-clause-rest : goal.returns-in-Err-clause-rest
+returns-in-Err-clause-rest g c listener =
+    subst (λ (b : SeenBoard). LeavesRest b.book c.give_up.new.board.book) c.in-Err.ensures.err (c.give_up.ensures.rest listener)

@@ -1,0 +1,90 @@
+use Rattle.std.proofs.Common.{length, refl, ap, ◌∙◌, sym, arith}
+use Rattle.std.proofs.lemmas.List.{nil_from_length}
+use Rattle.std.proofs.lemmas.Bool.{eqb-true}
+use Rattle.std.proofs.lemmas.Bool.Decides.{nat_tests}
+use Rattle.conn_state.specs.declared.turn.WriteTurn.TheVariants as write
+use Rattle.conn_state.specs.declared.turn.ReadTurn.TheVariants as read
+use Rattle.worker_group.specs.declared.service.Exit.TheVariants as exit
+use Rattle.worker_group.proofs.ServeLemmas.{served-written, served-read, closes-failed_write, closes-sent, closes-done, closes-failed_read, closes-unread}
+use Rattle.worker_group.proofs.AnswerLemmas.{answers_none}
+use Rattle.worker_group.proofs.ExitLemmas.{exits-written, exits-read, keeps-alive}
+use Rattle.worker_group.proofs.service.serve_turn.Goals as goal
+
+pub returns-in-LinkFailed-clause-may : goal.returns-in-LinkFailed-clause-may
+returns-in-LinkFailed-clause-may g c =
+    closes-failed_write c.args.board.now.book.state c.args.conn.now _ c.show.ensures.sound c.requires.served c.in-LinkFailed.ensures
+
+pub returns-then-last-clause-may : goal.returns-then-last-clause-may
+returns-then-last-clause-may g c =
+    closes-sent c.args.board.now.book.state c.args.conn.now _ c.show.ensures.sound c.requires.served c.in-Done.ensures
+
+pub returns-in-Gone-clause-may : goal.returns-in-Gone-clause-may
+returns-in-Gone-clause-may g c =
+    let served = served-written c.args.board.now.book.state c.args.conn.now c.write_turn.new.self write.Done c.requires.served c.in-Done.ensures refl in
+    closes-done c.args.board.now.book.state c.write_turn.new.self _ c.show.ensures.sound served (sym c.last.ensures ∙ c.if-last.false) c.in-Gone.ensures.reads
+
+pub returns-in-LinkFailed-read_turn-clause-may : goal.returns-in-LinkFailed-read_turn-clause-may
+returns-in-LinkFailed-read_turn-clause-may g c =
+    let served = served-written c.args.board.now.book.state c.args.conn.now c.write_turn.new.self write.Done c.requires.served c.in-Done.ensures refl in
+    closes-failed_read c.args.board.now.book.state c.write_turn.new.self _ c.show.ensures.sound served c.in-LinkFailed-read_turn.ensures.reads
+
+pub returns-in-NoMemory-clause-may : goal.returns-in-NoMemory-clause-may
+returns-in-NoMemory-clause-may g c =
+    let served = served-written c.args.board.now.book.state c.args.conn.now c.write_turn.new.self write.Done c.requires.served c.in-Done.ensures refl in
+    closes-unread c.args.board.now.book.state c.write_turn.new.self _ c.show.ensures.sound served c.in-NoMemory.ensures.reads
+
+pub returns-in-LinkFailed-clause-acts : goal.returns-in-LinkFailed-clause-acts
+returns-in-LinkFailed-clause-acts g c =
+    answers_none c.args.who c.args.conn.now.name c.args.board.now.book c.args.board.now.book refl c.requires.row
+
+pub returns-in-LinkFailed-clause-exits : goal.returns-in-LinkFailed-clause-exits
+returns-in-LinkFailed-clause-exits g c = exits-written c.args.conn.now c.write_turn.new.self write.LinkFailed _ c.in-LinkFailed.ensures refl
+
+pub returns-then-last-clause-acts : goal.returns-then-last-clause-acts
+returns-then-last-clause-acts g c =
+    answers_none c.args.who c.args.conn.now.name c.args.board.now.book c.args.board.now.book refl c.requires.row
+
+pub returns-then-last-clause-exits : goal.returns-then-last-clause-exits
+returns-then-last-clause-exits g c =
+    exits-written c.args.conn.now c.write_turn.new.self write.Done _ c.in-Done.ensures (refl, sym c.last.ensures ∙ c.if-last.true)
+
+pub returns-in-More-clause-may : goal.returns-in-More-clause-may
+returns-in-More-clause-may g c =
+    let served = served-written c.args.board.now.book.state c.args.conn.now c.write_turn.new.self write.Done c.requires.served c.in-Done.ensures refl in
+    let empty = eqb-true (length c.read_turn.new.self.rest) 0 (sym c.rest_empty.ensures ∙ c.if-rest_empty.true) in (
+      served-read c.args.board.now.book.state c.write_turn.new.self c.read_turn.new.self read.More served c.in-More.ensures.reads refl,
+      record { turn = c.in-More.ensures.reads.turn; rest = nil_from_length c.read_turn.new.self.rest empty },
+      grind (arith, nat_tests, c.noted.ensures, c.if-noted.true),
+    )
+
+pub returns-in-More-clause-acts : goal.returns-in-More-clause-acts
+returns-in-More-clause-acts g c =
+    answers_none c.args.who c.args.conn.now.name c.args.board.now.book c.args.board.now.book refl c.requires.row
+
+pub returns-in-More-clause-exits : goal.returns-in-More-clause-exits
+returns-in-More-clause-exits g c =
+    exits-read c.write_turn.new.self c.read_turn.new.self read.More _ c.in-More.ensures.reads
+    (ap exit.Park (keeps-alive c.read_turn.new.self (sym c.noted.ensures ∙ c.if-noted.true) (sym c.rest_empty.ensures ∙ c.if-rest_empty.true)))
+
+pub returns-in-Gone-clause-acts : goal.returns-in-Gone-clause-acts
+returns-in-Gone-clause-acts g c =
+    answers_none c.args.who c.args.conn.now.name c.args.board.now.book c.args.board.now.book refl c.requires.row
+
+pub returns-in-Gone-clause-exits : goal.returns-in-Gone-clause-exits
+returns-in-Gone-clause-exits g c = exits-read c.write_turn.new.self c.read_turn.new.self read.Gone _ c.in-Gone.ensures.reads refl
+
+pub returns-in-LinkFailed-read_turn-clause-acts : goal.returns-in-LinkFailed-read_turn-clause-acts
+returns-in-LinkFailed-read_turn-clause-acts g c =
+    answers_none c.args.who c.args.conn.now.name c.args.board.now.book c.args.board.now.book refl c.requires.row
+
+pub returns-in-LinkFailed-read_turn-clause-exits : goal.returns-in-LinkFailed-read_turn-clause-exits
+returns-in-LinkFailed-read_turn-clause-exits g c =
+    exits-read c.write_turn.new.self c.read_turn.new.self read.LinkFailed _ c.in-LinkFailed-read_turn.ensures.reads refl
+
+pub returns-in-NoMemory-clause-acts : goal.returns-in-NoMemory-clause-acts
+returns-in-NoMemory-clause-acts g c =
+    answers_none c.args.who c.args.conn.now.name c.args.board.now.book c.args.board.now.book refl c.requires.row
+
+pub returns-in-NoMemory-clause-exits : goal.returns-in-NoMemory-clause-exits
+returns-in-NoMemory-clause-exits g c =
+    exits-read c.write_turn.new.self c.read_turn.new.self read.NoMemory _ c.in-NoMemory.ensures.reads refl

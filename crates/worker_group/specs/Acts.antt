@@ -1,0 +1,20 @@
+-- What a pass did: the events that it added, and the connection that it has then.
+use Rattle.std.specs.Prelude.{◌≡◌, ℕ, List, map, ◌++◌, Option}
+use Rattle.mpm_base.specs.declared.conn.ConnName.{ConnName}
+use Rattle.conn_machine.specs.declared.event.Event.{Event}
+use Rattle.conn_machine.specs.declared.event.Entry.{Entry}
+use Rattle.conn_machine.specs.Runs.{Adds, entries_of, row_of}
+use Rattle.board.specs.Book.{SeenBook}
+
+-- the events of the entries that the pass made, in order
+abbrev pub events_of : ℕ → List Entry → List Event
+events_of who history = map (λ e. e.event) (entries_of who history)
+
+-- all that was added are entries that the pass may make, of these events in this order, and it has this connection then, or
+-- none
+pub record Acts (who : ℕ) (events : List Event) (has : Option ConnName) (old new : SeenBook) : Type 0 where
+  pub base : new.base ≡ old.base
+  pub passes : new.passes ≡ old.passes
+  pub entries : Adds who old.base old.history new.history
+  pub made : events_of who new.history ≡ events_of who old.history ++ events
+  pub row : row_of who new.history ≡ has

@@ -1,0 +1,217 @@
+//! The service of a connection by a worker, from its queue to a park or a close.
+ghost use Rattle.std.specs.Prelude.{◌≡◌, ◌<◌, ℕ, List, [], ◌∷◌, true, false, None, Some, IfSome, IfNone, IfErr, OnOk, OnErr};
+ghost use Rattle.mpm_base.specs.declared.conn.Ask.{Ask};
+ghost use Rattle.mpm_base.specs.declared.conn.Tail.TheVariants.{Direct};
+ghost use Rattle.conn_machine.specs.Runs.{row_of};
+ghost use Rattle.conn_machine.specs.States.{is_halted};
+ghost use Rattle.conn_machine.specs.Table.{is_allowed};
+ghost use Rattle.conn_machine.specs.declared.event.Event.{Event};
+ghost use Rattle.conn_machine.specs.declared.event.Event.TheVariants as event;
+ghost use Rattle.conn_state.specs.declared.turn.LastTurn.TheVariants as turn;
+ghost use Rattle.board.specs.Book.{book_with_entry};
+ghost use Rattle.board.specs.Faults.{IsRefusedFor};
+ghost use Rattle.board.specs.Fits.{IsSettled};
+ghost use Rattle.worker_group.specs.Acts.{Acts};
+ghost use Rattle.worker_group.specs.InHand.{IsClosable, IsInHand, IsServed, answers_left};
+ghost use Rattle.worker_group.specs.Service.{ExitsAfter, HasServed, Leaves, LeavesRest, MayLeave, RefusalLasts, answer_events, given_up};
+
+use board::{Board, BoardFault};
+use conn_machine::Why;
+use conn_state::{Conn, Known, ReadTurn, WriteTurn};
+use mpm_base::{Ask, Cause, ConnName, Kind, Link, NoMemory, Tail};
+
+/// How a worker leaves a connection.
+#[derive(Clone, Copy, Debug, PartialEq, Eq)]
+pub enum Exit {
+    /// It waits for this.
+    Park(Kind),
+    /// It ends for this cause.
+    Close(Cause),
+    /// A call of the board was refused.
+    GiveUp(BoardFault),
+}
+
+/// Serves a signalled connection, as the pass `who`. Where its queueing is refused nothing changes.
+pub fn serve<L: Link, N: Known>(
+    board: &mut Board<L, N>,
+    who: u32,
+    name: ConnName,
+) -> Result<(), BoardFault>
+    requires who { who < board.old.book.passes }
+    requires free { row_of who board.old.book.history ≡ None }
+    requires allowed { is_halted board.old.book.state.going ≡ false → is_allowed board.old.book.state (event.Queue name) ≡ true }
+    ensures served { OnOk result (HasServed who name board.old.book board.new.book) }
+    ensures why { IfErr result (λ fault. IsRefusedFor fault board.old.book) }
+    ensures err { OnErr result (board.new ≡ board.old) }
+{
+    let mut conn = board.queue(who, name)?;
+    let _ = board.start(who, name);
+    let exit = converse(board, who, &mut conn);
+    leave(board, who, conn, exit);
+    Ok(())
+}
+
+/// Takes turns with the client, until the connection is to be left.
+fn converse<L: Link, N: Known>(board: &mut Board<L, N>, who: u32, conn: &mut Conn<L, N>) -> Exit
+    requires who { who < board.old.book.passes }
+    requires row { row_of who board.old.book.history ≡ Some conn.old.name }
+    requires served { IsServed board.old.book.state conn.old }
+    ensures name { conn.new.name ≡ conn.old.name }
+    ensures acts { (asks : List Ask) × Acts who (answer_events conn.old.name asks) (Some conn.old.name) board.old.book board.new.book }
+    ensures may { MayLeave board.new.book conn.new result }
+    ensures exits { ExitsAfter conn.new.turn conn.new result }
+{
+    loop {
+        if let Some(exit) = serve_turn(board, who, conn) {
+            return exit;
+        }
+    }
+}
+
+/// Sends what is pending; where all was sent, reads on, and answers. None where the response is to be sent.
+///
+/// Lingering closes are not built yet: once a last response was sent the connection ends for want of memory, the one
+/// cause that needs no other.
+fn serve_turn<L: Link, N: Known>(
+    board: &mut Board<L, N>,
+    who: u32,
+    conn: &mut Conn<L, N>,
+) -> Option<Exit>
+    requires who { who < board.old.book.passes }
+    requires row { row_of who board.old.book.history ≡ Some conn.old.name }
+    requires served { IsServed board.old.book.state conn.old }
+    ensures name { conn.new.name ≡ conn.old.name }
+    ensures acts { (asks : List Ask) × Acts who (answer_events conn.old.name asks) (Some conn.old.name) board.old.book board.new.book }
+    ensures may { IfSome result (MayLeave board.new.book conn.new) }
+    ensures exits { IfSome result (ExitsAfter conn.new.turn conn.new) }
+    ensures served { IfNone result (IsServed board.new.book.state conn.new) }
+    ensures fewer { IfNone result (answers_left board.new.book.state conn.new < answers_left board.old.book.state conn.old) }
+{
+    board.show();
+    match conn.write_turn() {
+        WriteTurn::Done => (),
+        WriteTurn::NotReady => return Some(Exit::Park(Kind::Writing)),
+        WriteTurn::LinkFailed => return Some(Exit::Close(Cause::LinkFailed)),
+    }
+    if conn.last() {
+        return Some(Exit::Close(Cause::NoMemory));
+    }
+    match conn.read_turn() {
+        ReadTurn::Asked(ask) => answer(board, who, conn, ask),
+        ReadTurn::More if conn.noted() && conn.rest_empty() => Some(Exit::Park(Kind::KeepAlive)),
+        ReadTurn::More => Some(Exit::Park(Kind::Reading)),
+        ReadTurn::Gone => Some(Exit::Close(Cause::ClientDone)),
+        ReadTurn::LinkFailed => Some(Exit::Close(Cause::LinkFailed)),
+        ReadTurn::NoMemory => Some(Exit::Close(Cause::NoMemory)),
+    }
+}
+
+/// Decides the response to what was asked, and makes it pending. None where it is to be sent.
+fn answer<L: Link, N: Known>(
+    board: &mut Board<L, N>,
+    who: u32,
+    conn: &mut Conn<L, N>,
+    ask: Ask,
+) -> Option<Exit>
+    requires who { who < board.old.book.passes }
+    requires row { row_of who board.old.book.history ≡ Some conn.old.name }
+    requires served { IsServed board.old.book.state conn.old }
+    requires asked { conn.old.turn ≡ turn.Asked ask }
+    ensures name { conn.new.name ≡ conn.old.name }
+    ensures acts { (asks : List Ask) × Acts who (answer_events conn.old.name asks) (Some conn.old.name) board.old.book board.new.book }
+    ensures may { IfSome result (MayLeave board.new.book conn.new) }
+    ensures exits { IfSome result (ExitsAfter conn.new.turn conn.new) }
+    ensures served { IfNone result (IsServed board.new.book.state conn.new) }
+    ensures fewer { IfNone result (answers_left board.new.book.state conn.new < answers_left board.old.book.state conn.old) }
+{
+    board.show();
+    conn.show();
+    match board.answer(who, conn.name(), ask) {
+        Ok(note) => match conn.answer(note) {
+            Ok(()) => None,
+            Err(NoMemory) => Some(Exit::Close(Cause::NoMemory)),
+        },
+        Err(fault) => Some(Exit::GiveUp(fault)),
+    }
+}
+
+/// Parks, closes or gives up the connection.
+fn leave<L: Link, N: Known>(board: &mut Board<L, N>, who: u32, conn: Conn<L, N>, exit: Exit)
+    requires who { who < board.old.book.passes }
+    requires row { row_of who board.old.book.history ≡ Some conn.name }
+    requires may { MayLeave board.old.book conn exit }
+    ensures left { (events : List Event) × Leaves exit conn.name events × Acts who events None board.old.book board.new.book }
+{
+    board.show();
+    conn.show();
+    match exit {
+        Exit::Park(kind) => {
+            let _ = park(board, who, conn, kind);
+        }
+        Exit::Close(cause) => close(board, who, conn, cause),
+        Exit::GiveUp(fault) => give_up(board, who, conn, fault),
+    }
+}
+
+/// The connection waits. Where it is refused the connection is given up.
+pub fn park<L: Link, N: Known>(
+    board: &mut Board<L, N>,
+    who: u32,
+    conn: Conn<L, N>,
+    kind: Kind,
+) -> Result<(), BoardFault>
+    requires who { who < board.old.book.passes }
+    requires row { row_of who board.old.book.history ≡ Some conn.name }
+    requires allowed { is_halted board.old.book.state.going ≡ false → is_allowed board.old.book.state (event.Park conn.name kind) ≡ true }
+    requires hand { IsInHand board.old.book.state conn }
+    requires settled { IsSettled kind conn }
+    ensures parked { OnOk result (Acts who (event.Park conn.name kind ∷ []) None board.old.book board.new.book) }
+    ensures given_up { IfErr result (λ fault. Acts who (given_up fault conn.name) None board.old.book board.new.book) }
+    ensures lasts { IfErr result (λ fault. RefusalLasts fault board.new.book) }
+    ensures rest { who ≡ 0 → LeavesRest board.old.book board.new.book }
+{
+    match board.park(who, kind, conn) {
+        Ok(()) => Ok(()),
+        Err((fault, conn)) => {
+            give_up(board, who, conn, fault);
+            Err(fault)
+        }
+    }
+}
+
+/// Ends a connection for which a call of the board was refused: it was stopped, or memory lacks. A full history stops
+/// the server. Takes no memory.
+pub fn give_up<L: Link, N: Known>(
+    board: &mut Board<L, N>,
+    who: u32,
+    conn: Conn<L, N>,
+    fault: BoardFault,
+)
+    requires who { who < board.old.book.passes }
+    requires row { row_of who board.old.book.history ≡ Some conn.name }
+    requires hand { IsInHand board.old.book.state conn }
+    requires why { IsRefusedFor fault board.old.book }
+    ensures acts { Acts who (given_up fault conn.name) None board.old.book board.new.book }
+    ensures lasts { RefusalLasts fault board.new.book }
+    ensures rest { who ≡ 0 → LeavesRest board.old.book board.new.book }
+{
+    match fault {
+        BoardFault::Halted => close(board, who, conn, Cause::Stopped),
+        BoardFault::Full => {
+            board.halt(who, Why::Full);
+            close(board, who, conn, Cause::Stopped);
+        }
+        BoardFault::NoMemory => close(board, who, conn, Cause::NoMemory),
+    }
+}
+
+/// Closes the connection. Takes no memory.
+pub fn close<L: Link, N: Known>(board: &mut Board<L, N>, who: u32, conn: Conn<L, N>, cause: Cause)
+    requires who { who < board.old.book.passes }
+    requires row { row_of who board.old.book.history ≡ Some conn.name }
+    requires may { IsClosable board.old.book.state cause conn }
+    ensures closed { board.new.book ≡ book_with_entry who (event.Close conn.name cause Direct) board.old.book }
+    ensures acts { Acts who (event.Close conn.name cause Direct ∷ []) None board.old.book board.new.book }
+{
+    board.close(who, conn.end(cause, Tail::Direct));
+}
