@@ -29,7 +29,8 @@ pub struct Turn<K: Kept> {
     pub kept: K,
 }
 
-/// A kept value that passes share. The table is public for the crates of the idle words and of the perch alone.
+/// A kept value that passes share. Each turn moves it out of its slot and back, so a large one is kept in a `Box`. The table is
+/// public for the crates of the idle words and of the perch alone.
 #[derive(Drop)]
 pub struct Shared<K: Kept> {
     pub table: Table<Option<K>, View, Snapshot<K>, Tie, Global>,

@@ -1,5 +1,5 @@
 -- To fold some entries of the small value, and then some more, is to fold them all.
-use Rattle.std.proofs.Common.{◌≡◌, ◌==◌, ℕ, zero, suc, ◌+◌, Bool, true, false, ◌||◌, List, [], ◌∷◌, ◌++◌, length, map, filter, refl, sym, ap, subst, ◌∙◌, add-zero, append-nil, length-append, arith}
+use Rattle.std.proofs.Common.{◌≡◌, ℕ, zero, suc, ◌+◌, Bool, List, [], ◌∷◌, ◌++◌, length, map, filter, refl, sym, ap, subst, ◌∙◌, add-zero, length-append, arith}
 use Rattle.std.specs.Prelude.{replicate, slice_index}
 use Rattle.std.proofs.lemmas.List.Elements.{filter-append}
 use Rattle.std.proofs.lemmas.List.Sums.{sum_by-append}
@@ -14,9 +14,11 @@ use Rattle.conn_machine.specs.declared.folded.Folded.{Folded}
 use Rattle.conn_machine.specs.declared.state.State.{State}
 use Rattle.conn_machine.specs.Events.{causes, count_events, is_accept, is_answer, is_close, is_close_for, is_order, is_ready, is_start_child, is_tick}
 use Rattle.conn_machine.specs.Runs.{after, entries_of}
-use Rattle.conn_machine.specs.Folds.{begun_editions, causes_after, first_edition, fold_of, is_in_use, opening_record, ordinals_after}
-use Rattle.lock_examples.specs.Toy.{entries_from, first_of, toy_entry, toy_record, toy_state}
-use Rattle.lock_examples.proofs.EntryLemmas.{after_more, entries_of-append, going_after, more_of}
+use Rattle.conn_machine.specs.Folds.{causes_after, first_edition, fold_of, is_in_use, opening_record}
+use Rattle.lock_examples.specs.declared.stage.Stage.{Stage}
+use Rattle.lock_examples.specs.declared.stage.Stage.TheVariants.{Starts, Takes, Signals, Serves}
+use Rattle.lock_examples.specs.Toy.{entries_from, first_of, round_at, stage_at, step_entries, step_of, toy_record, toy_state}
+use Rattle.lock_examples.proofs.EntryLemmas.{after_more, all_from, entries_of-append, more_of, newest_after}
 
 -- ## Counts
 
@@ -61,25 +63,23 @@ numbers_twice a b i (x ∷ xs) = let one = number_twice a b i x in let rest = nu
 
 -- ## Editions
 
+none_of : (n : ℕ) → filter (λ e. is_order e.event) (step_of n) ≡ []
+none_of n = by (stage_at n) (round_at n)
+  where
+    by : (s : Stage) (r : ℕ) → filter (λ (e : Entry). is_order e.event) (step_entries s r) ≡ []
+    by Starts r = refl
+    by Takes r = refl
+    by Signals r = refl
+    by Serves r = refl
+
 none_ordered : (n m : ℕ) → filter (λ e. is_order e.event) (entries_from n m) ≡ []
 none_ordered n zero = refl
 none_ordered n (suc m) =
-    filter-append (λ (e : Entry). is_order e.event) (entries_from n m) (toy_entry (n + m) ∷ [])
-    ∙ ap (λ l. l ++ filter (λ (e : Entry). is_order e.event) (toy_entry (n + m) ∷ [])) (none_ordered n m) ∙ one (n + m)
-  where
-    one : (k : ℕ) → filter (λ (e : Entry). is_order e.event) (toy_entry k ∷ []) ≡ []
-    one zero = refl
-    one (suc k) = refl
+    filter-append (λ (e : Entry). is_order e.event) (entries_from n m) (step_of (n + m))
+    ∙ ap (λ l. l ++ filter (λ (e : Entry). is_order e.event) (step_of (n + m))) (none_ordered n m) ∙ none_of (n + m)
 
 none_ordered_of : (n : ℕ) → filter (λ e. is_order e.event) (first_of n) ≡ []
-none_ordered_of zero = refl
-none_ordered_of (suc n) =
-    filter-append (λ (e : Entry). is_order e.event) (first_of n) (toy_entry n ∷ [])
-    ∙ ap (λ l. l ++ filter (λ (e : Entry). is_order e.event) (toy_entry n ∷ [])) (none_ordered_of n) ∙ one n
-  where
-    one : (k : ℕ) → filter (λ (e : Entry). is_order e.event) (toy_entry k ∷ []) ≡ []
-    one zero = refl
-    one (suc k) = refl
+none_ordered_of n = ap (filter (λ (e : Entry). is_order e.event)) (sym (all_from n)) ∙ none_ordered 0 n
 
 -- where no order was made, and the generation is the first, its edition stays alone
 editions_stay : (s : State) (history : List Entry) (ended : List (List ℕ)) (f : Folded) → f.editions ≡ first_edition ∷ []
@@ -92,7 +92,7 @@ editions_stay s history ended f had none newest = rw (none, had) (by (after s hi
 
 toy_editions : (n passes : ℕ) → (toy_record n passes).editions ≡ first_edition ∷ []
 toy_editions n passes =
-    editions_stay toy_state (first_of n) [] (opening_record passes) refl (none_ordered_of n) ((going_after n).newest)
+    editions_stay toy_state (first_of n) [] (opening_record passes) refl (none_ordered_of n) (newest_after n)
 
 -- ## The record
 
@@ -141,7 +141,7 @@ record_more n m passes =
     (sym (more_of n m)) (fold_twice toy_state (first_of n) (entries_from n m) (opening_record passes) same)
   where
     newest : (after (after toy_state (first_of n)) (entries_from n m)).newest ≡ 0
-    newest = ap (λ (s : State). s.newest) (after_more n m) ∙ (going_after (n + m)).newest
+    newest = ap (λ (s : State). s.newest) (after_more n m) ∙ newest_after (n + m)
 
     later : (fold_of (after toy_state (first_of n)) (entries_from n m) [] (toy_record n passes)).editions ≡ first_edition ∷ []
     later = editions_stay (after toy_state (first_of n)) (entries_from n m) [] (toy_record n passes) (toy_editions n passes) (none_ordered n m) newest

@@ -1,23 +1,26 @@
 -- A turn with the small value may be given back.
-use Rattle.std.proofs.Common.{◌≡◌, ◌⊎◌, inl, inr, ℕ, zero, suc, ◌+◌, ◌<◌, ◌≤◌, List, [], ◌∷◌, ◌++◌, length, Option, Some, None, refl, sym, ap, subst, ◌∙◌, add-zero, append-nil, length-append, arith}
-use Rattle.std.specs.Prelude.{replicate, slice_get, option_to_list, IfSome, Result, Ok, Err, OnOk, OnErr}
+use Rattle.std.proofs.Common.{◌≡◌, ◌⊎◌, inl, inr, ⊎_elim, ℕ, zero, suc, ◌+◌, ◌<◌, ◌≤◌, Bool, true, false, List, [], ◌∷◌, ◌++◌, length, Option, Some, None, refl, sym, ap, subst, ◌∙◌, add-zero, append-nil, length-append, arith}
+use Rattle.std.proofs.lemmas.List.{append_cancel_left}
+use Rattle.std.specs.Prelude.{replicate, map, slice_get, slice_index, option_to_list, IfSome}
+use Rattle.std.specs.List.{enumerate_from}
 use Rattle.atomic_table.specs.Table.{Me}
-use Rattle.mpm_base.specs.declared.memory.NoMemory.{NoMemory}
+use Rattle.mpm_base.specs.declared.conn.ConnName.{ConnName}
 use Rattle.conn_machine.specs.declared.event.Entry.{Entry}
 use Rattle.conn_machine.specs.declared.kept.Ledger.{Ledger}
 use Rattle.conn_machine.specs.declared.state.State.{State}
-use Rattle.conn_machine.specs.Runs.{after, AreEntriesOf}
-use Rattle.conn_machine.proofs.RunLemmas.{after-snoc}
-use Rattle.table_rule.specs.declared.view.Left.{Left}
+use Rattle.conn_machine.specs.Folds.{fold_of}
+use Rattle.conn_machine.specs.Runs.{after, entries_of, row_of, AreEntriesOf}
 use Rattle.table_rule.specs.declared.view.Origin.{Origin}
 use Rattle.table_rule.specs.declared.view.View.{View}
-use Rattle.table_rule.specs.Histories.{threads_of}
-use Rattle.table_rule.specs.Ledgers.{MayGiveBack}
+use Rattle.conn_machine.specs.Made.{HasSeen}
+use Rattle.table_rule.specs.Histories.{ArePermitted, threads_of}
+use Rattle.table_rule.specs.Ledgers.{FoldsOn, KeepsOn, MayGiveBack}
 use Rattle.table_rule.specs.Tie.{IsNew}
 use Rattle.board_lock.specs.Passes.{GaveBack, TookTurn, fresh_view}
-use Rattle.conn_machine.specs.Folds.{fold_of}
-use Rattle.lock_examples.specs.Toy.{FoldsBetween, IsAlone, IsReadyPass, SeenToy, entries_from, first_of, toy_entry, toy_ledger, toy_record, toy_shape, toy_state}
-use Rattle.lock_examples.proofs.EntryLemmas.{AreOwn, IsAt, after-append, after_more, are_more, more_from, own_all, own_append, own_first, own_from, own_made, own_where, permits_more, so_many, so_many_from}
+use Rattle.lock_examples.specs.declared.stage.Stage.{Stage}
+use Rattle.lock_examples.specs.declared.stage.Stage.TheVariants.{Starts, Takes, Signals, Serves}
+use Rattle.lock_examples.specs.Toy.{FoldsBetween, IsReadyPass, KeepsOpening, MakesStep, SeenToy, entries_from, first_of, maker, next_stage, stage_at, step_of, toy_ledger, toy_record, toy_shape, toy_state}
+use Rattle.lock_examples.proofs.EntryLemmas.{AreStepsOf, FitsRow, IsAt, after-append, after_first, after_more, are_more, count_append, more_from, more_of, none_behind, permits_more, state_of}
 use Rattle.lock_examples.proofs.FoldLemmas.{record_more, record_opens}
 
 -- ## A turn without an entry
@@ -40,62 +43,164 @@ may_leave u found has = (
 pub may_stay : {K : Type 0} (v w : Me (Option K) View) (found : Ledger) → TookTurn v w found → MayGiveBack w.0 found
 may_stay v w found took = may_leave w.0 found (ap (λ (u : View). u.turn) took.view)
 
--- ## A turn with entries
+-- ## What a turn finds
 
--- pass 0 found a history of entries of its own
-found_at : {K : Type 0} (v w : Me (Option K) View) (old : SeenToy) → TookTurn v w (toy_ledger old) → v.0.who.number ≡ 0 → IsAlone v
-    → IsAt (old.folded + old.count) w.0.origin.state w.0.seen
-found_at v w old took number alone =
+-- the number of a pass in a row of numbers that went on by a history
+numbers_at : (h : List Entry) (i j : ℕ) (xs : List ℕ) → j < length xs
+    → slice_index (map (λ q. q.1 + length (entries_of q.0 h)) (enumerate_from i xs)) j ≡ slice_index xs j + length (entries_of (i + j) h)
+numbers_at h i j [] lt = absurd (omega arith)
+numbers_at h i zero (x ∷ xs) lt = ap (λ k. x + length (entries_of k h)) (sym (add-zero i))
+numbers_at h i (suc j) (x ∷ xs) lt =
+    let one : i + 1 + j ≡ i + suc j = omega arith in
+    numbers_at h (i + 1) j xs (omega arith) ∙ ap (λ k. slice_index xs j + length (entries_of k h)) one
+
+zeros_many : (n : ℕ) → length {A = ℕ} (replicate n 0) ≡ n
+zeros_many zero = refl
+zeros_many (suc n) = ap suc (zeros_many n)
+
+zero_at : (n j : ℕ) → slice_index (replicate n 0) j ≡ 0
+zero_at zero j = refl
+zero_at (suc n) zero = refl
+zero_at (suc n) (suc j) = zero_at n j
+
+-- the record counts the entries of each pass among those that were folded
+own_folded : (folded passes p : ℕ) → p < passes → slice_index (toy_record folded passes).ordinals p ≡ length (entries_of p (first_of folded))
+own_folded folded passes p lt =
+    numbers_at (first_of folded) 0 p (replicate passes 0) (subst (λ n. p < n) (sym (zeros_many passes)) lt)
+    ∙ by (slice_index (replicate passes 0) p) (0 + p) (zero_at passes p) none
+  where
+    none : 0 + p ≡ p
+    none = omega arith
+
+    by : (z q : ℕ) → z ≡ 0 → q ≡ p → z + length (entries_of q (first_of folded)) ≡ length (entries_of p (first_of folded))
+    by z q e d = ap (λ k. z + length (entries_of k (first_of folded))) d ∙ plus z (length (entries_of p (first_of folded))) e
+      where
+        plus : (z n : ℕ) → z ≡ 0 → z + n ≡ n
+        plus z n e = omega arith
+
+-- the state before the next step
+state_found : {K : Type 0} (v w : Me (Option K) View) (old : SeenToy) → TookTurn v w (toy_ledger old)
+    → after w.0.origin.state w.0.seen ≡ state_of (stage_at (old.folded + old.count))
+state_found v w old took =
     let f = took.is_found in
-    let left : AreOwn f.left.entries = subst (λ (l : Left). AreOwn l.entries) (sym (f.own number)) (own_where v.0.left.entries alone) in
     let kept = entries_from old.folded old.count in
-    let counted : length f.left.entries ≡ old.folded = counts (length f.left.entries) (length (first_of old.folded)) old.folded f.parts.counted (so_many old.folded) in
     let base : after toy_state (first_of old.folded) ≡ after w.0.origin.state f.left.entries =
     f.parts.base ∙ ap (λ (u : View). after u.origin.state f.left.entries) (sym took.view) in
+    ap (after w.0.origin.state) f.parts.whole_is ∙ after-append w.0.origin.state f.left.entries kept
+    ∙ ap (λ s. after s kept) (sym base) ∙ after_more old.folded old.count ∙ after_first (old.folded + old.count)
+
+-- the pass found a history of so many steps
+found_at : {K : Type 0} (p : ℕ) (v w : Me (Option K) View) (old : SeenToy) → TookTurn v w (toy_ledger old) → v.0.who.number ≡ p
+    → (maker (stage_at (old.folded + old.count)) ≡ p → FitsRow (stage_at (old.folded + old.count)) (row_of p w.0.seen))
+    → IsAt p (old.folded + old.count) w.0.origin.state w.0.seen
+found_at p v w old took number row =
+    let f = took.is_found in
+    let kept = entries_from old.folded old.count in
+    let lt : p < v.0.origin.passes = subst (λ q. q < v.0.origin.passes) number f.number in
     record {
-      own = subst AreOwn (sym f.parts.whole_is) (own_append f.left.entries kept left (own_from old.folded old.count));
-      many =
-          ap length f.parts.whole_is ∙ length-append f.left.entries kept
-          ∙ sums (length f.left.entries) (length kept) old.folded old.count counted (so_many_from old.folded old.count);
-      state =
-          ap (after w.0.origin.state) f.parts.whole_is ∙ after-append w.0.origin.state f.left.entries kept
-          ∙ ap (λ s. after s kept) (sym base) ∙ after_more old.folded old.count;
+      state = state_found v w old took;
+      number =
+          ap (λ l. length (entries_of p l)) f.parts.whole_is ∙ count_append p f.left.entries kept
+          ∙ ap (λ m. m + length (entries_of p kept)) (sym (f.parts.ordinals p lt) ∙ own_folded old.folded old.passes p (subst (λ m. p < m) (sym f.parts.passes) lt))
+          ∙ sym (ap (λ l. length (entries_of p l)) (more_of old.folded old.count) ∙ count_append p (first_of old.folded) kept);
+      row = row;
     }
+
+-- once the connection was taken, pass 0 signals it or does nothing
+later : (n : ℕ) → (stage_at (suc (suc n)) ≡ Signals) ⊎ (stage_at (suc (suc n)) ≡ Serves)
+later zero = inl refl
+later (suc n) = ⊎_elim (λ e. inr (ap next_stage e)) (λ e. inl (ap next_stage e)) (later n)
+
+fits_listener : (n : ℕ) (row : Option ConnName) → (n < 2 → row ≡ None) → maker (stage_at n) ≡ 0 → FitsRow (stage_at n) row
+fits_listener zero row none mine = none (omega arith)
+fits_listener (suc zero) row none mine = none (omega arith)
+fits_listener (suc (suc n)) row none mine =
+    ⊎_elim (λ e. subst (λ s. FitsRow s row) (sym e) tt) (λ e. absurd (differ (maker (stage_at (suc (suc n)))) mine (ap maker e))) (later n)
   where
-    counts : (x y n : ℕ) → 0 + y ≡ x → y ≡ n → x ≡ n
-    counts x y n e f = omega arith
+    differ : (m : ℕ) → m ≡ 0 → m ≡ 1 → ⊥
+    differ m e d = omega arith
 
-    sums : (x y n m : ℕ) → x ≡ n → y ≡ m → x + y ≡ n + m
-    sums x y n m e f = omega arith
+fits_none : (s : Stage) (row : Option ConnName) → row ≡ None → FitsRow s row
+fits_none Starts row none = none
+fits_none Takes row none = none
+fits_none Signals row none = tt
+fits_none Serves row none = none
 
--- so it may add so many more
-may_make : {K : Type 0} (v w : Me (Option K) View) (old : SeenToy) (k : ℕ) → TookTurn v w (toy_ledger old) → v.0.who.number ≡ 0 → IsAlone v
-    → AreEntriesOf w.0.who.number w.0.origin.state w.0.seen (entries_from (old.folded + old.count) k)
-may_make v w old k took number alone =
-    let who : 0 ≡ w.0.who.number = sym number ∙ ap (λ (u : View). u.who.number) (sym took.view) in
-    subst (λ p. AreEntriesOf p w.0.origin.state w.0.seen (entries_from (old.folded + old.count) k)) who
-    (are_more (old.folded + old.count) k w.0.origin.state w.0.seen (found_at v w old took number alone)).0
+-- before the connection was taken, all entries are kept, and none gave pass 0 a connection
+opening_row : (folded count : ℕ) (left whole : List Entry) → folded ≡ 0 → folded + count < 2 → length left ≡ 0
+    → whole ≡ left ++ entries_from folded count → row_of 0 whole ≡ None
+opening_row folded count (e ∷ left) whole none few empty is = absurd (omega arith)
+opening_row (suc folded) count [] whole none few empty is = absurd (omega arith)
+opening_row zero zero [] whole none few empty is = ap (row_of 0) is
+opening_row zero (suc zero) [] whole none few empty is = ap (row_of 0) is
+opening_row zero (suc (suc count)) [] whole none few empty is = absurd (omega arith)
 
--- pass 0 may add so many entries
-pub may_add : {K : Type 0} (v w : Me (Option K) View) (old : SeenToy) (k : ℕ) → TookTurn v w (toy_ledger old) → v.0.who.number ≡ 0 → IsAlone v
+-- what pass 0 finds
+listener_at : {K : Type 0} (v w : Me (Option K) View) (old : SeenToy) → TookTurn v w (toy_ledger old) → v.0.who.number ≡ 0 → KeepsOpening old
+    → IsAt 0 (old.folded + old.count) w.0.origin.state w.0.seen
+listener_at v w old took number opening =
+    found_at 0 v w old took number (fits_listener (old.folded + old.count) (row_of 0 w.0.seen) none)
+  where
+    none : old.folded + old.count < 2 → row_of 0 w.0.seen ≡ None
+    none few =
+        let f = took.is_found in
+        let empty : old.folded ≡ 0 = opening few in
+        let counted : 0 + length (first_of old.folded) ≡ length f.left.entries = f.parts.counted in
+        let left : length f.left.entries ≡ 0 = sym counted ∙ ap (λ n. 0 + length (first_of n)) empty in
+        opening_row old.folded old.count f.left.entries w.0.seen empty few left f.parts.whole_is
+
+-- pass 1, which has no connection, finds that it has none
+pub row_found : {K : Type 0} (v w : Me (Option K) View) (found : Ledger) → TookTurn v w found → v.0.who.number ≡ 1 → v.0.row ≡ None
+    → ((p : ℕ) (seen history : List Entry) → HasSeen p seen history → row_of p history ≡ row_of p seen) → row_of 1 w.0.seen ≡ None
+row_found v w found took number row stays =
+    let f = took.is_found in
+    ap (λ p. row_of p w.0.seen) (sym number) ∙ stays v.0.who.number v.0.seen w.0.seen f.seen ∙ sym f.row_is ∙ row
+
+-- what pass 1 finds
+worker_at : {K : Type 0} (v w : Me (Option K) View) (old : SeenToy) → TookTurn v w (toy_ledger old) → v.0.who.number ≡ 1 → row_of 1 w.0.seen ≡ None
+    → IsAt 1 (old.folded + old.count) w.0.origin.state w.0.seen
+worker_at v w old took number none =
+    found_at 1 v w old took number (λ mine. fits_none (stage_at (old.folded + old.count)) (row_of 1 w.0.seen) none)
+
+-- ## A turn with steps
+
+-- so many steps of the pass, from the one on that was found
+record MayMake {K : Type 0} (p : ℕ) (v w : Me (Option K) View) (old : SeenToy) (k : ℕ) : Type 0 where
+  pub entries : AreEntriesOf w.0.who.number w.0.origin.state w.0.seen (entries_from (old.folded + old.count) k)
+  pub permitted : ArePermitted w.0.hand.permit w.0.credits (after w.0.origin.state w.0.seen) (entries_from (old.folded + old.count) k)
+
+may_make : {K : Type 0} (p : ℕ) (v w : Me (Option K) View) (old : SeenToy) (k : ℕ) → TookTurn v w (toy_ledger old) → v.0.who.number ≡ p
+    → (p ≡ 1 → w.0.hand.permit ≡ Some 0) → IsAt p (old.folded + old.count) w.0.origin.state w.0.seen → AreStepsOf p (old.folded + old.count) k → MayMake p v w old k
+may_make p v w old k took number has at own =
+    let who : p ≡ w.0.who.number = sym number ∙ ap (λ (u : View). u.who.number) (sym took.view) in
+    record {
+      entries =
+          subst (λ q. AreEntriesOf q w.0.origin.state w.0.seen (entries_from (old.folded + old.count) k)) who
+          (are_more p (old.folded + old.count) k w.0.origin.state w.0.seen at own).0;
+      permitted =
+          subst (λ s. ArePermitted w.0.hand.permit w.0.credits s (entries_from (old.folded + old.count) k)) (sym at.state)
+          (permits_more p (old.folded + old.count) k w.0.hand.permit w.0.credits own has);
+    }
+
+-- the pass may make so many steps
+may_add : {K : Type 0} (p : ℕ) (v w : Me (Option K) View) (old : SeenToy) (k : ℕ) → TookTurn v w (toy_ledger old) → MayMake p v w old k
     → MayGiveBack w.0 (toy_ledger (record old { count = old.count + k }))
-may_add v w old k took number alone =
-    let added = entries_from (old.folded + old.count) k in (
-      toy_ledger old,
-      ap (λ (u : View). u.turn) took.view,
-      record {
-        added = added;
-        change = inl record { base = refl; record_is = refl; history = more_from old.folded old.count k; texts = ([], refl) };
-        passes = refl;
-        entries = may_make v w old k took number alone;
-        permitted = permits_more (old.folded + old.count) k w.0.hand.permit w.0.credits (after w.0.origin.state w.0.seen);
-      },
-    )
+may_add p v w old k took may = (
+  toy_ledger old,
+  ap (λ (u : View). u.turn) took.view,
+  record {
+    added = entries_from (old.folded + old.count) k;
+    change = inl record { base = refl; record_is = refl; history = more_from old.folded old.count k; texts = ([], refl) };
+    passes = refl;
+    entries = may.entries;
+    permitted = may.permitted;
+  },
+)
 
--- pass 0 may add so many entries, fold all, and add so many entries more
-pub may_fold : {K : Type 0} (v w : Me (Option K) View) (old : SeenToy) (k j : ℕ) → TookTurn v w (toy_ledger old) → v.0.who.number ≡ 0 → IsAlone v
+-- pass 0 may make so many steps, fold all, and make so many steps more
+may_fold : {K : Type 0} (v w : Me (Option K) View) (old : SeenToy) (k j : ℕ) → TookTurn v w (toy_ledger old) → v.0.who.number ≡ 0 → MayMake 0 v w old (k + j)
     → MayGiveBack w.0 (toy_ledger (record old { folded = old.folded + (old.count + k); count = j }))
-may_fold v w old k j took number alone =
+may_fold v w old k j took number may =
     let at = old.folded + old.count in
     let most = old.folded + (old.count + k) in
     let who : w.0.who.number ≡ 0 = ap (λ (u : View). u.who.number) took.view ∙ number in
@@ -121,8 +226,8 @@ may_fold v w old k j took number alone =
               },
             );
         passes = refl;
-        entries = may_make v w old (k + j) took number alone;
-        permitted = permits_more at (k + j) w.0.hand.permit w.0.credits (after w.0.origin.state w.0.seen);
+        entries = may.entries;
+        permitted = may.permitted;
       },
     )
   where
@@ -135,81 +240,144 @@ may_fold v w old k j took number alone =
         ≡ record (fold_of (after toy_state (first_of old.folded)) l [] (toy_record old.folded old.passes)) { lines = (toy_record (old.folded + (old.count + k)) old.passes).lines })
         all (record_more old.folded (old.count + k) old.passes)
 
--- pass 0 may give the turn back after it tried to add the next entry
-pub may_end : {K : Type 0} (v w : Me (Option K) View) (old at new : SeenToy) (r : Result (Unit {0}) NoMemory) → TookTurn v w (toy_ledger old) → v.0.who.number ≡ 0
-    → IsAlone v → at ≡ old → OnOk r (new ≡ record at { count = at.count + 1 }) → OnErr r (new ≡ at) → MayGiveBack w.0 (toy_ledger new)
-may_end v w old at new (Ok x) took number alone same ok err =
-    subst (λ t. MayGiveBack w.0 (toy_ledger t)) (sym (ok ∙ ap (λ (t : SeenToy). record t { count = t.count + 1 }) same)) (may_add v w old 1 took number alone)
-may_end v w old at new (Err e) took number alone same ok err =
-    subst (λ t. MayGiveBack w.0 (toy_ledger t)) (sym (err ∙ same)) (may_stay v w (toy_ledger old) took)
+-- 1 where a step was made
+abbrev made_count : Bool → ℕ
+made_count true = 1
+made_count false = 0
 
--- what a try to add an entry makes of a value: so many more
-tried : (old new : SeenToy) (r : Result (Unit {0}) NoMemory) → OnOk r (new ≡ record old { count = old.count + 1 }) → OnErr r (new ≡ old)
-    → (k : ℕ) × (new ≡ record old { count = old.count + k })
-tried old new (Ok x) ok err = (1, ok)
-tried old new (Err e) ok err = (0, err ∙ ap (λ n. record old { count = n }) (sym (add-zero old.count)))
+-- what a try to make a step makes of a value: so many more
+tried : (p : ℕ) (old new : SeenToy) (made : Bool) → MakesStep p old made new
+    → AreStepsOf p (old.folded + old.count) (made_count made) × (new ≡ record old { count = old.count + made_count made })
+tried p old new true makes =
+    ((tt, ap (λ n. maker (stage_at n)) (add-zero (old.folded + old.count)) ∙ makes.0), makes.1)
+tried p old new false makes = (tt, makes ∙ ap (λ n. record old { count = n }) (sym (add-zero old.count)))
 
--- what a fold between two tries makes of a value
-pub folds_between : (old one two new : SeenToy) (r q : Result (Unit {0}) NoMemory)
-    → OnOk r (one ≡ record old { count = old.count + 1 }) → OnErr r (one ≡ old)
-    → two ≡ record one { folded = one.folded + one.count; count = 0 }
-    → OnOk q (new ≡ record two { count = two.count + 1 }) → OnErr q (new ≡ two) → FoldsBetween old new
-folds_between old one two new r q ok err folded ok' err' =
-    let before = tried old one r ok err in
-    let behind = tried two new q ok' err' in (
-      before.0,
-      0 + behind.0,
-      behind.1 ∙ ap (λ (t : SeenToy). record t { count = t.count + behind.0 }) (folded ∙ ap (λ (t : SeenToy). record t { folded = t.folded + t.count; count = 0 }) before.1),
-    )
+steps_append : (p n a b : ℕ) → AreStepsOf p n a → AreStepsOf p (n + a) b → AreStepsOf p n (a + b)
+steps_append p n a zero own more = subst (AreStepsOf p n) (sym (add-zero a)) own
+steps_append p n a (suc b) own more =
+    let one : suc (a + b) ≡ a + suc b = omega arith in
+    let at : n + (a + b) ≡ n + a + b = omega arith in
+    subst (AreStepsOf p n) one (steps_append p n a b own more.0, ap (λ i. maker (stage_at i)) at ∙ more.1)
 
--- pass 0 may give the turn back after that
-pub may_end_folded : {K : Type 0} (v w : Me (Option K) View) (old at new : SeenToy) → TookTurn v w (toy_ledger old) → v.0.who.number ≡ 0
-    → IsAlone v → at ≡ old → FoldsBetween at new → MayGiveBack w.0 (toy_ledger new)
-may_end_folded v w old at new took number alone same folded =
-    let is = subst (λ t. FoldsBetween t new) same folded in
-    subst (λ t. MayGiveBack w.0 (toy_ledger t)) (sym is.2) (may_fold v w old is.0 is.1 took number alone)
+-- the pass may give the turn back after it tried to make a step
+may_end : {K : Type 0} (p : ℕ) (v w : Me (Option K) View) (old new : SeenToy) (made : Bool) → TookTurn v w (toy_ledger old) → v.0.who.number ≡ p
+    → (p ≡ 1 → w.0.hand.permit ≡ Some 0) → IsAt p (old.folded + old.count) w.0.origin.state w.0.seen → MakesStep p old made new → MayGiveBack w.0 (toy_ledger new)
+may_end p v w old new made took number has at makes =
+    let did = tried p old new made makes in
+    subst (λ t. MayGiveBack w.0 (toy_ledger t)) (sym did.1)
+    (may_add p v w old (made_count made) took (may_make p v w old (made_count made) took number has at did.0))
 
--- what pass 0 left folded stays its own
-pub stays_alone : {K : Type 0} (v w z : Me (Option K) View) (old : SeenToy) (left : Ledger) → TookTurn v w (toy_ledger old) → v.0.who.number ≡ 0
-    → IsAlone v → GaveBack w z left → IsAlone z
-stays_alone v w z old left took number alone gave =
-    let who : w.0.who.number ≡ 0 = ap (λ (u : View). u.who.number) took.view ∙ number in
-    let found = found_at v w old took number alone in
-    let more = gave.adds in
-    let made = subst (λ p. AreEntriesOf p w.0.origin.state w.0.seen more.0) who more.2 in
-    let all : AreOwn z.0.seen = subst AreOwn (sym more.1) (own_append w.0.seen more.0 found.own (own_made w.0.origin.state w.0.seen more.0 made)) in
-    let split = (gave.is_left.own who).0 in
-    own_all z.0.left.entries (own_first z.0.left.entries left.history (subst AreOwn split.whole_is all))
+-- pass 0 may
+pub listener_may_end : {K : Type 0} (v w : Me (Option K) View) (old at new : SeenToy) (made : Bool) → TookTurn v w (toy_ledger old) → v.0.who.number ≡ 0
+    → at ≡ old → MakesStep 0 at made new → KeepsOpening at → MayGiveBack w.0 (toy_ledger new)
+listener_may_end v w old at new made took number same makes opening =
+    may_end 0 v w old new made took number (λ one. absurd (omega arith)) (listener_at v w old took number (subst KeepsOpening same opening))
+    (subst (λ t. MakesStep 0 t made new) same makes)
+
+-- pass 1 may, with a permit and without a connection
+pub worker_may_end : {K : Type 0} (v w : Me (Option K) View) (old at new : SeenToy) (made : Bool) → TookTurn v w (toy_ledger old) → v.0.who.number ≡ 1
+    → v.0.hand.permit ≡ Some 0 → row_of 1 w.0.seen ≡ None → at ≡ old → MakesStep 1 at made new → MayGiveBack w.0 (toy_ledger new)
+worker_may_end v w old at new made took number permit none same makes =
+    may_end 1 v w old new made took number (λ one. ap (λ (u : View). u.hand.permit) took.view ∙ permit) (worker_at v w old took number none)
+    (subst (λ t. MakesStep 1 t made new) same makes)
+
+-- pass 0 may give the turn back after it folded between two tries
+pub listener_may_end_folded : {K : Type 0} (v w : Me (Option K) View) (old at new : SeenToy) → TookTurn v w (toy_ledger old) → v.0.who.number ≡ 0
+    → at ≡ old → FoldsBetween 0 at new → KeepsOpening at → MayGiveBack w.0 (toy_ledger new)
+listener_may_end_folded v w old at new took number same folded opening =
+    let is = subst (λ t. FoldsBetween 0 t new) same folded in
+    let n = old.folded + old.count in
+    let one = is.0 in let two = is.1 in
+    let k = made_count is.2 in let j = made_count is.3 in
+    let before = tried 0 old one is.2 is.4 in
+    let behind = tried 0 two new is.3 is.6 in
+    let found = listener_at v w old took number (subst KeepsOpening same opening) in
+    let may : n + k ≡ two.folded + two.count → MayMake 0 v w old (k + j) = λ where_is. may_make 0 v w old (k + j) took number (λ o. absurd (omega arith)) found
+    (steps_append 0 n k j before.0 (subst (λ i. AreStepsOf 0 i j) (sym where_is) behind.0)) in
+    ⊎_elim
+    (λ (e : two ≡ one). let now : two ≡ record old { count = old.count + k } = e ∙ before.1 in
+    let where_is : n + k ≡ two.folded + two.count = sum old.folded old.count k ∙ ap (λ (t : SeenToy). t.folded + t.count) (sym now) in
+    let end : new ≡ record old { count = old.count + (k + j) } = behind.1 ∙ ap (λ (t : SeenToy). record t { count = t.count + j }) now ∙ ap (λ m. record old { count = m }) (sum' old.count k j) in
+    subst (λ t. MayGiveBack w.0 (toy_ledger t)) (sym end) (may_add 0 v w old (k + j) took (may where_is)))
+    (λ (e : two ≡ record one { folded = one.folded + one.count; count = 0 }).
+    let now : two ≡ record old { folded = old.folded + (old.count + k); count = 0 } = e ∙ ap (λ (t : SeenToy). record t { folded = t.folded + t.count; count = 0 }) before.1 in
+    let where_is : n + k ≡ two.folded + two.count = sum'' old.folded old.count k ∙ ap (λ (t : SeenToy). t.folded + t.count) (sym now) in
+    let none : 0 + j ≡ j = omega arith in
+    let end : new ≡ record old { folded = old.folded + (old.count + k); count = j } = behind.1 ∙ ap (λ (t : SeenToy). record t { count = t.count + j }) now ∙ ap (λ m. record old { folded = old.folded + (old.count + k); count = m }) none in
+    subst (λ t. MayGiveBack w.0 (toy_ledger t)) (sym end) (may_fold v w old k j took number (may where_is)))
+    is.5
+  where
+    sum : (f c k : ℕ) → f + c + k ≡ f + (c + k)
+    sum f c k = omega arith
+
+    sum' : (c k j : ℕ) → c + k + j ≡ c + (k + j)
+    sum' c k j = omega arith
+
+    sum'' : (f c k : ℕ) → f + c + k ≡ f + (c + k) + 0
+    sum'' f c k = omega arith
+
+-- what pass 1 added to a history that was not folded: its steps
+added_is : (old new : SeenToy) (made : Bool) (added : List Entry) → MakesStep 1 old made new → KeepsOn (toy_ledger old) (toy_ledger new) added
+    → added ≡ entries_from (old.folded + old.count) (made_count made)
+added_is old new made added makes keeps =
+    let kept = entries_from old.folded old.count in
+    let now = (tried 1 old new made makes).1 in
+    append_cancel_left kept added (entries_from (old.folded + old.count) (made_count made))
+    (sym keeps.history ∙ ap (λ (t : SeenToy). entries_from t.folded t.count) now ∙ more_from old.folded old.count (made_count made))
+
+-- then it has no connection
+none_added : (n : ℕ) (start : State) (whole : List Entry) (made : Bool) → IsAt 1 n start whole → row_of 1 whole ≡ None → AreStepsOf 1 n (made_count made)
+    → row_of 1 (whole ++ entries_from n (made_count made)) ≡ None
+none_added n start whole true at none own =
+    let zero_more : n + 0 ≡ n = add-zero n in
+    ap (λ i. row_of 1 (whole ++ step_of i)) zero_more ∙ none_behind n start whole at (ap (λ i. maker (stage_at i)) (sym zero_more) ∙ own.1)
+none_added n start whole false at none own = ap (row_of 1) (append-nil whole) ∙ none
+
+-- pass 1 has none after its turn
+pub stays_free : {K : Type 0} (v w z : Me (Option K) View) (old at new : SeenToy) (made : Bool) → TookTurn v w (toy_ledger old) → v.0.who.number ≡ 1
+    → row_of 1 w.0.seen ≡ None → at ≡ old → MakesStep 1 at made new → GaveBack w z (toy_ledger new) → z.0.row ≡ None
+stays_free v w z old at new made took number none same makes gave =
+    let e = gave.ends in
+    let who : w.0.who.number ≡ 1 = ap (λ (u : View). u.who.number) took.view ∙ number in
+    let turn : w.0.turn ≡ Some (toy_ledger old) = ap (λ (u : View). u.turn) took.view in
+    let is : e.found ≡ toy_ledger old = cc (e.turn, turn) in
+    let steps = subst (λ t. MakesStep 1 t made new) same makes in
+    let added : e.change.added ≡ entries_from (old.folded + old.count) (made_count made) =
+    ⊎_elim
+    (λ (k : KeepsOn e.found (toy_ledger new) e.change.added). added_is old new made e.change.added steps (subst (λ l. KeepsOn l (toy_ledger new) e.change.added) is k))
+    (λ (f : (w.0.who.number ≡ 0) × FoldsOn e.found (toy_ledger new) e.change.added). absurd (differ w.0.who.number f.0 who)) e.change.change in
+    ap (λ (u : View). u.row) gave.view ∙ ap (λ p. row_of p z.0.seen) who ∙ ap (row_of 1) (e.seen ∙ ap (λ l. w.0.seen ++ l) added)
+    ∙ none_added (old.folded + old.count) w.0.origin.state w.0.seen made (worker_at v w old took number none) none (tried 1 old new made steps).0
+  where
+    differ : (m : ℕ) → m ≡ 0 → m ≡ 1 → ⊥
+    differ m e d = omega arith
 
 -- ## The child
 
 -- once it was started the child has its workers
-started : (n : ℕ) → threads_of (after toy_state (first_of (suc n))) 0 ≡ 2
-started zero = refl
-started (suc n) =
-    ap (λ (s : State). threads_of s 0) (after-snoc toy_state (first_of (suc n)) (toy_entry (suc n))) ∙ started n
+started : (n : ℕ) → threads_of (state_of (stage_at (suc n))) 0 ≡ 2
+started n = by (stage_at n)
+  where
+    by : (s : Stage) → threads_of (state_of (next_stage s)) 0 ≡ 2
+    by Starts = refl
+    by Takes = refl
+    by Signals = refl
+    by Serves = refl
 
 -- so the turn found them
 pub has_workers : {K : Type 0} (v w : Me (Option K) View) (old : SeenToy) (n : ℕ) → TookTurn v w (toy_ledger old)
     → n ≡ 0 + length (first_of old.folded) + length (entries_from old.folded old.count) → 0 < n
     → 2 ≡ threads_of (after w.0.origin.state w.0.seen) 0
 has_workers v w old n took is some =
-    let f = took.is_found in
-    let kept = entries_from old.folded old.count in
-    let base : after toy_state (first_of old.folded) ≡ after w.0.origin.state f.left.entries =
-    f.parts.base ∙ ap (λ (u : View). after u.origin.state f.left.entries) (sym took.view) in
-    let state : after w.0.origin.state w.0.seen ≡ after toy_state (first_of (old.folded + old.count)) =
-    ap (after w.0.origin.state) f.parts.whole_is ∙ after-append w.0.origin.state f.left.entries kept
-    ∙ ap (λ s. after s kept) (sym base) ∙ after_more old.folded old.count in
-    subst (λ s. 2 ≡ threads_of s 0) (sym state)
-    (by (old.folded + old.count) (sum (length (first_of old.folded)) (length kept) (so_many old.folded) (so_many_from old.folded old.count) is))
+    subst (λ s. 2 ≡ threads_of s 0) (sym (state_found v w old took))
+    (by (old.folded + old.count) (ap length (more_of old.folded old.count) ∙ length-append (first_of old.folded) (entries_from old.folded old.count)))
   where
-    sum : (p q : ℕ) → p ≡ old.folded → q ≡ old.count → n ≡ 0 + p + q → 0 < old.folded + old.count
-    sum p q e d is = let more = some in omega arith
-
-    by : (n : ℕ) → 0 < n → 2 ≡ threads_of (after toy_state (first_of n)) 0
-    by zero lt = absurd (omega arith)
-    by (suc n) lt = sym (started n)
+    by : (m : ℕ) → length (first_of m) ≡ length (first_of old.folded) + length (entries_from old.folded old.count) → 2 ≡ threads_of (state_of (stage_at m)) 0
+    by zero e = absurd (empty (length (first_of old.folded)) (length (entries_from old.folded old.count)) e is)
+      where
+        empty : (p q : ℕ) → 0 ≡ p + q → n ≡ 0 + p + q → ⊥
+        empty p q d c = let more = some in omega arith
+    by (suc m) e = sym (started m)
 
 -- ## A new lock
 
@@ -229,8 +397,8 @@ some_children = omega arith
 
 -- a fresh pass is ready
 pub ready : {K : Type 0} (origin : Origin) (p : ℕ) (me : Me (Option K) View) → me ≡ (fresh_view origin p, []) → IsReadyPass me
-ready origin zero me is = subst IsReadyPass (sym is) record { free = record { hand = refl; turn = refl }; idle = record { turn = refl; hand = refl; row = refl }; alone = refl; credits = refl; room = λ e. some_children }
-ready origin (suc p) me is = subst IsReadyPass (sym is) record { free = record { hand = refl; turn = refl }; idle = record { turn = refl; hand = refl; row = refl }; alone = refl; credits = refl; room = λ e. absurd (cc) }
+ready origin zero me is = subst IsReadyPass (sym is) record { free = record { hand = refl; turn = refl }; idle = record { turn = refl; hand = refl; row = refl }; credits = refl; room = λ e. some_children }
+ready origin (suc p) me is = subst IsReadyPass (sym is) record { free = record { hand = refl; turn = refl }; idle = record { turn = refl; hand = refl; row = refl }; credits = refl; room = λ e. absurd (cc) }
 
 -- ## Lists
 

@@ -1,12 +1,15 @@
 //! Small values under the lock, and tests of the lock, the idle words, the perch and the queue with them.
 //!
-//! The machine of the first one has one child with two workers. Its history begins with the start of the child, and goes on with
-//! signals (`specs/Toy.antt`), all of them made by pass 0, which may fold them.
+//! The machine of the first one has one child with two workers, and one connection. Pass 0 starts the child, takes the
+//! connection and signals it, and pass 1 serves it, over and over (`specs/Toy.antt`). Pass 0 may fold what was done.
 #![tactic(auto)]
 
 mod idles;
 mod opening;
+mod player;
 mod resting;
+mod seats;
+mod stage;
 #[cfg(test)]
 mod tests;
 mod texts;
@@ -15,7 +18,10 @@ mod turns;
 
 pub use idles::{credits, reserves, reserves_once};
 pub use opening::{last_of, opened, opened_plain};
+pub use player::{Player, players};
 pub use resting::rests_one;
+pub use seats::last_seat;
+pub use stage::Stage;
 pub use texts::{Texts, folds_texts, writes};
 pub use toy::Toy;
-pub use turns::{folds, goes_on, looks};
+pub use turns::{folds, goes_on, looks, serves};

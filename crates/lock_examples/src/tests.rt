@@ -1,7 +1,6 @@
 //! The lock by example, with one thread and with several.
-ghost use Rattle.std.specs.Prelude.{◌≡◌, ◌<◌, true, length, slice_index, IfOk};
+ghost use Rattle.std.specs.Prelude.{◌≡◌, ◌<◌, true, length, slice_index};
 ghost use Rattle.board_lock.specs.Passes.{HasNoTurn};
-ghost use Rattle.lock_examples.specs.Toy.{IsAlone};
 
 mod permits;
 mod travels;
@@ -27,7 +26,7 @@ fn each_pass_finds_the_entry_of_the_first(rt: HostRuntime) -> Result<(), Fail> {
     if number(&zero) != 0 {
         panic!(rt; "pass 0 is missing");
     }
-    goes_on(&rt, &shared, &mut zero)?;
+    assert!(rt; goes_on(&rt, &shared, &mut zero));
     assert_eq!(rt; looks(&rt, &shared, &mut one), 1);
     assert_eq!(rt; looks(&rt, &shared, &mut zero), 1);
     let toy = shared.close(&rt, one);
@@ -55,7 +54,7 @@ fn a_child_with_two_workers_gives_two_permits(rt: HostRuntime) -> Result<(), Fai
     if number(&zero) != 0 {
         panic!(rt; "pass 0 is missing");
     }
-    if !begins(&rt, &shared, &mut zero)? {
+    if !begins(&rt, &shared, &mut zero) {
         panic!(rt; "the child has no workers");
     }
     assert_eq!(rt; idle(&shared, &mut zero, 0), 2);
@@ -76,24 +75,19 @@ fn a_child_with_two_workers_gives_two_permits(rt: HostRuntime) -> Result<(), Fai
 }
 
 /// Pass 0 starts the child, and gives it the credit of its workers: whether it did.
-fn begins<R: Wait>(
-    rt: &R,
-    shared: &Shared<Box<Toy>>,
-    pass: &mut Pass<Box<Toy>>,
-) -> Result<bool, Fail>
+fn begins<R: Wait>(rt: &R, shared: &Shared<Box<Toy>>, pass: &mut Pass<Box<Toy>>) -> bool
     requires own { pass.old.seat.table_id ≡ shared.now.table.shared.table_id }
     requires free { HasNoTurn pass.old.seat.me }
     requires number { pass.old.seat.me.0.who.number ≡ 0 }
-    requires alone { IsAlone pass.old.seat.me }
     requires none { slice_index pass.old.seat.me.0.credits 0 ≡ 0 }
     requires room { 0 < length pass.old.seat.me.0.credits }
     ensures own { pass.new.seat.table_id ≡ pass.old.seat.table_id }
     ensures free { HasNoTurn pass.new.seat.me }
     ensures who { pass.new.seat.me.0.who ≡ pass.old.seat.me.0.who }
-    ensures credit { IfOk result (λ done. done ≡ true → slice_index pass.new.seat.me.0.credits 0 ≡ 2) }
+    ensures credit { result ≡ true → slice_index pass.new.seat.me.0.credits 0 ≡ 2 }
 {
-    goes_on(rt, shared, pass)?;
-    Ok(credits(rt, shared, pass))
+    goes_on(rt, shared, pass);
+    credits(rt, shared, pass)
 }
 
 #[test]

@@ -1,29 +1,41 @@
 //! The small value.
-ghost use Rattle.std.specs.Prelude.{◌≡◌, ◌+◌, OnOk, OnErr};
-ghost use Rattle.lock_examples.specs.Toy.{FoldsBetween};
+ghost use Rattle.std.specs.Prelude.{◌≡◌};
+ghost use Rattle.lock_examples.specs.Toy.{Folds, FoldsBetween, KeepsOpening, MakesStep};
 
-use conn_machine::{Entry, Event, Kept, Reply};
-use mpm_base::NoMemory;
+use crate::stage::Stage;
+use conn_machine::{Entry, Kept};
 use std::alloc::Global;
 use std::marker::Model;
 
-/// A value that keeps a history of signals, and folds it. The folded entries stay in memory, so that they can be looked at.
+/// The most entries of a step.
+const STEP_ENTRIES: usize = 3;
+
+/// How many steps there are before any are folded.
+const OPENING_STEPS: u64 = 2;
+
+/// A value that keeps a history of steps, each made by its pass, and folds it. The folded entries stay in memory, so that they
+/// can be looked at.
 #[derive(Debug, Drop)]
 pub struct Toy {
     entries: Vec<Entry>,
-    folded: usize,
+    steps: u64,
+    /// The next step, and how often the connection was served before it.
+    stage: Stage,
+    round: u64,
+    /// How many of the steps were folded.
+    folded: u64,
     passes: u32,
 }
 
 impl Model for Toy {
-    ghost use Rattle.std.specs.Prelude.{◌≡◌, ◌≤◌, ◌-◌, length};
-    ghost use Rattle.lock_examples.specs.Toy.{SeenToy, first_of};
+    ghost use Rattle.std.specs.Prelude.{◌≡◌, ◌≤◌, ◌<◌, ◌-◌};
+    ghost use Rattle.lock_examples.specs.Toy.{SeenToy, first_of, round_at, stage_at};
 
     ghost Value = { SeenToy };
 
-    ghost view = { λ t. record { folded = t.folded; count = length t.entries.items - t.folded; passes = t.passes } };
+    ghost view = { λ t. record { folded = t.folded; count = t.steps - t.folded; passes = t.passes } };
 
-    ghost invariant = { λ t. (t.folded ≤ length t.entries.items) × (t.entries.items ≡ first_of (length t.entries.items)) };
+    ghost invariant = { λ t. (t.folded ≤ t.steps) × (t.entries.items ≡ first_of t.steps) × (t.stage ≡ stage_at t.steps) × (t.round ≡ round_at t.steps) × (t.steps < 2 → t.folded ≡ 0) };
 }
 
 impl Kept for Toy {
@@ -43,23 +55,19 @@ impl Toy {
     {
         Toy {
             entries: Vec::new(alloc),
+            steps: 0,
+            stage: Stage::Starts,
+            round: 0,
             folded: 0,
             passes,
         }
     }
 
-    /// How many entries are kept.
-    pub fn count(&self) -> u64
-        ensures { result ≡ self.now.count }
-    {
-        (self.entries.len() - self.folded) as u64
-    }
-
-    /// How many entries were folded.
+    /// How many steps were folded.
     pub fn folded(&self) -> u64
         ensures { result ≡ self.now.folded }
     {
-        self.folded as u64
+        self.folded
     }
 
     /// The entries, first those that were folded.
@@ -67,43 +75,39 @@ impl Toy {
         self.entries.as_slice()
     }
 
-    /// Adds the next entry, of pass 0.
-    pub fn add(&mut self) -> Result<(), NoMemory>
-        ensures ok { OnOk result (self.new ≡ record self.old { count = self.old.count + 1 }) }
-        ensures err { OnErr result (self.new ≡ self.old) }
+    /// Makes the next step, where it is the pass's: whether it did. It does not where memory lacks.
+    pub fn step(&mut self, pass: u32) -> bool
+        ensures step { MakesStep pass self.old result self.new }
+        ensures opening { KeepsOpening self.old }
     {
-        let ordinal = self.entries.len() as u64;
-        let event = match ordinal {
-            0 => Event::StartChild(0),
-            _ => Event::Ready(0),
-        };
-        let entry = Entry {
-            pass: 0,
-            ordinal,
-            event,
-            reply: Reply::Done,
-        };
-        match self.entries.push(entry) {
-            Ok(()) => Ok(()),
-            Err(_) => Err(NoMemory),
+        if self.stage.maker() != pass || self.entries.reserve(STEP_ENTRIES).is_err() {
+            return false;
+        }
+        self.stage.put(self.round, &mut self.entries);
+        self.round = self.stage.round_behind(self.round);
+        self.stage = self.stage.next();
+        self.steps += 1;
+        true
+    }
+
+    /// Folds the steps that are kept, once the connection was taken.
+    pub fn fold(&mut self)
+        ensures { Folds self.old self.new }
+    {
+        if OPENING_STEPS <= self.steps {
+            self.folded = self.steps;
         }
     }
 
-    /// Folds the entries that are kept.
-    pub fn fold(&mut self)
-        ensures { self.new ≡ record self.old { folded = self.old.folded + self.old.count; count = 0 } }
+    /// Makes the next step, where it is the pass's, folds all, and makes the step behind them, where that is the pass's:
+    /// whether it made one.
+    pub fn fold_between(&mut self, pass: u32) -> bool
+        ensures folds { FoldsBetween pass self.old self.new }
+        ensures opening { KeepsOpening self.old }
     {
-        self.folded = self.entries.len();
-    }
-
-    /// Adds the next entry, folds all, and adds the entry behind them.
-    pub fn fold_between(&mut self) -> Result<(), NoMemory>
-        ensures { FoldsBetween self.old self.new }
-    {
-        let before = self.add();
+        let before = self.step(pass);
         self.fold();
-        let behind = self.add();
-        before?;
-        behind
+        let behind = self.step(pass);
+        before || behind
     }
 }

@@ -8,7 +8,7 @@ use conn_machine::Kept;
 use mpm_base::NoMemory;
 use std::alloc::Global;
 
-/// The places of the carriers of one lock, in the order of their numbers.
+/// The places of the carriers of one lock, in the order in which they were admitted.
 #[derive(Drop)]
 pub struct Perch<'a, K: Kept> {
     pub shared: &'a Shared<K>,

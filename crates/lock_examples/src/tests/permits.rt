@@ -1,7 +1,6 @@
 //! Permits under contention.
 use crate::tests::begins;
-use crate::tests::turns::{Player, players};
-use crate::{last_of, opened};
+use crate::{Player, last_of, opened, players};
 use board_lock::number;
 use idle_workers::{idle, release, reserve, uncredit};
 use std::sync::atomic::{AtomicU64, Ordering};
@@ -48,7 +47,7 @@ fn two_permits_at_most_are_out_whoever_reserves(rt: HostRuntime) -> Result<(), F
     if number(&zero) != 0 {
         panic!(rt; "pass 0 is missing");
     }
-    if !begins(&rt, &shared, &mut zero)? {
+    if !begins(&rt, &shared, &mut zero) {
         panic!(rt; "the child has no workers");
     }
     let out = AtomicU64::new(0);

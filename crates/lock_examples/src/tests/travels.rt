@@ -1,11 +1,11 @@
 //! Carriers that rest on a perch, travel through a queue, and come back.
-ghost use Rattle.std.specs.Prelude.{◌≡◌, ◌≢◌, ℕ, Some, slice_get, IfSome};
+ghost use Rattle.std.specs.Prelude.{◌≡◌, ℕ, Some, slice_get};
 ghost use Rattle.crossbeam_queue.specs.Passes.{IsPassOf};
 ghost use Rattle.recycle_perch.specs.Resting.{IsFreeCarrier};
 ghost use Rattle.lock_examples.specs.Toy.{IsReadyPass};
 
 use crate::tests::begins;
-use crate::{Toy, last_of, opened, reserves_once};
+use crate::{Toy, last_of, last_seat, opened, reserves_once};
 use board_lock::{Carrier, Pass, Shared, number};
 use fd_queue::{FdQueue, FdSeat, Item};
 use idle_workers::{idle, uncredit};
@@ -107,18 +107,6 @@ impl<'q, 'p, 'a> Post<'q, 'p, 'a> {
     }
 }
 
-/// The last of the seats.
-fn last_seat<'p, 'a>(
-    queue: &FdQueue<Parcel<'p, 'a>>,
-    seats: &mut Vec<FdSeat<Parcel<'p, 'a>>>,
-) -> Option<FdSeat<Parcel<'p, 'a>>>
-    requires seats { (i : ℕ) (seat : _) → slice_get seats.old.items i ≡ Some seat → IsPassOf queue.now.ring seat }
-    ensures seats { (i : ℕ) (seat : _) → slice_get seats.new.items i ≡ Some seat → IsPassOf queue.now.ring seat }
-    ensures last { IfSome result (λ seat. IsPassOf queue.now.ring seat) }
-{
-    seats.pop()
-}
-
 /// The ends of a way: half of them send, the others receive.
 fn posts<'q, 'p, 'a>(
     alloc: Global,
@@ -173,7 +161,7 @@ fn carriers_come_back_to_their_perch_through_a_queue(rt: HostRuntime) -> Result<
     if number(&zero) != 0 {
         panic!(rt; "pass 0 is missing");
     }
-    if !begins(&rt, &shared, &mut zero)? {
+    if !begins(&rt, &shared, &mut zero) {
         panic!(rt; "the child has no workers");
     }
     let (queue, seats) = FdQueue::make(rt.alloc(), 2, 4)?;

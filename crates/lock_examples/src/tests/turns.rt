@@ -1,111 +1,111 @@
 //! Turns of many threads.
-ghost use Rattle.std.specs.Prelude.{◌≡◌, ℕ, Some, slice_get};
-ghost use Rattle.lock_examples.specs.Toy.{IsReadyPass};
-
-use crate::{Toy, folds, goes_on, last_of, looks, opened};
-use board_lock::{Pass, Shared, number};
+use crate::tests::begins;
+use crate::{Player, folds, goes_on, last_of, looks, opened, players, serves};
+use board_lock::number;
 use conn_machine::{Entry, Event, Reply};
-use mpm_base::NoMemory;
-use std::alloc::Global;
+use mpm_base::{ConnName, Kind};
 use std::sync::Wait;
 use std::test::Fail;
 use std::thread;
 
-/// How many turns each thread takes.
+/// How often the connection is served.
+const ROUNDS: u32 = 1_000;
+
+/// How many turns each thread takes that only looks.
 const TURNS: u32 = 1_000;
 
-/// A pass on its way to a thread.
-#[derive(Drop)]
-pub struct Player<'a> {
-    pub shared: &'a Shared<Box<Toy>>,
-    pub pass: Pass<Box<Toy>>,
-    ghost own: { pass.seat.table_id ≡ shared.now.table.shared.table_id },
-    ghost ready: { IsReadyPass pass.seat.me },
-}
-
-/// Players for so many of the last passes.
-pub fn players<'a>(
-    alloc: Global,
-    shared: &'a Shared<Box<Toy>>,
-    passes: &mut Vec<Pass<Box<Toy>>>,
-    count: u32,
-) -> Result<Vec<Player<'a>>, NoMemory>
-    requires own { (p : ℕ) (pass : _) → slice_get passes.old.items p ≡ Some pass → pass.seat.table_id ≡ shared.now.table.shared.table_id }
-    requires ready { (p : ℕ) (pass : _) → slice_get passes.old.items p ≡ Some pass → IsReadyPass pass.seat.me }
-    ensures own { (p : ℕ) (pass : _) → slice_get passes.new.items p ≡ Some pass → pass.seat.table_id ≡ shared.now.table.shared.table_id }
-    ensures ready { (p : ℕ) (pass : _) → slice_get passes.new.items p ≡ Some pass → IsReadyPass pass.seat.me }
-{
-    let mut made = Vec::new(alloc);
-    for _ in 0..count {
-        if let Some(pass) = last_of(shared, passes) {
-            made.push(Player { shared, pass })?;
+/// Turns of pass 0: the child starts, the connection is taken, and it is signalled so often. Each tenth step is made in a
+/// turn that folds.
+fn signals<R: Wait>(rt: &R, player: Player) -> bool {
+    let Player { shared, mut pass } = player;
+    if number(&pass) != 0 || !begins(rt, shared, &mut pass) {
+        return false;
+    }
+    let mut left = ROUNDS + 1;
+    for _ in rt.forever() {
+        if left == 0 {
+            return true;
+        }
+        let made = match left % 10 {
+            0 => folds(rt, shared, &mut pass),
+            _ => goes_on(rt, shared, &mut pass),
+        };
+        if made {
+            left -= 1;
+        } else {
+            thread::yield_now();
         }
     }
-    Ok(made)
+    unreachable!()
 }
 
-/// What a thread saw of its turns.
-#[derive(Debug, Drop)]
-struct Report {
-    /// How many turns gave the entries that they were to give.
-    done: u32,
-    /// The history never became shorter from one turn to the next.
-    grew: bool,
+/// Turns of pass 1, which serves the connection so often.
+fn works<R: Wait>(rt: &R, player: Player) -> bool {
+    let Player { shared, mut pass } = player;
+    if number(&pass) != 1 {
+        return false;
+    }
+    let mut left = ROUNDS;
+    for _ in rt.forever() {
+        if left == 0 {
+            return true;
+        }
+        if serves(rt, shared, &mut pass) {
+            left -= 1;
+        } else {
+            thread::yield_now();
+        }
+    }
+    unreachable!()
 }
 
-impl<'a> Player<'a> {
-    /// Turns of pass 0: each adds an entry, and each tenth folds besides, and adds a second one.
-    fn adds<R: Wait>(self, rt: &R) -> Report {
-        let Player { shared, mut pass } = self;
-        let mut done = 0;
-        if number(&pass) != 0 {
-            return Report { done, grew: false };
-        }
-        for turn in 0..TURNS {
-            let added = match turn % 10 {
-                9 => folds(rt, shared, &mut pass),
-                _ => goes_on(rt, shared, &mut pass),
-            };
-            if added.is_ok() {
-                done += 1;
-            }
-        }
-        Report { done, grew: true }
+/// Turns that add nothing: whether the history never became shorter from one to the next.
+fn watches<R: Wait>(rt: &R, player: Player) -> bool {
+    let Player { shared, mut pass } = player;
+    let mut grew = true;
+    let mut before = 0;
+    for _ in 0..TURNS {
+        let now = looks(rt, shared, &mut pass);
+        grew = grew && before <= now;
+        before = now;
     }
+    grew
+}
 
-    /// Turns that add nothing.
-    fn watches<R: Wait>(self, rt: &R) -> Report {
-        let Player { shared, mut pass } = self;
-        let mut grew = true;
-        let mut before = 0;
-        for _ in 0..TURNS {
-            let now = looks(rt, shared, &mut pass);
-            grew = grew && before <= now;
-            before = now;
-        }
-        Report { done: TURNS, grew }
-    }
-
-    /// Pass 0 adds entries and folds them, and each other pass looks.
-    fn plays<R: Wait>(self, rt: &R) -> Report {
-        match number(&self.pass) {
-            0 => self.adds(rt),
-            _ => self.watches(rt),
-        }
+/// Pass 0 signals and folds, pass 1 serves, and each other pass looks: whether all was done.
+fn plays<R: Wait>(rt: &R, player: Player) -> bool {
+    match number(&player.pass) {
+        0 => signals(rt, player),
+        1 => works(rt, player),
+        _ => watches(rt, player),
     }
 }
 
 /// The entry that stands at this place of a history.
 fn expected(place: usize) -> Entry {
-    let event = match place {
-        0 => Event::StartChild(0),
-        _ => Event::Ready(0),
+    let name = ConnName { slot: 0, life: 0 };
+    let round = place.saturating_sub(3) as u64 / 4;
+    let (pass, ordinal, event, reply) = match place {
+        0 => (0, 0, Event::StartChild(0), Reply::Done),
+        1 => (0, 1, Event::Accept(0), Reply::Took(name, 0, 0)),
+        2 => (0, 2, Event::Park(name, Kind::Reading), Reply::Done),
+        _ => match (place - 3) % 4 {
+            0 => (0, 3 + round, Event::Ready(0), Reply::Done),
+            1 => (1, 3 * round, Event::Queue(name), Reply::Done),
+            2 => (1, 3 * round + 1, Event::Start(name), Reply::Cell(0)),
+            _ => (
+                1,
+                3 * round + 2,
+                Event::Park(name, Kind::Reading),
+                Reply::Done,
+            ),
+        },
     };
     Entry {
-        pass: 0,
-        ordinal: place as u64,
+        pass,
+        ordinal,
         event,
-        reply: Reply::Done,
+        reply,
     }
 }
 
@@ -121,15 +121,14 @@ fn entries_stand_in_pass_order_behind_turns_and_folds_of_many_threads(
         let jobs = players(rt.alloc(), &shared, &mut passes, threads)?;
         assert_eq!(rt; jobs.len(), threads as usize);
         let runtime = &rt;
-        let reports = thread::map_vec(&rt, jobs, &|player: Player| player.plays(runtime))?;
-        for report in &reports {
-            assert_eq!(rt; report.done, TURNS);
-            assert!(rt; report.grew);
+        let all = thread::map_vec(&rt, jobs, &|player: Player| plays(runtime, player))?;
+        for done in &all {
+            assert!(rt; *done);
         }
         let toy = shared.close(&rt, last);
         let entries = toy.entries();
-        assert_eq!(rt; entries.len(), 1_100, "with {threads} threads");
-        assert_eq!(rt; toy.folded(), 1_099);
+        assert_eq!(rt; entries.len(), 3 + 4 * 1_000, "with {threads} threads");
+        assert!(rt; 1_900 < toy.folded(), "{} steps were folded", toy.folded());
         for (place, entry) in entries.iter().enumerate() {
             assert_eq!(rt; *entry, expected(place));
         }

@@ -1,4 +1,4 @@
-use Rattle.std.proofs.Common.{◌≡◌, ◌<◌, rules, refl, ap, ◌∙◌, arith}
+use Rattle.std.proofs.Common.{rules, ap, ◌∙◌}
 use Rattle.table_rule.specs.declared.view.View.{View}
 use Rattle.lock_examples.proofs.ToyLemmas.{has_workers, may_leave}
 use Rattle.lock_examples.proofs.idles.credits.Goals as goal

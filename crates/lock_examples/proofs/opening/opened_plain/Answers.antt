@@ -1,6 +1,6 @@
-use Rattle.std.proofs.Common.{◌≡◌, ap, sym, subst}
+use Rattle.std.proofs.Common.{sym, subst}
 use Rattle.table_rule.specs.Tie.{IsNew}
-use Rattle.lock_examples.specs.Toy.{SeenToy, toy_ledger}
+use Rattle.lock_examples.specs.Toy.{toy_ledger}
 use Rattle.lock_examples.proofs.ToyLemmas.{opens}
 use Rattle.lock_examples.proofs.opening.opened_plain.Goals as goal
 

@@ -1,7 +1,7 @@
 use Rattle.std.proofs.Common.{◌≡◌, ℕ, Some}
 use Rattle.std.specs.Prelude.{slice_get}
 use Rattle.lock_examples.specs.Toy.{IsReadyPass}
-use Rattle.lock_examples.proofs.tests.turns.players.Given as goal
+use Rattle.lock_examples.proofs.player.players.Given as goal
 
 -- the passes that are left are the lock's, and ready
 abbrev pub invariant-loop : goal.invariant-loop
