@@ -4,6 +4,7 @@ ghost use Rattle.http_read.specs.ChunkStepsInside.{first_place, chunked_step, be
 ghost use Rattle.http_read.specs.BodyPlaces.{chunked_begun_len, IsSmallChunked};
 
 use crate::chunk_line::{ChunkLineFront, ChunkLineMove};
+use crate::codes::{BAD_REQUEST, CONTENT_TOO_LARGE};
 
 /// Where in a chunked body the reader stands.
 #[derive(Clone, Copy, Debug, PartialEq, Eq)]
@@ -39,10 +40,6 @@ const MOST_DATA: u64 = 1_073_741_824;
 const MOST_TRAILER: u32 = 8190;
 /// How many trailer lines there may be.
 const MOST_TRAILERS: u32 = 100;
-
-const BAD_REQUEST: u16 = 400;
-
-const CONTENT_TOO_LARGE: u16 = 413;
 
 impl ChunkedPlace {
     /// Before a body.

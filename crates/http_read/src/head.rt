@@ -4,6 +4,7 @@ ghost use Rattle.http_read.specs.RequestParts.{RequestParts};
 ghost use Rattle.http_read.specs.LookedAt.{HasLookedAt};
 ghost use Rattle.http_read.specs.Head.{HeadIs};
 
+use crate::codes::{BAD_REQUEST, URI_TOO_LONG};
 use crate::head_reader::{Extent, HeadReader};
 use crate::request::{Limits, Request};
 use crate::whole_head::read_head;
@@ -21,10 +22,6 @@ pub enum HeadAnswer {
     /// Memory was wanted and not found.
     NoMemory,
 }
-
-const BAD_REQUEST: u16 = 400;
-
-const URI_TOO_LONG: u16 = 414;
 
 /// So many bytes are looked at: a head that has no end in them is too large.
 const WINDOW: usize = 65_537;

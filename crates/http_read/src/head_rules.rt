@@ -6,18 +6,11 @@ ghost use Rattle.http_read.specs.FieldValues.{values_named, words_of_all};
 ghost use Rattle.http_read.specs.HeadRules.{is_authority_byte, host_in, length_of, coded_body, transfer_body, sized_body, body_of, has_content, expects_of, asks_close, range_in};
 ghost use Rattle.http_read.specs.ValuesInside.{AreValues, IsHostAt, IsRangeAt};
 
+use crate::codes::{BAD_REQUEST, CONTENT_TOO_LARGE, EXPECTATION_FAILED, NOT_IMPLEMENTED};
 use crate::request::BodyKind;
 use crate::request_fields::{Values, fields_end_in_word, fields_have_word, values_of};
 use crate::words::is_same_token;
 use httparse::spans::{HeaderSpan, Span};
-
-const BAD_REQUEST: u16 = 400;
-
-const CONTENT_TOO_LARGE: u16 = 413;
-
-const EXPECTATION_FAILED: u16 = 417;
-
-const NOT_IMPLEMENTED: u16 = 501;
 
 /// The greatest length of a body, in bytes.
 const GREATEST_LENGTH: u64 = 1_073_741_824;

@@ -22,6 +22,7 @@
 mod body;
 mod chunk_line;
 mod chunked;
+mod codes;
 mod head;
 mod head_reader;
 mod head_rules;

@@ -3,6 +3,7 @@ ghost use Rattle.std.specs.Prelude.{◌≡◌, ◌≢◌, ℕ, List, ◌++◌, l
 ghost use Rattle.mpm_base.specs.RootRequest.{IsHost, request_of, IsStarted};
 ghost use Rattle.http_read.specs.RootHead.{RootHeadIs, IsNoFront, IsRequestFor, IsRequestOr, IsMoreOr, IsRefusalOr};
 
+use crate::codes::BAD_REQUEST;
 use crate::request::BodyKind;
 use httparse::Status;
 use httparse::spans::{EMPTY_HEADER_SPAN, parse_request};
@@ -42,8 +43,6 @@ pub enum RootAnswer {
     /// Memory was wanted and not found.
     NoMemory,
 }
-
-const BAD_REQUEST: u16 = 400;
 
 /// Reads the head at the front of the bytes.
 pub fn next_root_head(alloc: Global, bytes: &[u8]) -> RootAnswer

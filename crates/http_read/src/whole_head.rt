@@ -3,14 +3,13 @@ ghost use Rattle.std.specs.Prelude.{length, map, All};
 ghost use Rattle.httparse.specs.Spans.{IsHeaderWithin, IsWithin, header_bytes};
 ghost use Rattle.http_read.specs.TextsInside.{TextIs, IsSaid};
 
+use crate::codes::BAD_REQUEST;
 use crate::head::HeadAnswer;
 use crate::head_rules::{asks_close, body_of, expects_of, host_in, range_in};
 use crate::request::{Limits, Request};
 use httparse::Status;
 use httparse::spans::{EMPTY_HEADER_SPAN, HeaderSpan, RequestSpans, parse_request};
 use std::alloc::Global;
-
-const BAD_REQUEST: u16 = 400;
 
 /// Up to so many fields need no memory while they are read.
 const USUAL_FIELDS: usize = 100;
