@@ -4,6 +4,7 @@ pub mod FormLemmas
 pub mod LawLemmas
 pub mod LineLemmas
 pub mod NameLemmas
+pub mod PieceLemmas
 pub mod RangeLemmas
 pub mod TextLemmas
 pub mod WordLemmas

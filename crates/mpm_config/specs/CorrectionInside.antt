@@ -1,4 +1,4 @@
--- What helps to prove, and no public contract reaches, of: The ten corrections, in their order: which number each corrects, where it applies, and what the number becomes.
+-- What the corrections need before they are made.
 use Rattle.std.specs.Prelude.{◌+◌, ◌*◌, ◌<◌, ◌^◌, List, [], ◌∷◌}
 use Rattle.mpm_config.specs.declared.numbers.Numbers.{Numbers}
 use Rattle.mpm_config.specs.declared.correction.Correction.{Correction}

@@ -1,4 +1,4 @@
--- What helps to prove, and no public contract reaches, of: The names of the language. A name is compared without regard to the case of ASCII letters.
+-- The names of the language, as the code's table has them.
 use Rattle.mpm_config.specs.declared.directive.Spelling.{Spelling}
 use Rattle.mpm_config.specs.Directive.{Name}
 

@@ -1,4 +1,4 @@
--- What helps to prove, and no public contract reaches, of: What the table of numbers says of each directive whose value is a number.
+-- When a line of the table of numbers is well formed.
 use Rattle.std.specs.Prelude.{◌*◌, ◌^◌, ◌<◌, ◌≤◌}
 use Rattle.mpm_config.specs.declared.range.Range.{Range}
 

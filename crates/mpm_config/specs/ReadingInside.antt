@@ -1,4 +1,4 @@
--- What helps to prove, and no public contract reaches, of: The configuration of a text: its logical lines are read in order, each in the sections that are open before it.
+-- What the parts of the reader answer.
 use Rattle.std.specs.Prelude.{◌≡◌, Result, Ok, MatchResult}
 use Rattle.mpm_config.specs.declared.fault.ConfFault.{ConfFault}
 use Rattle.mpm_config.specs.Reading.{Progress, Refuses}

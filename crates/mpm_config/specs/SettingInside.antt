@@ -1,4 +1,4 @@
--- What helps to prove, and no public contract reaches, of: What the line of a directive sets.
+-- Which settings a draft may take.
 use Rattle.mpm_config.specs.declared.directive.Directive.TheVariants.{Number}
 use Rattle.mpm_config.specs.declared.setting.Setting.{Setting}
 use Rattle.mpm_config.specs.declared.setting.Setting.TheVariants as sets

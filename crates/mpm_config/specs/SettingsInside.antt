@@ -1,4 +1,4 @@
--- What helps to prove, and no public contract reaches, of: What the directives of a text set.
+-- What holds of the settings at each line.
 use Rattle.std.specs.Prelude.{ℕ, List}
 use Rattle.std.specs.Str.{IsUtf8}
 use Rattle.mpm_config.specs.declared.numbers.Numbers.{Numbers}

@@ -1,5 +1,5 @@
 -- What a correction tells.
-use Rattle.std.specs.Prelude.{ℕ, List, [], ◌∷◌, ◌++◌, codes}
+use Rattle.std.specs.Prelude.{ℕ, List, ◌++◌, codes}
 use Rattle.std.specs.Fmt.{decimal}
 
 -- the number of a correction, the number before it and the number after it
@@ -10,4 +10,4 @@ pub record Notice : Type 0 where
 
 -- the line that tells it; the directive goes by the first spelling of its name
 abbrev pub warning_bytes : List ℕ → ℕ → ℕ → List ℕ
-warning_bytes name before after = codes "warning: " ++ (name ++ (codes " " ++ (decimal before ++ (codes " changed to " ++ (decimal after ++ 10 ∷ [])))))
+warning_bytes name before after = codes "warning: " ++ name ++ codes " " ++ decimal before ++ codes " changed to " ++ decimal after ++ codes "\n"

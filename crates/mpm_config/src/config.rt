@@ -1,5 +1,5 @@
 //! A configuration.
-ghost use Rattle.std.specs.Prelude.{◌≡◌};
+ghost use Rattle.std.specs.Prelude.{◌≡◌, ◌≤◌};
 
 use crate::correction::correct;
 use crate::numbers::Numbers;
@@ -57,12 +57,11 @@ pub fn carry_limits(old: &Config, new: &mut Config)
     new.now = correct(&written);
 }
 
-/// What the table of connections works by.
-pub fn shape_of(config: &Config) -> Shape
-    ensures value { result ≡ shape_of_numbers config.entry.now.current }
-    ensures bounds { IsInBounds result }
+/// What the table of connections works by under the numbers.
+fn shape_by(now: &Numbers) -> Shape
+    requires { 1 ≤ now.now.threads }
+    ensures { result ≡ shape_of_numbers now.now }
 {
-    let now = &config.now;
     Shape {
         threads: now.threads,
         factor: now.factor,
@@ -75,19 +74,17 @@ pub fn shape_of(config: &Config) -> Shape
     }
 }
 
+/// What the table of connections works by.
+pub fn shape_of(config: &Config) -> Shape
+    ensures value { result ≡ shape_of_numbers config.entry.now.current }
+    ensures bounds { IsInBounds result }
+{
+    shape_by(&config.now)
+}
+
 /// What the table of connections works by under the empty configuration.
 pub fn default_shape() -> Shape
     ensures { result ≡ default_shape }
 {
-    let now = Numbers::initial();
-    Shape {
-        threads: now.threads,
-        factor: now.factor,
-        read_ms: now.timeout_ms,
-        keep_ms: now.keep_ms,
-        keep: now.keep,
-        most: now.most,
-        target: now.start_servers,
-        children: now.max_workers / now.threads,
-    }
+    shape_by(&Numbers::initial())
 }

@@ -6,13 +6,12 @@ ghost use Rattle.mpm_config.specs.Numbers.{IsInRange};
 ghost use Rattle.mpm_config.specs.Warning.{warning_bytes};
 ghost use Rattle.mpm_config.specs.Directive.{quantity_name};
 ghost use Rattle.std.specs.Option.{option_map_or};
-ghost use Rattle.std.specs.String.{string_bytes};
 
 use crate::directive::Quantity;
 use crate::numbers::Numbers;
 use crate::warning::{Warning, Warnings};
 use mpm_base::{NoMemory, Octets};
-use std::alloc::{AllocError, Global};
+use std::alloc::Global;
 
 /// A correction, named for what it finds.
 #[derive(Clone, Copy, Debug, PartialEq, Eq)]
@@ -189,11 +188,17 @@ fn corrected_name(correction: u8) -> &'static str
     name_at(&ORDER, usize::from(correction) - 1)
 }
 
-/// The text of a warning.
-fn warning_line(alloc: Global, name: &str, was: u64, now: u64) -> Result<String, AllocError>
-    ensures { IfOk result (λ text. string_bytes text ≡ warning_bytes name.now was now) }
+/// Adds the line of a warning.
+fn add_warning(text: &mut Octets, name: &str, was: u64, now: u64) -> Result<(), NoMemory>
+    ensures { OnOk result (text.new ≡ text.old ++ warning_bytes name.now was now) }
 {
-    format!(in alloc; "warning: {name} {was} changed to {now}\n")
+    text.add(b"warning: ")?;
+    text.add(name.as_bytes())?;
+    text.add(b" ")?;
+    text.add_number(was)?;
+    text.add(b" changed to ")?;
+    text.add_number(now)?;
+    text.add(b"\n")
 }
 
 /// The line that tells an operator of a correction: `warning: NAME WAS changed to NOW` and a line feed.
@@ -201,6 +206,7 @@ pub fn warning_text(alloc: Global, w: &Warning) -> Result<Octets, NoMemory>
     ensures { IfOk result (λ text. text ≡ notice_text w.entry.now) }
 {
     let name = corrected_name(w.correction);
-    let text = warning_line(alloc, name, w.was, w.now)?;
-    Octets::of(alloc, text.as_bytes())
+    let mut text = Octets::make(alloc);
+    add_warning(&mut text, name, w.was, w.now)?;
+    Ok(text)
 }

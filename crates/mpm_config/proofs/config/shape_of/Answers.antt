@@ -1,5 +1,5 @@
 -- The corrected numbers are in the bounds of a shape, and the numbers of a configuration are corrected.
-use Rattle.std.proofs.Common.{arith, subst, sym}
+use Rattle.std.proofs.Common.{subst, sym}
 use Rattle.mpm_config.specs.declared.numbers.Numbers.{Numbers}
 use Rattle.mpm_config.specs.Numbers.{IsInRange}
 use Rattle.mpm_config.specs.Shape.{shape_of_numbers, IsInBounds}
@@ -11,10 +11,9 @@ use Rattle.std.proofs.Common.{◌≡◌}
 bounds_of : (written now : Numbers) → IsInRange written → now ≡ after_corrections written → IsInBounds (shape_of_numbers now)
 bounds_of written now h e = subst (λ n. IsInBounds (shape_of_numbers n)) (sym e) (in_bounds written h)
 
-pub nonzero_div-result : goal.nonzero_div-result
-nonzero_div-result c =
-    let b = bounds_of c.config.inside.written c.config.inside.now c.config.invariant.in_range c.config.invariant.fixed in
-    omega (arith, b.threads.from)
+pub shape_by-requires : goal.shape_by-requires
+shape_by-requires c = (bounds_of c.config.inside.written c.config.inside.now c.config.invariant.in_range c.config.invariant.fixed).threads.from
 
 pub returns-clause-bounds : goal.returns-clause-bounds
-returns-clause-bounds c = bounds_of c.config.inside.written c.config.inside.now c.config.invariant.in_range c.config.invariant.fixed
+returns-clause-bounds c =
+    subst IsInBounds (sym c.shape_by.ensures) (bounds_of c.config.inside.written c.config.inside.now c.config.invariant.in_range c.config.invariant.fixed)
