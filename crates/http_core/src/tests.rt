@@ -54,7 +54,7 @@ fn request_of(rt: &impl Abort, alloc: Global, head: &[u8]) -> Request {
     };
     match next_head(alloc, head, &limits) {
         HeadAnswer::Whole(request, _) => request,
-        answer => panic!(rt; "{head:?}: {answer:?}"),
+        _ => panic!(rt; "{head:?}"),
     }
 }
 
@@ -157,74 +157,118 @@ fn text_of(alloc: Global, code: u16, date: &str, rest: &str) -> Result<Octets, N
     Ok(text)
 }
 
-/// A request line, fields that follow `Host`, the code of the response, and what follows its date.
-type Row = (&'static str, &'static str, u16, &'static str);
-
-/// The head of a row.
-fn head_of(alloc: Global, line: &str, fields: &str) -> Result<Octets, NoMemory> {
+/// The head of a row: a request line and, behind a bar, a field that follows `Host`.
+fn head_of(alloc: Global, row: &str) -> Result<Octets, NoMemory> {
+    let (line, field) = row.split_once(" | ").unwrap_or((row, ""));
     let mut head = Octets::of(alloc, line.as_bytes())?;
     head.add(b"\r\nHost: x\r\n")?;
-    head.add(fields.as_bytes())?;
+    if !field.is_empty() {
+        head.add(field.as_bytes())?;
+        head.add(b"\r\n")?;
+    }
     head.add(b"\r\n")?;
     Ok(head)
 }
 
-/// Answers each request at the first second.
-fn answers(rt: &impl Abort, alloc: Global, site: &Site, rows: &[Row]) -> Result<(), NoMemory> {
-    for (line, fields, code, rest) in rows {
-        let head = head_of(alloc, line, fields)?;
+/// Answers the request of each row at the first second, by this code and what follows the date.
+fn answers(
+    rt: &impl Abort,
+    alloc: Global,
+    site: &Site,
+    rows: &str,
+    code: u16,
+    rest: &str,
+) -> Result<(), NoMemory> {
+    let wanted = text_of(alloc, code, "Thu, 01 Jan 1970 00:00:00", rest)?;
+    for row in rows.lines() {
+        let head = head_of(alloc, row)?;
         let (found, text) = answer_of(rt, alloc, site, head.as_slice(), 0, false)?;
-        assert_eq!(rt; found, *code, "{line} {fields}");
-        let wanted = text_of(alloc, *code, "Thu, 01 Jan 1970 00:00:00", rest)?;
-        assert_eq!(rt; text.as_slice(), wanted.as_slice(), "{line} {fields}");
+        assert_eq!(rt; found, code, "{row}");
+        assert_eq!(rt; text.as_slice(), wanted.as_slice(), "{row}");
     }
     Ok(())
 }
+
+/// Methods that are known and not allowed, whatever the path.
+const NOT_ALLOWED: &str = "\
+POST / HTTP/1.1
+PUT /none HTTP/1.1
+DELETE /.. HTTP/1.1
+PATCH * HTTP/1.1
+";
+
+/// Methods that aren't known, whatever the path.
+const NOT_KNOWN: &str = "\
+BREW /.. HTTP/1.1
+get / HTTP/1.1
+";
+
+/// Targets that have no path, or one that is none.
+const BAD: &str = "\
+OPTIONS /.. HTTP/1.1
+GET * HTTP/1.1
+GET https://h/ HTTP/1.1
+GET /../etc/passwd HTTP/1.1
+GET /%2e%2e/x HTTP/1.1
+GET /%zz HTTP/1.1
+GET http:///x HTTP/1.1
+GET http://?/n.txt HTTP/1.1
+GET http://h#x/ HTTP/1.1
+";
+
+const OPTIONS: &str = "\
+OPTIONS * HTTP/1.1
+OPTIONS /none HTTP/1.1
+";
+
+/// What the site has not.
+const MISSING: &str = "\
+GET /none HTTP/1.1
+GET /docs%2F HTTP/1.1
+GET /a?b?c HTTP/1.1
+GET /server-status HTTP/1.1
+";
+
+/// Requests for the index.
+const INDEX: &str = "\
+GET / HTTP/1.1 | Accept: */*
+GET /?b?c HTTP/1.1
+GET http://h HTTP/1.1
+GET HTTP://h?q HTTP/1.1
+GET http://h/index.html?q HTTP/1.1
+";
 
 #[test]
 fn methods_and_paths_decide_the_code(rt: HostRuntime) -> Result<(), Fail> {
     let alloc = rt.alloc();
     let site = digits_site(alloc)?;
-    let index = "Content-Type: text/html\r\nContent-Length: 6\r\n\r\nhello\n";
     let allowed = "Allow: GET, HEAD, OPTIONS\r\nContent-Length: 0\r\n\r\n";
     let not_allowed =
         "Allow: GET, HEAD, OPTIONS\r\nContent-Type: text/plain\r\nContent-Length: 23\r\n\r\n405 Method Not Allowed\n";
     let not_known = "Content-Type: text/plain\r\nContent-Length: 20\r\n\r\n501 Not Implemented\n";
     let bad = "Content-Type: text/plain\r\nContent-Length: 16\r\n\r\n400 Bad Request\n";
     let missing = "Content-Type: text/plain\r\nContent-Length: 14\r\n\r\n404 Not Found\n";
-    let rows = [
-        // The method comes first.
-        ("POST / HTTP/1.1", "", 405, not_allowed),
-        ("PUT /none HTTP/1.1", "", 405, not_allowed),
-        ("DELETE /.. HTTP/1.1", "", 405, not_allowed),
-        ("PATCH * HTTP/1.1", "", 405, not_allowed),
-        ("BREW /.. HTTP/1.1", "", 501, not_known),
-        ("get / HTTP/1.1", "", 501, not_known),
-        // A path that is none, and OPTIONS.
-        ("OPTIONS /.. HTTP/1.1", "", 400, bad),
-        ("OPTIONS * HTTP/1.1", "", 200, allowed),
-        ("OPTIONS /none HTTP/1.1", "", 200, allowed),
-        ("GET * HTTP/1.1", "", 400, bad),
-        ("GET /../etc/passwd HTTP/1.1", "", 400, bad),
-        ("GET /%2e%2e/x HTTP/1.1", "", 400, bad),
-        ("GET /%zz HTTP/1.1", "", 400, bad),
-        ("GET http:///x HTTP/1.1", "", 400, bad),
-        ("GET http://?/n.txt HTTP/1.1", "", 400, bad),
-        // What the site has not.
-        ("GET /none HTTP/1.1", "", 404, missing),
-        ("GET /docs%2F HTTP/1.1", "", 404, missing),
-        ("GET /a?b?c HTTP/1.1", "", 404, missing),
-        ("GET /server-status HTTP/1.1", "", 404, missing),
-        // A file.
-        ("GET / HTTP/1.1", "Accept: */*\r\n", 200, index),
-        ("GET /?b?c HTTP/1.1", "", 200, index),
-        ("GET http://h HTTP/1.1", "", 200, index),
-        ("GET HTTP://h?q HTTP/1.1", "", 200, index),
-        ("GET http://h/index.html?q HTTP/1.1", "", 200, index),
-    ];
-    answers(&rt, alloc, &site, &rows)?;
+    let index = "Content-Type: text/html\r\nContent-Length: 6\r\n\r\nhello\n";
+    answers(&rt, alloc, &site, NOT_ALLOWED, 405, not_allowed)?;
+    answers(&rt, alloc, &site, NOT_KNOWN, 501, not_known)?;
+    answers(&rt, alloc, &site, BAD, 400, bad)?;
+    answers(&rt, alloc, &site, OPTIONS, 200, allowed)?;
+    answers(&rt, alloc, &site, MISSING, 404, missing)?;
+    answers(&rt, alloc, &site, INDEX, 200, index)?;
     Ok(())
 }
+
+/// Requests for a folder whose target lacks its slash.
+const MOVED: &str = "\
+GET /docs HTTP/1.1
+GET /docs?q HTTP/1.1
+";
+
+/// Requests that no other is to follow.
+const CLOSE: &str = "\
+GET / HTTP/1.1 | Connection: close
+GET / HTTP/1.0
+";
 
 #[test]
 fn heads_connections_and_folders_have_their_lines(rt: HostRuntime) -> Result<(), Fail> {
@@ -238,61 +282,85 @@ fn heads_connections_and_folders_have_their_lines(rt: HostRuntime) -> Result<(),
         "Location: /docs/\r\nContent-Type: text/plain\r\nContent-Length: 22\r\n\r\n301 Moved Permanently\n";
     let moved_head = "Location: /docs/\r\nContent-Type: text/plain\r\nContent-Length: 22\r\n\r\n";
     let missing_head = "Content-Type: text/plain\r\nContent-Length: 14\r\n\r\n";
-    let rows = [
-        ("HEAD / HTTP/1.1", "", 200, head),
-        ("HEAD /none HTTP/1.1", "", 404, missing_head),
-        ("HEAD /docs HTTP/1.1", "", 301, moved_head),
-        ("GET /docs HTTP/1.1", "", 301, moved),
-        ("GET /docs?q HTTP/1.1", "", 301, moved),
-        ("GET / HTTP/1.1", "Connection: close\r\n", 200, close),
-        ("GET / HTTP/1.0", "", 200, close),
-        ("GET / HTTP/1.0", "Connection: keep-alive\r\n", 200, keep),
-    ];
-    answers(&rt, alloc, &site, &rows)?;
+    let kept = "GET / HTTP/1.0 | Connection: keep-alive";
+    answers(&rt, alloc, &site, "HEAD / HTTP/1.1", 200, head)?;
+    answers(&rt, alloc, &site, "HEAD /none HTTP/1.1", 404, missing_head)?;
+    answers(&rt, alloc, &site, "HEAD /docs HTTP/1.1", 301, moved_head)?;
+    answers(&rt, alloc, &site, MOVED, 301, moved)?;
+    answers(&rt, alloc, &site, CLOSE, 200, close)?;
+    answers(&rt, alloc, &site, kept, 200, keep)?;
     Ok(())
 }
+
+/// Ranges of ten digits that select the last three.
+const END: &str = "\
+GET /n.txt HTTP/1.1 | Range: bytes=-3
+GET /n.txt HTTP/1.1 | Range: BYTES=7-
+GET /n.txt HTTP/1.1 | Range: bytes=7-99
+";
+
+/// Ranges that select the last one.
+const LAST: &str = "\
+GET /n.txt HTTP/1.1 | Range: bytes=9-9
+GET /n.txt HTTP/1.1 | Range: bytes=9-999999999999999999
+";
+
+/// Ranges that can't be satisfied.
+const BEYOND: &str = "\
+GET /n.txt HTTP/1.1 | Range: bytes=-0
+GET /n.txt HTTP/1.1 | Range: bytes=10-
+GET /n.txt HTTP/1.1 | Range: bytes=10-12
+";
+
+/// Ranges that are ignored.
+const IGNORED: &str = "\
+GET /n.txt HTTP/1.1 | Range: bytes=9-1000000000000000000
+GET /n.txt HTTP/1.1 | Range: bytes=0-0,5-6
+GET /n.txt HTTP/1.1 | Range: bytes=5-2
+GET /n.txt HTTP/1.1 | Range: bytes=50-20
+GET /n.txt HTTP/1.1 | Range: bytes=-
+GET /n.txt HTTP/1.1 | Range: bits=1-2
+";
+
+/// Ranges of a method that has none.
+const OF_HEAD: &str = "\
+HEAD /n.txt HTTP/1.1 | Range: bytes=1-2
+HEAD /n.txt HTTP/1.1 | Range: bytes=10-
+";
+
+/// Ranges of an empty file.
+const OF_EMPTY: &str = "\
+GET /empty.gif HTTP/1.1 | Range: bytes=0-
+GET /empty.gif HTTP/1.1 | Range: bytes=-1
+";
 
 #[test]
 fn ranges_select_bytes_of_a_file(rt: HostRuntime) -> Result<(), Fail> {
     let alloc = rt.alloc();
     let site = digits_site(alloc)?;
-    let whole = "Content-Type: text/plain\r\nContent-Length: 10\r\n\r\n0123456789";
-    let head = "Content-Type: text/plain\r\nContent-Length: 10\r\n\r\n";
-    let empty = "Content-Type: image/gif\r\nContent-Length: 0\r\n\r\n";
-    let none =
-        "Content-Range: bytes */10\r\nContent-Type: text/plain\r\nContent-Length: 26\r\n\r\n416 Range Not Satisfiable\n";
-    let all =
-        "Content-Range: bytes 0-9/10\r\nContent-Type: text/plain\r\nContent-Length: 10\r\n\r\n0123456789";
     let three =
         "Content-Range: bytes 2-4/10\r\nContent-Type: text/plain\r\nContent-Length: 3\r\n\r\n234";
     let end =
         "Content-Range: bytes 7-9/10\r\nContent-Type: text/plain\r\nContent-Length: 3\r\n\r\n789";
+    let all =
+        "Content-Range: bytes 0-9/10\r\nContent-Type: text/plain\r\nContent-Length: 10\r\n\r\n0123456789";
     let last =
         "Content-Range: bytes 9-9/10\r\nContent-Type: text/plain\r\nContent-Length: 1\r\n\r\n9";
-    let n = "GET /n.txt HTTP/1.1";
-    let rows = [
-        (n, "Range: bytes=2-4\r\n", 206, three),
-        (n, "Range: bytes=-3\r\n", 206, end),
-        (n, "Range: BYTES=7-\r\n", 206, end),
-        (n, "Range: bytes=7-99\r\n", 206, end),
-        (n, "Range: bytes=-30\r\n", 206, all),
-        (n, "Range: bytes=9-9\r\n", 206, last),
-        (n, "Range: bytes=9-999999999999999999\r\n", 206, last),
-        (n, "Range: bytes=9-1000000000000000000\r\n", 200, whole),
-        (n, "Range: bytes=-0\r\n", 416, none),
-        (n, "Range: bytes=10-\r\n", 416, none),
-        (n, "Range: bytes=10-12\r\n", 416, none),
-        (n, "Range: bytes=0-0,5-6\r\n", 200, whole),
-        (n, "Range: bytes=5-2\r\n", 200, whole),
-        (n, "Range: bytes=50-20\r\n", 200, whole),
-        (n, "Range: bytes=-\r\n", 200, whole),
-        (n, "Range: bits=1-2\r\n", 200, whole),
-        ("HEAD /n.txt HTTP/1.1", "Range: bytes=1-2\r\n", 200, head),
-        ("HEAD /n.txt HTTP/1.1", "Range: bytes=10-\r\n", 200, head),
-        ("GET /empty.gif HTTP/1.1", "Range: bytes=0-\r\n", 200, empty),
-        ("GET /empty.gif HTTP/1.1", "Range: bytes=-1\r\n", 200, empty),
-    ];
-    answers(&rt, alloc, &site, &rows)?;
+    let none =
+        "Content-Range: bytes */10\r\nContent-Type: text/plain\r\nContent-Length: 26\r\n\r\n416 Range Not Satisfiable\n";
+    let whole = "Content-Type: text/plain\r\nContent-Length: 10\r\n\r\n0123456789";
+    let head = "Content-Type: text/plain\r\nContent-Length: 10\r\n\r\n";
+    let empty = "Content-Type: image/gif\r\nContent-Length: 0\r\n\r\n";
+    let of_three = "GET /n.txt HTTP/1.1 | Range: bytes=2-4";
+    let of_all = "GET /n.txt HTTP/1.1 | Range: bytes=-30";
+    answers(&rt, alloc, &site, of_three, 206, three)?;
+    answers(&rt, alloc, &site, END, 206, end)?;
+    answers(&rt, alloc, &site, of_all, 206, all)?;
+    answers(&rt, alloc, &site, LAST, 206, last)?;
+    answers(&rt, alloc, &site, BEYOND, 416, none)?;
+    answers(&rt, alloc, &site, IGNORED, 200, whole)?;
+    answers(&rt, alloc, &site, OF_HEAD, 200, head)?;
+    answers(&rt, alloc, &site, OF_EMPTY, 200, empty)?;
     Ok(())
 }
 
