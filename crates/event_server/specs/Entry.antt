@@ -1,6 +1,7 @@
 -- What an entry of a folder leads to, by what the file system tells of it.
-use Rattle.std.specs.Prelude.{Option, None, Result, Ok, Err}
-use Rattle.std.specs.Fs.{IsDir, IsFile}
+use Rattle.std.specs.Prelude.{Option, None, Some, Result, Ok, Err}
+use Rattle.std.specs.Fs.{IsDir, IsFile, IsSymlink}
+use Rattle.std.specs.Result.{result_map_both}
 use Rattle.std.specs.declared.fs.attrs.FileType.{FileType}
 use Rattle.std.specs.declared.io.ErrorKind.{ErrorKind}
 use Rattle.std.specs.declared.io.ErrorKind.TheVariants as kind
@@ -15,6 +16,11 @@ IsKindOf t entry.Folder = IsDir t
 IsKindOf t entry.File = IsFile t
 IsKindOf t entry.Other = (¬ IsDir t) × (¬ IsFile t)
 
+-- by its own type an entry is a link, or what is of that type
+abbrev pub IsOwnKind : FileType → Option EntryKind → Type 0
+IsOwnKind t None = IsSymlink t
+IsOwnKind t (Some kind) = (¬ IsSymlink t) × IsKindOf t kind
+
 -- a link leads to a regular file or to nothing that is listed, since a folder behind it isn't gone through
 abbrev pub IsKindBehind : FileType → EntryKind → Type 0
 IsKindBehind t entry.Folder = ⊥
@@ -28,6 +34,10 @@ unknown_kind kind.NotADirectory = Ok entry.Other
 unknown_kind kind.FilesystemLoop = Ok entry.Other
 unknown_kind kind.OutOfMemory = Err fault.NoMemory
 unknown_kind k = Err fault.Failed
+
+-- the same where an entry that is no link is sought
+abbrev pub own_unknown : ErrorKind → Result (Option EntryKind) StoreFault
+own_unknown k = result_map_both (λ kind. Some kind) (λ e. e) (unknown_kind k)
 
 -- where an entry isn't given: its name isn't UTF-8 and it is left out, or the folder can't be listed
 abbrev pub unnamed_entry : {T : Type 0} → ErrorKind → Result (Option T) StoreFault

@@ -2,7 +2,7 @@
 ghost use Rattle.std.specs.Prelude.{◌≡◌, IfErr, IsOkAnd, Some, Ok, MatchResult};
 ghost use Rattle.std.specs.IoError.{error_kind};
 ghost use Rattle.std.specs.Fs.{IsSymlink, file_type};
-ghost use Rattle.event_server.specs.Entry.{IsKindBehind, IsKindOf, unknown_kind, unnamed_entry};
+ghost use Rattle.event_server.specs.Entry.{IsKindBehind, IsKindOf, IsOwnKind, own_unknown, unknown_kind, unnamed_entry};
 ghost use Rattle.event_server.specs.Listing.{IsListFault, listing_fault};
 
 use crate::fault::fault_of;
@@ -39,14 +39,22 @@ pub fn entry_given<T>(told: io::Result<T>) -> Result<Option<T>, StoreFault>
 pub fn kind_in<R: Files>(rt: &R, entry: &DirEntry<R>) -> Result<EntryKind, StoreFault>
     ensures { IfErr result IsListFault }
 {
-    let kind = match entry.file_type() {
-        Ok(kind) => kind,
-        Err(error) => return without_kind(&error),
-    };
-    if kind.is_symlink() {
-        kind_behind(fs::metadata(rt, entry.path()))
-    } else {
-        Ok(kind_of_type(kind))
+    match own_kind(entry.file_type())? {
+        Some(kind) => Ok(kind),
+        None => kind_behind(fs::metadata(rt, entry.path())),
+    }
+}
+
+/// What the entry is by its own type, or none where it is a link.
+fn own_kind(told: io::Result<FileType>) -> Result<Option<EntryKind>, StoreFault>
+    ensures { MatchResult told
+        (λ t. IsOkAnd result (IsOwnKind t))
+        (λ e. result ≡ own_unknown (error_kind e)) }
+{
+    match told {
+        Ok(kind) if kind.is_symlink() => Ok(None),
+        Ok(kind) => Ok(Some(kind_of_type(kind))),
+        Err(error) => Ok(Some(without_kind(&error)?)),
     }
 }
 

@@ -1,9 +1,9 @@
-//! Which fault of a store an error of the file system is.
-ghost use Rattle.std.specs.Prelude.{◌≡◌, MatchResult, Ok, Err};
+//! Which fault of a store an error of the file system is, and which file is refused.
+ghost use Rattle.std.specs.Prelude.{◌≡◌, MatchResult, Err};
 ghost use Rattle.std.specs.IoError.{error_kind};
 ghost use Rattle.std.specs.Fs.{IsFile, file_type, metadata_len};
 ghost use Rattle.mpm_base.specs.declared.store.StoreFault.TheVariants as fault;
-ghost use Rattle.event_server.specs.Fault.{fault_for};
+ghost use Rattle.event_server.specs.Fault.{fault_for, size_within};
 
 use mpm_base::StoreFault;
 use std::fs::Metadata;
@@ -20,20 +20,32 @@ pub fn fault_of(error: &io::Error) -> StoreFault
     }
 }
 
-/// The size of a regular file, by what the file system tells of it. What isn't one is no file of the store.
-pub fn size_of(told: io::Result<Metadata>) -> Result<u64, StoreFault>
+/// Refuses what may not be read, by what the file system tells of it: what isn't a regular file, which is no file of the
+/// store, and a file of more bytes than these.
+pub fn check_file(told: io::Result<Metadata>, most: u64) -> Result<(), StoreFault>
     ensures { MatchResult told
-        (λ m. (IsFile (file_type m) → result ≡ Ok (metadata_len m)) × (¬ IsFile (file_type m) → result ≡ Err fault.Missing))
+        (λ m. (IsFile (file_type m) → result ≡ size_within most (metadata_len m)) × (¬ IsFile (file_type m) → result ≡ Err fault.Missing))
         (λ e. result ≡ Err (fault_for (error_kind e))) }
 {
     match told {
         Ok(metadata) => {
             if metadata.is_file() {
-                Ok(metadata.len())
+                size_within(metadata.len(), most)
             } else {
                 Err(StoreFault::Missing)
             }
         }
         Err(error) => Err(fault_of(&error)),
+    }
+}
+
+/// Refuses a file of more bytes than these.
+fn size_within(size: u64, most: u64) -> Result<(), StoreFault>
+    ensures { result ≡ size_within most size }
+{
+    if size > most {
+        Err(StoreFault::Large(size))
+    } else {
+        Ok(())
     }
 }

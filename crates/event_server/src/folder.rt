@@ -4,7 +4,7 @@ ghost use Rattle.mpm_base.specs.Count.{RisesWhere};
 ghost use Rattle.mpm_base.specs.declared.store.StoreFault.TheVariants as fault;
 ghost use Rattle.mpm_base.specs.Store.{MayRead, is_failure, is_refusal};
 
-use crate::fault::{fault_of, size_of};
+use crate::fault::{check_file, fault_of};
 use crate::listing::list;
 use crate::whole_file::{Reading, read_whole};
 use mpm_base::{Names, Octets, Store, StoreFault};
@@ -88,10 +88,7 @@ fn read_file<R: Files>(
 ) -> Result<Octets, StoreFault>
     ensures { MayRead None most result }
 {
-    let size = size_of(fs::metadata(rt, name))?;
-    if size > most {
-        return Err(StoreFault::Large(size));
-    }
+    check_file(fs::metadata(rt, name), most)?;
     take_room(buffer)?;
     match fs::open(rt, name) {
         Ok(file) => read_whole(alloc, &mut Reading::of(file), buffer.as_mut_slice(), most),
