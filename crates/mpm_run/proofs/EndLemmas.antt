@@ -1,11 +1,10 @@
 -- How a run of a script ends.
-use Rattle.std.proofs.Common.{◌≡◌, inl, inr, ℕ, List, [], length, map, Option, Some, IfSome, IsSomeAnd, refl, sym, ap, subst, ◌∙◌, arith}
+use Rattle.std.proofs.Common.{◌≡◌, inl, inr, ℕ, List, length, map, Option, Some, IfSome, IsSomeAnd, sym, ap, subst, ◌∙◌, arith}
 use Rattle.std.proofs.lemmas.List.{length-map}
 use Rattle.mpm_script.specs.Clients.{clients_of, names_of, sent_by}
-use Rattle.mpm_base.specs.Clock.{asked_at}
-use Rattle.mpm_base.specs.Front.{FrontTold, HasAllTaken, moments_of}
+use Rattle.mpm_base.specs.Front.{FrontTold, HasAllTaken}
 use Rattle.script_front.specs.ScriptClock.{AreEchoes, echo}
-use Rattle.script_front.specs.ScriptFront.{SeenFront, IsOfScript, new_front}
+use Rattle.script_front.specs.ScriptFront.{SeenFront, IsOfScript}
 use Rattle.mpm_base.specs.declared.script_line.ScriptLine.{ScriptLine}
 use Rattle.conn_machine.specs.declared.event.Why.TheVariants as why
 use Rattle.conn_machine.specs.declared.state.Going.{Going}
@@ -13,12 +12,11 @@ use Rattle.conn_machine.specs.declared.state.Going.TheVariants.{Halted}
 use Rattle.conn_machine.specs.declared.state.State.{State}
 use Rattle.board.specs.Book.{StopsWhereFull, TellsFullStop}
 use Rattle.board.specs.Board.{SeenBoard}
-use Rattle.mpm_run.specs.FirstShape.{first_shape}
-use Rattle.mpm_run.specs.Listen.{HasClosedAll, IsClosedDown, IsRunFrom, IsWholeRun}
-use Rattle.mpm_run.specs.ListenInside.{SeenOutside, HasClients, HasEnded, HasStopped, IsEnd, StoppedFor}
+use Rattle.mpm_run.specs.ListenInside.{SeenOutside, HasEnded, HasStopped, IsEnd, StoppedFor}
 use Rattle.mpm_run.specs.ListenInside.{IsInTime, waits_of}
 use Rattle.mpm_run.specs.ExitStatuses.{EndsFull, HasEnd, KeepsTime, SinkSeen, WritesText, board_report}
 use Rattle.mpm_run.specs.ExitStatusesInside.{IsExitStatusOf, ReportsAs}
+use Rattle.mpm_run.specs.Times.{WasInformed}
 
 -- ## Why the server stopped
 
@@ -62,35 +60,26 @@ clients-names lines = length-map (names_of lines) (λ name. sent_by name lines)
 
 -- the script was played to its end
 ended-end : (old new : SeenOutside) (b : SeenBoard) (f : SeenFront) → HasEnded old new b.book.state → new.told ≡ Some f.told → IsOfScript f
-    → IsWholeRun 64 1 first_shape b → HasEnd b f
-ended-end old new b f ended told of_script whole =
+    → HasEnd b f
+ended-end old new b f ended told of_script =
     let all : HasAllTaken f.told × (f.told.accepted ≡ b.book.state.accepted) =
     subst (λ (o : Option FrontTold). IfSome o (λ t. HasAllTaken t × (t.accepted ≡ b.book.state.accepted))) told ended.all.taken in
     record {
-      whole = whole;
       happened = omega (arith, all.0.left, of_script.left);
       taken = sym all.1 ∙ all.0.accepted ∙ ap length of_script.clients ∙ clients-names f.script;
     }
 
 -- so it was where the server stopped because nothing more could come
-pub has-end : (old new : SeenOutside) (b : SeenBoard) (f : SeenFront) → HasStopped old new b.book.state → b.book.state.going ≡ Halted why.FrontEnded
-    → new.told ≡ Some f.told → IsOfScript f → IsRunFrom 64 1 first_shape b → (IsClosedDown b.book.state → HasClosedAll b) → HasEnd b f
-has-end old new b f stopped going told of_script run closed =
-    ended-end old new b f (stopped-ended old new b.book.state stopped.cause going) told of_script
-    (record { run = run; going = going; closed = closed stopped.down })
+pub has-end : (old new : SeenOutside) (b : SeenBoard) (f : SeenFront) → HasStopped old new b.book.state → new.told ≡ Some f.told → IsOfScript f
+    → b.book.state.going ≡ Halted why.FrontEnded → HasEnd b f
+has-end old new b f stopped told of_script going = ended-end old new b f (stopped-ended old new b.book.state stopped.cause going) told of_script
 
 -- ## The front
 
--- the clients of a new front are those of its script
-pub has-clients : (lines : List ScriptLine) (f : SeenFront) → f ≡ new_front lines → HasClients (clients_of lines) (Some f.told)
-has-clients lines f made = (f.told, refl, ap (λ (f : SeenFront). f.told.clients) made)
-
 -- the clock of a front that was new with it was told what its waits gave, and answered that
-pub keeps-time : (lines : List ScriptLine) (first last : SeenFront) (none calls : List (ℕ × ℕ)) → first ≡ new_front lines → none ≡ [] → AreEchoes calls
-    → (IsInTime (waits_of (Some first.told)) (Some none) → IsInTime (waits_of (Some last.told)) (Some calls)) → KeepsTime last calls
-keeps-time lines first last none calls made empty echoes time =
-    let start : IsInTime (waits_of (Some first.told)) (Some none) = ap (map asked_at) empty ∙ sym (ap (λ (f : SeenFront). moments_of f.told.waits) made) in
-    echoes ∙ ap (map echo) (time start)
+pub keeps-time : (b : SeenBoard) (f : SeenFront) (calls : List (ℕ × ℕ)) → AreEchoes calls → IsInTime (waits_of (Some f.told)) (Some calls)
+    → WasInformed (Some f.told.waits) (Some calls) b.book → KeepsTime b f calls
+keeps-time b f calls echoes time informed = record { asked = echoes ∙ ap (map echo) time; informed = informed }
 
 -- ## What is left
 

@@ -1,12 +1,11 @@
 -- What a run leaves of its output.
-use Rattle.std.proofs.Common.{◌≡◌, ℕ, ◌+◌, ◌-◌, List, [], ◌∷◌, ◌++◌, length, take, drop, Option, Some, None, option_map, slice_get, codes, Bor, sym, ap, ◌∙◌, arith}
-use Rattle.std.specs.Option.{IfSome}
+use Rattle.std.proofs.Common.{◌≡◌, ℕ, ◌+◌, ◌-◌, List, [], ◌∷◌, ◌++◌, length, take, drop, Option, Some, None, option_map, slice_get, codes, sym, ap, ◌∙◌, arith}
 use Rattle.std.proofs.Math.Seq.{take-add, take-length}
 use Rattle.std.proofs.lemmas.List.{append_assoc, length-drop}
 use Rattle.mpm_base.specs.Sink.{Puts, put_bytes}
 use Rattle.mpm_base.specs.declared.sink.Put.{Put}
 use Rattle.mpm_base.specs.declared.sink.Put.TheVariants as put
-use Rattle.mpm_run.specs.ExitStatuses.{IsCommand}
+use Rattle.mpm_run.specs.Invocations.{script_words}
 
 -- one more piece is written
 told_grows : (bytes : List ℕ) (from count : ℕ) (o p q : Option (List ℕ)) → p ≡ option_map (λ written. written ++ take from bytes) o
@@ -32,18 +31,12 @@ told_puts bytes from count o p q faults faults' answer first puts put_is =
     ∙ ap (λ (x : List ℕ). option_map (λ (written : List ℕ). written ++ take count x) p) left)
 
 -- two words, of which the first is that of the command
-command_of : (words : List (List ℕ)) (name : List ℕ) → length words ≡ 2 → slice_get words 0 ≡ Some (codes "--script") → slice_get words 1 ≡ Some name
-    → IsCommand words name
-command_of [] name two first second = absurd (cc)
-command_of (a ∷ []) name two first second = absurd (cc)
-command_of (a ∷ b ∷ []) name two first second =
+pub script-words : (words : List (List ℕ)) (name : List ℕ) → length words ≡ 2 → slice_get words 0 ≡ Some (codes "--script") → slice_get words 1 ≡ Some name
+    → words ≡ script_words name
+script-words [] name two first second = absurd (cc)
+script-words (a ∷ []) name two first second = absurd (cc)
+script-words (a ∷ b ∷ []) name two first second =
     let named : a ≡ codes "--script" = cc first in
     let rest : b ≡ name = cc second in
     ap (λ (x : List ℕ). x ∷ b ∷ []) named ∙ ap (λ (y : List ℕ). codes "--script" ∷ y ∷ []) rest
-command_of (a ∷ b ∷ c ∷ words) name two first second = absurd (omega (arith, two))
-
--- the second word, where there is one
-pub is_command : (words : List (List ℕ)) (second : Option (Bor (List ℕ))) → length words ≡ 2 → slice_get words 0 ≡ Some (codes "--script")
-    → option_map (λ word. word.now) second ≡ slice_get words 1 → IfSome second (λ name. IsCommand words name.now)
-is_command words None two first is = tt
-is_command words (Some word) two first is = command_of words word.now two first (sym is)
+script-words (a ∷ b ∷ c ∷ words) name two first second = absurd (omega (arith, two))

@@ -14,9 +14,8 @@ use Rattle.mpm_base.specs.declared.front.Woke.TheVariants as woke
 use Rattle.mpm_base.specs.declared.script_line.ScriptLine.{ScriptLine}
 use Rattle.conn_machine.specs.declared.state.State.{State}
 use Rattle.conn_state.specs.Conn.{IsFresh}
-use Rattle.mpm_run.specs.ListenInside.{SeenOutside, outside, Follows, HasClients, IsInStep}
-use Rattle.mpm_run.specs.ListenInside.{AsksFor, IsInTime, waits_of}
-use Rattle.mpm_run.specs.TellsInside.{IsArrival, TellsFrom}
+use Rattle.conn_state.specs.Known.{IsOfClient, KnownOutside, TellsFrom}
+use Rattle.mpm_run.specs.ListenInside.{AsksFor, Follows, HasClients, IsArrival, IsInStep, IsInTime, IsNamed, SeenOutside, outside, waits_of}
 
 -- ## Counts
 
@@ -121,10 +120,10 @@ moments-more ready answer waits =
 in-time-at : (waits : List WaitTold) (calls calls' : Option (List (ℕ × ℕ))) → calls' ≡ calls → IsInTime (Some waits) calls → IsInTime (Some waits) calls'
 in-time-at waits calls calls' same time = subst (λ (o : Option (List (ℕ × ℕ))). IsInTime (Some waits) o) (sym same) time
 
-none-asked : (answer : Woke) (calls' : Option (List (ℕ × ℕ))) → AsksFor answer None calls' → calls' ≡ None
-none-asked (woke.Woke m) calls' asks = asks.1
-none-asked woke.Ended calls' asks = asks
-none-asked woke.Failed calls' asks = asks
+none-asked : (answer : Woke) (present moment : ℕ) (calls' : Option (List (ℕ × ℕ))) → AsksFor answer present None calls' moment → calls' ≡ None
+none-asked (woke.Woke m) present moment calls' asks = asks
+none-asked woke.Ended present moment calls' asks = asks.0
+none-asked woke.Failed present moment calls' asks = asks.0
 
 -- a wait that gives no moment
 time-none : (ready : List ℕ) (answer : Woke) (waits : List WaitTold) (calls : List (ℕ × ℕ)) → moments_in answer ≡ [] → map asked_at calls ≡ moments_of waits
@@ -133,36 +132,39 @@ time-none ready answer waits calls none time =
     time ∙ sym (append-nil (moments_of waits)) ∙ ap (λ (ms : List ℕ). moments_of waits ++ ms) (sym none) ∙ sym (moments-more ready answer waits)
 
 -- the clock is in time with the waits where one was made more, and it was told its moment
-time-more : (answer : Woke) (ready : List ℕ) (waits : List WaitTold) (calls calls' : Option (List (ℕ × ℕ))) → AsksFor answer calls calls'
-    → IsInTime (Some waits) calls → IsInTime (Some (more_waits ready answer waits)) calls'
-time-more answer ready waits None calls' asks time = in-time-at (more_waits ready answer waits) None calls' (none-asked answer calls' asks) tt
-time-more (woke.Woke m) ready waits (Some calls) calls' asks time =
-    in-time-at (more_waits ready (woke.Woke m) waits) (Some (calls ++ (m, asks.0) ∷ [])) calls' asks.1
-    (map-append asked_at calls ((m, asks.0) ∷ []) ∙ ap (λ (ms : List ℕ). ms ++ m ∷ []) time ∙ sym (moments-more ready (woke.Woke m) waits))
-time-more woke.Ended ready waits (Some calls) calls' asks time =
-    in-time-at (more_waits ready woke.Ended waits) (Some calls) calls' asks (time-none ready woke.Ended waits calls refl time)
-time-more woke.Failed ready waits (Some calls) calls' asks time =
-    in-time-at (more_waits ready woke.Failed waits) (Some calls) calls' asks (time-none ready woke.Failed waits calls refl time)
+time-more : (answer : Woke) (ready : List ℕ) (waits : List WaitTold) (present moment : ℕ) (calls calls' : Option (List (ℕ × ℕ)))
+    → AsksFor answer present calls calls' moment → IsInTime (Some waits) calls → IsInTime (Some (more_waits ready answer waits)) calls'
+time-more answer ready waits present moment None calls' asks time =
+    in-time-at (more_waits ready answer waits) None calls' (none-asked answer present moment calls' asks) tt
+time-more (woke.Woke m) ready waits present moment (Some calls) calls' asks time =
+    in-time-at (more_waits ready (woke.Woke m) waits) (Some (calls ++ (m, moment) ∷ [])) calls' asks
+    (map-append asked_at calls ((m, moment) ∷ []) ∙ ap (λ (ms : List ℕ). ms ++ m ∷ []) time ∙ sym (moments-more ready (woke.Woke m) waits))
+time-more woke.Ended ready waits present moment (Some calls) calls' asks time =
+    in-time-at (more_waits ready woke.Ended waits) (Some calls) calls' asks.0 (time-none ready woke.Ended waits calls refl time)
+time-more woke.Failed ready waits present moment (Some calls) calls' asks time =
+    in-time-at (more_waits ready woke.Failed waits) (Some calls) calls' asks.0 (time-none ready woke.Failed waits calls refl time)
 
 -- after a wait
-pub time-wait : (answer : Woke) (ready : List ℕ) (told told' : Option FrontTold) (calls calls' : Option (List (ℕ × ℕ)))
-    → TellsOn (GoesForward answer ready) told told' → AsksFor answer calls calls' → IsInTime (waits_of told) calls → IsInTime (waits_of told') calls'
-time-wait answer ready None told' calls calls' tells asks time =
+pub time-wait : (answer : Woke) (ready : List ℕ) (told told' : Option FrontTold) (present moment : ℕ) (calls calls' : Option (List (ℕ × ℕ)))
+    → TellsOn (GoesForward answer ready) told told' → AsksFor answer present calls calls' moment → IsInTime (waits_of told) calls
+    → IsInTime (waits_of told') calls'
+time-wait answer ready None told' present moment calls calls' tells asks time =
     subst (λ (o : Option FrontTold). IsInTime (waits_of o) calls') (sym tells) tt
-time-wait answer ready (Some t) told' calls calls' tells asks time =
+time-wait answer ready (Some t) told' present moment calls calls' tells asks time =
     subst (λ (o : Option FrontTold). IsInTime (waits_of o) calls') (sym tells.1)
-    (subst (λ (waits : List WaitTold). IsInTime (Some waits) calls') (sym tells.2.waits) (time-more answer ready t.waits calls calls' asks time))
+    (subst (λ (waits : List WaitTold). IsInTime (Some waits) calls') (sym tells.2.waits)
+    (time-more answer ready t.waits present moment calls calls' asks time))
 
-asks-none : (answer : Woke) (calls : Option (List (ℕ × ℕ))) → moments_in answer ≡ [] → AsksFor answer calls calls
+asks-none : (answer : Woke) (calls : Option (List (ℕ × ℕ))) → moments_in answer ≡ [] → AsksFor answer 0 calls calls 0
 asks-none (woke.Woke m) calls none = absurd (cc none)
-asks-none woke.Ended calls none = refl
-asks-none woke.Failed calls none = refl
+asks-none woke.Ended calls none = (refl, refl)
+asks-none woke.Failed calls none = (refl, refl)
 
 -- after one that gives no moment
 pub time-unasked : (answer : Woke) (ready : List ℕ) (told told' : Option FrontTold) (calls : Option (List (ℕ × ℕ)))
     → TellsOn (GoesForward answer ready) told told' → moments_in answer ≡ [] → IsInTime (waits_of told) calls → IsInTime (waits_of told') calls
 time-unasked answer ready told told' calls tells none time =
-    time-wait answer ready told told' calls calls tells (asks-none answer calls none) time
+    time-wait answer ready told told' 0 0 calls calls tells (asks-none answer calls none) time
 
 -- after calls that make no wait
 pub time-kept : (waits waits' : Option (List WaitTold)) (calls : Option (List (ℕ × ℕ))) → waits' ≡ waits → IsInTime waits calls → IsInTime waits' calls
@@ -238,3 +240,45 @@ pub tells-next : (clients : List (List ℕ)) (told : Option FrontTold) (link : O
     → IsHandedOut told link → TellsFrom clients link
 tells-next clients told link l has is handed =
     tells-known clients told link l has is (subst (λ (o : Option LinkTold). IsHandedOut told o) is handed)
+
+-- so it is of a known client
+pub handed-known : {L : Type 0} (known : Option KnownOutside) (link_told : L → Option LinkTold) (told : Option FrontTold) (link : L)
+    → IsNamed known link_told told → IsHandedOut told (link_told link) → IsOfClient known (link_told link)
+handed-known None link_told told link named handed = tt
+handed-known (Some k) link_told told link named handed =
+    let tells = (named.links refl).each link in
+    tells-next k.clients told (link_told link) tells.0 named.front tells.1 handed
+
+-- what is known stays so while the front is the one that it was
+pub named-follows : {L : Type 0} (known : Option KnownOutside) (link_told : L → Option LinkTold) (old new : SeenOutside) → Follows old new
+    → IsNamed known link_told old.told → IsNamed known link_told new.told
+named-follows None link_told old new follows named = record { front = tt; links = named.links }
+named-follows (Some k) link_told old new follows named = record { front = follows.clients k.clients named.front; links = named.links }
+
+-- ## A watch
+
+after_watch-clients : (name : ConnName) (link : Option LinkTold) (t : FrontTold) → (after_watch name link t).clients ≡ t.clients
+after_watch-clients name None t = refl
+after_watch-clients name (Some l) t = refl
+
+after_watch-accepted : (name : ConnName) (link : Option LinkTold) (t : FrontTold) → (after_watch name link t).accepted ≡ t.accepted
+after_watch-accepted name None t = refl
+after_watch-accepted name (Some l) t = refl
+
+-- after it the front is still the one that it was
+pub follows-watch : (script script' : Option (List ScriptLine)) (told told' : Option FrontTold) (counts counts' : FrontCounts) (name : ConnName)
+    (link : Option LinkTold) → script' ≡ script → told' ≡ option_map (after_watch name link) told → counts' ≡ counts
+    → Follows (outside script told counts) (outside script' told' counts')
+follows-watch script script' told told' counts counts' name link same is counts_are = record {
+  script = same;
+  clients = λ clients has. clients-mapped clients told told' (after_watch name link) (after_watch-clients name link) is has;
+  faults = omega (arith, ap (λ (c : FrontCounts). c.faults) counts_are);
+  ends = omega (arith, ap (λ (c : FrontCounts). c.ends) counts_are);
+}
+
+-- and the table in step with it
+pub step-watch : (told told' : Option FrontTold) (name : ConnName) (link : Option LinkTold) (s : State) → told' ≡ option_map (after_watch name link) told
+    → IsInStep told s → IsInStep told' s
+step-watch None told' name link s is step = subst (λ (o : Option FrontTold). IsInStep o s) (sym is) tt
+step-watch (Some t) told' name link s is step =
+    subst (λ (o : Option FrontTold). IsInStep o s) (sym is) (after_watch-accepted name link t ∙ step)

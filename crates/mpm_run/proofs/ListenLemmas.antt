@@ -1,5 +1,5 @@
 -- What the listener's calls leave of the server.
-use Rattle.std.proofs.Common.{◌≡◌, inl, inr, ◌==◌, ℕ, zero, suc, ◌<◌, ◌≤◌, Bool, true, false, not, ◌&&◌, ◌||◌, cond, List, [], ◌∷◌, length, count_by, nat_lt, nat_le, Option, None, Some, slice_get, slice_set, slice_index_or, unwrap_or, is_some, refl, sym, ap, subst, ◌∙◌, arith}
+use Rattle.std.proofs.Common.{◌≡◌, ◌==◌, ℕ, zero, suc, ◌<◌, ◌≤◌, Bool, true, false, not, ◌&&◌, ◌||◌, cond, List, [], ◌∷◌, length, count_by, nat_lt, nat_le, Option, None, Some, slice_get, unwrap_or, is_some, refl, sym, ap, subst, ◌∙◌, arith}
 use Rattle.std.proofs.lemmas.Bool.{and_parts}
 use Rattle.std.proofs.lemmas.Bool.Decides.{nat_tests}
 use Rattle.std.proofs.lemmas.Option.{unwrap_or-slice_get}
@@ -17,96 +17,39 @@ use Rattle.conn_machine.specs.declared.row.Place.{Place}
 use Rattle.conn_machine.specs.declared.row.Place.TheVariants.{Vacant, Spent, Held, Parked, Queued, Working}
 use Rattle.conn_machine.specs.declared.row.Row.{Row}
 use Rattle.conn_machine.specs.declared.event.Event.TheVariants as event
-use Rattle.conn_machine.specs.declared.event.Event.{Event}
 use Rattle.conn_machine.specs.declared.state.Going.{Going}
 use Rattle.conn_machine.specs.declared.state.Going.TheVariants.{Serving, Ending, Halted}
 use Rattle.conn_machine.specs.declared.state.State.{State}
 use Rattle.conn_machine.specs.Rows.{is_unused, is_held, is_parked, is_queued, is_working, is_live, is_live_in, is_lingering, live_row}
 use Rattle.conn_machine.specs.Children.{no_child, child_at, is_empty, is_running, is_stopping, running_count, is_in_bounds, is_between, started_child, retired_child}
 use Rattle.conn_machine.specs.States.{is_halted, is_serving, is_signalled}
-use Rattle.conn_machine.specs.Table.{is_allowed, next, child_passes, may_retire, may_be_held, held_row, signal_after_hold}
+use Rattle.conn_machine.specs.Lists.{update}
+use Rattle.conn_machine.specs.Table.{closed_row, greatest_life, is_allowed, next, next_close, child_passes, may_retire, may_be_held, held_row}
 use Rattle.conn_machine.specs.Sound.{IsSound, is_from_linger}
 use Rattle.conn_machine.proofs.RowLemmas.{held_kind}
+use Rattle.conn_machine.proofs.UpdateLemmas.{count_cons, count_update_kept}
 use Rattle.conn_state.specs.Conn.{SeenConn}
-use Rattle.board.specs.Book.{SeenBook}
-use Rattle.board.specs.Board.{SeenBoard}
-use Rattle.board.specs.Events.{with_recorded}
 use Rattle.board.specs.Fits.{IsSettledFrom, IsTakenUp}
 use Rattle.board.specs.Finds.{startable, FindsRow, FindsRetirable, is_waiting, is_in_hand, is_quiet}
-use Rattle.mpm_run.specs.ServeInside.{IsClosable, Stays, StaysUnlessFull, in_hand_count, parked_count, signalled_count}
-use Rattle.mpm_run.specs.TellsInside.{AllTell}
+use Rattle.worker_group.specs.InHand.{IsClosable}
 use Rattle.mpm_run.specs.Listen.{HasNoLive, AllEmpty}
-use Rattle.mpm_run.specs.ListenInside.{Keeps, NoneParked}
-use Rattle.mpm_run.proofs.ServeLemmas.{alive, test-at, served-row}
-use Rattle.mpm_run.proofs.AnswerLemmas.{live_row-update}
-use Rattle.mpm_run.proofs.HandLemmas.{count-less, hand-more, none-in_hand}
-use Rattle.mpm_run.proofs.CloseLemmas.{count-signal}
-use Rattle.mpm_run.proofs.StartLemmas.{Lives, lives}
-use Rattle.mpm_run.proofs.TellLemmas.{tell-same, tell-set}
+use Rattle.worker_group.proofs.ServeLemmas.{alive, test-at, served-row}
+use Rattle.worker_group.proofs.AnswerLemmas.{live_row-update}
+use Rattle.worker_group.proofs.StartLemmas.{Lives, lives}
 
 -- ## Counts
 
--- no more signals are set where one is set only if it was
-signals-kept : (signals : List Bool) (slot : ℕ) (b : Bool) → (b ≡ true → slice_index_or signals slot false ≡ true)
-    → count_by (λ (x : Bool). x) (slice_set signals slot b) ≤ count_by (λ (x : Bool). x) signals
-signals-kept [] slot b was = omega arith
-signals-kept (x ∷ signals) zero true was = rw (count-signal true signals, count-signal x signals, was refl) (omega arith)
-signals-kept (x ∷ signals) zero false was = rw (count-signal false signals, count-signal x signals) (omega arith)
-signals-kept (x ∷ signals) (suc slot) b was =
-    rw (count-signal x (slice_set signals slot b), count-signal x signals) (omega (arith, signals-kept signals slot b was))
-
--- ## The server
-
--- it goes on as before where nothing was done
-pub stays-same : (b : SeenBook) → Stays b b
-stays-same b = record { base = refl; passes = refl; accepted = refl; signals = omega arith; hand = omega arith; going = refl }
-
--- so it does unless the history is full
-pub goes-same : (b : SeenBook) → StaysUnlessFull b b
-goes-same b = record { base = refl; passes = refl; accepted = refl; signals = omega arith; hand = omega arith; going = inl refl }
-
--- and is still the one that opened
-pub keeps-same : (b : SeenBook) → Keeps b b
-keeps-same b = record { base = refl; passes = refl; hand = omega arith }
-
--- it is still the one that opened, twice
-pub keeps-trans : (a b c : SeenBook) → Keeps a b → Keeps b c → Keeps a c
-keeps-trans a b c first second = record {
-  base = second.base ∙ first.base;
-  passes = second.passes ∙ first.passes;
-  hand = omega (arith, first.hand, second.hand);
-}
-
--- it is where it goes on as before
-pub stays-keeps : (a b : SeenBook) → Stays a b → Keeps a b
-stays-keeps a b stays = record { base = stays.base; passes = stays.passes; hand = stays.hand }
-
--- it goes on, or is stopped for a full history, twice
-pub goes-trans : (a b c : SeenBook) → StaysUnlessFull a b → StaysUnlessFull b c → StaysUnlessFull a c
-goes-trans a b c first second = record {
-  base = second.base ∙ first.base;
-  passes = second.passes ∙ first.passes;
-  accepted = second.accepted ∙ first.accepted;
-  signals = omega (arith, first.signals, second.signals);
-  hand = omega (arith, first.hand, second.hand);
-  going =
-      elim second.going [
-        | inl same ↦ elim first.going [
-          | inl before ↦ inl (same ∙ before)
-          | inr full ↦ inr (same ∙ full)
-        ]
-        | inr full ↦ inr full
-      ];
-}
-
--- the links tell of a board that stayed as it was
-pub tell-still : (clients : List (List ℕ)) (b b' : SeenBoard) → b' ≡ b → AllTell clients b → AllTell clients b'
-tell-still clients b b' is tells = subst (AllTell clients) (sym is) tells
-
--- and of one that recorded an event alone
-pub tell-added : (clients : List (List ℕ)) (who : ℕ) (e : Event) (b b' : SeenBoard) → b' ≡ with_recorded who e b → AllTell clients b → AllTell clients b'
-tell-added clients who e b b' is tells =
-    tell-same clients b b' (record { conns = ap (λ (x : SeenBoard). x.conns) is; ended = ap (λ (x : SeenBoard). x.ended) is }) tells
+-- one item less passes where the changed one did and doesn't
+pub count-less : {X : Type 0} (p : X → Bool) (xs : List X) (i : ℕ) (x : X) (change : X → X) → slice_get xs i ≡ Some x → p x ≡ true
+    → p (change x) ≡ false → count_by p (update xs i change) < count_by p xs
+count-less p [] i x change at before after = absurd (cc)
+count-less p (z ∷ xs) zero x change at before after =
+    let same : x ≡ z = cc in
+    let before' : p z ≡ true = subst (λ y. p y ≡ true) same before in
+    let after' : p (change z) ≡ false = subst (λ y. p (change y) ≡ false) same after in
+    rw (count_cons p (change z) xs, count_cons p z xs, before', after') (omega arith)
+count-less p (z ∷ xs) (suc i) x change at before after =
+    rw (count_cons p z (update xs i change), count_cons p z xs) (omega (arith, count-less p xs i x change at before after))
 
 -- ## Starting children
 
@@ -171,19 +114,6 @@ fewer-gone s s' k found is =
     subst (λ (t : State). count_by (λ (c : Child). is_empty c.phase) t.children < count_by (λ (c : Child). is_empty c.phase) s.children) (sym is)
     (count-less (λ (c : Child). is_empty c.phase) s.children k child.child (started_child s.newest s.shape) child.at child.passes refl)
 
--- the server goes on after the start of a child
-pub stays-start_child : (who k : ℕ) (a : SeenBook) (b b' : SeenBoard) → Stays a b.book → b' ≡ with_recorded who (event.StartChild k) b → Stays a b'.book
-stays-start_child who k a b b' stays is =
-    subst (λ (x : SeenBoard). Stays a x.book) (sym is)
-    (record {
-      base = stays.base;
-      passes = stays.passes;
-      accepted = stays.accepted;
-      signals = stays.signals;
-      hand = stays.hand;
-      going = stays.going;
-    })
-
 -- ## Closing what waits
 
 -- the connection that was found waits
@@ -201,6 +131,10 @@ may-hold s name found halted =
     let passes = test-at s.rows name live.row (may_be_held s (is_signalled s name.slot)) live.found in
     passes ∙ rw (live.passes, halted) (or-true _)
 
+-- how many connections wait
+abbrev pub parked_count : State → ℕ
+parked_count s = count_by (λ (r : Row). is_parked r.place) s.rows
+
 -- one connection less waits
 pub fewer-parked : (s s' : State) (name : ConnName) → FindsRow is_waiting s (Some name) → s' ≡ next s (event.Hold name) → parked_count s' < parked_count s
 fewer-parked s s' name found is =
@@ -209,27 +143,23 @@ fewer-parked s s' name found is =
     subst (λ (t : State). parked_count t < parked_count s) (sym is)
     (count-less (λ (r : Row). is_parked r.place) s.rows name.slot live.row held_row lives.at live.passes refl)
 
--- the signal that is left was set
-signal-after_hold : (s : State) (slot : ℕ) → signal_after_hold s slot ≡ true → is_signalled s slot ≡ true
-signal-after_hold s slot set = (and_parts (is_signalled s slot) _ set).0
+-- a row that was closed doesn't wait
+closed-not_parked : (r : Row) (spent : Bool) → (r.life == greatest_life) ≡ spent → is_parked (closed_row r).place ≡ false
+closed-not_parked r true at = rw at refl
+closed-not_parked r false at = rw at refl
 
--- the server goes on after a hold and the close of what was held
-pub stays-closed : (who : ℕ) (name : ConnName) (a : SeenBook) (b b' : SeenBoard) (c : SeenBook) (conns : List (Option SeenConn)) → Stays a b.book
-    → b' ≡ record (with_recorded who (event.Hold name) b) { conns = conns } → Stays b'.book c → in_hand_count c.state < in_hand_count b'.book.state
-    → Stays a c
-stays-closed who name a b b' c conns stays is closed less =
-    let kept = signals-kept b.book.state.signals name.slot (signal_after_hold b.book.state name.slot) (signal-after_hold b.book.state name.slot) in
-    let held : signalled_count b'.book.state ≤ signalled_count b.book.state =
-    subst (λ (x : SeenBoard). signalled_count x.book.state ≤ signalled_count b.book.state) (sym is) kept in
-    let more = hand-more b.book.state b'.book.state name.slot held_row (ap (λ (x : SeenBoard). x.book.state.rows) is) in
-    record {
-      base = closed.base ∙ ap (λ (x : SeenBoard). x.book.base) is ∙ stays.base;
-      passes = closed.passes ∙ ap (λ (x : SeenBoard). x.book.passes) is ∙ stays.passes;
-      accepted = closed.accepted ∙ ap (λ (x : SeenBoard). x.book.state.accepted) is ∙ stays.accepted;
-      signals = omega (arith, stays.signals, held, closed.signals);
-      hand = omega (arith, stays.hand, more, less);
-      going = closed.going ∙ ap (λ (x : SeenBoard). x.book.state.going) is ∙ stays.going;
-    }
+-- no more connections wait after a close
+parked-closed : (s : State) (name : ConnName) (row : Row) → live_row s.rows name ≡ Some row → parked_count (next_close s name) ≤ parked_count s
+parked-closed s name row found =
+    let lives = alive s.rows name row found in
+    let not_parked = closed-not_parked row (row.life == greatest_life) refl in
+    count_update_kept (λ (r : Row). is_parked r.place) s.rows name.slot row closed_row lives.at (λ passes. absurd (cc))
+
+-- the same of the state after the close
+pub parked-after_close : (s s' : State) (name named : ConnName) (row : Row) → live_row s.rows name ≡ Some row → named ≡ name
+    → s' ≡ next_close s named → parked_count s' ≤ parked_count s
+parked-after_close s s' name named row found same is =
+    subst (λ (t : State). parked_count t ≤ parked_count s) (sym (is ∙ ap (next_close s) same)) (parked-closed s name row found)
 
 -- a connection that settled didn't linger
 settled-from : (r : Row) (from : Option Kind) (c : SeenConn) → r.from ≡ from → IsSettledFrom from c → is_from_linger r ≡ false
@@ -275,12 +205,6 @@ closes-held s s' name c found halted is named sound handed =
       shown = tt;
     }
 
--- the links tell after a connection was taken out
-pub tell-held : (clients : List (List ℕ)) (who slot : ℕ) (name : ConnName) (b b' : SeenBoard) → b' ≡ record (with_recorded who (event.Hold name) b) { conns = slice_set b.conns slot None }
-    → AllTell clients b → AllTell clients b'
-tell-held clients who slot name b b' is tells =
-    tell-set clients b b' slot None (ap (λ (x : SeenBoard). x.conns) is) (ap (λ (x : SeenBoard). x.ended) is) (λ c at. absurd (cc)) tells
-
 -- ## Letting go of children
 
 -- the child that was found stops
@@ -296,19 +220,6 @@ fewer-stopping s s' k may is =
     let child = stopping-child s k may in
     subst (λ (t : State). count_by (λ (c : Child). is_stopping c.phase) t.children < count_by (λ (c : Child). is_stopping c.phase) s.children) (sym is)
     (count-less (λ (c : Child). is_stopping c.phase) s.children k child.child retired_child child.at child.passes refl)
-
--- the server stays as it was
-pub stays-retire : (who k : ℕ) (a : SeenBook) (b b' : SeenBoard) → Stays a b.book → b' ≡ with_recorded who (event.Retire k) b → Stays a b'.book
-stays-retire who k a b b' stays is =
-    subst (λ (x : SeenBoard). Stays a x.book) (sym is)
-    (record {
-      base = stays.base;
-      passes = stays.passes;
-      accepted = stays.accepted;
-      signals = stays.signals;
-      hand = stays.hand;
-      going = stays.going;
-    })
 
 and-none : (b : Bool) → ((b && false) || false) ≡ false
 and-none true = refl
@@ -390,10 +301,6 @@ idle-rows (r ∷ rows) quiet none =
 not-true : (b : Bool) → not b ≡ true → b ≡ false
 not-true true at = absurd (cc)
 not-true false at = refl
-
--- so it is where none was in hand, no more are, and none waits
-pub none-left : (s s' : State) → in_hand_count s ≡ 0 → in_hand_count s' ≤ in_hand_count s → NoneParked s' → HasNoLive s'
-none-left s s' none fewer parked = idle-rows s'.rows (none-in_hand s s' none fewer) parked
 
 -- and where the board is quiet and no connection waits
 none-live : (s : State) → is_quiet s ≡ true → FindsRow is_waiting s None → HasNoLive s

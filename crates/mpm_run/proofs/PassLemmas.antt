@@ -1,37 +1,94 @@
--- What a pass added, and the connection that it has then.
-use Rattle.std.proofs.Common.{◌≡◌, ◌≢◌, ℕ, Option, Some, Result, Ok, Err, OnOk, OnErr, ap, refl, sym, ◌∙◌}
+-- What passes leave alone, by the laws of the machine.
+use Rattle.std.proofs.Common.{◌≡◌, ◌≢◌, inl, inr, ℕ, suc, ◌<◌, false, not, List, [], ◌∷◌, ◌++◌, length, Option, Some, slice_get, refl, sym, ap, subst, ◌∙◌}
+use Rattle.std.specs.List.{list_any}
 use Rattle.mpm_base.specs.declared.conn.ConnName.{ConnName}
-use Rattle.conn_machine.specs.Runs.{row_of}
+use Rattle.conn_machine.specs.declared.event.Entry.{Entry}
 use Rattle.conn_machine.specs.declared.event.Event.{Event}
+use Rattle.conn_machine.specs.declared.event.Event.TheVariants as event
+use Rattle.conn_machine.specs.declared.row.Place.{Place}
+use Rattle.conn_machine.specs.declared.row.Place.TheVariants.{Vacant, Spent, Held, Parked, Queued, Working}
+use Rattle.conn_machine.specs.declared.row.Row.{Row}
+use Rattle.conn_machine.specs.declared.state.State.{State}
+use Rattle.conn_machine.specs.Passes.{HasNoneInHand, OnlyServes, asking_count}
+use Rattle.conn_machine.specs.Rows.{is_live, is_parked, is_unused, is_with_a_pass}
+use Rattle.conn_machine.specs.Runs.{Adds, after}
+use Rattle.conn_machine.specs.States.{is_halted}
+use Rattle.conn_machine.specs.Table.{next}
+use Rattle.conn_machine.proofs.SizeLemmas.{length-rows}
 use Rattle.board.specs.Book.{SeenBook}
-use Rattle.board.specs.Board.{SeenBoard}
-use Rattle.board.specs.Events.{IsAdded}
-use Rattle.board.proofs.PassLemmas.{adds_none, adds_more, row-others}
-use Rattle.mpm_run.specs.ServeInside.{Acts}
+use Rattle.worker_group.specs.Acts.{Acts, events_of}
+use Rattle.worker_group.specs.Service.{IsUp}
+use Rattle.mpm_run.specs.Listen.{HasNoLive}
+use Rattle.mpm_run.specs.ListenInside.{NoneParked}
 
--- a pass that did nothing has what it had
-pub acts_none : (who : ℕ) (has : Option ConnName) (b : SeenBook) → row_of who b.history ≡ has → Acts who has b b
-acts_none who has b row = record { base = refl; entries = adds_none who b.base b.history; row = row }
+-- ## What the other passes leave
 
--- it has it by another spelling of the name too
-pub acts_named : (who : ℕ) (name name' : ConnName) (b : SeenBook) → row_of who b.history ≡ Some name → name' ≡ name → Acts who (Some name') b b
-acts_named who name name' b row same = acts_none who (Some name') b (row ∙ ap (λ (n : ConnName). Some n) (sym same))
+-- the law of the machine: a pass other than the listener leaves alone what the listener decides
+abbrev pub LeavesAlone : Type 0
+LeavesAlone = (p : ℕ) (base : State) (old new : List Entry) → p ≢ 0 → Adds p base old new → OnlyServes (after base old) (after base new)
 
--- what a pass did in two steps, it did
-pub acts_more : (who : ℕ) (had has : Option ConnName) (a b c : SeenBook) → Acts who had a b → Acts who has b c → Acts who has a c
-acts_more who had has a b c first second = record {
-  base = second.base ∙ first.base;
-  entries = adds_more who a.base b.base a.history b.history c.history first.base first.entries second.entries;
-  row = second.row;
-}
+-- so does a pass that did something
+pub only-serves : (who : ℕ) (es : List Event) (has : Option ConnName) (a b : SeenBook) → who ≢ 0 → after a.base a.history ≡ a.state
+    → after b.base b.history ≡ b.state → Acts who es has a b → LeavesAlone → OnlyServes a.state b.state
+only-serves who es has a b other here there acts law =
+    let late : after a.base b.history ≡ b.state = ap (λ (s : State). after s b.history) (sym acts.base) ∙ there in
+    subst (λ (s : State). OnlyServes a.state s) late
+    (subst (λ (s : State). OnlyServes s (after a.base b.history)) here (law who a.base a.history b.history other acts.entries))
 
--- another pass has what it had
-pub acts_other : (who other : ℕ) (had has : Option ConnName) (a b : SeenBook) → Acts who had a b → other ≢ who → row_of other a.history ≡ has
-    → row_of other b.history ≡ has
-acts_other who other had has a b acts differs row = row-others who other a.base a.history b.history acts.entries differs ∙ row
+-- the server has not stopped, unless for a full history
+pub still-up : (s s' : State) → OnlyServes s s' → is_halted s.going ≡ false → IsUp s'.going
+still-up s s' leaves going =
+    elim leaves.server [
+      | inl same ↦ inl (ap is_halted same.going ∙ going)
+      | inr full ↦ inr full.going
+    ]
 
--- a call that recorded an event or changed nothing keeps the base
-pub base_either : {T E : Type 0} (r : Result T E) (who : ℕ) (e : Event) (b b' : SeenBoard) → OnOk r (IsAdded who e b b') → OnErr r (b' ≡ b)
-    → b'.book.base ≡ b.book.base
-base_either (Ok x) who e b b' ok err = ap (λ (v : SeenBoard). v.book.base) ok.new_is
-base_either (Err x) who e b b' ok err = ap (λ (v : SeenBoard). v.book.base) err
+-- ## Signals
+
+-- the law of the machine: fewer slots ask for service after a pass other than the listener handed a connection to the workers
+abbrev pub AsksFewer : Type 0
+AsksFewer =
+    (p : ℕ) (base : State) (old new : List Entry) (name : ConnName) (events : List Event) → p ≢ 0 → Adds p base old new
+    → events_of p new ≡ events_of p old ++ event.Queue name ∷ events → asking_count (after base new) < asking_count (after base old)
+
+-- so it is after the service of a connection
+pub fewer-asking : (who : ℕ) (name : ConnName) (es : List Event) (has : Option ConnName) (a b : SeenBook) → who ≢ 0 → after a.base a.history ≡ a.state
+    → after b.base b.history ≡ b.state → Acts who (event.Queue name ∷ es) has a b → AsksFewer → asking_count b.state < asking_count a.state
+fewer-asking who name es has a b other here there acts law =
+    let late : after a.base b.history ≡ b.state = ap (λ (s : State). after s b.history) (sym acts.base) ∙ there in
+    subst (λ (s : State). asking_count b.state < asking_count s) here
+    (subst (λ (s : State). asking_count s < asking_count (after a.base a.history)) late
+    (law who a.base a.history b.history name es other acts.entries acts.made))
+
+-- ## The rows
+
+-- the table has as many after any history
+after-rows : (s : State) (history : List Entry) → length (after s history).rows ≡ length s.rows
+after-rows s [] = refl
+after-rows s (e ∷ history) = after-rows (next s e.event) history ∙ length-rows s e.event
+
+pub rows-kept : (b : SeenBook) → after b.base b.history ≡ b.state → length b.state.rows ≡ length b.base.rows
+rows-kept b state = ap (λ (s : State). length s.rows) (sym state) ∙ after-rows b.base b.history
+
+-- ## No connection is live
+
+idle-place : (p : Place) → is_with_a_pass p ≡ false → is_parked p ≡ false → not (is_unused p) ≡ false
+idle-place Vacant hand parked = refl
+idle-place Spent hand parked = refl
+idle-place Held hand parked = absurd (cc)
+idle-place (Parked kind) hand parked = absurd (cc)
+idle-place Queued hand parked = absurd (cc)
+idle-place (Working cell phase) hand parked = absurd (cc)
+
+idle-each : (rows : List Row) → ((slot : ℕ) (r : Row) → slice_get rows slot ≡ Some r → is_with_a_pass r.place ≡ false)
+    → ((slot : ℕ) (r : Row) → slice_get rows slot ≡ Some r → is_parked r.place ≡ false) → list_any is_live rows ≡ false
+idle-each [] hand parked = refl
+idle-each (r ∷ rows) hand parked =
+    rw (
+      idle-place r.place (hand 0 r refl) (parked 0 r refl),
+      idle-each rows (λ slot x at. hand (suc slot) x at) (λ slot x at. parked (suc slot) x at),
+    ) refl
+
+-- none is where no pass has one and none waits
+pub none-left : (s : State) → HasNoneInHand s → NoneParked s → HasNoLive s
+none-left s hand parked = idle-each s.rows hand.each parked

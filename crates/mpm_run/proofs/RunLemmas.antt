@@ -1,41 +1,39 @@
 -- What a board shows of its run.
-use Rattle.std.proofs.Common.{◌≡◌, ℕ, zero, suc, ◌+◌, ◌<◌, Bool, true, false, ◌||◌, cond, List, [], ◌∷◌, ◌++◌, length, replicate, count_by, Option, Some, IfSome, slice_get, refl, sym, ap, subst, ◌∙◌, arith}
-use Rattle.std.proofs.lemmas.List.{append-nil, length-replicate, get_or-replicate}
-use Rattle.std.proofs.lemmas.Option.{slice_get-get_or}
+use Rattle.std.proofs.Common.{◌≡◌, ℕ, ◌+◌, Bool, true, false, ◌||◌, cond, List, [], ◌∷◌, ◌++◌, length, count_by, Option, Some, IfSome, refl, sym, ap, subst, ◌∙◌, arith}
+use Rattle.std.proofs.lemmas.List.{append-nil}
 use Rattle.std.proofs.lemmas.List.Sums.{sum_by-cons}
 use Rattle.std.specs.List.{list_any}
 use Rattle.mpm_base.specs.Front.{client_at}
 use Rattle.mpm_base.specs.Link.{LinkTold}
-use Rattle.mpm_base.specs.declared.shape.Shape.{Shape}
 use Rattle.conn_machine.specs.declared.row.Row.{Row}
 use Rattle.conn_machine.specs.declared.event.Event.{Event}
 use Rattle.conn_machine.specs.declared.event.Event.TheVariants as event
 use Rattle.conn_machine.specs.declared.event.Entry.{Entry}
 use Rattle.conn_machine.specs.declared.state.State.{State}
 use Rattle.conn_machine.specs.Rows.{is_live}
-use Rattle.conn_machine.specs.States.{opening_state, unused_row}
 use Rattle.conn_machine.specs.Table.{next}
 use Rattle.conn_machine.specs.Runs.{Run, after, IsHistory}
 use Rattle.conn_machine.specs.Made.{AreMade}
 use Rattle.conn_machine.specs.Sound.{IsSound}
 use Rattle.conn_machine.specs.Events.{count_events, is_accept, is_close}
 use Rattle.conn_machine.specs.Laws.{StaysSound}
-use Rattle.conn_state.specs.Conn.{SeenConn}
 use Rattle.conn_state.specs.Answered.{SeenEnded, IsAnswered, IsEnded}
+use Rattle.conn_state.specs.Known.{KnownOutside, TellsFrom}
 use Rattle.board.specs.Book.{StopsWhereFull, TellsFullStop}
-use Rattle.board.specs.Board.{SeenBoard, Agrees, AreHome, IsHome, AreClosed, AreEnded, ClosesFirst, conn_at}
+use Rattle.board.specs.Board.{SeenBoard, Agrees, AreClosed, AreEnded, ClosesFirst, EndedForClients}
 use Rattle.mpm_run.specs.Tells.{Receives, AllReceive}
-use Rattle.mpm_run.specs.TellsInside.{TellsFrom, EndedTell, AllTell}
+use Rattle.mpm_run.specs.FirstNumbers.{opened_by}
+use Rattle.mpm_run.specs.declared.run_numbers.RunNumbers.{RunNumbers}
 use Rattle.mpm_run.specs.Listen.{HasClosedAll, HasNoLive, IsClosedDown, IsRunFrom}
 
 -- ## The history
 
 -- the history of a board that opened so is a run from there, each state of which is sound
-pub run-from : (slots children : ℕ) (shape : Shape) (b : SeenBoard) → b.book.base ≡ opening_state slots children shape
+pub run-from : (n : RunNumbers) (b : SeenBoard) → b.book.base ≡ opened_by n
     → ((s : State) (history : List Entry) → IsSound s → Run s history → StaysSound s history)
     → IsHistory b.book.base b.book.history → AreMade b.book.base b.book.history → after b.book.base b.book.history ≡ b.book.state
-    → IsSound b.book.base → StopsWhereFull b.book.history → TellsFullStop b.book.state.going b.book.history → Agrees b → IsRunFrom slots children shape b
-run-from slots children shape b opened law is_history made state sound stops full agrees = record {
+    → IsSound b.book.base → StopsWhereFull b.book.history → TellsFullStop b.book.state.going b.book.history → Agrees b → IsRunFrom n b
+run-from n b opened law is_history made state sound stops full agrees = record {
   opened = opened;
   is_history = subst (λ (s : State). IsHistory s b.book.history) opened is_history;
   made = subst (λ (s : State). AreMade s b.book.history) opened made;
@@ -86,16 +84,16 @@ none-counted [] none = refl
 none-counted (r ∷ rows) none = none-cons r rows (is_live r) refl none (none-counted rows)
 
 -- where no connection is live each that was taken ended
-pub closed-all : (slots children : ℕ) (shape : Shape) (b : SeenBoard) → IsRunFrom slots children shape b
-    → count_events is_accept b.book.history ≡ count_events is_close b.book.history + count_by is_live (after (opening_state slots children shape) b.book.history).rows
+pub closed-all : (n : RunNumbers) (b : SeenBoard) → IsRunFrom n b
+    → count_events is_accept b.book.history ≡ count_events is_close b.book.history + count_by is_live (after (opened_by n) b.book.history).rows
     → IsClosedDown b.book.state → HasClosedAll b
-closed-all slots children shape b run closed_or_live down = record {
+closed-all n b run closed_or_live down = record {
   down = down;
   ended =
       omega (
         arith,
         closed_or_live,
-        none-counted (after (opening_state slots children shape) b.book.history).rows (subst HasNoLive (sym run.state) down.live),
+        none-counted (after (opened_by n) b.book.history).rows (subst HasNoLive (sym run.state) down.live),
         closed-count b.book.base b.book.history b.ended run.agrees.closed,
       );
 }
@@ -119,32 +117,6 @@ receives clients e tells ended =
     }
 
 -- so did each
-pub all-receive : (clients : List (List ℕ)) (ended : List SeenEnded) → AreEnded ended → EndedTell clients ended → AllReceive clients ended
-all-receive clients [] are tells = tt
-all-receive clients (e ∷ ended) are tells = (receives clients e tells.0 are.0, all-receive clients ended are.1 tells.1)
-
--- ## The opening board
-
--- a connection stands at a place of its list
-conn-within : (conns : List (Option SeenConn)) (slot : ℕ) (c : SeenConn) → conn_at conns slot ≡ Some c → slot < length conns
-conn-within [] slot c at = absurd (cc)
-conn-within (x ∷ conns) zero c at = omega arith
-conn-within (x ∷ conns) (suc slot) c at = omega (arith, conn-within conns slot c at)
-
--- no slot of an opening board has a connection
-opening-empty : (n slot : ℕ) (conns : List (Option SeenConn)) (c : SeenConn) → AreHome (replicate n unused_row) conns → conn_at conns slot ≡ Some c → ⊥
-opening-empty n slot conns c home at =
-    let size : length (replicate n unused_row) ≡ n = length-replicate n unused_row in
-    let within : slot < n = omega (arith, conn-within conns slot c at, home.slots, size) in
-    let row : slice_get (replicate n unused_row) slot ≡ Some unused_row =
-    slice_get-get_or (replicate n unused_row) slot unused_row (omega (arith, within, size)) ∙ ap (λ (r : Row). Some r) (get_or-replicate n slot unused_row unused_row within) in
-    (subst (IsHome slot unused_row) at (home.homes slot unused_row row)).here
-
--- so its links tell of any clients
-pub opening-tells : (clients : List (List ℕ)) (slots children : ℕ) (shape : Shape) (b : SeenBoard) → Agrees b → b.book.state ≡ opening_state slots children shape → b.ended ≡ []
-    → AllTell clients b
-opening-tells clients slots children shape b agrees opened none = record {
-  conns = λ slot c at.
-      absurd (opening-empty slots slot b.conns c (subst (λ (s : State). AreHome s.rows b.conns) opened agrees.waiting) at);
-  ended = subst (EndedTell clients) (sym none) tt;
-}
+pub all-receive : (k : KnownOutside) (ended : List SeenEnded) → AreEnded ended → EndedForClients (Some k) ended → AllReceive k.clients ended
+all-receive k [] are ends = tt
+all-receive k (e ∷ ended) are ends = (receives k.clients e ends.0 are.0, all-receive k ended are.1 ends.1)

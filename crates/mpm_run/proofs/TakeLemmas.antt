@@ -1,9 +1,14 @@
 -- A connection that is taken.
-use Rattle.std.proofs.Common.{◌≡◌, ℕ, suc, Bool, true, false, ◌&&◌, cond, List, [], ◌∷◌, ◌++◌, Option, None, Some, is_some, slice_get, eq-eqb, refl, sym, ap, subst, ◌∙◌}
+use Rattle.std.proofs.Common.{◌≡◌, ◌⊎◌, inl, inr, ℕ, option_map, IfSome, suc, Bool, true, false, ◌&&◌, cond, List, [], ◌∷◌, ◌++◌, Option, None, Some, is_some, slice_get, eq-eqb, refl, sym, ap, subst, ◌∙◌}
 use Rattle.std.proofs.lemmas.Bool.{and_parts}
 use Rattle.std.specs.Option.{option_map_or}
 use Rattle.std.specs.List.{list_any}
+use Rattle.mpm_base.specs.Count.{NeverFalls, RisesWhere}
+use Rattle.mpm_base.specs.Front.{FrontTold, FrontCounts, Hands, Accepts, after_accept, accept_failed, is_handed}
+use Rattle.mpm_base.specs.Link.{LinkTold, LinkCounts}
 use Rattle.mpm_base.specs.declared.conn.ConnName.{ConnName}
+use Rattle.mpm_base.specs.declared.front.Arrival.{Arrival}
+use Rattle.mpm_base.specs.declared.front.Arrival.TheVariants as arrival
 use Rattle.conn_machine.specs.declared.row.Row.{Row}
 use Rattle.conn_machine.specs.declared.event.Entry.{Entry}
 use Rattle.conn_machine.specs.declared.event.Event.TheVariants as event
@@ -17,8 +22,9 @@ use Rattle.conn_machine.specs.Runs.{Run, after, IsHistory}
 use Rattle.board.specs.Book.{SeenBook, book_with_entry}
 use Rattle.board.specs.Events.{IsTaken}
 use Rattle.board.specs.Finds.{acceptable}
-use Rattle.mpm_run.specs.ListenInside.{HasTaken}
-use Rattle.mpm_run.proofs.AnswerLemmas.{live_row-update}
+use Rattle.mpm_run.specs.ListenInside.{HasTaken, TookAll}
+use Rattle.mpm_run.proofs.FrontLemmas.{rises-after}
+use Rattle.worker_group.proofs.AnswerLemmas.{live_row-update}
 
 -- ## Where a connection is taken
 
@@ -104,3 +110,23 @@ has-taken s s' name child generation may is taken =
     let parts = and_parts (is_serving s.going) (is_vacant_at s name.slot) both.0 in
     let found = slot-row (λ (r : Row). is_vacant r.place) (slice_get s.rows name.slot) parts.1 in
     subst (λ (t : State). HasTaken t name child generation s.accepted) (sym is) (taken-of s name.slot name child generation found.0 found.1 refl taken)
+
+-- ## No further one is taken
+
+-- an accept that hands nothing out leaves what the front tells
+tells-kept : (told told' : Option FrontTold) → told' ≡ option_map (after_accept false) told → IfSome told (λ t. t.accepted ≡ t.arrived)
+    → IfSome told' (λ t. t.accepted ≡ t.arrived)
+tells-kept None told' is none = subst (λ (o : Option FrontTold). IfSome o (λ t. t.accepted ≡ t.arrived)) (sym is) tt
+tells-kept (Some t) told' is none = subst (λ (o : Option FrontTold). IfSome o (λ t. t.accepted ≡ t.arrived)) (sym is) none
+
+-- where none was handed out no further one is taken
+pub took-none : {L : Type 0} (link_told : L → Option LinkTold) (link_counts : L → LinkCounts) (told told' : Option FrontTold)
+    (first counts counts' : FrontCounts) (answer : Arrival L) (s : State) → (answer ≡ arrival.None) ⊎ (answer ≡ arrival.Failed)
+    → NeverFalls first.accept_faults counts.accept_faults → Accepts link_told link_counts told told' counts counts' answer
+    → TookAll told' first counts' s
+took-none link_told link_counts told told' first counts counts' answer s (inl none) never accepts =
+    inr (inl (tells-kept told told' (accepts.told_is ∙ ap (λ (a : Arrival _). option_map (after_accept (is_handed a)) told) none)
+    (subst (Hands link_told link_counts told) none accepts.hands)))
+took-none link_told link_counts told told' first counts counts' answer s (inr failed) never accepts =
+    inr (inr (rises-after first.accept_faults counts.accept_faults counts'.accept_faults never
+    (subst (λ (a : Arrival _). RisesWhere (accept_failed a) counts.accept_faults counts'.accept_faults) failed accepts.accept_faults)))

@@ -16,10 +16,10 @@ use Rattle.conn_machine.specs.Sound.{IsSound}
 use Rattle.conn_state.specs.Conn.{SeenConn}
 use Rattle.board.specs.Fits.{IsTakenUp}
 use Rattle.board.specs.Finds.{FindsRow, is_late, is_waiting}
-use Rattle.mpm_run.specs.ServeInside.{IsClosable}
+use Rattle.worker_group.specs.InHand.{IsClosable}
 use Rattle.mpm_run.specs.ListenInside.{NoneOverdue}
-use Rattle.mpm_run.proofs.ServeLemmas.{test-at}
-use Rattle.mpm_run.proofs.StartLemmas.{Lives, lives}
+use Rattle.worker_group.proofs.ServeLemmas.{test-at}
+use Rattle.worker_group.proofs.StartLemmas.{Lives, lives}
 use Rattle.mpm_run.proofs.ListenLemmas.{held-row}
 
 -- ## A connection that is late

@@ -1,5 +1,5 @@
 -- Why a run ends with its exit status, and what it leaves of the output.
-use Rattle.std.specs.Prelude.{◌≡◌, ℕ, ◌≤◌, Bool, true, false, ◌⊎◌, List, [], ◌∷◌, ◌++◌, length, map, Option, Some, None, option_map, Result, Ok, Err, codes}
+use Rattle.std.specs.Prelude.{◌≡◌, ℕ, ◌<◌, ◌≤◌, Bool, true, false, ◌⊎◌, List, ◌++◌, length, map, Option, Some, None, option_map, IfSome, Ok, Err}
 use Rattle.std.specs.List.{list_any}
 use Rattle.mpm_base.specs.Count.{NeverFalls, Rises}
 use Rattle.mpm_script.specs.Clients.{clients_of, names_of}
@@ -7,13 +7,11 @@ use Rattle.mpm_script.specs.Script.{ScriptIs}
 use Rattle.script_front.specs.ScriptClock.{echo}
 use Rattle.script_front.specs.ScriptFront.{SeenFront}
 use Rattle.mpm_base.specs.Front.{moments_of}
-use Rattle.mpm_base.specs.Store.{ReadsFile, StoreCounts, StoreTold}
+use Rattle.mpm_base.specs.Store.{StoreCounts, StoreTold, bytes_of}
 use Rattle.mpm_base.specs.declared.conn.Cause.{Cause}
 use Rattle.mpm_base.specs.declared.conn.Cause.TheVariants as cause
 use Rattle.mpm_script.specs.declared.script.ScriptFault.{ScriptFault}
 use Rattle.mpm_script.specs.declared.script.ScriptFault.TheVariants as script
-use Rattle.mpm_base.specs.declared.store.StoreFault.{StoreFault}
-use Rattle.mpm_base.specs.declared.store.StoreFault.TheVariants as fault
 use Rattle.conn_machine.specs.declared.event.Why.TheVariants as why
 use Rattle.conn_machine.specs.declared.state.Going.{Going}
 use Rattle.conn_machine.specs.declared.state.Going.TheVariants.{Halted}
@@ -21,23 +19,17 @@ use Rattle.conn_machine.specs.Runs.{full_load, load}
 use Rattle.conn_state.specs.Answered.{SeenEnded}
 use Rattle.board.specs.Book.{HasFullStop}
 use Rattle.board.specs.Board.{SeenBoard}
-use Rattle.mpm_run.specs.FirstShape.{first_shape}
-use Rattle.mpm_run.specs.Listen.{HasClosedAll, IsRunFrom, IsWholeRun}
+use Rattle.mpm_run.specs.Invocations.{IsNoInvocation, script_words}
+use Rattle.mpm_run.specs.FirstNumbers.{first_numbers}
+use Rattle.mpm_run.specs.Listen.{HasClosedAll, IsRunFrom}
 use Rattle.mpm_run.specs.Report.{report_of}
 use Rattle.mpm_run.specs.Tells.{AllReceive}
 use Rattle.mpm_run.specs.Texts.{script_refused, store_fault, usage}
+use Rattle.mpm_run.specs.Times.{WasInformed}
 use Rattle.mpm_run.specs.declared.texts.ScriptRefusal.{ScriptRefusal}
 use Rattle.mpm_run.specs.declared.texts.ScriptRefusal.TheVariants.{BadLine, MomentBackwards, UnknownName, NotYet}
 
 -- ## A call
-
--- the words are the command that plays the script of that name
-abbrev pub IsCommand : List (List ℕ) → List ℕ → Type 0
-IsCommand words name = words ≡ codes "--script" ∷ name ∷ []
-
--- the words are no command
-abbrev pub IsNoCommand : List (List ℕ) → Type 0
-IsNoCommand words = (name : List ℕ) → ¬ IsCommand words name
 
 -- what an output tells, and its count of faults
 pub record SinkSeen : Type 0 where
@@ -87,20 +79,34 @@ seen_call words told counts told' counts' written faults written' faults' shown 
       shown = shown;
     }
 
--- the words are the command, and the store was asked once, for the script of that name
-pub record Asks (call : Call) (name : List ℕ) (answer : Result (List ℕ) StoreFault) : Type 0 where
-  pub command : IsCommand call.words name
-  pub read : ReadsFile call.store.told call.store'.told call.store.counts call.store'.counts name most_script answer
+-- the files that the store tells are as they were
+abbrev pub KeepsFiles : Call → Type 0
+KeepsFiles call = call.store'.told ≡ call.store.told
+
+-- the bytes are those of the script of that name, where the store tells its files, and they are not too many
+pub record HasScript (call : Call) (name bytes : List ℕ) : Type 0 where
+  pub kept : KeepsFiles call
+  pub few : length bytes ≤ most_script
+  pub file : IfSome call.store.told (λ t. bytes_of name t.files ≡ Some bytes)
 
 -- ## Where no run opened
 
--- the faults of a store that are told as its own: a file that is missing, at place 0, and a call that failed
-abbrev pub IsUnread : StoreFault → Option ℕ → Type 0
-IsUnread e shown = ((e ≡ fault.Missing) × (shown ≡ Some 0)) ⊎ ((e ≡ fault.Failed) × (shown ≡ None))
+-- there is no script of that name: the store counted a refusal, and where it tells its files it has none
+pub record LacksScript (call : Call) (name : List ℕ) : Type 0 where
+  pub refused : Rises call.store.counts.refusals call.store'.counts.refusals
+  pub none : IfSome call.store.told (λ t. bytes_of name t.files ≡ None)
+
+-- a call of the store failed, as it counted
+abbrev pub StoreFailed : Call → Type 0
+StoreFailed call = Rises call.store.counts.faults call.store'.counts.faults
+
+-- the script is missing, which is shown as place 0, or a call of the store failed
+abbrev pub IsUnread : Call → List ℕ → Type 0
+IsUnread call name = ((call.shown ≡ Some 0) × LacksScript call name) ⊎ ((call.shown ≡ None) × StoreFailed call)
 
 -- with exit status 2
 pub record EndsUnknown (call : Call) : Type 0 where
-  pub unknown : IsNoCommand call.words
+  pub unknown : IsNoInvocation call.words
   pub unasked : call.store' ≡ call.store
   pub shows : call.shown ≡ None
   pub text : WritesText call.sink call.sink' usage
@@ -108,16 +114,22 @@ pub record EndsUnknown (call : Call) : Type 0 where
 -- with exit status 3
 pub record EndsUnread (call : Call) : Type 0 where
   pub name : List ℕ
-  pub told : StoreFault
-  pub asks : Asks call name (Err told)
-  pub shows : IsUnread told call.shown
+  pub command : call.words ≡ script_words name
+  pub kept : KeepsFiles call
+  pub cause : IsUnread call name
   pub text : WritesText call.sink call.sink' (store_fault name)
+
+-- the script of that name is too large: the store counted a refusal, and where it tells its files that one is
+pub record IsTooLarge (call : Call) (name : List ℕ) : Type 0 where
+  pub refused : Rises call.store.counts.refusals call.store'.counts.refusals
+  pub large : IfSome call.store.told (λ t. (bytes : List ℕ) × (bytes_of name t.files ≡ Some bytes) × (most_script < length bytes))
 
 -- with exit status 8, for the size
 pub record EndsTooLarge (call : Call) : Type 0 where
   pub name : List ℕ
-  pub size : ℕ
-  pub asks : Asks call name (Err (fault.Large size))
+  pub command : call.words ≡ script_words name
+  pub kept : KeepsFiles call
+  pub cause : IsTooLarge call name
   pub shows : call.shown ≡ Some 0
   pub text : WritesText call.sink call.sink' (script_refused 0 BadLine)
 
@@ -134,7 +146,8 @@ pub record EndsAtLine (call : Call) : Type 0 where
   pub bytes : List ℕ
   pub line : ℕ
   pub why : ScriptRefusal
-  pub asks : Asks call name (Ok bytes)
+  pub command : call.words ≡ script_words name
+  pub has : HasScript call name bytes
   pub refused : ScriptIs bytes (Err (fault_at why line))
   pub shows : call.shown ≡ Some line
   pub text : WritesText call.sink call.sink' (script_refused line why)
@@ -156,7 +169,7 @@ Reports old new b = new.told ≡ option_map (λ written. written ++ board_report
 -- what is left of a run of these clients: it closed each connection that it took, each child is gone, and each connection
 -- received a front of what its client sends, and all of it where the client had done
 pub record HasRun (clients : List (List ℕ)) (b : SeenBoard) : Type 0 where
-  pub run : IsRunFrom 64 1 first_shape b
+  pub run : IsRunFrom first_numbers b
   pub closed : HasClosedAll b
   pub receive : AllReceive clients b.ended
 
@@ -164,14 +177,17 @@ pub record HasRun (clients : List (List ℕ)) (b : SeenBoard) : Type 0 where
 pub record HasPlayed (call : Call) (b : SeenBoard) (f : SeenFront) : Type 0 where
   pub name : List ℕ
   pub bytes : List ℕ
-  pub asks : Asks call name (Ok bytes)
+  pub command : call.words ≡ script_words name
+  pub has : HasScript call name bytes
   pub script : ScriptIs bytes (Ok f.script)
   pub shows : call.shown ≡ None
   pub has_run : HasRun (clients_of f.script) b
 
--- the clock was told exactly the moments that the waits of the front gave, in order, and answered each
-abbrev pub KeepsTime : SeenFront → List (ℕ × ℕ) → Type 0
-KeepsTime f calls = calls ≡ map echo (moments_of f.told.waits)
+-- the clock was told exactly the moments that the waits of the front gave, in order, and answered each; and the history's ticks
+-- and signals come from them
+pub record KeepsTime (b : SeenBoard) (f : SeenFront) (calls : List (ℕ × ℕ)) : Type 0 where
+  pub asked : calls ≡ map echo (moments_of f.told.waits)
+  pub informed : WasInformed (Some f.told.waits) (Some calls) b.book
 
 -- how a run that stopped so may end: with 6 wherever memory lacked for its report, and where a connection was cut short
 abbrev pub EndsFor : Going → ℕ → Type 0
@@ -190,24 +206,21 @@ is_cut_by other = true
 abbrev pub is_cut : SeenEnded → Bool
 is_cut e = is_cut_by e.cause
 
--- the script was played to its end: the run is a whole one, all lines have happened, and each connection of the script was
--- taken
+-- the script was played to its end: all lines have happened, and each connection of the script was taken
 pub record HasEnd (b : SeenBoard) (f : SeenFront) : Type 0 where
-  pub whole : IsWholeRun 64 1 first_shape b
   pub happened : f.happened ≡ length f.script
   pub taken : b.book.state.accepted ≡ length (names_of f.script)
 
--- with exit status 0: the script was played to its end, no connection was cut short by anything but want of memory, and the report
--- was written
-pub record EndsWell (sink sink' : SinkSeen) (b : SeenBoard) (f : SeenFront) : Type 0 where
-  pub end : HasEnd b f
+-- with exit status 0: the server stopped because nothing more could come, no connection was cut short by anything but want of
+-- memory, and the report was written
+pub record EndsWell (sink sink' : SinkSeen) (b : SeenBoard) : Type 0 where
+  pub going : b.book.state.going ≡ Halted why.FrontEnded
   pub none_cut : list_any is_cut b.ended ≡ false
   pub report : Reports sink sink' b
 
--- with exit status 5: the script was played to its end, no connection was cut short by anything but want of memory, and a write of
--- the report failed
-pub record EndsUnwritten (sink sink' : SinkSeen) (b : SeenBoard) (f : SeenFront) : Type 0 where
-  pub end : HasEnd b f
+-- with exit status 5: the same, but a write of the report failed
+pub record EndsUnwritten (sink sink' : SinkSeen) (b : SeenBoard) : Type 0 where
+  pub going : b.book.state.going ≡ Halted why.FrontEnded
   pub none_cut : list_any is_cut b.ended ≡ false
   pub failed : Rises sink.faults sink'.faults
 

@@ -1,10 +1,11 @@
 pub mod ExitStatuses
 pub mod ExitStatusesInside
-pub mod FirstShape
+pub mod FirstNumbers
+pub mod Invocations
 pub mod Listen
 pub mod ListenInside
 pub mod Report
-pub mod ServeInside
+pub mod RoundInside
 pub mod Tells
-pub mod TellsInside
 pub mod Texts
+pub mod Times

@@ -1,19 +1,17 @@
 -- What the listener keeps, and how a run ends.
 use Rattle.std.specs.Prelude.{◌≡◌, ℕ, true, false, length}
 use Rattle.std.specs.List.{list_any}
-use Rattle.mpm_base.specs.declared.shape.Shape.{Shape}
-use Rattle.conn_machine.specs.declared.event.Why.TheVariants as why
-use Rattle.conn_machine.specs.declared.state.Going.TheVariants.{Halted}
 use Rattle.conn_machine.specs.declared.state.State.{State}
 use Rattle.conn_machine.specs.Rows.{is_live}
 use Rattle.conn_machine.specs.Children.{child_at, is_empty}
-use Rattle.conn_machine.specs.States.{opening_state}
 use Rattle.conn_machine.specs.Events.{count_events, is_accept}
 use Rattle.conn_machine.specs.Runs.{after, IsHistory}
 use Rattle.conn_machine.specs.Made.{AreMade}
 use Rattle.conn_machine.specs.Laws.{StaysSound}
 use Rattle.board.specs.Book.{StopsWhereFull, TellsFullStop}
 use Rattle.board.specs.Board.{SeenBoard, Agrees}
+use Rattle.mpm_run.specs.FirstNumbers.{opened_by}
+use Rattle.mpm_run.specs.declared.run_numbers.RunNumbers.{RunNumbers}
 
 -- ## How a run ends
 
@@ -32,15 +30,15 @@ pub record IsClosedDown (s : State) : Type 0 where
 
 -- ## A run
 
--- the history that is kept is one of the machine, from the opening state on, in the order of its passes, and each entry is one
--- that its pass may make where it stands; each state on its way is sound; a stop because the history is full stands only where
--- it is, and is told by the state; and the connections agree with the history
-pub record IsRunFrom (slots children : ℕ) (shape : Shape) (b : SeenBoard) : Type 0 where
-  pub opened : b.book.base ≡ opening_state slots children shape
-  pub is_history : IsHistory (opening_state slots children shape) b.book.history
-  pub made : AreMade (opening_state slots children shape) b.book.history
-  pub state : after (opening_state slots children shape) b.book.history ≡ b.book.state
-  pub stays_sound : StaysSound (opening_state slots children shape) b.book.history
+-- the history that is kept is one of the machine, from the opening state of these numbers on, in the order of its passes, and
+-- each entry is one that its pass may make where it stands; each state on its way is sound; a stop because the history is full
+-- stands only where it is, and is told by the state; and the connections agree with the history
+pub record IsRunFrom (n : RunNumbers) (b : SeenBoard) : Type 0 where
+  pub opened : b.book.base ≡ opened_by n
+  pub is_history : IsHistory (opened_by n) b.book.history
+  pub made : AreMade (opened_by n) b.book.history
+  pub state : after (opened_by n) b.book.history ≡ b.book.state
+  pub stays_sound : StaysSound (opened_by n) b.book.history
   pub stops : StopsWhereFull b.book.history
   pub full : TellsFullStop b.book.state.going b.book.history
   pub agrees : Agrees b
@@ -49,9 +47,3 @@ pub record IsRunFrom (slots children : ℕ) (shape : Shape) (b : SeenBoard) : Ty
 pub record HasClosedAll (b : SeenBoard) : Type 0 where
   pub down : IsClosedDown b.book.state
   pub ended : length b.ended ≡ count_events is_accept b.book.history
-
--- it is a whole one: it stopped because nothing more could come, and closed each connection
-pub record IsWholeRun (slots children : ℕ) (shape : Shape) (b : SeenBoard) : Type 0 where
-  pub run : IsRunFrom slots children shape b
-  pub going : b.book.state.going ≡ Halted why.FrontEnded
-  pub closed : HasClosedAll b

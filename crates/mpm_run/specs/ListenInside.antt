@@ -1,5 +1,5 @@
 -- What the listener keeps of the waits of its front and of the calls of its clock.
-use Rattle.std.specs.Prelude.{◌≡◌, ℕ, List, map, Option, IfSome, option_map, ◌⊎◌, ◌↔◌, ◌<◌, ◌≤◌, Bool, true, false, [], length, None, Some, slice_get, slice_index}
+use Rattle.std.specs.Prelude.{◌≡◌, ℕ, List, map, Option, IfSome, option_map, is_some, ◌⊎◌, ◌↔◌, ◌≤◌, Bool, true, false, [], None, Some, slice_get, ⊤}
 use Rattle.mpm_base.specs.Clock.{Answers, asked_at}
 use Rattle.mpm_base.specs.Front.{FrontTold, WaitTold, moments_of, FrontCounts, HasAllTaken}
 use Rattle.mpm_base.specs.declared.front.Woke.{Woke}
@@ -12,17 +12,19 @@ use Rattle.mpm_base.specs.declared.conn.ConnName.{ConnName}
 use Rattle.conn_machine.specs.declared.row.Row.{Row}
 use Rattle.conn_machine.specs.declared.event.Why.TheVariants as why
 use Rattle.conn_machine.specs.declared.state.Going.{Going}
-use Rattle.conn_machine.specs.declared.state.Going.TheVariants.{Serving, Halted}
+use Rattle.conn_machine.specs.declared.state.Going.TheVariants.{Halted}
 use Rattle.conn_machine.specs.declared.state.State.{State}
 use Rattle.conn_machine.specs.Rows.{is_held, is_lingering, is_parked, live_row}
-use Rattle.conn_machine.specs.States.{is_halted, is_overdue, is_signalled}
+use Rattle.conn_machine.specs.States.{is_halted, is_overdue}
 use Rattle.conn_machine.specs.Table.{may_retire}
+use Rattle.conn_machine.specs.Runs.{full_load, load}
+use Rattle.conn_state.specs.Conn.{IsFresh}
+use Rattle.conn_state.specs.Known.{KnownOutside}
 use Rattle.board.specs.declared.faults.BoardFault.{BoardFault}
 use Rattle.board.specs.declared.faults.BoardFault.TheVariants as fault
 use Rattle.board.specs.Book.{SeenBook}
-use Rattle.board.specs.Faults.{IsFull}
+use Rattle.board.specs.Board.{SeenBoard}
 use Rattle.board.specs.Finds.{acceptable, is_due, is_quiet, startable}
-use Rattle.mpm_run.specs.ServeInside.{in_hand_count}
 use Rattle.mpm_run.specs.declared.listen.End.{End}
 use Rattle.mpm_run.specs.declared.listen.End.TheVariants as end
 use Rattle.mpm_run.specs.Listen.{HasNoLive, IsClosedDown}
@@ -35,17 +37,12 @@ waits_of told = option_map (λ t. t.waits) told
 abbrev pub IsInTime : Option (List WaitTold) → Option (List (ℕ × ℕ)) → Type 0
 IsInTime waits calls = IfSome waits (λ waits. IfSome calls (λ calls. map asked_at calls ≡ moments_of waits))
 
--- the clock was told the moment that the wait gave, where it gave one, and else nothing
-abbrev pub AsksFor : Woke → Option (List (ℕ × ℕ)) → Option (List (ℕ × ℕ)) → Type 0
-AsksFor (woke.Woke m) calls calls' = (answer : ℕ) × Answers calls calls' m answer
-AsksFor woke.Ended calls calls' = calls' ≡ calls
-AsksFor woke.Failed calls calls' = calls' ≡ calls
-
--- the server is still the one that opened, with no more connections in hand than before
-pub record Keeps (old new : SeenBook) : Type 0 where
-  pub base : new.base ≡ old.base
-  pub passes : new.passes ≡ old.passes
-  pub hand : in_hand_count new.state ≤ in_hand_count old.state
+-- the moment is what the clock answered, told the one that the wait gave, where it gave one; else it is the present one, and
+-- the clock wasn't asked
+abbrev pub AsksFor : Woke → ℕ → Option (List (ℕ × ℕ)) → Option (List (ℕ × ℕ)) → ℕ → Type 0
+AsksFor (woke.Woke m) present calls calls' moment = Answers calls calls' m moment
+AsksFor woke.Ended present calls calls' moment = (calls' ≡ calls) × (moment ≡ present)
+AsksFor woke.Failed present calls calls' moment = (calls' ≡ calls) × (moment ≡ present)
 
 -- what is seen of a front: the script that it was made of, what it tells, and its counts
 pub record SeenOutside : Type 0 where
@@ -53,12 +50,35 @@ pub record SeenOutside : Type 0 where
   pub told : Option FrontTold
   pub counts : FrontCounts
 
+-- the same, of its parts
 abbrev pub outside : Option (List ScriptLine) → Option FrontTold → FrontCounts → SeenOutside
 outside script told counts = record { script = script; told = told; counts = counts }
 
 -- the front tells, and its clients are these
 abbrev pub HasClients : List (List ℕ) → Option FrontTold → Type 0
 HasClients clients told = (t : FrontTold) × (told ≡ Some t) × (t.clients ≡ clients)
+
+-- each link of the type tells
+pub record LinksTell {L : Type 0} (told : L → Option LinkTold) : Type 0 where
+  pub each : (link : L) → (t : LinkTold) × (told link ≡ Some t)
+
+-- what is seen of a listener: its board, its front, the calls of its clock, and the slots that the last wait gave
+pub record SeenListener : Type 0 where
+  pub board : SeenBoard
+  pub front : SeenOutside
+  pub calls : Option (List (ℕ × ℕ))
+  pub ready : List ℕ
+
+-- what is known of the outside is what the front tells, and then each link of the type tells
+pub record IsNamed {L : Type 0} (known : Option KnownOutside) (link_told : L → Option LinkTold) (told : Option FrontTold) : Type 0 where
+  pub front : IfSome known (λ k. HasClients k.clients told)
+  pub links : is_some known ≡ true → LinksTell link_told
+
+-- nothing was asked yet of a front and of a clock that tell
+pub record IsStarting (told : Option FrontTold) (calls : Option (List (ℕ × ℕ))) : Type 0 where
+  pub accepted : IfSome told (λ t. t.accepted ≡ 0)
+  pub waits : IfSome told (λ t. t.waits ≡ [])
+  pub calls_are : IfSome calls (λ calls. calls ≡ [])
 
 -- the front is still the one that it was
 pub record Follows (old new : SeenOutside) : Type 0 where
@@ -71,15 +91,20 @@ pub record Follows (old new : SeenOutside) : Type 0 where
 abbrev pub IsInStep : Option FrontTold → State → Type 0
 IsInStep told s = IfSome told (λ t. t.accepted ≡ s.accepted)
 
--- each link of the type tells
-pub record LinksTell {L : Type 0} (told : L → Option LinkTold) : Type 0 where
-  pub each : (link : L) → (t : LinkTold) × (told link ≡ Some t)
-
--- the server has to be stopped for the fault, or was
+-- the server has to be stopped for the fault, or was; whatever the passes do, this stays so
 abbrev pub MustStop : BoardFault → SeenBook → Type 0
-MustStop fault.Halted b = b.state.going ≡ Halted why.Full
-MustStop fault.Full b = IsFull b ⊎ (b.state.going ≡ Halted why.Full)
-MustStop fault.NoMemory b = is_halted b.state.going ≡ false
+MustStop fault.Halted b = is_halted b.state.going ≡ true
+MustStop fault.Full b = full_load ≤ load b.history
+MustStop fault.NoMemory b = ⊤
+
+-- the link is as the front hands it out, and is the arrival of that number
+pub record Arrives (number : ℕ) (t : LinkTold) : Type 0 where
+  pub fresh : IsFresh t
+  pub rank : t.rank ≡ number
+
+-- the same of a link that tells
+abbrev pub IsArrival : ℕ → Option LinkTold → Type 0
+IsArrival number told = IfSome told (Arrives number)
 
 -- the listener holds the connection of that name, child, generation and arrival, which it has just taken
 pub record HasTaken (s : State) (name : ConnName) (child generation arrival : ℕ) : Type 0 where
@@ -100,7 +125,7 @@ pub record HasTakenAll (old new : SeenOutside) (s : State) : Type 0 where
 
 -- nothing more can come, and no connection is live
 pub record HasNothingToCome (old new : SeenOutside) (s : State) : Type 0 where
-  pub going : s.going ≡ Serving
+  pub going : is_halted s.going ≡ false
   pub live : HasNoLive s
   pub all : HasTakenAll old new s
 
@@ -117,7 +142,7 @@ pub record HasFailed (old new : SeenOutside) (s : State) : Type 0 where
 -- how the listener's turns end
 abbrev pub TurnsEnd : End → SeenOutside → SeenOutside → State → Type 0
 TurnsEnd end.Ended old new s = HasNothingToCome old new s
-TurnsEnd end.Failed old new s = (s.going ≡ Serving) × Rises old.counts.faults new.counts.faults
+TurnsEnd end.Failed old new s = (is_halted s.going ≡ false) × Rises old.counts.faults new.counts.faults
 
 -- no connection is late
 abbrev pub NoneOverdue : State → Type 0
@@ -130,10 +155,6 @@ NoneParked s = (slot : ℕ) (r : Row) → slice_get s.rows slot ≡ Some r → i
 -- no connection has to be served, for which a worker is free
 abbrev pub NoneDue : State → Type 0
 NoneDue s = (slot : ℕ) (r : Row) → slice_get s.rows slot ≡ Some r → is_due s slot r ≡ false
-
--- each of the slots that the table has is signalled
-abbrev pub AreSignalled : List ℕ → State → Type 0
-AreSignalled slots s = (i : ℕ) → i < length slots → slice_index slots i < length s.rows → is_signalled s (slice_index slots i) ≡ true
 
 -- no further connection is taken: none could be, none of a front that tells has arrived, or an accept of it failed
 abbrev pub TookAll : Option FrontTold → FrontCounts → FrontCounts → State → Type 0

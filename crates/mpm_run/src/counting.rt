@@ -6,11 +6,12 @@ ghost use Rattle.mpm_run.specs.Report as spec;
 use crate::report::{Tally, ended_lines};
 use board::Board;
 use conn_machine::{Entry, Event};
+use conn_state::Known;
 use mpm_base::{Cause, Link, NoMemory};
 use std::alloc::Global;
 
 /// What the report of the board says.
-pub fn tally<L: Link>(alloc: Global, board: &Board<L>) -> Result<Tally, NoMemory>
+pub fn tally<L: Link, N: Known>(alloc: Global, board: &Board<L, N>) -> Result<Tally, NoMemory>
     ensures { IfOk result (λ view. view ≡ spec.tally_of board.now.book.history board.now.book.state.newest board.now.ended) }
 {
     let history = board.history();

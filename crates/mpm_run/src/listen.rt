@@ -1,36 +1,47 @@
 //! The listener: waits for what comes, takes connections, has them served, and stops the server when nothing more can come.
-ghost use Rattle.std.specs.Prelude.{◌≡◌, ◌⊎◌, ◌<◌, ◌≤◌, ◌+◌, ℕ, List, None, Some, true, false, is_some, length, max, min, IfOk, IfErr, OnErr, OnOk};
+//!
+//! Each part of a round says which events it adds under the listener's pass, in order (`specs/RoundInside.antt`). Of the
+//! state it says no more than where it stands in the end, and what the listener alone changes: the moment, and how many
+//! connections were taken.
+ghost use Rattle.std.specs.Prelude.{◌≡◌, ◌<◌, ◌+◌, ℕ, List, [], ◌∷◌, map, None, Some, true, false, is_some, max, IfOk, IfErr, OnErr, OnOk};
 ghost use Rattle.std.specs.List.{list_any};
 ghost use Rattle.mpm_base.specs.Count.{next_count};
+ghost use Rattle.mpm_base.specs.declared.conn.Cause.TheVariants as cause;
+ghost use Rattle.mpm_base.specs.declared.conn.Kind.TheVariants.{Reading};
+ghost use Rattle.conn_machine.specs.Made.{IsOpened};
+ghost use Rattle.conn_machine.specs.Passes.{OnlyServes};
 ghost use Rattle.conn_machine.specs.Rows.{is_live};
-ghost use Rattle.conn_machine.specs.Runs.{row_of};
-ghost use Rattle.conn_machine.specs.States.{is_halted, is_signalled};
-ghost use Rattle.mpm_base.specs.Moment.{greatest_moment};
-ghost use Rattle.conn_machine.specs.declared.event.Why.TheVariants as why;
-ghost use Rattle.conn_machine.specs.declared.state.Going.TheVariants.{Halted, Serving};
+ghost use Rattle.conn_machine.specs.Runs.{after, row_of};
+ghost use Rattle.conn_machine.specs.States.{is_halted};
+ghost use Rattle.conn_machine.specs.Table.{is_allowed};
+ghost use Rattle.conn_machine.specs.declared.event.Event.{Event};
+ghost use Rattle.conn_machine.specs.declared.event.Event.TheVariants as event;
+ghost use Rattle.conn_state.specs.Known.{IsOfClient};
+ghost use Rattle.board.specs.Fits.{IsSettled};
 ghost use Rattle.board.specs.Finds.{acceptable, next_deadline_of, startable};
-ghost use Rattle.mpm_run.specs.ServeInside.{Acts, StaysUnlessFull, Stays, in_hand_count};
+ghost use Rattle.worker_group.specs.Acts.{Acts};
+ghost use Rattle.worker_group.specs.InHand.{IsClosable, IsInHand};
+ghost use Rattle.worker_group.specs.Service.{IsUp, LeavesRest};
 ghost use Rattle.mpm_run.specs.Listen.{HasNoLive, IsClosedDown};
-ghost use Rattle.mpm_run.specs.ListenInside.{AreSignalled, TurnsEnd, Follows, HasClients, HasStopped, HasTaken, IsInStep, IsRestful, Keeps, LinksTell, MustStop, NoneDue, NoneOverdue, NoneParked, TookAll, outside};
-ghost use Rattle.mpm_run.specs.ListenInside.{AsksFor, IsInTime, waits_of};
-ghost use Rattle.mpm_run.specs.TellsInside.{AllTell, HasSame, IsArrival, TellsFrom};
+ghost use Rattle.mpm_run.specs.ListenInside.{AsksFor, Follows, HasStopped, HasTaken, IsArrival, IsInStep, IsInTime, IsRestful, MustStop, NoneDue, NoneOverdue, NoneParked, TookAll, TurnsEnd, waits_of};
+ghost use Rattle.mpm_run.specs.RoundInside.{BreaksOff, ClosesSome, GivesUp, GoesRound, IsTaking, NoneHas, PassesTime, RetiresSome, SignalsFirst, StartsSome, TakesSome, TakesUntil, left_events, signal_events, stop_events, way_of};
+ghost use Rattle.mpm_run.specs.Times.{IsBrokenOff, IsInformed, IsInformedSoFar, WasInformed, moment_for};
 
-use crate::serve::{close, park, serve};
 use board::{AcceptFault, Board, BoardFault, Taken};
 use conn_machine::Why;
-use conn_state::Conn;
+use conn_machine::laws::{each_pass_has_its_own_connection, passes_leave_the_rest_to_the_listener};
+use conn_state::{Conn, Known};
 use mpm_base::{Arrival, Cause, Clock, Front, GREATEST_MOMENT, Kind, Link, Moment, Ready, Woke};
 use std::alloc::Global;
+use std::marker::Model;
 use std::sync::Wait;
+use worker_group::{close, park, serve};
 
 /// The pass of the listener.
 const LISTENER: u32 = 0;
 
 /// The pass that serves.
 const SERVER: u32 = 1;
-
-/// How many passes there are.
-pub const PASSES: u32 = 2;
 
 /// Why the listener's turns end.
 #[derive(Clone, Copy, Debug, PartialEq, Eq)]
@@ -50,334 +61,223 @@ pub struct Rest {
     pub quiet: bool,
 }
 
-/// Takes the connections that come, has them served, and stops when nothing more can come. The server stops before that for
-/// a wait that failed, for a full history, and for want of memory where a call that the listener must make was refused for
-/// that; then each connection that waits is closed. However it stops, no connection is live then, and each child is gone. How
-/// it ended is read off the board.
-pub fn listen<R: Wait, L: Link + Send, F: Front<L = L>, C: Clock>(
-    rt: &R,
-    alloc: Global,
-    board: &mut Board<L>,
-    front: &mut F,
-    clock: &mut C,
-    ready: &mut Ready,
-)
-    requires passes { board.old.book.passes ≡ 2 }
-    requires listener { row_of 0 board.old.book.history ≡ None }
-    requires server { row_of 1 board.old.book.history ≡ None }
-    requires serving { board.old.book.state.going ≡ Serving }
-    requires hand { in_hand_count board.old.book.state ≡ 0 }
-    requires step { IsInStep (F.told front.old) board.old.book.state }
-    ensures keeps { Keeps board.old.book board.new.book }
-    ensures stopped { HasStopped (outside (F.script front.old) (F.told front.old) (F.counts front.old)) (outside (F.script front.new) (F.told front.new) (F.counts front.new)) board.new.book.state }
-    ensures follows { Follows (outside (F.script front.old) (F.told front.old) (F.counts front.old)) (outside (F.script front.new) (F.told front.new) (F.counts front.new)) }
-    ensures time { IsInTime (waits_of (F.told front.old)) (C.told clock.old) → IsInTime (waits_of (F.told front.new)) (C.told clock.new) }
-    ensures tells { (clients : List (List ℕ)) → LinksTell L.told → HasClients clients (F.told front.old) → AllTell clients board.old → AllTell clients board.new }
-{
-    match take_turns(rt, alloc, board, front, clock, ready) {
-        Ok(End::Ended) => {
-            board.halt(LISTENER, Why::FrontEnded);
-            retire_all(board);
+/// What the listener works on.
+#[derive(Drop)]
+pub struct Listener<L: Link + Send, F: Front<L = L>, C: Clock, N: Known> {
+    /// What gives new connections their memory.
+    pub alloc: Global,
+    /// The table of connections.
+    pub board: Board<L, N>,
+    /// Where connections, signals and time come from.
+    pub front: F,
+    /// The clock of the run.
+    pub clock: C,
+    /// The slots that the last wait gave.
+    pub ready: Ready,
+}
+
+impl<L: Link + Send, F: Front<L = L>, C: Clock, N: Known> Model for Listener<L, F, C, N> {
+    ghost use Rattle.mpm_run.specs.ListenInside.{SeenListener, IsNamed, outside};
+
+    ghost Value = { SeenListener };
+
+    ghost view = { λ l. record {
+      board = l.board;
+      front = outside (F.script l.front) (F.told l.front) (F.counts l.front);
+      calls = C.told l.clock;
+      ready = l.ready;
+    } };
+
+    ghost invariant = { λ l. IsNamed N.known L.told (F.told l.front) };
+}
+
+impl<L: Link + Send, F: Front<L = L>, C: Clock, N: Known> Listener<L, F, C, N> {
+    /// Takes the connections that come, has them served, and stops when nothing more can come. The server stops before that
+    /// for a wait that failed, for a full history, and for want of memory where a call that the listener must make was refused
+    /// for that; then each connection that waits is closed. However it stops, no connection is live then, and each child is
+    /// gone. How it ended is read off the board.
+    pub fn listen<R: Wait>(&mut self, rt: &R)
+        requires passes { 1 < self.old.board.book.passes }
+        requires opened { IsOpened self.old.board.book.base }
+        requires free { NoneHas self.old.board.book }
+        requires going { is_halted self.old.board.book.state.going ≡ false }
+        requires step { IsInStep self.old.front.told self.old.board.book.state }
+        requires informed { IsInformed (waits_of self.old.front.told) self.old.calls self.old.board.book }
+        ensures base { self.new.board.book.base ≡ self.old.board.book.base }
+        ensures stopped { HasStopped self.old.front self.new.front self.new.board.book.state }
+        ensures follows { Follows self.old.front self.new.front }
+        ensures time { IsInTime (waits_of self.old.front.told) self.old.calls → IsInTime (waits_of self.new.front.told) self.new.calls }
+        ensures informed { WasInformed (waits_of self.new.front.told) self.new.calls self.new.board.book }
+    {
+        match self.take_turns(rt) {
+            Ok(End::Ended) => {
+                self.board.halt(LISTENER, Why::FrontEnded);
+                retire_all(&mut self.board);
+            }
+            Ok(End::Failed) => {
+                self.board.halt(LISTENER, Why::FrontFailed);
+                close_all(&mut self.board);
+                retire_all(&mut self.board);
+            }
+            Err(fault) => {
+                stop(&mut self.board, fault);
+                close_all(&mut self.board);
+                retire_all(&mut self.board);
+            }
         }
-        Ok(End::Failed) => {
-            board.halt(LISTENER, Why::FrontFailed);
-            close_all(board);
-            retire_all(board);
+    }
+
+    /// Starts the children, and takes turns with the front until nothing more can come, each followed by the service of what
+    /// is signalled. What the next wait is told is found before that service, as a worker's service goes on by itself. Err
+    /// where the server has to stop before.
+    fn take_turns<R: Wait>(&mut self, rt: &R) -> Result<End, BoardFault>
+        requires passes { 1 < self.old.board.book.passes }
+        requires free { NoneHas self.old.board.book }
+        requires going { is_halted self.old.board.book.state.going ≡ false }
+        requires step { IsInStep self.old.front.told self.old.board.book.state }
+        requires informed { IsInformed (waits_of self.old.front.told) self.old.calls self.old.board.book }
+        ensures base { self.new.board.book.base ≡ self.old.board.book.base }
+        ensures passes { self.new.board.book.passes ≡ self.old.board.book.passes }
+        ensures free { NoneHas self.new.board.book }
+        ensures up { IsUp self.new.board.book.state.going }
+        ensures follows { Follows self.old.front self.new.front }
+        ensures time { IsInTime (waits_of self.old.front.told) self.old.calls → IsInTime (waits_of self.new.front.told) self.new.calls }
+        ensures ok { IfOk result (λ end. TurnsEnd end self.old.front self.new.front self.new.board.book.state) }
+        ensures informed { OnOk result (IsInformed (waits_of self.new.front.told) self.new.calls self.new.board.book) }
+        ensures err { IfErr result (λ fault. MustStop fault self.new.board.book) }
+        ensures begun { OnErr result (IsInformedSoFar (waits_of self.new.front.told) self.new.calls self.new.board.book) }
+    {
+        start_children(&mut self.board)?;
+        let mut rest = Rest {
+            until: None,
+            quiet: true,
+        };
+        for _ in rt.forever() {
+            let woke = self.front.wait(rt, rest.until, rest.quiet, &mut self.ready);
+            match woke {
+                Woke::Ended if !has_live(&self.board) => return Ok(End::Ended),
+                Woke::Failed => return Ok(End::Failed),
+                _ => (),
+            }
+            let moment = moment_of(&self.board, &mut self.clock, woke);
+            self.take_in(rt, moment)?;
+            rest = find_rest(&self.board);
+            serve_all(&mut self.board)?;
+            if self.board.going().is_halted() {
+                return Err(BoardFault::Halted);
+            }
         }
-        Err(fault) => {
-            stop(board, fault);
-            close_all(board);
-            retire_all(board);
+        unreachable!()
+    }
+
+    /// Lets time pass to the moment, signals what something came for, and takes what has arrived.
+    fn take_in<R: Wait>(&mut self, rt: &R, moment: Moment) -> Result<(), BoardFault>
+        requires passes { 0 < self.old.board.book.passes }
+        requires free { row_of 0 self.old.board.book.history ≡ None }
+        requires up { IsUp self.old.board.book.state.going }
+        requires step { IsInStep self.old.front.told self.old.board.book.state }
+        ensures round { OnOk result (GoesRound (moment_for moment) self.old.ready self.old.board.book self.new.board.book) }
+        ensures broken { OnErr result (BreaksOff (moment_for moment) self.old.ready self.old.board.book self.new.board.book) }
+        ensures up { IsUp self.new.board.book.state.going }
+        ensures moment { OnOk result (self.new.board.book.state.moment ≡ max self.old.board.book.state.moment (moment_for moment)) }
+        ensures step { OnOk result (IsInStep self.new.front.told self.new.board.book.state) }
+        ensures taken { OnOk result (TookAll self.new.front.told self.old.front.counts self.new.front.counts self.new.board.book.state) }
+        ensures follows { Follows self.old.front self.new.front }
+        ensures waits { waits_of self.new.front.told ≡ waits_of self.old.front.told }
+        ensures calls { self.new.calls ≡ self.old.calls }
+        ensures err { IfErr result (λ fault. MustStop fault self.new.board.book) }
+    {
+        pass_time(&mut self.board, moment)?;
+        signal_all(&mut self.board, self.ready.slots())?;
+        start_children(&mut self.board)?;
+        self.take_all(rt)
+    }
+
+    /// Takes the connections that have arrived, while a child admits one and a slot is vacant.
+    fn take_all<R: Wait>(&mut self, rt: &R) -> Result<(), BoardFault>
+        requires passes { 0 < self.old.board.book.passes }
+        requires free { row_of 0 self.old.board.book.history ≡ None }
+        requires up { IsUp self.old.board.book.state.going }
+        requires step { IsInStep self.old.front.told self.old.board.book.state }
+        ensures takes { OnOk result (TakesSome self.old.board.book self.new.board.book) }
+        ensures until { OnErr result (TakesUntil self.old.board.book self.new.board.book) }
+        ensures up { IsUp self.new.board.book.state.going }
+        ensures moment { self.new.board.book.state.moment ≡ self.old.board.book.state.moment }
+        ensures step { OnOk result (IsInStep self.new.front.told self.new.board.book.state) }
+        ensures taken { OnOk result (TookAll self.new.front.told self.old.front.counts self.new.front.counts self.new.board.book.state) }
+        ensures follows { Follows self.old.front self.new.front }
+        ensures waits { waits_of self.new.front.told ≡ waits_of self.old.front.told }
+        ensures calls { self.new.calls ≡ self.old.calls }
+        ensures ready { self.new.ready ≡ self.old.ready }
+        ensures err { IfErr result (λ fault. MustStop fault self.new.board.book) }
+    {
+        for _ in rt.forever() {
+            if self.board.can_accept().is_none() {
+                return Ok(());
+            }
+            match self.front.accept() {
+                Arrival::Some(link) => self.take(link)?,
+                Arrival::None | Arrival::Failed => return Ok(()),
+            }
         }
+        unreachable!()
+    }
+
+    /// Takes the connection of the link into the table, and has the front watch it under its name. Where the table refuses it,
+    /// or the front can't watch it, it is closed.
+    fn take(&mut self, link: L) -> Result<(), BoardFault>
+        requires passes { 0 < self.old.board.book.passes }
+        requires free { row_of 0 self.old.board.book.history ≡ None }
+        requires acceptable { is_some (acceptable self.old.board.book.state) ≡ true }
+        requires up { IsUp self.old.board.book.state.going }
+        requires arrival { IsArrival self.old.board.book.state.accepted (L.told link) }
+        requires client { IsOfClient N.known (L.told link) }
+        requires healthy { (L.counts link).faults ≡ 0 }
+        ensures takes { OnOk result (IsTaking (L.told link) self.old self.new) }
+        ensures until { OnErr result (TakesUntil self.old.board.book self.new.board.book) }
+        ensures up { IsUp self.new.board.book.state.going }
+        ensures moment { self.new.board.book.state.moment ≡ self.old.board.book.state.moment }
+        ensures taken { OnOk result (self.new.board.book.state.accepted ≡ next_count self.old.board.book.state.accepted) }
+        ensures step { IsInStep self.old.front.told self.new.board.book.state → IsInStep self.new.front.told self.new.board.book.state }
+        ensures follows { Follows self.old.front self.new.front }
+        ensures waits { waits_of self.new.front.told ≡ waits_of self.old.front.told }
+        ensures counts { self.new.front.counts ≡ self.old.front.counts }
+        ensures calls { self.new.calls ≡ self.old.calls }
+        ensures ready { self.new.ready ≡ self.old.ready }
+        ensures err { IfErr result (λ fault. MustStop fault self.new.board.book) }
+    {
+        let mut link = link;
+        let taken = match accept(&mut self.board) {
+            Ok(taken) => taken,
+            Err(fault) => {
+                link.close();
+                return Err(fault);
+            }
+        };
+        let watched = self.front.watch(taken.name, &mut link);
+        let conn = Conn::new(self.alloc, taken.name, taken.child, taken.generation, link);
+        conn.show();
+        settle(&mut self.board, conn, watched)
     }
 }
 
-/// Starts the children, and takes turns with the front until nothing more can come, each followed by the service of what is
-/// signalled. What the next wait is told is found before that service, as a worker's service goes on by itself. Err where the
-/// server has to stop before.
-fn take_turns<R: Wait, L: Link + Send, F: Front<L = L>, C: Clock>(
-    rt: &R,
-    alloc: Global,
-    board: &mut Board<L>,
-    front: &mut F,
-    clock: &mut C,
-    ready: &mut Ready,
-) -> Result<End, BoardFault>
-    requires passes { board.old.book.passes ≡ 2 }
-    requires listener { row_of 0 board.old.book.history ≡ None }
-    requires server { row_of 1 board.old.book.history ≡ None }
-    requires serving { board.old.book.state.going ≡ Serving }
-    requires step { IsInStep (F.told front.old) board.old.book.state }
-    ensures keeps { Keeps board.old.book board.new.book }
-    ensures free { row_of 0 board.new.book.history ≡ None }
-    ensures follows { Follows (outside (F.script front.old) (F.told front.old) (F.counts front.old)) (outside (F.script front.new) (F.told front.new) (F.counts front.new)) }
-    ensures time { IsInTime (waits_of (F.told front.old)) (C.told clock.old) → IsInTime (waits_of (F.told front.new)) (C.told clock.new) }
-    ensures ok { IfOk result (λ end. TurnsEnd end (outside (F.script front.old) (F.told front.old) (F.counts front.old)) (outside (F.script front.new) (F.told front.new) (F.counts front.new)) board.new.book.state) }
-    ensures err { IfErr result (λ fault. MustStop fault board.new.book) }
-    ensures tells { (clients : List (List ℕ)) → LinksTell L.told → HasClients clients (F.told front.old) → AllTell clients board.old → AllTell clients board.new }
-{
-    start_children(board)?;
-    let mut rest = Rest {
-        until: None,
-        quiet: true,
-    };
-    for _ in rt.forever() {
-        let woke = front.wait(rt, rest.until, rest.quiet, ready);
-        match woke {
-            Woke::Ended if !has_live(board) => return Ok(End::Ended),
-            Woke::Failed => return Ok(End::Failed),
-            _ => (),
-        }
-        let moment = moment_of(board, clock, woke);
-        take_in(rt, alloc, board, front, ready, moment)?;
-        rest = find_rest(board);
-        serve_all(board)?;
-        if board.going().is_halted() {
-            return Err(BoardFault::Halted);
-        }
-    }
-    unreachable!()
-}
-
-/// The moment behind a wait: what the clock says where the wait gave one, and else the present one.
-fn moment_of<L: Link, C: Clock>(board: &Board<L>, clock: &mut C, woke: Woke) -> Moment
-    ensures { AsksFor woke (C.told clock.old) (C.told clock.new) }
-{
-    match woke {
-        Woke::Woke(at) => clock.now(at),
-        Woke::Ended | Woke::Failed => board.moment(),
-    }
-}
-
-/// Lets time pass to the moment, signals what something came for, and takes what has arrived.
-fn take_in<R: Wait, L: Link + Send, F: Front<L = L>>(
-    rt: &R,
-    alloc: Global,
-    board: &mut Board<L>,
-    front: &mut F,
-    ready: &Ready,
-    moment: Moment,
+/// A connection that was just taken waits for its first request, where the front watches it; else it is closed.
+fn settle<L: Link, N: Known>(
+    board: &mut Board<L, N>,
+    conn: Conn<L, N>,
+    watched: bool,
 ) -> Result<(), BoardFault>
-    requires passes { board.old.book.passes ≡ 2 }
-    requires free { row_of 0 board.old.book.history ≡ None }
-    requires serving { board.old.book.state.going ≡ Serving }
-    requires step { IsInStep (F.told front.old) board.old.book.state }
-    ensures keeps { Keeps board.old.book board.new.book }
-    ensures acts { Acts 0 None board.old.book board.new.book }
-    ensures going { OnOk result (board.new.book.state.going ≡ Serving) }
-    ensures step { OnOk result (IsInStep (F.told front.new) board.new.book.state) }
-    ensures follows { Follows (outside (F.script front.old) (F.told front.old) (F.counts front.old)) (outside (F.script front.new) (F.told front.new) (F.counts front.new)) }
-    ensures waits { waits_of (F.told front.new) ≡ waits_of (F.told front.old) }
+    requires passes { 0 < board.old.book.passes }
+    requires row { row_of 0 board.old.book.history ≡ Some conn.name }
+    requires hand { IsInHand board.old.book.state conn }
+    requires allowed { is_halted board.old.book.state.going ≡ false → is_allowed board.old.book.state (event.Park conn.name Reading) ≡ true }
+    requires settled { watched ≡ true → IsSettled Reading conn }
+    requires closable { watched ≡ false → IsClosable board.old.book.state cause.LinkFailed conn }
+    ensures left { OnOk result (Acts 0 (left_events (way_of watched) conn.name) None board.old.book board.new.book) }
+    ensures given_up { IfErr result (λ fault. GivesUp fault conn.name board.old.book board.new.book) }
+    ensures rest { LeavesRest board.old.book board.new.book }
     ensures err { IfErr result (λ fault. MustStop fault board.new.book) }
-    ensures moment { OnOk result (board.new.book.state.moment ≡ max board.old.book.state.moment (min moment greatest_moment)) }
-    ensures taken { OnOk result (TookAll (F.told front.new) (F.counts front.old) (F.counts front.new) board.new.book.state) }
-    ensures tells { (clients : List (List ℕ)) → LinksTell L.told → HasClients clients (F.told front.old) → AllTell clients board.old → AllTell clients board.new }
 {
-    pass_time(board, moment)?;
-    signal_all(board, ready.slots())?;
-    start_children(board)?;
-    take_all(rt, alloc, board, front)
-}
-
-/// What the next wait is told: until when it may take, and whether nobody serves or has to.
-fn find_rest<L: Link>(board: &Board<L>) -> Rest
-    ensures until { result.until ≡ next_deadline_of board.now.book.state }
-    ensures quiet { IsRestful result.quiet board.now.book.state }
-{
-    Rest {
-        until: board.next_deadline(),
-        quiet: board.quiet()
-            && board.signalled().is_none()
-            && board.can_retire().is_none()
-            && board.can_start().is_none(),
-    }
-}
-
-/// Whether a connection is live: one in hand, or one that waits.
-fn has_live<L: Link>(board: &Board<L>) -> bool
-    ensures { result ≡ list_any is_live board.now.book.state.rows }
-{
-    !board.quiet() || board.parked().is_some()
-}
-
-/// Lets time pass to the moment, where it is later than the present one. A connection that is late is closed before and after.
-fn pass_time<L: Link>(board: &mut Board<L>, moment: Moment) -> Result<(), BoardFault>
-    requires passes { board.old.book.passes ≡ 2 }
-    requires free { row_of 0 board.old.book.history ≡ None }
-    requires serving { board.old.book.state.going ≡ Serving }
-    ensures stays { Stays board.old.book board.new.book }
-    ensures acts { Acts 0 None board.old.book board.new.book }
-    ensures err { IfErr result (λ fault. MustStop fault board.new.book) }
-    ensures moment { OnOk result (board.new.book.state.moment ≡ max board.old.book.state.moment (min moment greatest_moment)) }
-    ensures tells { (clients : List (List ℕ)) → AllTell clients board.old → AllTell clients board.new }
-{
-    close_overdue(board);
-    let moment = moment.min(GREATEST_MOMENT);
-    if moment > board.moment() {
-        board.show();
-        board.tick(LISTENER, moment)?;
-        close_overdue(board);
-    }
-    Ok(())
-}
-
-/// Closes each connection that is late. Lingering closes are not built yet: such a connection ends for want of memory, the one
-/// cause that needs no other. Takes no memory.
-#[tactic(auto, using(crate::proofs::PassLemmas::acts_none))]
-fn close_overdue<L: Link>(board: &mut Board<L>)
-    requires passes { board.old.book.passes ≡ 2 }
-    requires free { row_of 0 board.old.book.history ≡ None }
-    ensures stays { Stays board.old.book board.new.book }
-    ensures acts { Acts 0 None board.old.book board.new.book }
-    ensures none { NoneOverdue board.new.book.state }
-    ensures moment { board.new.book.state.moment ≡ board.old.book.state.moment }
-    ensures tells { (clients : List (List ℕ)) → AllTell clients board.old → AllTell clients board.new }
-{
-    while let Some(name) = board.overdue() {
-        let conn = board.hold(LISTENER, name);
-        board.show();
-        close(board, LISTENER, conn, Cause::NoMemory);
-    }
-}
-
-/// Signals each of the slots that the table has.
-#[tactic(auto, using(crate::proofs::PassLemmas::acts_none))]
-fn signal_all<L: Link>(board: &mut Board<L>, slots: &[u32]) -> Result<(), BoardFault>
-    requires passes { board.old.book.passes ≡ 2 }
-    requires free { row_of 0 board.old.book.history ≡ None }
-    requires serving { board.old.book.state.going ≡ Serving }
-    ensures keeps { Keeps board.old.book board.new.book }
-    ensures acts { Acts 0 None board.old.book board.new.book }
-    ensures going { board.new.book.state.going ≡ Serving }
-    ensures taken { board.new.book.state.accepted ≡ board.old.book.state.accepted }
-    ensures err { IfErr result (λ fault. MustStop fault board.new.book) }
-    ensures signalled { OnOk result (AreSignalled slots.now board.new.book.state) }
-    ensures moment { board.new.book.state.moment ≡ board.old.book.state.moment }
-    ensures tells { (clients : List (List ℕ)) → AllTell clients board.old → AllTell clients board.new }
-{
-    for slot in slots {
-        signal(board, *slot)?;
-    }
-    Ok(())
-}
-
-/// Signals the slot, where the table has it.
-#[tactic(auto, using(crate::proofs::PassLemmas::acts_none))]
-fn signal<L: Link>(board: &mut Board<L>, slot: u32) -> Result<(), BoardFault>
-    requires passes { board.old.book.passes ≡ 2 }
-    requires free { row_of 0 board.old.book.history ≡ None }
-    requires serving { board.old.book.state.going ≡ Serving }
-    ensures keeps { Keeps board.old.book board.new.book }
-    ensures acts { Acts 0 None board.old.book board.new.book }
-    ensures going { board.new.book.state.going ≡ Serving }
-    ensures taken { board.new.book.state.accepted ≡ board.old.book.state.accepted }
-    ensures err { IfErr result (λ fault. MustStop fault board.new.book) }
-    ensures signalled { OnOk result (slot < length board.old.book.state.rows → is_signalled board.new.book.state slot ≡ true) }
-    ensures others { (other : ℕ) → is_signalled board.old.book.state other ≡ true → is_signalled board.new.book.state other ≡ true }
-    ensures rows { board.new.book.state.rows ≡ board.old.book.state.rows }
-    ensures moment { board.new.book.state.moment ≡ board.old.book.state.moment }
-    ensures tells { (clients : List (List ℕ)) → AllTell clients board.old → AllTell clients board.new }
-{
-    board.show();
-    if slot as usize >= board.state().rows.len() {
-        return Ok(());
-    }
-    board.ready(LISTENER, slot)
-}
-
-/// Starts children, while fewer run than should.
-#[tactic(auto, using(crate::proofs::PassLemmas::acts_none))]
-fn start_children<L: Link>(board: &mut Board<L>) -> Result<(), BoardFault>
-    requires passes { board.old.book.passes ≡ 2 }
-    requires free { row_of 0 board.old.book.history ≡ None }
-    requires serving { board.old.book.state.going ≡ Serving }
-    ensures stays { Stays board.old.book board.new.book }
-    ensures acts { Acts 0 None board.old.book board.new.book }
-    ensures err { IfErr result (λ fault. MustStop fault board.new.book) }
-    ensures started { OnOk result (startable board.new.book.state ≡ None) }
-    ensures moment { board.new.book.state.moment ≡ board.old.book.state.moment }
-    ensures tells { (clients : List (List ℕ)) → AllTell clients board.old → AllTell clients board.new }
-{
-    while let Some(child) = board.can_start() {
-        board.show();
-        board.start_child(LISTENER, child)?;
-    }
-    Ok(())
-}
-
-/// Takes the connections that have arrived, while a child admits one and a slot is vacant.
-#[tactic(auto, using(crate::proofs::PassLemmas::acts_none))]
-fn take_all<R: Wait, L: Link + Send, F: Front<L = L>>(
-    rt: &R,
-    alloc: Global,
-    board: &mut Board<L>,
-    front: &mut F,
-) -> Result<(), BoardFault>
-    requires passes { board.old.book.passes ≡ 2 }
-    requires free { row_of 0 board.old.book.history ≡ None }
-    requires serving { board.old.book.state.going ≡ Serving }
-    requires step { IsInStep (F.told front.old) board.old.book.state }
-    ensures keeps { Keeps board.old.book board.new.book }
-    ensures acts { Acts 0 None board.old.book board.new.book }
-    ensures going { OnOk result (board.new.book.state.going ≡ Serving) }
-    ensures step { OnOk result (IsInStep (F.told front.new) board.new.book.state) }
-    ensures follows { Follows (outside (F.script front.old) (F.told front.old) (F.counts front.old)) (outside (F.script front.new) (F.told front.new) (F.counts front.new)) }
-    ensures waits { waits_of (F.told front.new) ≡ waits_of (F.told front.old) }
-    ensures err { IfErr result (λ fault. MustStop fault board.new.book) }
-    ensures taken { OnOk result (TookAll (F.told front.new) (F.counts front.old) (F.counts front.new) board.new.book.state) }
-    ensures moment { board.new.book.state.moment ≡ board.old.book.state.moment }
-    ensures tells { (clients : List (List ℕ)) → LinksTell L.told → HasClients clients (F.told front.old) → AllTell clients board.old → AllTell clients board.new }
-{
-    for _ in rt.forever() {
-        if board.can_accept().is_none() {
-            return Ok(());
-        }
-        match front.accept() {
-            Arrival::Some(link) => take(alloc, board, front, link)?,
-            Arrival::None | Arrival::Failed => return Ok(()),
-        }
-    }
-    unreachable!()
-}
-
-/// Takes the connection of the link into the table, and has the front watch it. Where the table refuses it, or the front
-/// can't watch it, it is closed.
-#[tactic(auto, using(crate::proofs::PassLemmas::acts_none))]
-fn take<L: Link + Send, F: Front<L = L>>(
-    alloc: Global,
-    board: &mut Board<L>,
-    front: &mut F,
-    link: L,
-) -> Result<(), BoardFault>
-    requires passes { board.old.book.passes ≡ 2 }
-    requires free { row_of 0 board.old.book.history ≡ None }
-    requires serving { board.old.book.state.going ≡ Serving }
-    requires acceptable { is_some (acceptable board.old.book.state) ≡ true }
-    requires arrival { IsArrival board.old.book.state.accepted (L.told link) }
-    requires healthy { (L.counts link).faults ≡ 0 }
-    ensures keeps { Keeps board.old.book board.new.book }
-    ensures acts { Acts 0 None board.old.book board.new.book }
-    ensures going { OnOk result (board.new.book.state.going ≡ Serving) }
-    ensures taken { OnOk result (board.new.book.state.accepted ≡ next_count board.old.book.state.accepted) }
-    ensures step { IsInStep (F.told front.old) board.new.book.state → IsInStep (F.told front.new) board.new.book.state }
-    ensures follows { Follows (outside (F.script front.old) (F.told front.old) (F.counts front.old)) (outside (F.script front.new) (F.told front.new) (F.counts front.new)) }
-    ensures waits { waits_of (F.told front.new) ≡ waits_of (F.told front.old) }
-    ensures err { IfErr result (λ fault. MustStop fault board.new.book) }
-    ensures counts { F.counts front.new ≡ F.counts front.old }
-    ensures moment { board.new.book.state.moment ≡ board.old.book.state.moment }
-    ensures tells { (clients : List (List ℕ)) → AllTell clients board.old → TellsFrom clients (L.told link) → AllTell clients board.new }
-{
-    let mut link = link;
-    let taken = match accept(board) {
-        Ok(taken) => taken,
-        Err(fault) => {
-            link.close();
-            return Err(fault);
-        }
-    };
-    let watched = front.watch(taken.name, &mut link);
-    let conn = Conn::new(alloc, taken.name, taken.child, taken.generation, link);
-    conn.show();
     if watched {
         park(board, LISTENER, conn, Kind::Reading)
     } else {
@@ -387,22 +287,17 @@ fn take<L: Link + Send, F: Front<L = L>>(
 }
 
 /// Takes a connection into a slot, for the child that takes one. Where it is refused nothing changes.
-fn accept<L: Link>(board: &mut Board<L>) -> Result<Taken, BoardFault>
-    requires passes { board.old.book.passes ≡ 2 }
+fn accept<L: Link, N: Known>(board: &mut Board<L, N>) -> Result<Taken, BoardFault>
+    requires passes { 0 < board.old.book.passes }
     requires free { row_of 0 board.old.book.history ≡ None }
-    requires serving { board.old.book.state.going ≡ Serving }
     requires acceptable { is_some (acceptable board.old.book.state) ≡ true }
-    ensures base { board.new.book.base ≡ board.old.book.base }
-    ensures acts { IfOk result (λ taken. Acts 0 (Some taken.name) board.old.book board.new.book) }
-    ensures passes { board.new.book.passes ≡ board.old.book.passes }
-    ensures hand { OnOk result (in_hand_count board.new.book.state ≤ in_hand_count board.old.book.state + 1) }
+    ensures acts { IfOk result (λ taken. Acts 0 (event.Accept taken.name.slot ∷ []) (Some taken.name) board.old.book board.new.book) }
     ensures refused { OnErr result (board.new ≡ board.old) }
-    ensures going { board.new.book.state.going ≡ Serving }
+    ensures going { board.new.book.state.going ≡ board.old.book.state.going }
     ensures taken { OnOk result (board.new.book.state.accepted ≡ next_count board.old.book.state.accepted) }
     ensures held { IfOk result (λ taken. HasTaken board.new.book.state taken.name taken.child taken.generation board.old.book.state.accepted) }
-    ensures same { HasSame board.old board.new }
-    ensures err { IfErr result (λ fault. MustStop fault board.new.book) }
     ensures moment { board.new.book.state.moment ≡ board.old.book.state.moment }
+    ensures err { IfErr result (λ fault. MustStop fault board.new.book) }
 {
     board.show();
     match board.accept(LISTENER) {
@@ -418,34 +313,151 @@ fn accept<L: Link>(board: &mut Board<L>) -> Result<Taken, BoardFault>
     }
 }
 
-/// Serves each connection that is signalled and that a worker of its child is free for.
-#[tactic(auto, using(crate::proofs::PassLemmas::acts_none))]
-fn serve_all<L: Link>(board: &mut Board<L>) -> Result<(), BoardFault>
-    requires passes { board.old.book.passes ≡ 2 }
-    requires free { row_of 1 board.old.book.history ≡ None }
-    requires serving { board.old.book.state.going ≡ Serving }
-    ensures goes { StaysUnlessFull board.old.book board.new.book }
-    ensures acts { Acts 1 None board.old.book board.new.book }
-    ensures err { IfErr result (λ fault. MustStop fault board.new.book) }
-    ensures served { OnOk result (NoneDue board.new.book.state) }
-    ensures tells { (clients : List (List ℕ)) → AllTell clients board.old → AllTell clients board.new }
+/// The moment behind a wait: what the clock says where the wait gave one, and else the present one.
+fn moment_of<L: Link, N: Known, C: Clock>(board: &Board<L, N>, clock: &mut C, woke: Woke) -> Moment
+    ensures { AsksFor woke board.now.book.state.moment (C.told clock.old) (C.told clock.new) result }
 {
+    match woke {
+        Woke::Woke(at) => clock.now(at),
+        Woke::Ended | Woke::Failed => board.moment(),
+    }
+}
+
+/// What the next wait is told: until when it may take, and whether nobody serves or has to.
+fn find_rest<L: Link, N: Known>(board: &Board<L, N>) -> Rest
+    ensures until { result.until ≡ next_deadline_of board.now.book.state }
+    ensures quiet { IsRestful result.quiet board.now.book.state }
+{
+    Rest {
+        until: board.next_deadline(),
+        quiet: board.quiet()
+            && board.signalled().is_none()
+            && board.can_retire().is_none()
+            && board.can_start().is_none(),
+    }
+}
+
+/// Whether a connection is live: one in hand, or one that waits.
+fn has_live<L: Link, N: Known>(board: &Board<L, N>) -> bool
+    ensures { result ≡ list_any is_live board.now.book.state.rows }
+{
+    !board.quiet() || board.parked().is_some()
+}
+
+/// Lets time pass to the moment, where it is later than the present one. A connection that is late is closed before and after.
+fn pass_time<L: Link, N: Known>(board: &mut Board<L, N>, moment: Moment) -> Result<(), BoardFault>
+    requires passes { 0 < board.old.book.passes }
+    requires free { row_of 0 board.old.book.history ≡ None }
+    requires up { IsUp board.old.book.state.going }
+    ensures passes { OnOk result (PassesTime (moment_for moment) board.old.book board.new.book) }
+    ensures refused { OnErr result (ClosesSome cause.NoMemory board.old.book board.new.book) }
+    ensures none { OnOk result (NoneOverdue board.new.book.state) }
+    ensures up { IsUp board.new.book.state.going }
+    ensures moment { OnOk result (board.new.book.state.moment ≡ max board.old.book.state.moment (moment_for moment)) }
+    ensures taken { board.new.book.state.accepted ≡ board.old.book.state.accepted }
+    ensures err { IfErr result (λ fault. MustStop fault board.new.book) }
+{
+    close_overdue(board);
+    let moment = moment.min(GREATEST_MOMENT);
+    if moment > board.moment() {
+        board.show();
+        board.tick(LISTENER, moment)?;
+        close_overdue(board);
+    }
+    Ok(())
+}
+
+/// Closes each connection that is late. Lingering closes are not built yet: such a connection ends for want of memory, the one
+/// cause that needs no other. Takes no memory.
+fn close_overdue<L: Link, N: Known>(board: &mut Board<L, N>)
+    requires passes { 0 < board.old.book.passes }
+    requires free { row_of 0 board.old.book.history ≡ None }
+    ensures closes { ClosesSome cause.NoMemory board.old.book board.new.book }
+    ensures none { NoneOverdue board.new.book.state }
+    ensures rest { LeavesRest board.old.book board.new.book }
+{
+    while let Some(name) = board.overdue() {
+        let conn = board.hold(LISTENER, name);
+        board.show();
+        close(board, LISTENER, conn, Cause::NoMemory);
+    }
+}
+
+/// Signals each of the slots that the table has.
+fn signal_all<L: Link, N: Known>(board: &mut Board<L, N>, slots: &[u32]) -> Result<(), BoardFault>
+    requires passes { 0 < board.old.book.passes }
+    requires free { row_of 0 board.old.book.history ≡ None }
+    ensures signals { OnOk result (Acts 0 (signal_events board.old.book slots.now) None board.old.book board.new.book) }
+    ensures first { OnErr result (SignalsFirst slots.now board.old.book board.new.book) }
+    ensures rest { LeavesRest board.old.book board.new.book }
+    ensures err { IfErr result (λ fault. MustStop fault board.new.book) }
+{
+    for slot in slots {
+        signal(board, *slot)?;
+    }
+    Ok(())
+}
+
+/// Signals the slot, where the table has it. Where it is refused nothing changes.
+fn signal<L: Link, N: Known>(board: &mut Board<L, N>, slot: u32) -> Result<(), BoardFault>
+    requires passes { 0 < board.old.book.passes }
+    requires free { row_of 0 board.old.book.history ≡ None }
+    ensures signals { OnOk result (Acts 0 (signal_events board.old.book (slot ∷ [])) None board.old.book board.new.book) }
+    ensures rest { LeavesRest board.old.book board.new.book }
+    ensures refused { OnErr result (board.new ≡ board.old) }
+    ensures err { IfErr result (λ fault. MustStop fault board.new.book) }
+{
+    board.show();
+    if slot as usize >= board.state().rows.len() {
+        return Ok(());
+    }
+    board.ready(LISTENER, slot)
+}
+
+/// Starts children, while fewer run than should.
+fn start_children<L: Link, N: Known>(board: &mut Board<L, N>) -> Result<(), BoardFault>
+    requires passes { 0 < board.old.book.passes }
+    requires free { row_of 0 board.old.book.history ≡ None }
+    ensures starts { StartsSome board.old.book board.new.book }
+    ensures started { OnOk result (startable board.new.book.state ≡ None) }
+    ensures going { board.new.book.state.going ≡ board.old.book.state.going }
+    ensures rest { LeavesRest board.old.book board.new.book }
+    ensures err { IfErr result (λ fault. MustStop fault board.new.book) }
+{
+    while let Some(child) = board.can_start() {
+        board.show();
+        board.start_child(LISTENER, child)?;
+    }
+    Ok(())
+}
+
+/// Serves each connection that is signalled and that a worker of its child is free for.
+fn serve_all<L: Link, N: Known>(board: &mut Board<L, N>) -> Result<(), BoardFault>
+    requires passes { 1 < board.old.book.passes }
+    requires free { row_of 1 board.old.book.history ≡ None }
+    ensures acts { (events : List Event) × Acts 1 events None board.old.book board.new.book }
+    ensures serves { OnlyServes board.old.book.state board.new.book.state }
+    ensures served { OnOk result (NoneDue board.new.book.state) }
+    ensures err { IfErr result (λ fault. MustStop fault board.new.book) }
+{
+    passes_leave_the_rest_to_the_listener();
+    show_state(board);
     while let Some(name) = board.signalled() {
         serve(board, SERVER, name)?;
+        board.show();
     }
     Ok(())
 }
 
 /// Stops the server for the fault, unless it was stopped. Takes no memory.
-#[tactic(auto, using(crate::proofs::PassLemmas::acts_none))]
-fn stop<L: Link>(board: &mut Board<L>, fault: BoardFault)
-    requires passes { board.old.book.passes ≡ 2 }
+fn stop<L: Link, N: Known>(board: &mut Board<L, N>, fault: BoardFault)
+    requires passes { 0 < board.old.book.passes }
     requires free { row_of 0 board.old.book.history ≡ None }
     requires must { MustStop fault board.old.book }
-    ensures keeps { Keeps board.old.book board.new.book }
-    ensures acts { Acts 0 None board.old.book board.new.book }
-    ensures stopped { (board.new.book.state.going ≡ Halted why.Full) ⊎ (board.new.book.state.going ≡ Halted why.NoMemory) }
-    ensures tells { (clients : List (List ℕ)) → AllTell clients board.old → AllTell clients board.new }
+    requires up { IsUp board.old.book.state.going }
+    ensures stops { is_halted board.old.book.state.going ≡ false → Acts 0 (stop_events fault) None board.old.book board.new.book }
+    ensures stays { is_halted board.old.book.state.going ≡ true → board.new ≡ board.old }
+    ensures stopped { IsBrokenOff board.new.book.state.going }
 {
     if board.going().is_halted() {
         return;
@@ -457,35 +469,51 @@ fn stop<L: Link>(board: &mut Board<L>, fault: BoardFault)
     }
 }
 
-/// Closes each connection that waits; none is live then where none was in hand. Takes no memory.
-#[tactic(auto, using(crate::proofs::PassLemmas::acts_none))]
-fn close_all<L: Link>(board: &mut Board<L>)
-    requires passes { board.old.book.passes ≡ 2 }
+/// Closes each connection that waits; none is live then where no pass had one. Takes no memory.
+fn close_all<L: Link, N: Known>(board: &mut Board<L, N>)
+    requires passes { 0 < board.old.book.passes }
+    requires opened { IsOpened board.old.book.base }
     requires free { row_of 0 board.old.book.history ≡ None }
     requires halted { is_halted board.old.book.state.going ≡ true }
-    ensures stays { Stays board.old.book board.new.book }
-    ensures acts { Acts 0 None board.old.book board.new.book }
+    ensures closes { ClosesSome cause.Stopped board.old.book board.new.book }
     ensures none { NoneParked board.new.book.state }
-    ensures live { in_hand_count board.old.book.state ≡ 0 → HasNoLive board.new.book.state }
-    ensures tells { (clients : List (List ℕ)) → AllTell clients board.old → AllTell clients board.new }
+    ensures live { NoneHas board.old.book → HasNoLive board.new.book.state }
+    ensures going { board.new.book.state.going ≡ board.old.book.state.going }
+    ensures rest { LeavesRest board.old.book board.new.book }
 {
     while let Some(name) = board.parked() {
         let conn = board.hold(LISTENER, name);
         board.show();
         close(board, LISTENER, conn, Cause::Stopped);
     }
+    show_none_live(board);
+}
+
+/// Shows that no connection is live where no pass has one and none waits. Does nothing.
+fn show_none_live<L: Link, N: Known>(board: &Board<L, N>)
+    requires { IsOpened board.now.book.base }
+    ensures { NoneHas board.now.book → NoneParked board.now.book.state → HasNoLive board.now.book.state }
+{
+    each_pass_has_its_own_connection();
+    board.show();
+}
+
+/// Shows that the state is that after the history. Does nothing.
+fn show_state<L: Link, N: Known>(board: &Board<L, N>)
+    ensures { after board.now.book.base board.now.book.history ≡ board.now.book.state }
+{
+    board.show();
 }
 
 /// Lets go of each child that may be let go of: of each one where no connection is live. Takes no memory.
-#[tactic(auto, using(crate::proofs::PassLemmas::acts_none))]
-fn retire_all<L: Link>(board: &mut Board<L>)
-    requires passes { board.old.book.passes ≡ 2 }
+fn retire_all<L: Link, N: Known>(board: &mut Board<L, N>)
+    requires passes { 0 < board.old.book.passes }
     requires free { row_of 0 board.old.book.history ≡ None }
     requires halted { is_halted board.old.book.state.going ≡ true }
-    ensures stays { Stays board.old.book board.new.book }
-    ensures acts { Acts 0 None board.old.book board.new.book }
+    ensures retires { RetiresSome board.old.book board.new.book }
     ensures down { HasNoLive board.old.book.state → IsClosedDown board.new.book.state }
-    ensures tells { (clients : List (List ℕ)) → AllTell clients board.old → AllTell clients board.new }
+    ensures going { board.new.book.state.going ≡ board.old.book.state.going }
+    ensures rest { LeavesRest board.old.book board.new.book }
 {
     while let Some(child) = board.can_retire() {
         board.retire(LISTENER, child);

@@ -2,62 +2,42 @@
 ghost use Rattle.std.specs.Prelude.{◌≡◌, ◌⊎◌, ◌<◌, ◌≤◌, ℕ, false, List, Some, None, [], IfOk, IfSome, IfNone, IsSomeAnd, IsNone, is_some, length, take, option_map};
 ghost use Rattle.std.specs.List.{list_any};
 ghost use Rattle.mpm_base.specs.Count.{NeverFalls, Rises};
-ghost use Rattle.conn_machine.specs.States.{opening_state};
 ghost use Rattle.conn_machine.specs.declared.state.Going.{Going};
-ghost use Rattle.mpm_run.specs.FirstShape as spec;
 ghost use Rattle.mpm_script.specs.Clients.{clients_of};
 ghost use Rattle.conn_machine.specs.declared.event.Why.TheVariants as why;
 ghost use Rattle.conn_machine.specs.declared.state.Going.TheVariants.{Halted};
-ghost use Rattle.mpm_run.specs.Listen.{HasClosedAll, IsClosedDown, IsRunFrom};
 ghost use Rattle.mpm_run.specs.ListenInside.{IsEnd};
 ghost use Rattle.mpm_run.specs.ExitStatuses as exit_statuses;
-ghost use Rattle.mpm_run.specs.ExitStatuses.{EndsFor, EndsFull, EndsRefused, EndsUnknown, EndsUnread, EndsUnwritten, EndsWell, HasPlayed, HasRun, IsCommand, IsNoCommand, IsExitStatus, KeepsTime, Reports, WritesText, board_report, is_cut, seen_call, sink_seen};
+ghost use Rattle.mpm_run.specs.ExitStatuses.{EndsFor, EndsFull, EndsRefused, EndsUnknown, EndsUnread, EndsUnwritten, EndsWell, HasEnd, HasPlayed, HasRun, IsExitStatus, KeepsTime, Reports, WritesText, board_report, is_cut, seen_call, sink_seen};
 ghost use Rattle.mpm_run.specs.ExitStatusesInside.{IsRefusalOf, IsStoppedStatus, IsPlayedStatus, IsExitStatusOf, ReportsAs, WritesAll};
-ghost use Rattle.mpm_run.specs.Tells.{AllReceive};
-ghost use Rattle.mpm_run.specs.TellsInside.{EndedTell};
 
 use crate::counting::tally;
 use crate::exit_status;
-use crate::listen::{PASSES, listen};
+use crate::invocation::invocation_of;
 use crate::report::report_text;
+use crate::run_numbers::first_numbers;
+use crate::server::{Served, run_server};
 use crate::texts::{ScriptRefusal, script_refused_text, store_fault_text, usage_text};
 use board::Board;
-use conn_machine::laws::{accepted_connections_are_closed_or_live, events_keep_states_sound};
 use conn_machine::{Going, Why};
-use mpm_base::{Cause, Link, NoMemory, Octets, Put, Ready, Shape, Sink, Store, StoreFault, Words};
-use mpm_config::default_shape;
+use conn_state::{Known, Nothing};
+use mpm_base::{Cause, Link, NoMemory, Octets, Put, Sink, Store, StoreFault, Words};
 use mpm_script::{Script, ScriptFault, read_script};
 use script_front::{ScriptClock, ScriptFront};
 use stand_ins::ScriptLink;
 use std::alloc::Global;
+use std::marker::Brand;
 use std::sync::Wait;
 use std::thread::Threads;
 
 /// The most bytes that a script may have.
 const MOST_SCRIPT: u64 = 67_108_864;
 
-/// How many slots the table has.
-const SLOTS: u32 = 64;
-
-/// How many child numbers there are.
-const CHILDREN: u32 = 1;
-
-/// The numbers that a run works by: those of an empty configuration, but for one child.
-fn first_shape() -> Shape
-    ensures { result ≡ spec.first_shape }
-{
-    Shape {
-        target: 1,
-        children: 1,
-        ..default_shape()
-    }
-}
-
 /// What is left of a run over a script.
 #[derive(Drop)]
 pub struct Scripted {
     /// The table of connections, as the run left it.
-    pub board: Board<ScriptLink>,
+    pub board: Board<ScriptLink, Nothing>,
     /// The front that played the script.
     pub front: ScriptFront,
     /// The clock of the run.
@@ -80,6 +60,7 @@ pub struct Outcome {
 /// Runs the command that the words give, over the store and the output. The one command is `--script FILE`.
 ///
 /// All texts go to `out`: the report of a run, or why there is none.
+#[tactic(auto, using(crate::proofs::CauseLemmas::is_large, crate::proofs::CauseLemmas::has_script, crate::proofs::CauseLemmas::is_script))]
 pub fn run<R: Threads + Wait + Sync, D: Store, K: Sink>(
     rt: &R,
     alloc: Global,
@@ -87,34 +68,39 @@ pub fn run<R: Threads + Wait + Sync, D: Store, K: Sink>(
     store: &mut D,
     out: &mut K,
 ) -> Outcome
-    // A run that ended is a whole run of the machine from its opening state, of the whole script, and the output has its report.
-    ensures served { result.status ≡ 0 → IsSomeAnd result.scripted (λ s. EndsWell (sink_seen (K.told out.old) (K.faults out.old)) (sink_seen (K.told out.new) (K.faults out.new)) s.board s.front) }
-
     // Whatever the exit status, what is left of a run is of one of the script that was read: it closed each connection that it took,
     // and each child is gone.
     ensures kept { IfSome result.scripted (λ s. HasPlayed (seen_call words.now (D.told store.old) (D.counts store.old) (D.told store.new) (D.counts store.new) (K.told out.old) (K.faults out.old) (K.told out.new) (K.faults out.new) result.shown) s.board s.front) }
+
+    // Its clock was told what the waits of its front gave, all of which the front tells, and answered that; and the ticks and signals
+    // of its history come from them.
+    ensures time { IfSome result.scripted (λ s. KeepsTime s.board s.front s.clock) }
+
+    // Why it stopped: where nothing more could come the whole script was played, whatever the exit status.
+    ensures ended { IfSome result.scripted (λ s. s.board.book.state.going ≡ Halted why.FrontEnded → HasEnd s.board s.front) }
     ensures stopped { IfSome result.scripted (λ s. EndsFor s.board.book.state.going result.status) }
 
-    // Its clock was told what the waits of its front gave, all of which the front tells, and answered that.
-    ensures time { IfSome result.scripted (λ s. KeepsTime s.front s.clock) }
+    // With exit status 0 it was, and the output has the report.
+    ensures served { result.status ≡ 0 → IsSomeAnd result.scripted (λ s. EndsWell (sink_seen (K.told out.old) (K.faults out.old)) (sink_seen (K.told out.new) (K.faults out.new)) s.board) }
 
     // Each other exit status has its cause.
     ensures known { IsExitStatus result.status }
     ensures unknown { result.status ≡ 2 → EndsUnknown (seen_call words.now (D.told store.old) (D.counts store.old) (D.told store.new) (D.counts store.new) (K.told out.old) (K.faults out.old) (K.told out.new) (K.faults out.new) result.shown) }
     ensures unread { result.status ≡ 3 → EndsUnread (seen_call words.now (D.told store.old) (D.counts store.old) (D.told store.new) (D.counts store.new) (K.told out.old) (K.faults out.old) (K.told out.new) (K.faults out.new) result.shown) }
     ensures refused { result.status ≡ 8 → EndsRefused (seen_call words.now (D.told store.old) (D.counts store.old) (D.told store.new) (D.counts store.new) (K.told out.old) (K.faults out.old) (K.told out.new) (K.faults out.new) result.shown) }
-    ensures unwritten { result.status ≡ 5 → IsSomeAnd result.scripted (λ s. EndsUnwritten (sink_seen (K.told out.old) (K.faults out.old)) (sink_seen (K.told out.new) (K.faults out.new)) s.board s.front) }
+    ensures unwritten { result.status ≡ 5 → IsSomeAnd result.scripted (λ s. EndsUnwritten (sink_seen (K.told out.old) (K.faults out.old)) (sink_seen (K.told out.new) (K.faults out.new)) s.board) }
     ensures full { result.status ≡ 7 → IsSomeAnd result.scripted (λ s. EndsFull (sink_seen (K.told out.old) (K.faults out.old)) (sink_seen (K.told out.new) (K.faults out.new)) s.board) }
 
     // A run that did not open for want of memory writes nothing.
     ensures silent { result.status ≡ 6 → IsNone result.scripted → K.told out.new ≡ K.told out.old }
 {
-    let Some(name) = script_name(words) else {
+    let Some(invocation) = invocation_of(words) else {
         let Ok(text) = usage_text(alloc) else {
             return no_memory();
         };
         return refuse(out, exit_status::UNKNOWN_WORDS, None, &text);
     };
+    let name = invocation.file();
     let bytes = match store.read(alloc, name, MOST_SCRIPT) {
         Ok(bytes) => bytes,
         Err(StoreFault::Missing) => {
@@ -140,20 +126,6 @@ pub fn run<R: Threads + Wait + Sync, D: Store, K: Sink>(
     match read_script(alloc, bytes.as_slice()) {
         Ok(script) => play_script(rt, alloc, script, out),
         Err(fault) => refuse_script(alloc, fault, out),
-    }
-}
-
-/// The name of the script, where the words are `--script` and one more.
-fn script_name(words: &Words) -> Option<&str>
-    ensures some { IfSome result (λ name. IsCommand words.now name.now) }
-    ensures none { IfNone result (IsNoCommand words.now) }
-{
-    if words.len() != 2 {
-        return None;
-    }
-    match words.get(0) {
-        Some("--script") => words.get(1),
-        _ => None,
     }
 }
 
@@ -209,26 +181,34 @@ fn refuse_script<K: Sink>(alloc: Global, fault: ScriptFault, out: &mut K) -> Out
 fn play_script<R: Wait, K: Sink>(rt: &R, alloc: Global, script: Script, out: &mut K) -> Outcome
     ensures kept { IfSome result.scripted (λ s. HasRun (clients_of script) s.board) }
     ensures script { IfSome result.scripted (λ s. s.front.script ≡ script) }
-    ensures time { IfSome result.scripted (λ s. KeepsTime s.front s.clock) }
+    ensures time { IfSome result.scripted (λ s. KeepsTime s.board s.front s.clock) }
+    ensures ended { IfSome result.scripted (λ s. s.board.book.state.going ≡ Halted why.FrontEnded → HasEnd s.board s.front) }
     ensures stopped { IfSome result.scripted (λ s. EndsFor s.board.book.state.going result.status) }
     ensures shown { result.shown ≡ None }
     ensures known { IsPlayedStatus result.status }
-    ensures served { result.status ≡ 0 → IsSomeAnd result.scripted (λ s. EndsWell (sink_seen (K.told out.old) (K.faults out.old)) (sink_seen (K.told out.new) (K.faults out.new)) s.board s.front) }
-    ensures unwritten { result.status ≡ 5 → IsSomeAnd result.scripted (λ s. EndsUnwritten (sink_seen (K.told out.old) (K.faults out.old)) (sink_seen (K.told out.new) (K.faults out.new)) s.board s.front) }
+    ensures served { result.status ≡ 0 → IsSomeAnd result.scripted (λ s. EndsWell (sink_seen (K.told out.old) (K.faults out.old)) (sink_seen (K.told out.new) (K.faults out.new)) s.board) }
+    ensures unwritten { result.status ≡ 5 → IsSomeAnd result.scripted (λ s. EndsUnwritten (sink_seen (K.told out.old) (K.faults out.old)) (sink_seen (K.told out.new) (K.faults out.new)) s.board) }
     ensures full { result.status ≡ 7 → IsSomeAnd result.scripted (λ s. EndsFull (sink_seen (K.told out.old) (K.faults out.old)) (sink_seen (K.told out.new) (K.faults out.new)) s.board) }
     ensures silent { IsNone result.scripted → K.told out.new ≡ K.told out.old }
 {
-    let Ok(mut board) = Board::make(alloc, SLOTS, CHILDREN, PASSES, first_shape()) else {
+    let Ok(front) = ScriptFront::make(alloc, script) else {
         return no_memory();
     };
-    let (Ok(mut front), Ok(mut ready)) = (ScriptFront::make(alloc, script), Ready::make(alloc))
-    else {
+    let clock = ScriptClock::make();
+    let Some(served) = run_server::<R, ScriptLink, ScriptFront, ScriptClock, Brand>(
+        rt,
+        alloc,
+        first_numbers(),
+        front,
+        clock,
+    ) else {
         return no_memory();
     };
-    let mut clock = ScriptClock::make();
-    board.show();
-    listen(rt, alloc, &mut board, &mut front, &mut clock, &mut ready);
-    show_run(&board);
+    let Served {
+        board,
+        front,
+        clock,
+    } = served;
     front.show();
     clock.show();
     finish(
@@ -240,19 +220,6 @@ fn play_script<R: Wait, K: Sink>(rt: &R, alloc: Global, script: Script, out: &mu
         },
         out,
     )
-}
-
-/// What a board shows of its run: each state on the way was sound; where no connection is live each one that was taken ended;
-/// and those that ended received a front of what their clients send. Does nothing.
-fn show_run<L: Link>(board: &Board<L>)
-    requires { board.now.book.base ≡ opening_state 64 1 spec.first_shape }
-    ensures run { IsRunFrom 64 1 spec.first_shape board.now }
-    ensures closed { IsClosedDown board.now.book.state → HasClosedAll board.now }
-    ensures receive { (clients : List (List ℕ)) → EndedTell clients board.now.ended → AllReceive clients board.now.ended }
-{
-    events_keep_states_sound();
-    accepted_connections_are_closed_or_live();
-    board.show();
 }
 
 /// The end of a run that opened: its report is written.
@@ -300,7 +267,7 @@ fn status_of(going: Going, cut: bool) -> u8
 }
 
 /// Whether a connection ended for another cause than that its client was done or that memory lacked.
-fn has_cut<L: Link>(board: &Board<L>) -> bool
+fn has_cut<L: Link, N: Known>(board: &Board<L, N>) -> bool
     ensures { result ≡ list_any is_cut board.now.ended }
 {
     board.ended().iter().any(|ended| is_cut_by(ended.cause))
@@ -314,7 +281,12 @@ fn is_cut_by(cause: Cause) -> bool
 }
 
 /// Writes the report of the run, and answers its exit status: a failed write changes 0 alone.
-fn report<L: Link, K: Sink>(alloc: Global, board: &Board<L>, out: &mut K, status: u8) -> u8
+fn report<L: Link, N: Known, K: Sink>(
+    alloc: Global,
+    board: &Board<L, N>,
+    out: &mut K,
+    status: u8,
+) -> u8
     requires status { IsStoppedStatus status }
     ensures status { ReportsAs status result }
     ensures reported { result ≡ 0 → Reports (sink_seen (K.told out.old) (K.faults out.old)) (sink_seen (K.told out.new) (K.faults out.new)) board.now }
@@ -330,7 +302,7 @@ fn report<L: Link, K: Sink>(alloc: Global, board: &Board<L>, out: &mut K, status
 }
 
 /// The report of the board.
-fn report_of<L: Link>(alloc: Global, board: &Board<L>) -> Result<Octets, NoMemory>
+fn report_of<L: Link, N: Known>(alloc: Global, board: &Board<L, N>) -> Result<Octets, NoMemory>
     ensures { IfOk result (λ text. text ≡ board_report board.now) }
 {
     let tally = tally(alloc, board)?;

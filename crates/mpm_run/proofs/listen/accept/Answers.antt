@@ -1,7 +1,7 @@
-use Rattle.std.proofs.Common.{ap, refl}
-use Rattle.conn_machine.specs.Table.{taken_row}
+use Rattle.std.proofs.Common.{Some, ap, refl}
+use Rattle.conn_machine.specs.declared.event.Event.TheVariants as event
 use Rattle.board.specs.Board.{SeenBoard}
-use Rattle.mpm_run.proofs.HandLemmas.{hand-more}
+use Rattle.worker_group.proofs.ActsLemmas.{acts_recorded}
 use Rattle.mpm_run.proofs.TakeLemmas.{takes-child, takes-slot, accept-allowed, has-taken}
 use Rattle.mpm_run.proofs.listen.accept.Goals as goal
 
@@ -15,11 +15,6 @@ unreachable-requires-in-Err-NoSlot g c =
     let why = rw c.in-Err-NoSlot.field-0-is at c.in-Err-NoSlot.ensures.why in
     takes-slot c.args.board.now.book.state _ refl c.requires.acceptable why.none_vacant
 
-pub returns-in-Ok-clause-hand : goal.returns-in-Ok-clause-hand
-returns-in-Ok-clause-hand g c =
-    hand-more c.args.board.now.book.state c.accept.new.self.book.state c.in-Ok.taken.name.slot (taken_row c.args.board.now.book.state)
-    (ap (λ (b : SeenBoard). b.book.state.rows) c.in-Ok.ensures.ok.new_is)
-
 pub returns-in-Ok-clause-held : goal.returns-in-Ok-clause-held
 returns-in-Ok-clause-held g c =
     let t = c.in-Ok.taken in
@@ -30,4 +25,5 @@ returns-in-Ok-clause-held g c =
 
 pub returns-in-Ok-clause-acts : goal.returns-in-Ok-clause-acts
 returns-in-Ok-clause-acts g c =
-    record { base = ap (λ (b : SeenBoard). b.book.base) c.in-Ok.ensures.ok.new_is; entries = c.accept.ensures.entries; row = c.in-Ok.ensures.row }
+    acts_recorded 0 (event.Accept c.in-Ok.taken.name.slot) (Some c.in-Ok.taken.name) c.args.board.now c.accept.new.self c.in-Ok.ensures.ok.new_is
+    c.accept.ensures.entries c.in-Ok.ensures.row

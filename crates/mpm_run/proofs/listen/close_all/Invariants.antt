@@ -1,15 +1,17 @@
-use Rattle.std.proofs.Common.{List, ℕ, None}
-use Rattle.mpm_run.specs.ServeInside.{Acts, Stays, parked_count}
-use Rattle.mpm_run.specs.TellsInside.{AllTell}
+use Rattle.std.proofs.Common.{◌≡◌}
+use Rattle.mpm_base.specs.declared.conn.Cause.TheVariants as cause
+use Rattle.worker_group.specs.Service.{LeavesRest}
+use Rattle.mpm_run.specs.RoundInside.{ClosesSome}
+use Rattle.mpm_run.proofs.ListenLemmas.{parked_count}
 use Rattle.mpm_run.proofs.listen.close_all.Given as goal
 
--- the server stays stopped
+-- connections were closed, and the server stays stopped
 abbrev pub invariant-loop-name : goal.invariant-loop-name
 invariant-loop-name g l =
     record {
-      acts : Acts 0 None l.fn.board.book l.board.book;
-      stays : Stays l.fn.board.book l.board.book;
-      tells : (clients : List (List ℕ)) → AllTell clients l.fn.board → AllTell clients l.board;
+      closes : ClosesSome cause.Stopped l.fn.board.book l.board.book;
+      rest : LeavesRest l.fn.board.book l.board.book;
+      going : l.board.book.state.going ≡ l.fn.board.book.state.going;
     }
 
 -- how many connections wait

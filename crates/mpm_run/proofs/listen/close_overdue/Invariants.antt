@@ -1,16 +1,15 @@
-use Rattle.std.proofs.Common.{◌≡◌, List, ℕ, None}
-use Rattle.mpm_run.specs.ServeInside.{Acts, Stays, parked_count}
-use Rattle.mpm_run.specs.TellsInside.{AllTell}
+use Rattle.mpm_base.specs.declared.conn.Cause.TheVariants as cause
+use Rattle.worker_group.specs.Service.{LeavesRest}
+use Rattle.mpm_run.specs.RoundInside.{ClosesSome}
+use Rattle.mpm_run.proofs.ListenLemmas.{parked_count}
 use Rattle.mpm_run.proofs.listen.close_overdue.Given as goal
 
--- the server goes on as before, and no time passes
+-- connections were closed, and nothing else was done
 abbrev pub invariant-loop-name : goal.invariant-loop-name
 invariant-loop-name g l =
     record {
-      acts : Acts 0 None l.fn.board.book l.board.book;
-      stays : Stays l.fn.board.book l.board.book;
-      moment : l.board.book.state.moment ≡ l.fn.board.book.state.moment;
-      tells : (clients : List (List ℕ)) → AllTell clients l.fn.board → AllTell clients l.board;
+      closes : ClosesSome cause.NoMemory l.fn.board.book l.board.book;
+      rest : LeavesRest l.fn.board.book l.board.book;
     }
 
 -- how many connections wait

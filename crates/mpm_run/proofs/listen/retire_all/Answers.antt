@@ -2,10 +2,17 @@ use Rattle.std.proofs.Common.{ap, ◌∙◌, None, refl}
 use Rattle.std.specs.List.{list_any}
 use Rattle.conn_machine.specs.Rows.{is_live}
 use Rattle.conn_machine.specs.States.{is_halted}
+use Rattle.conn_machine.specs.declared.event.Event.TheVariants as event
 use Rattle.board.specs.Board.{SeenBoard}
-use Rattle.mpm_run.proofs.ListenLemmas.{stays-retire, fewer-stopping, all-gone, tell-added, stays-same}
-use Rattle.mpm_run.proofs.PassLemmas.{acts_more, acts_none}
+use Rattle.worker_group.proofs.ActsLemmas.{acts_recorded}
+use Rattle.worker_group.proofs.ExitLemmas.{rest_more, rest_none}
+use Rattle.mpm_run.proofs.ListenLemmas.{fewer-stopping, all-gone}
+use Rattle.mpm_run.proofs.RoundLemmas.{retires-none, retires-more, rest_retire}
 use Rattle.mpm_run.proofs.listen.retire_all.Goals as goal
+
+pub loop-child-init : goal.loop-child-init
+loop-child-init g c =
+    record { retires = retires-none c.args.board.now.book c.requires.free; rest = rest_none c.args.board.now.book; going = refl; rows = refl }
 
 pub loop-child-smaller : goal.loop-child-smaller
 loop-child-smaller g c =
@@ -15,16 +22,15 @@ loop-child-smaller g c =
 pub loop-child-preserved : goal.loop-child-preserved
 loop-child-preserved g c =
     record {
-      acts =
-          acts_more 0 _ _ c.args.board.now.book c.loop-child.board.book c.retire.new.self.book c.loop-child.invariant.acts
-          (record {
-            base = ap (λ (b : SeenBoard). b.book.base) c.retire.ensures.is;
-            entries = c.retire.ensures.entries;
-            row = c.retire.ensures.row ∙ c.loop-child.invariant.acts.row;
-          });
-      stays = stays-retire 0 c.in-Some.child c.args.board.now.book c.loop-child.board c.retire.new.self c.loop-child.invariant.stays c.retire.ensures.is;
+      retires =
+          retires-more c.in-Some.child c.args.board.now.book c.loop-child.board.book c.retire.new.self.book c.loop-child.invariant.retires
+          (acts_recorded 0 (event.Retire c.in-Some.child) None c.loop-child.board c.retire.new.self c.retire.ensures.is c.retire.ensures.entries
+          (c.retire.ensures.row ∙ c.loop-child.invariant.retires.acts.row));
+      rest =
+          rest_more c.args.board.now.book c.loop-child.board.book c.retire.new.self.book c.loop-child.invariant.rest
+          (rest_retire c.in-Some.child c.loop-child.board c.retire.new.self c.retire.ensures.is);
+      going = ap (λ (b : SeenBoard). b.book.state.going) c.retire.ensures.is ∙ c.loop-child.invariant.going;
       rows = ap (λ (b : SeenBoard). b.book.state.rows) c.retire.ensures.is ∙ c.loop-child.invariant.rows;
-      tells = λ clients tells. tell-added clients 0 _ c.loop-child.board c.retire.new.self c.retire.ensures.is (c.loop-child.invariant.tells clients tells);
     }
 
 pub returns-clause-down : goal.returns-clause-down
@@ -33,15 +39,6 @@ returns-clause-down g c live =
     record {
       live = still;
       empty =
-          all-gone c.loop-child.board.book.state c.show.ensures.sound (ap is_halted c.loop-child.invariant.stays.going ∙ c.requires.halted)
+          all-gone c.loop-child.board.book.state c.show.ensures.sound (ap is_halted c.loop-child.invariant.going ∙ c.requires.halted)
           c.in_default.ensures still;
-    }
-
-pub loop-child-init : goal.loop-child-init
-loop-child-init g c =
-    record {
-      acts = acts_none 0 None c.args.board.now.book c.requires.free;
-      stays = stays-same c.args.board.now.book;
-      rows = refl;
-      tells = λ clients tells. tells;
     }

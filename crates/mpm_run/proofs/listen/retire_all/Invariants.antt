@@ -1,17 +1,17 @@
-use Rattle.std.proofs.Common.{◌≡◌, List, ℕ, count_by, None}
+use Rattle.std.proofs.Common.{◌≡◌, count_by}
 use Rattle.conn_machine.specs.Children.{is_stopping}
-use Rattle.mpm_run.specs.ServeInside.{Acts, Stays}
-use Rattle.mpm_run.specs.TellsInside.{AllTell}
+use Rattle.worker_group.specs.Service.{LeavesRest}
+use Rattle.mpm_run.specs.RoundInside.{RetiresSome}
 use Rattle.mpm_run.proofs.listen.retire_all.Given as goal
 
 -- the server stays stopped, with the rows that it had
 abbrev pub invariant-loop-child : goal.invariant-loop-child
 invariant-loop-child g l =
     record {
-      acts : Acts 0 None l.fn.board.book l.board.book;
-      stays : Stays l.fn.board.book l.board.book;
+      retires : RetiresSome l.fn.board.book l.board.book;
+      rest : LeavesRest l.fn.board.book l.board.book;
+      going : l.board.book.state.going ≡ l.fn.board.book.state.going;
       rows : l.board.book.state.rows ≡ l.fn.board.book.state.rows;
-      tells : (clients : List (List ℕ)) → AllTell clients l.fn.board → AllTell clients l.board;
     }
 
 -- how many children stop

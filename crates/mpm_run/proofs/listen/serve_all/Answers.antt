@@ -1,31 +1,48 @@
-use Rattle.std.proofs.Common.{None}
-use Rattle.mpm_run.proofs.ListenLemmas.{goes-trans, tell-still, goes-same}
-use Rattle.mpm_run.proofs.PassLemmas.{acts_more, acts_none}
+use Rattle.std.proofs.Common.{◌≡◌, [], None, sym, subst}
+use Rattle.conn_machine.specs.Passes.{OnlyServes}
+use Rattle.board.specs.Board.{SeenBoard}
+use Rattle.worker_group.specs.Acts.{Acts}
+use Rattle.worker_group.proofs.ActsLemmas.{acts_more, acts_none}
+use Rattle.mpm_run.proofs.PassLemmas.{fewer-asking, only-serves}
 use Rattle.mpm_run.proofs.listen.serve_all.Goals as goal
+
+pub loop-name-init : goal.loop-name-init
+loop-name-init g c = record { acts = ([], acts_none 1 None c.args.board.now.book c.requires.free); state = c.show_state.ensures }
+
+pub serve-requires-clause-free : goal.serve-requires-clause-free
+serve-requires-clause-free g c = c.loop-name.invariant.acts.1.row
+
+pub loop-name-smaller : goal.loop-name-smaller
+loop-name-smaller g c =
+    fewer-asking 1 c.in-Some.name _ None c.loop-name.board.book c.serve.new.board.book (λ (same : 1 ≡ 0). cc) c.loop-name.invariant.state
+    c.show.ensures.state c.in_ok-serve.ensures.served.acts c.passes_leave_the_rest_to_the_listener.ensures.queued
 
 pub loop-name-preserved : goal.loop-name-preserved
 loop-name-preserved g c =
+    let served = c.in_ok-serve.ensures.served in
     record {
-      acts = acts_more 1 _ _ c.args.board.now.book c.loop-name.board.book c.serve.new.board.book c.loop-name.invariant.acts c.serve.ensures.acts;
-      goes = goes-trans c.args.board.now.book c.loop-name.board.book c.serve.new.board.book c.loop-name.invariant.goes c.serve.ensures.goes;
-      tells = λ clients tells. c.serve.ensures.tells clients (c.loop-name.invariant.tells clients tells);
+      acts = (
+        _,
+        acts_more 1 c.loop-name.invariant.acts.0 _ None None c.args.board.now.book c.loop-name.board.book c.serve.new.board.book
+            c.loop-name.invariant.acts.1 served.acts,
+      );
+      state = c.show.ensures.state;
     }
-
-pub returns-in_err-serve-clause-tells : goal.returns-in_err-serve-clause-tells
-returns-in_err-serve-clause-tells g c clients tells =
-    tell-still clients c.loop-name.board c.serve.new.board c.in_err-serve.ensures.err (c.loop-name.invariant.tells clients tells)
-
-pub returns-clause-served : goal.returns-clause-served
-returns-clause-served g c = c.in_default.ensures
 
 pub returns-in_err-serve-clause-acts : goal.returns-in_err-serve-clause-acts
-returns-in_err-serve-clause-acts g c =
-    acts_more 1 _ _ c.args.board.now.book c.loop-name.board.book c.serve.new.board.book c.loop-name.invariant.acts c.serve.ensures.acts
+returns-in_err-serve-clause-acts g c = (
+  c.loop-name.invariant.acts.0,
+  subst (λ (b : SeenBoard). Acts 1 c.loop-name.invariant.acts.0 None c.args.board.now.book b.book) (sym c.in_err-serve.ensures.err)
+      c.loop-name.invariant.acts.1,
+)
 
-pub loop-name-init : goal.loop-name-init
-loop-name-init g c =
-    record {
-      acts = acts_none 1 None c.args.board.now.book c.requires.free;
-      goes = goes-same c.args.board.now.book;
-      tells = λ clients tells. tells;
-    }
+pub returns-in_err-serve-clause-serves : goal.returns-in_err-serve-clause-serves
+returns-in_err-serve-clause-serves g c =
+    subst (λ (b : SeenBoard). OnlyServes c.args.board.now.book.state b.book.state) (sym c.in_err-serve.ensures.err)
+    (only-serves 1 c.loop-name.invariant.acts.0 None c.args.board.now.book c.loop-name.board.book (λ (same : 1 ≡ 0). cc) c.show_state.ensures
+    c.loop-name.invariant.state c.loop-name.invariant.acts.1 c.passes_leave_the_rest_to_the_listener.ensures.rest)
+
+pub returns-clause-serves : goal.returns-clause-serves
+returns-clause-serves g c =
+    only-serves 1 c.loop-name.invariant.acts.0 None c.args.board.now.book c.loop-name.board.book (λ (same : 1 ≡ 0). cc) c.show_state.ensures
+    c.loop-name.invariant.state c.loop-name.invariant.acts.1 c.passes_leave_the_rest_to_the_listener.ensures.rest

@@ -1,17 +1,18 @@
-use Rattle.std.proofs.Common.{List, ℕ, None}
-use Rattle.mpm_run.specs.ServeInside.{Acts, StaysUnlessFull, signalled_count}
-use Rattle.mpm_run.specs.TellsInside.{AllTell}
+use Rattle.std.proofs.Common.{◌≡◌, List, None}
+use Rattle.conn_machine.specs.declared.event.Event.{Event}
+use Rattle.conn_machine.specs.Passes.{asking_count}
+use Rattle.conn_machine.specs.Runs.{after}
+use Rattle.worker_group.specs.Acts.{Acts}
 use Rattle.mpm_run.proofs.listen.serve_all.Given as goal
 
--- the server goes on, or was stopped for a full history
+-- the pass that serves did something, and has no connection
 abbrev pub invariant-loop-name : goal.invariant-loop-name
 invariant-loop-name g l =
     record {
-      acts : Acts 1 None l.fn.board.book l.board.book;
-      goes : StaysUnlessFull l.fn.board.book l.board.book;
-      tells : (clients : List (List ℕ)) → AllTell clients l.fn.board → AllTell clients l.board;
+      acts : (events : List Event) × Acts 1 events None l.fn.board.book l.board.book;
+      state : after l.board.book.base l.board.book.history ≡ l.board.book.state;
     }
 
--- how many slots are signalled
+-- how many slots ask for service
 abbrev pub decreases-loop-name : goal.decreases-loop-name
-decreases-loop-name g l = signalled_count l.board.book.state
+decreases-loop-name g l = asking_count l.board.book.state

@@ -1,11 +1,30 @@
-use Rattle.std.proofs.Common.{◌∙◌}
-use Rattle.mpm_run.proofs.PassLemmas.{base_either}
+use Rattle.std.proofs.Common.{◌≡◌, true, false, [], ◌∷◌, None, nat_lt, length, refl, sym, ap, ◌∙◌, arith}
+use Rattle.std.proofs.lemmas.Result.{on_ok_weaker}
+use Rattle.conn_machine.specs.declared.event.Event.TheVariants as event
+use Rattle.conn_machine.specs.declared.state.State.{State}
+use Rattle.worker_group.proofs.ActsLemmas.{acts_as, acts_none, acts_recorded}
+use Rattle.board.specs.Events.{IsAdded}
+use Rattle.mpm_run.proofs.PassLemmas.{rows-kept}
+use Rattle.mpm_run.proofs.RoundLemmas.{is-below, known-none, known-one, not-below}
 use Rattle.mpm_run.proofs.listen.signal.Goals as goal
 
-pub returns-clause-acts : goal.returns-clause-acts
-returns-clause-acts g c =
-    record {
-      base = base_either c.ready.result 0 _ c.args.board.now c.ready.new.self c.ready.ensures.ok c.ready.ensures.err;
-      entries = c.ready.ensures.entries;
-      row = c.ready.ensures.row ∙ c.requires.free;
-    }
+pub returns-then-slot-len-clause-signals : goal.returns-then-slot-len-clause-signals
+returns-then-slot-len-clause-signals g c =
+    let b = c.args.board.now.book in
+    let rows = rows-kept b c.show.ensures.state in
+    let seen = ap (λ (s : State). length s.rows) c.state.ensures in
+    let without : nat_lt c.args.slot (length b.base.rows) ≡ false = not-below c.args.slot (length b.base.rows) (omega (arith, rows, seen)) in
+    acts_as 0 [] _ None None b b (acts_none 0 None b c.requires.free) (sym (known-none c.args.slot b without)) refl
+
+pub returns-clause-signals : goal.returns-clause-signals
+returns-clause-signals g c =
+    let b = c.args.board.now in
+    let rows = rows-kept b.book c.show.ensures.state in
+    let seen = ap (λ (s : State). length s.rows) c.state.ensures in
+    let within : nat_lt c.args.slot (length b.book.base.rows) ≡ true = is-below c.args.slot (length b.book.base.rows) (omega (arith, rows, seen)) in
+    on_ok_weaker c.ready.result
+    (λ (added : IsAdded 0 (event.Ready c.args.slot) b c.ready.new.self).
+    acts_as 0 (event.Ready c.args.slot ∷ []) _ None None b.book c.ready.new.self.book
+    (acts_recorded 0 (event.Ready c.args.slot) None b c.ready.new.self added.new_is c.ready.ensures.entries
+    (c.ready.ensures.row ∙ c.requires.free))
+    (sym (known-one c.args.slot b.book within)) refl) c.ready.ensures.ok

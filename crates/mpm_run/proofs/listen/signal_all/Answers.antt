@@ -1,38 +1,28 @@
-use Rattle.std.proofs.Common.{◌∙◌, None, refl, arith}
-use Rattle.mpm_run.proofs.ListenLemmas.{keeps-trans, keeps-same}
-use Rattle.mpm_run.proofs.StepLemmas.{signalled-more}
-use Rattle.mpm_run.proofs.PassLemmas.{acts_more, acts_none}
+use Rattle.std.proofs.Common.{◌≡◌, ◌+◌, take, drop, slice_index, [], ◌∷◌, ◌++◌, None, sym, ap, subst, refl}
+use Rattle.std.proofs.lemmas.List.{take_more, take-append-drop}
+use Rattle.board.specs.Board.{SeenBoard}
+use Rattle.worker_group.proofs.ActsLemmas.{acts_as}
+use Rattle.worker_group.proofs.ExitLemmas.{rest_more}
+use Rattle.mpm_run.specs.RoundInside.{SignalsFirst, signal_events}
+use Rattle.mpm_run.proofs.RoundLemmas.{on-err, signals-begun, signals-more}
 use Rattle.mpm_run.proofs.listen.signal_all.Goals as goal
 
-pub returns-in_err-signal-clause-tells : goal.returns-in_err-signal-clause-tells
-returns-in_err-signal-clause-tells g c clients tells = c.signal.ensures.tells clients (c.loop-slot.invariant.tells clients tells)
+pub returns-in_err-signal-clause-first : goal.returns-in_err-signal-clause-first
+returns-in_err-signal-clause-first g c =
+    on-err c.from_residual.result _
+    (subst (λ (b : SeenBoard). SignalsFirst c.args.slots.now c.args.board.now.book b.book) (sym c.in_err-signal.ensures.refused)
+    (signals-begun c.args.slots.now (take c.loop-slot.slot-index c.args.slots.now) (drop c.loop-slot.slot-index c.args.slots.now)
+    c.args.board.now.book c.loop-slot.board.book (sym (take-append-drop c.loop-slot.slot-index c.args.slots.now)) c.loop-slot.invariant.acts))
 
 pub loop-slot-preserved : goal.loop-slot-preserved
 loop-slot-preserved g c =
+    let slots = c.args.slots.now in
+    let i = c.loop-slot.slot-index in
+    let more : take (i + 1) slots ≡ take i slots ++ slice_index slots i ∷ [] = take_more slots i 0 c.loop-slot-test.true in
     record {
-      acts = acts_more 0 _ _ c.args.board.now.book c.loop-slot.board.book c.signal.new.board.book c.loop-slot.invariant.acts c.signal.ensures.acts;
-      keeps = keeps-trans c.args.board.now.book c.loop-slot.board.book c.signal.new.board.book c.loop-slot.invariant.keeps c.signal.ensures.keeps;
-      going = c.signal.ensures.going;
-      taken = c.signal.ensures.taken ∙ c.loop-slot.invariant.taken;
-      signalled =
-          signalled-more c.args.slots.now c.loop-slot.slot-index c.loop-slot.board.book.state c.signal.new.board.book.state c.signal.ensures.rows c.signal.ensures.others
-          c.loop-slot.invariant.signalled c.in_ok-signal.ensures.signalled;
-      moment = c.signal.ensures.moment ∙ c.loop-slot.invariant.moment;
-      tells = λ clients tells. c.signal.ensures.tells clients (c.loop-slot.invariant.tells clients tells);
-    }
-
-pub returns-in_err-signal-clause-acts : goal.returns-in_err-signal-clause-acts
-returns-in_err-signal-clause-acts g c =
-    acts_more 0 _ _ c.args.board.now.book c.loop-slot.board.book c.signal.new.board.book c.loop-slot.invariant.acts c.signal.ensures.acts
-
-pub loop-slot-init : goal.loop-slot-init
-loop-slot-init g c =
-    record {
-      acts = acts_none 0 None c.args.board.now.book c.requires.free;
-      keeps = keeps-same c.args.board.now.book;
-      going = c.requires.serving;
-      taken = refl;
-      signalled = λ i below. absurd (omega (arith, below));
-      moment = refl;
-      tells = λ clients tells. tells;
+      acts =
+          acts_as 0 _ (signal_events c.args.board.now.book (take (i + 1) slots)) None None c.args.board.now.book c.signal.new.board.book
+          (signals-more (take i slots) (slice_index slots i) c.args.board.now.book c.loop-slot.board.book c.signal.new.board.book
+          c.loop-slot.invariant.acts c.in_ok-signal.ensures.signals) (ap (signal_events c.args.board.now.book) (sym more)) refl;
+      rest = rest_more c.args.board.now.book c.loop-slot.board.book c.signal.new.board.book c.loop-slot.invariant.rest c.signal.ensures.rest;
     }

@@ -1,9 +1,17 @@
 use Rattle.std.proofs.Common.{None, ap, subst, sym, ◌∙◌, refl}
+use Rattle.conn_machine.specs.declared.event.Event.TheVariants as event
 use Rattle.board.specs.Board.{SeenBoard}
-use Rattle.mpm_run.specs.ServeInside.{Acts}
-use Rattle.mpm_run.proofs.ListenLemmas.{may-start_child, fewer-gone, stays-start_child, tell-still, tell-added, stays-same}
-use Rattle.mpm_run.proofs.PassLemmas.{acts_more, acts_none}
+use Rattle.worker_group.specs.Service.{LeavesRest}
+use Rattle.worker_group.proofs.ActsLemmas.{acts_recorded}
+use Rattle.worker_group.proofs.ExitLemmas.{rest_more, rest_none}
+use Rattle.mpm_run.specs.RoundInside.{StartsSome}
+use Rattle.mpm_run.proofs.ListenLemmas.{may-start_child, fewer-gone}
+use Rattle.mpm_run.proofs.RoundLemmas.{starts-none, starts-more, rest_start}
 use Rattle.mpm_run.proofs.listen.start_children.Goals as goal
+
+pub loop-child-init : goal.loop-child-init
+loop-child-init g c =
+    record { starts = starts-none c.args.board.now.book c.requires.free; rest = rest_none c.args.board.now.book; going = refl }
 
 pub start_child-requires-clause-allowed : goal.start_child-requires-clause-allowed
 start_child-requires-clause-allowed g c going =
@@ -17,33 +25,20 @@ loop-child-smaller g c =
 pub loop-child-preserved : goal.loop-child-preserved
 loop-child-preserved g c =
     record {
-      acts =
-          acts_more 0 _ _ c.args.board.now.book c.loop-child.board.book c.start_child.new.self.book c.loop-child.invariant.acts
-          (record {
-            base = ap (λ (b : SeenBoard). b.book.base) c.in_ok-start_child.ensures.ok.new_is;
-            entries = c.start_child.ensures.entries;
-            row = c.start_child.ensures.row ∙ c.loop-child.invariant.acts.row;
-          });
-      stays =
-          stays-start_child 0 c.in-Some.child c.args.board.now.book c.loop-child.board c.start_child.new.self c.loop-child.invariant.stays
-          c.in_ok-start_child.ensures.ok.new_is;
-      moment = ap (λ (b : SeenBoard). b.book.state.moment) c.in_ok-start_child.ensures.ok.new_is ∙ c.loop-child.invariant.moment;
-      tells = λ clients tells. tell-added clients 0 _ c.loop-child.board c.start_child.new.self c.in_ok-start_child.ensures.ok.new_is (c.loop-child.invariant.tells clients tells);
+      starts =
+          starts-more c.in-Some.child c.args.board.now.book c.loop-child.board.book c.start_child.new.self.book c.loop-child.invariant.starts
+          (acts_recorded 0 (event.StartChild c.in-Some.child) None c.loop-child.board c.start_child.new.self c.in_ok-start_child.ensures.ok.new_is
+          c.start_child.ensures.entries (c.start_child.ensures.row ∙ c.loop-child.invariant.starts.acts.row));
+      rest =
+          rest_more c.args.board.now.book c.loop-child.board.book c.start_child.new.self.book c.loop-child.invariant.rest
+          (rest_start c.in-Some.child c.loop-child.board c.start_child.new.self c.in_ok-start_child.ensures.ok.new_is);
+      going = ap (λ (b : SeenBoard). b.book.state.going) c.in_ok-start_child.ensures.ok.new_is ∙ c.loop-child.invariant.going;
     }
 
-pub returns-in_err-start_child-clause-tells : goal.returns-in_err-start_child-clause-tells
-returns-in_err-start_child-clause-tells g c clients tells =
-    tell-still clients c.loop-child.board c.start_child.new.self c.in_err-start_child.ensures.err (c.loop-child.invariant.tells clients tells)
+pub returns-in_err-start_child-clause-starts : goal.returns-in_err-start_child-clause-starts
+returns-in_err-start_child-clause-starts g c =
+    subst (λ (b : SeenBoard). StartsSome c.args.board.now.book b.book) (sym c.in_err-start_child.ensures.err) c.loop-child.invariant.starts
 
-pub returns-in_err-start_child-clause-acts : goal.returns-in_err-start_child-clause-acts
-returns-in_err-start_child-clause-acts g c =
-    subst (λ (b : SeenBoard). Acts 0 None c.args.board.now.book b.book) (sym c.in_err-start_child.ensures.err) c.loop-child.invariant.acts
-
-pub loop-child-init : goal.loop-child-init
-loop-child-init g c =
-    record {
-      acts = acts_none 0 None c.args.board.now.book c.requires.free;
-      stays = stays-same c.args.board.now.book;
-      moment = refl;
-      tells = λ clients tells. tells;
-    }
+pub returns-in_err-start_child-clause-rest : goal.returns-in_err-start_child-clause-rest
+returns-in_err-start_child-clause-rest g c =
+    subst (λ (b : SeenBoard). LeavesRest c.args.board.now.book b.book) (sym c.in_err-start_child.ensures.err) c.loop-child.invariant.rest

@@ -1,17 +1,16 @@
-use Rattle.std.proofs.Common.{◌≡◌, List, ℕ, count_by, None}
+use Rattle.std.proofs.Common.{◌≡◌, count_by}
 use Rattle.conn_machine.specs.Children.{is_empty}
-use Rattle.mpm_run.specs.ServeInside.{Acts, Stays}
-use Rattle.mpm_run.specs.TellsInside.{AllTell}
+use Rattle.worker_group.specs.Service.{LeavesRest}
+use Rattle.mpm_run.specs.RoundInside.{StartsSome}
 use Rattle.mpm_run.proofs.listen.start_children.Given as goal
 
--- the server goes on as before, and no time passes
+-- children were started, and the server goes on as before
 abbrev pub invariant-loop-child : goal.invariant-loop-child
 invariant-loop-child g l =
     record {
-      acts : Acts 0 None l.fn.board.book l.board.book;
-      stays : Stays l.fn.board.book l.board.book;
-      moment : l.board.book.state.moment ≡ l.fn.board.book.state.moment;
-      tells : (clients : List (List ℕ)) → AllTell clients l.fn.board → AllTell clients l.board;
+      starts : StartsSome l.fn.board.book l.board.book;
+      rest : LeavesRest l.fn.board.book l.board.book;
+      going : l.board.book.state.going ≡ l.fn.board.book.state.going;
     }
 
 -- how many children are gone

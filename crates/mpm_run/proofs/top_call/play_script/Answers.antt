@@ -1,46 +1,40 @@
-use Rattle.std.proofs.Common.{inl, inr, refl}
+use Rattle.std.proofs.Common.{◌≡◌, ℕ, List, refl, ap, subst}
 use Rattle.mpm_script.specs.Clients.{clients_of}
-use Rattle.mpm_run.specs.ExitStatuses.{EndsUnwritten, EndsWell, HasRun, KeepsTime}
-use Rattle.mpm_run.proofs.HandLemmas.{opening-hand}
-use Rattle.mpm_run.proofs.RunLemmas.{opening-tells}
-use Rattle.mpm_run.proofs.EndLemmas.{has-end, has-clients, keeps-time, left-if, left-and}
+use Rattle.script_front.specs.ScriptFront.{SeenFront}
+use Rattle.conn_machine.specs.declared.event.Why.TheVariants as why
+use Rattle.conn_machine.specs.declared.state.Going.TheVariants.{Halted}
+use Rattle.mpm_run.specs.ExitStatuses.{HasEnd, HasRun, KeepsTime}
+use Rattle.mpm_run.specs.FirstNumbers.{first_numbers}
+use Rattle.mpm_run.specs.Listen.{IsRunFrom}
+use Rattle.mpm_run.specs.Tells.{AllReceive}
+use Rattle.mpm_run.specs.declared.run_numbers.RunNumbers.{RunNumbers}
+use Rattle.mpm_run.proofs.EndLemmas.{has-end, keeps-time, left-if}
+use Rattle.mpm_run.proofs.RunLemmas.{all-receive}
 use Rattle.mpm_run.proofs.top_call.play_script.Goals as goal
 
-pub listen-requires-clause-hand : goal.listen-requires-clause-hand
-listen-requires-clause-hand g c κs within = opening-hand 64 1 c.first_shape.result c.in-Ok.board.book.state c.in-Ok.ensures.state
+pub run_server-requires-clause-named : goal.run_server-requires-clause-named
+run_server-requires-clause-named g c κs within =
+    record { front = (c.in-Ok.front.told, refl, refl); links = λ known. record { each = λ link. (link.told, refl) } }
 
 pub returns-clause-kept : goal.returns-clause-kept
 returns-clause-kept g c =
-    let clients = clients_of c.args.script in
-    let tells = opening-tells clients 64 1 c.first_shape.result c.in-Ok.board c.show.ensures.agrees c.in-Ok.ensures.state c.in-Ok.ensures.ended in
-    let told = c.listen.ensures.tells clients (record { each = λ link. (link.told, refl) }) (has-clients c.args.script c.in-Ok-Ok.front c.in-Ok-Ok.ensures) tells in
-    left-if c.finish.result.scripted _ (λ s. HasRun clients s.board) c.finish.ensures.scripted
+    let b = c.in-Some.served.board in
+    let run : IsRunFrom first_numbers b = subst (λ (n : RunNumbers). IsRunFrom n b) c.first_numbers.ensures c.in-Some.ensures.run in
+    left-if c.finish.result.scripted _ (λ s. HasRun (clients_of c.args.script) s.board) c.finish.ensures.scripted
     (record {
-      run = c.show_run.ensures.run;
-      closed = c.show_run.ensures.closed c.listen.ensures.stopped.down;
-      receive = c.show_run.ensures.receive clients told.ended;
-    })
-
-pub returns-clause-served : goal.returns-clause-served
-returns-clause-served g c good =
-    left-and c.finish.result.scripted _ (λ s. EndsWell _ _ s.board s.front) c.finish.ensures.scripted
-    (record {
-      end = has-end _ _ c.listen.new.board c.listen.new.front c.listen.ensures.stopped (c.finish.ensures.ended (inl good)) refl c.show-2.ensures.is c.show_run.ensures.run c.show_run.ensures.closed;
-      none_cut = c.finish.ensures.none_cut (inl good);
-      report = c.finish.ensures.reported good;
-    })
-
-pub returns-clause-unwritten : goal.returns-clause-unwritten
-returns-clause-unwritten g c unwritten =
-    left-and c.finish.result.scripted _ (λ s. EndsUnwritten _ _ s.board s.front) c.finish.ensures.scripted
-    (record {
-      end = has-end _ _ c.listen.new.board c.listen.new.front c.listen.ensures.stopped (c.finish.ensures.ended (inr unwritten)) refl c.show-2.ensures.is c.show_run.ensures.run c.show_run.ensures.closed;
-      none_cut = c.finish.ensures.none_cut (inr unwritten);
-      failed = c.finish.ensures.unwritten unwritten;
+      run = run;
+      closed = c.in-Some.ensures.closed;
+      receive =
+          subst (λ (clients : List (List ℕ)). AllReceive clients b.ended) (ap (λ (f : SeenFront). f.told.clients) c.in-Ok.ensures)
+          (all-receive (record { clients = c.in-Ok.front.told.clients }) b.ended run.agrees.answered c.in-Some.ensures.clients.ended);
     })
 
 pub returns-clause-time : goal.returns-clause-time
 returns-clause-time g c =
-    left-if c.finish.result.scripted _ (λ s. KeepsTime s.front s.clock) c.finish.ensures.scripted
-    (keeps-time c.args.script c.in-Ok-Ok.front c.listen.new.front c.make-clock.result c.listen.new.clock c.in-Ok-Ok.ensures c.make-clock.ensures
-    c.show-3.ensures c.listen.ensures.time)
+    left-if c.finish.result.scripted _ (λ s. KeepsTime s.board s.front s.clock) c.finish.ensures.scripted
+    (keeps-time c.in-Some.served.board c.in-Some.served.front c.in-Some.served.clock c.show-2.ensures c.in-Some.ensures.time c.in-Some.ensures.informed)
+
+pub returns-clause-ended : goal.returns-clause-ended
+returns-clause-ended g c =
+    left-if c.finish.result.scripted _ (λ s. s.board.book.state.going ≡ Halted why.FrontEnded → HasEnd s.board s.front) c.finish.ensures.scripted
+    (has-end _ _ c.in-Some.served.board c.in-Some.served.front c.in-Some.ensures.stopped refl c.show.ensures.is)

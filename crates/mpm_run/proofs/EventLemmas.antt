@@ -1,0 +1,135 @@
+-- What the events of the listener tick and signal.
+use Rattle.std.proofs.Common.{◌≡◌, ℕ, List, [], ◌∷◌, ◌++◌, map, None, refl, ap, ◌∙◌, append-nil}
+use Rattle.std.proofs.lemmas.Grind.{flat_map-append}
+use Rattle.std.specs.List.{flat_map}
+use Rattle.mpm_base.specs.declared.conn.Cause.{Cause}
+use Rattle.mpm_base.specs.declared.conn.Cause.TheVariants as cause
+use Rattle.mpm_base.specs.declared.conn.ConnName.{ConnName}
+use Rattle.conn_machine.specs.declared.event.Event.{Event}
+use Rattle.conn_machine.specs.declared.event.Event.TheVariants as event
+use Rattle.board.specs.declared.faults.BoardFault.{BoardFault}
+use Rattle.board.specs.declared.faults.BoardFault.TheVariants as fault
+use Rattle.board.specs.Book.{SeenBook}
+use Rattle.worker_group.specs.declared.service.Exit.{Exit}
+use Rattle.worker_group.specs.declared.service.Exit.TheVariants as exit
+use Rattle.worker_group.specs.Acts.{Acts, events_of}
+use Rattle.mpm_run.specs.RoundInside.{Round, Taking, closed_events, left_events, round_events, stop_events, taking_events, time_events}
+use Rattle.mpm_run.specs.Times.{signals_in, signals_of, ticks_in, ticks_of}
+
+-- ## Lists of events
+
+-- what is found in the events of one list behind another
+in-both : (find : Event → List ℕ) (es fs : List Event) (xs ys : List ℕ) → flat_map find es ≡ xs → flat_map find fs ≡ ys
+    → flat_map find (es ++ fs) ≡ xs ++ ys
+in-both find es fs xs ys first second =
+    flat_map-append find es fs ∙ ap (λ (zs : List ℕ). zs ++ flat_map find fs) first ∙ ap (λ (zs : List ℕ). xs ++ zs) second
+
+-- events that neither tick nor signal
+pub record AreSilent (es : List Event) : Type 0 where
+  pub ticks : flat_map ticks_in es ≡ []
+  pub signals : flat_map signals_in es ≡ []
+
+silent-both : (es fs : List Event) → AreSilent es → AreSilent fs → AreSilent (es ++ fs)
+silent-both es fs first second = record {
+  ticks = in-both ticks_in es fs [] [] first.ticks second.ticks;
+  signals = in-both signals_in es fs [] [] first.signals second.signals;
+}
+
+pub silent-none : AreSilent []
+silent-none = record { ticks = refl; signals = refl }
+
+pub silent-closed : (why : Cause) (names : List ConnName) → AreSilent (closed_events why names)
+silent-closed why [] = silent-none
+silent-closed why (name ∷ names) = record {
+  ticks = (silent-closed why names).ticks;
+  signals = (silent-closed why names).signals;
+}
+
+pub silent-starts : (children : List ℕ) → AreSilent (map event.StartChild children)
+silent-starts [] = silent-none
+silent-starts (k ∷ children) = record { ticks = (silent-starts children).ticks; signals = (silent-starts children).signals }
+
+pub silent-retires : (children : List ℕ) → AreSilent (map event.Retire children)
+silent-retires [] = silent-none
+silent-retires (k ∷ children) = record { ticks = (silent-retires children).ticks; signals = (silent-retires children).signals }
+
+pub silent-stops : (fault : BoardFault) → AreSilent (stop_events fault)
+silent-stops fault.Halted = silent-none
+silent-stops fault.Full = record { ticks = refl; signals = refl }
+silent-stops fault.NoMemory = record { ticks = refl; signals = refl }
+
+silent-left : (way : Exit) (name : ConnName) → AreSilent (left_events way name)
+silent-left (exit.Park kind) name = record { ticks = refl; signals = refl }
+silent-left (exit.Close why) name = record { ticks = refl; signals = refl }
+silent-left (exit.GiveUp fault.Halted) name = record { ticks = refl; signals = refl }
+silent-left (exit.GiveUp fault.Full) name = record { ticks = refl; signals = refl }
+silent-left (exit.GiveUp fault.NoMemory) name = record { ticks = refl; signals = refl }
+
+silent-taken : (t : Taking) → AreSilent (taking_events t)
+silent-taken t = record { ticks = (silent-left t.way t.name).ticks; signals = (silent-left t.way t.name).signals }
+
+silent-takes : (takes : List Taking) → AreSilent (flat_map taking_events takes)
+silent-takes [] = silent-none
+silent-takes (t ∷ takes) = silent-both (taking_events t) (flat_map taking_events takes) (silent-taken t) (silent-takes takes)
+
+-- ## Ticks and signals
+
+ticks-of_ticks : (ms : List ℕ) → flat_map ticks_in (map event.Tick ms) ≡ ms
+ticks-of_ticks [] = refl
+ticks-of_ticks (m ∷ ms) = ap (λ (xs : List ℕ). m ∷ xs) (ticks-of_ticks ms)
+
+signals-of_ticks : (ms : List ℕ) → flat_map signals_in (map event.Tick ms) ≡ []
+signals-of_ticks [] = refl
+signals-of_ticks (m ∷ ms) = signals-of_ticks ms
+
+ticks-of_signals : (slots : List ℕ) → flat_map ticks_in (map event.Ready slots) ≡ []
+ticks-of_signals [] = refl
+ticks-of_signals (slot ∷ slots) = ticks-of_signals slots
+
+signals-of_signals : (slots : List ℕ) → flat_map signals_in (map event.Ready slots) ≡ slots
+signals-of_signals [] = refl
+signals-of_signals (slot ∷ slots) = ap (λ (xs : List ℕ). slot ∷ xs) (signals-of_signals slots)
+
+-- ## A round
+
+-- what is found in events with others behind them in which nothing is
+in-first : (find : Event → List ℕ) (es fs : List Event) (xs : List ℕ) → flat_map find es ≡ xs → flat_map find fs ≡ []
+    → flat_map find (es ++ fs) ≡ xs
+in-first find es fs xs first none = in-both find es fs xs [] first none ∙ append-nil xs
+
+-- the ticks of a round are those to which time passed in it
+pub ticks-round : (r : Round) → flat_map ticks_in (round_events r) ≡ r.ticks
+ticks-round r =
+    let early = in-both ticks_in (closed_events cause.NoMemory r.early) (map event.Tick r.ticks) [] r.ticks (silent-closed cause.NoMemory r.early).ticks (ticks-of_ticks r.ticks) in
+    let time = in-first ticks_in (closed_events cause.NoMemory r.early ++ map event.Tick r.ticks) (closed_events cause.NoMemory r.late) r.ticks early (silent-closed cause.NoMemory r.late).ticks in
+    let signals = in-first ticks_in (time_events r.early r.ticks r.late) (map event.Ready r.signals) r.ticks time (ticks-of_signals r.signals) in
+    let starts = in-first ticks_in (time_events r.early r.ticks r.late ++ map event.Ready r.signals) (map event.StartChild r.starts) r.ticks signals (silent-starts r.starts).ticks in
+    in-first ticks_in (time_events r.early r.ticks r.late ++ map event.Ready r.signals ++ map event.StartChild r.starts) (flat_map taking_events r.takes) r.ticks starts (silent-takes r.takes).ticks
+
+-- its signals are those of its slots
+pub signals-round : (r : Round) → flat_map signals_in (round_events r) ≡ r.signals
+signals-round r =
+    let early = in-both signals_in (closed_events cause.NoMemory r.early) (map event.Tick r.ticks) [] [] (silent-closed cause.NoMemory r.early).signals (signals-of_ticks r.ticks) in
+    let time = in-first signals_in (closed_events cause.NoMemory r.early ++ map event.Tick r.ticks) (closed_events cause.NoMemory r.late) [] early (silent-closed cause.NoMemory r.late).signals in
+    let signals = in-both signals_in (time_events r.early r.ticks r.late) (map event.Ready r.signals) [] r.signals time (signals-of_signals r.signals) in
+    let starts = in-first signals_in (time_events r.early r.ticks r.late ++ map event.Ready r.signals) (map event.StartChild r.starts) r.signals signals (silent-starts r.starts).signals in
+    in-first signals_in (time_events r.early r.ticks r.late ++ map event.Ready r.signals ++ map event.StartChild r.starts) (flat_map taking_events r.takes) r.signals starts (silent-takes r.takes).signals
+
+-- ## Histories
+
+-- the ticks of a history are those of its events
+pub ticks-acts : (es : List Event) (a b : SeenBook) → Acts 0 es None a b → ticks_of b.history ≡ ticks_of a.history ++ flat_map ticks_in es
+ticks-acts es a b acts = ap (flat_map ticks_in) acts.made ∙ flat_map-append ticks_in (events_of 0 a.history) es
+
+-- so are its signals
+pub signals-acts : (es : List Event) (a b : SeenBook) → Acts 0 es None a b → signals_of b.history ≡ signals_of a.history ++ flat_map signals_in es
+signals-acts es a b acts = ap (flat_map signals_in) acts.made ∙ flat_map-append signals_in (events_of 0 a.history) es
+
+-- silent events leave them as they were
+pub ticks-kept : (es : List Event) (a b : SeenBook) → Acts 0 es None a b → AreSilent es → ticks_of b.history ≡ ticks_of a.history
+ticks-kept es a b acts silent =
+    ticks-acts es a b acts ∙ ap (λ (xs : List ℕ). ticks_of a.history ++ xs) silent.ticks ∙ append-nil (ticks_of a.history)
+
+pub signals-kept : (es : List Event) (a b : SeenBook) → Acts 0 es None a b → AreSilent es → signals_of b.history ≡ signals_of a.history
+signals-kept es a b acts silent =
+    signals-acts es a b acts ∙ ap (λ (xs : List ℕ). signals_of a.history ++ xs) silent.signals ∙ append-nil (signals_of a.history)

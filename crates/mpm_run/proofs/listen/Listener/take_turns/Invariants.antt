@@ -1,0 +1,12 @@
+use Rattle.std.proofs.Common.{◌≡◌, false}
+use Rattle.conn_machine.specs.States.{is_halted}
+use Rattle.mpm_run.proofs.TurnLemmas.{IsBetween}
+use Rattle.mpm_run.proofs.listen.Listener.take_turns.Given as goal
+
+-- between two turns the server goes on, no pass has a connection, and all that the waits and the clock gave was done
+abbrev pub invariant-loop : goal.invariant-loop
+invariant-loop g l =
+    record {
+      between : IsBetween l.fn.self l.self;
+      going : is_halted l.self.board.book.state.going ≡ false;
+    }

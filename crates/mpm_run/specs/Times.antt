@@ -1,0 +1,130 @@
+-- How the ticks and signals of a history come from the clock and the front.
+use Rattle.std.specs.Prelude.{◌≡◌, ◌⊎◌, ℕ, List, [], ◌∷◌, ◌++◌, length, map, filter, max, min, nat_lt, if◌then◌else◌, Option, IfSome}
+use Rattle.std.specs.List.{flat_map}
+use Rattle.mpm_base.specs.Moment.{greatest_moment}
+use Rattle.mpm_base.specs.Front.{WaitTold}
+use Rattle.conn_machine.specs.declared.event.Event.{Event}
+use Rattle.conn_machine.specs.declared.event.Event.TheVariants as event
+use Rattle.conn_machine.specs.declared.event.Entry.{Entry}
+use Rattle.conn_machine.specs.declared.event.Why.TheVariants as why
+use Rattle.conn_machine.specs.declared.state.Going.{Going}
+use Rattle.conn_machine.specs.declared.state.Going.TheVariants.{Halted}
+use Rattle.conn_state.specs.Conn.{IsFrontOf}
+use Rattle.board.specs.Book.{SeenBook}
+use Rattle.worker_group.specs.Acts.{events_of}
+
+-- ## Ticks
+
+-- the moment of a tick
+abbrev pub ticks_in : Event → List ℕ
+ticks_in (event.Accept slot) = []
+ticks_in (event.Park name kind) = []
+ticks_in (event.Hold name) = []
+ticks_in (event.Queue name) = []
+ticks_in (event.Start name) = []
+ticks_in (event.Answer name ask) = []
+ticks_in (event.Linger name cause) = []
+ticks_in (event.Close name cause tail) = []
+ticks_in (event.Ready slot) = []
+ticks_in (event.Tick m) = m ∷ []
+ticks_in (event.StartChild k) = []
+ticks_in (event.Command c) = []
+ticks_in (event.Retire k) = []
+
+-- the moments to which the listener let time pass, in order
+abbrev pub ticks_of : List Entry → List ℕ
+ticks_of history = flat_map ticks_in (events_of 0 history)
+
+-- the moment to which time passes, where it is later
+abbrev pub ticks_to : ℕ → ℕ → List ℕ
+ticks_to moment to = if nat_lt moment to then to ∷ [] else []
+
+-- the moment that a clock's answer gives: it ends at the greatest one
+abbrev pub moment_for : ℕ → ℕ
+moment_for answer = min answer greatest_moment
+
+-- from the moment on, each answer of a clock that is later than the ones before it
+abbrev pub rises : ℕ → List ℕ → List ℕ
+rises moment [] = []
+rises moment (a ∷ answers) = ticks_to moment (moment_for a) ++ rises (max moment (moment_for a)) answers
+
+-- the moment that it is after the answers
+abbrev pub latest : ℕ → List ℕ → ℕ
+latest moment [] = moment
+latest moment (a ∷ answers) = latest (max moment (moment_for a)) answers
+
+-- what the calls of a clock answered
+abbrev pub answers_of : List (ℕ × ℕ) → List ℕ
+answers_of calls = map (λ call. call.1) calls
+
+-- time passed to each answer of the clock that was later than those before it, and to no other moment
+pub record TicksAre (calls : List (ℕ × ℕ)) (b : SeenBook) : Type 0 where
+  pub ticks : ticks_of b.history ≡ rises 0 (answers_of calls)
+  pub moment : b.state.moment ≡ latest 0 (answers_of calls)
+
+-- these are all of the moments, or all but the last
+abbrev pub LacksOne : List ℕ → List ℕ → Type 0
+LacksOne whole done = (done ≡ whole) ⊎ ((m : ℕ) × (whole ≡ done ++ m ∷ []))
+
+-- the same, perhaps but for the last of them
+abbrev pub TicksBegin : List (ℕ × ℕ) → SeenBook → Type 0
+TicksBegin calls b = LacksOne (rises 0 (answers_of calls)) (ticks_of b.history)
+
+-- ## Signals
+
+-- the slot of a signal
+abbrev pub signals_in : Event → List ℕ
+signals_in (event.Accept slot) = []
+signals_in (event.Park name kind) = []
+signals_in (event.Hold name) = []
+signals_in (event.Queue name) = []
+signals_in (event.Start name) = []
+signals_in (event.Answer name ask) = []
+signals_in (event.Linger name cause) = []
+signals_in (event.Close name cause tail) = []
+signals_in (event.Ready slot) = slot ∷ []
+signals_in (event.Tick m) = []
+signals_in (event.StartChild k) = []
+signals_in (event.Command c) = []
+signals_in (event.Retire k) = []
+
+-- the slots that the listener signalled, in order
+abbrev pub signals_of : List Entry → List ℕ
+signals_of history = flat_map signals_in (events_of 0 history)
+
+-- of the slots those that a table of so many has
+abbrev pub known_slots : ℕ → List ℕ → List ℕ
+known_slots rows slots = filter (λ slot. nat_lt slot rows) slots
+
+-- the slots that the waits gave and the table has, in order
+abbrev pub given_slots : ℕ → List WaitTold → List ℕ
+given_slots rows waits = flat_map (λ wait. known_slots rows wait.slots) waits
+
+-- each slot that a wait gave was signalled once, in order, and no other
+abbrev pub SignalsAre : List WaitTold → SeenBook → Type 0
+SignalsAre waits b = signals_of b.history ≡ given_slots (length b.base.rows) waits
+
+-- the same of the first of them
+abbrev pub SignalsBegin : List WaitTold → SeenBook → Type 0
+SignalsBegin waits b = IsFrontOf (given_slots (length b.base.rows) waits) (signals_of b.history)
+
+-- ## Both
+
+-- the server stopped before the listener had done what a wait asked: for a full history, or for want of memory
+abbrev pub IsBrokenOff : Going → Type 0
+IsBrokenOff going = (going ≡ Halted why.Full) ⊎ (going ≡ Halted why.NoMemory)
+
+-- the ticks of a history are those that the answers of the clock ask for, and its signals those of the slots that the waits of
+-- the front gave, where these tell
+pub record IsInformed (waits : Option (List WaitTold)) (calls : Option (List (ℕ × ℕ))) (b : SeenBook) : Type 0 where
+  pub ticks : IfSome calls (λ calls. TicksAre calls b)
+  pub signals : IfSome waits (λ waits. SignalsAre waits b)
+
+-- the same, but the last tick may be missing, and signals at the end
+pub record IsInformedSoFar (waits : Option (List WaitTold)) (calls : Option (List (ℕ × ℕ))) (b : SeenBook) : Type 0 where
+  pub ticks : IfSome calls (λ calls. TicksBegin calls b)
+  pub signals : IfSome waits (λ waits. SignalsBegin waits b)
+
+-- the same, or where the server stopped for a full history or for want of memory, so far
+abbrev pub WasInformed : Option (List WaitTold) → Option (List (ℕ × ℕ)) → SeenBook → Type 0
+WasInformed waits calls b = IsInformed waits calls b ⊎ (IsBrokenOff b.state.going × IsInformedSoFar waits calls b)

@@ -1,0 +1,35 @@
+//! The numbers that a run works by.
+ghost use Rattle.std.specs.Prelude.{◌≡◌};
+ghost use Rattle.mpm_run.specs.FirstNumbers as spec;
+
+use mpm_base::Shape;
+use mpm_config::default_shape;
+
+/// The numbers of a run.
+#[derive(Clone, Copy, Debug, PartialEq, Eq)]
+pub struct RunNumbers {
+    /// How many slots the table has, from 1 to 8,192.
+    pub slots: u32,
+    /// How many child numbers there are, from 1 to 32.
+    pub children: u32,
+    /// How many passes there are, the listener's and those that serve, from 2 to 4,099.
+    pub passes: u32,
+    /// What the children are started with.
+    pub shape: Shape,
+}
+
+/// The numbers of a run by an empty configuration, but for one child.
+pub fn first_numbers() -> RunNumbers
+    ensures { result ≡ spec.first_numbers }
+{
+    RunNumbers {
+        slots: 64,
+        children: 1,
+        passes: 2,
+        shape: Shape {
+            target: 1,
+            children: 1,
+            ..default_shape()
+        },
+    }
+}
