@@ -1,4 +1,4 @@
--- What helps to prove, and no public contract reaches, of: What it means that a number is the one of the child that takes the next connection, and which of two
+-- What helps to prove which child takes the next connection, and no public contract reaches.
 use Rattle.std.specs.Prelude.{Bool, ◌&&◌, ◌||◌, ◌==◌, nat_lt}
 use Rattle.admission.specs.declared.ChildCount.{ChildCount}
 

@@ -462,20 +462,10 @@ adds_clear p base old new name events other adds grown =
 
 -- ## Nothing in hand
 
-count_none : {X : Type 0} (test : X → Bool) (xs : List X) → ((i : ℕ) (x : X) → slice_get xs i ≡ Some x → test x ≡ false) → count_by test xs ≡ 0
-count_none test [] none = refl
-count_none test (x ∷ xs) none =
-    let here : test x ≡ false = none 0 x refl in
-    let rest = count_none test xs (λ i y at. none (suc i) y at) in
-    rw (count_cons test x xs, here) (omega (arith, rest))
-
 -- where no pass has a connection, none is in hand
 pub none_in_hand : (start : State) (history : List Entry) → IsOpened start → AreMade start history → ((p : ℕ) → row_of p history ≡ None)
     → HasNoneInHand (after start history)
-none_in_hand start history opened made none = record {
-  each = each;
-  count = count_none (λ (r : Row). is_with_a_pass r.place) (after start history).rows each;
-}
+none_in_hand start history opened made none = record { each = each }
   where
     by : (slot : ℕ) (r : Row) (b : Bool) → is_with_a_pass r.place ≡ b → slice_get (after start history).rows slot ≡ Some r → is_with_a_pass r.place ≡ false
     by slot r true hand at =

@@ -12,7 +12,6 @@ use Rattle.conn_machine.specs.States.{is_halted, is_signalled}
 -- no connection is with a pass: the listener holds none, and no worker has one, or will
 pub record HasNoneInHand (s : State) : Type 0 where
   pub each : (slot : ℕ) (r : Row) → slice_get s.rows slot ≡ Some r → is_with_a_pass r.place ≡ false
-  pub count : count_by (λ (r : Row). is_with_a_pass r.place) s.rows ≡ 0
 
 -- the row waits, and lingers
 abbrev pub waits_lingering : Row → Bool
