@@ -2,7 +2,7 @@
 use Rattle.std.specs.Prelude.{◌≡◌, ℕ, ◌<◌, ◌≤◌, Bool, true, false, List, ◌∷◌, ◌++◌, length, Some, None, Result, Ok, Err, ⊤}
 use Rattle.mpm_base.specs.declared.store.File.{File}
 use Rattle.mpm_base.specs.Count.{RisesWhere}
-use Rattle.mpm_base.specs.Store.{StoreCounts, names_under}
+use Rattle.mpm_base.specs.Store.{StoreSeen, names_under}
 use Rattle.file_table.specs.declared.load_fault.LoadFault.{LoadFault}
 use Rattle.file_table.specs.declared.load_fault.LoadFault.TheVariants as fault
 use Rattle.file_table.specs.declared.site.SiteOrder.{SiteOrder}
@@ -50,7 +50,9 @@ abbrev pub answers_for : {T : Type 0} → (LoadFault → Bool) → Result T Load
 answers_for test (Ok x) = false
 answers_for test (Err e) = test e
 
--- no count of the store fell; the first rose where the answer is StoreFault, the second where it is TooMany or TooLarge
-pub record CountsLoad {T : Type 0} (counts counts' : StoreCounts) (answer : Result T LoadFault) : Type 0 where
-  pub faults : RisesWhere (answers_for is_store_fault answer) counts.faults counts'.faults
-  pub refusals : RisesWhere (answers_for is_limit answer) counts.refusals counts'.refusals
+-- what loading left of the store: it tells what it told, and no count of it fell; the first rose where the answer is
+-- StoreFault, the second where it is TooMany or TooLarge
+pub record LeavesStore {T : Type 0} (old new : StoreSeen) (answer : Result T LoadFault) : Type 0 where
+  pub told : new.told ≡ old.told
+  pub faults : RisesWhere (answers_for is_store_fault answer) old.counts.faults new.counts.faults
+  pub refusals : RisesWhere (answers_for is_limit answer) old.counts.refusals new.counts.refusals

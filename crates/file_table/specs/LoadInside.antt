@@ -2,7 +2,7 @@
 use Rattle.std.specs.Prelude.{◌≡◌, ℕ, ◌<◌, ◌≤◌, true, List, ◌++◌, length, map, Option, Some, Result, Ok, Err, IfSome, ⊤}
 use Rattle.mpm_base.specs.declared.store.File.{File}
 use Rattle.mpm_base.specs.Count.{NeverFalls}
-use Rattle.mpm_base.specs.Store.{StoreCounts, StoreTold, lies_under}
+use Rattle.mpm_base.specs.Store.{StoreSeen, StoreTold, lies_under}
 use Rattle.file_table.specs.declared.load_fault.LoadFault.{LoadFault}
 use Rattle.file_table.specs.declared.load_fault.LoadFault.TheVariants as fault
 use Rattle.file_table.specs.Site.{file_within, first_too_large, is_too_large, name_within, size_of}
@@ -48,7 +48,8 @@ pub record HasReadFiles (root : List ℕ) (told : Option StoreTold) (names : Lis
   pub bounded : sum ≤ 67108864
   pub known : IfSome told (λ t. files ≡ map (file_within root t.files) names)
 
--- no count fell
-pub record CountsStay (counts counts' : StoreCounts) : Type 0 where
-  pub faults : NeverFalls counts.faults counts'.faults
-  pub refusals : NeverFalls counts.refusals counts'.refusals
+-- the store tells what it told, and no count of it fell
+pub record StoreStays (old new : StoreSeen) : Type 0 where
+  pub told : new.told ≡ old.told
+  pub faults : NeverFalls old.counts.faults new.counts.faults
+  pub refusals : NeverFalls old.counts.refusals new.counts.refusals

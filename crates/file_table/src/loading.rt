@@ -4,7 +4,7 @@ ghost use Rattle.std.specs.Cmp.Lexicographic.{slice_cmp};
 ghost use Rattle.std.specs.List.Sorted.{IsPermutation, IsSortedByKey};
 ghost use Rattle.std.specs.Ordering.{nat_cmp};
 ghost use Rattle.mpm_base.specs.Store.{bytes_of, lies_under, names_under};
-ghost use Rattle.file_table.specs.Load.{CountsLoad, IsWithinLimits, MayLoad};
+ghost use Rattle.file_table.specs.Load.{IsWithinLimits, LeavesStore, MayLoad};
 ghost use Rattle.file_table.specs.LoadInside.{MayListFiles, MayReadBytes, MayNotRead, MayReadNext};
 ghost use Rattle.file_table.specs.Site.{file_within, first_too_large, is_too_large, name_within};
 
@@ -37,10 +37,9 @@ fn text_of(bytes: &[u8]) -> &str
 /// The names of the files under the root.
 fn list_names<D: Store>(alloc: Global, store: &mut D, root: &[u8]) -> Result<Names, LoadFault>
     requires { IsUtf8 root.now }
-    ensures told { D.told store.new ≡ D.told store.old }
-    ensures counts { CountsLoad (D.counts store.old) (D.counts store.new) result }
+    ensures store { LeavesStore (D.seen store.old) (D.seen store.new) result }
     ensures names { IfOk result (λ names. (length names ≤ 65536) × All IsUtf8 names) }
-    ensures known { IfSome (D.told store.old) (λ t. MayListFiles (names_under root.now t.files) result) }
+    ensures known { IfSome (D.seen store.old).told (λ t. MayListFiles (names_under root.now t.files) result) }
 {
     match store.names(alloc, text_of(root), MOST_FILES) {
         Ok(names) => Ok(names),
@@ -96,10 +95,9 @@ fn read_bytes<D: Store>(
     most: u64,
 ) -> Result<Octets, LoadFault>
     requires { IsUtf8 name.now }
-    ensures told { D.told store.new ≡ D.told store.old }
-    ensures counts { CountsLoad (D.counts store.old) (D.counts store.new) result }
+    ensures store { LeavesStore (D.seen store.old) (D.seen store.new) result }
     ensures fits { IfOk result (λ bytes. length bytes ≤ most) }
-    ensures known { IfSome (D.told store.old)
+    ensures known { IfSome (D.seen store.old).told
         (λ t. MayReadBytes (unwrap_or (bytes_of name.now t.files) []) name.now most result) }
 {
     match store.read(alloc, text_of(name), most) {
@@ -126,10 +124,9 @@ fn read_next<D: Store>(
     requires utf8 { IsUtf8 name.now }
     requires under { lies_under root.now name.now ≡ true }
     requires bounded { before ≤ 67108864 }
-    ensures told { D.told store.new ≡ D.told store.old }
-    ensures counts { CountsLoad (D.counts store.old) (D.counts store.new) result }
+    ensures store { LeavesStore (D.seen store.old) (D.seen store.new) result }
     ensures file { IfOk result (λ file. (file.name ≡ name_within root.now name.now) × (is_too_large before file ≡ false)) }
-    ensures known { IfSome (D.told store.old)
+    ensures known { IfSome (D.seen store.old).told
         (λ t. MayReadNext (file_within root.now t.files name.now) name.now before result) }
 {
     let most = MOST_BYTES.min(MOST_BYTES_TOGETHER - before);
@@ -147,12 +144,11 @@ fn read_files<D: Store>(
 ) -> Result<Vec<File>, LoadFault>
     requires utf8 { All (λ name. IsUtf8 name.now) names.now }
     requires under { All (λ name. lies_under root.now name.now ≡ true) names.now }
-    ensures told { D.told store.new ≡ D.told store.old }
-    ensures counts { CountsLoad (D.counts store.old) (D.counts store.new) result }
+    ensures store { LeavesStore (D.seen store.old) (D.seen store.new) result }
     ensures names { IfOk result (λ files. map (λ file. file.name) files.items
         ≡ map (name_within root.now) (map (λ name. name.now) names.now)) }
     ensures small { IfOk result (λ files. first_too_large 0 files.items ≡ None) }
-    ensures known { IfSome (D.told store.old) (λ t. MatchResult result
+    ensures known { IfSome (D.seen store.old).told (λ t. MatchResult result
         (λ files. files.items ≡ map (file_within root.now t.files) (map (λ name. name.now) names.now))
         (MayNotRead root.now t.files (map (λ name. name.now) names.now))) }
 {
@@ -180,10 +176,9 @@ fn read_site<D: Store>(
 ) -> Result<Site, LoadFault>
     requires few { length names.now ≤ 65536 }
     requires utf8 { All IsUtf8 names.now }
-    ensures told { D.told store.new ≡ D.told store.old }
-    ensures counts { CountsLoad (D.counts store.old) (D.counts store.new) result }
+    ensures store { LeavesStore (D.seen store.old) (D.seen store.new) result }
     ensures limits { IfOk result IsWithinLimits }
-    ensures site { IfSome (D.told store.old)
+    ensures site { IfSome (D.seen store.old).told
         (λ t. names.now ≡ names_under order.now.root t.files → MayLoad order.now t.files result) }
 {
     let root = order.root.as_slice();
@@ -203,10 +198,9 @@ fn read_site<D: Store>(
 pub fn load<D: Store>(alloc: Global, store: &mut D, order: &SiteOrder) -> Result<Site, LoadFault>
     requires root { IsUtf8 order.now.root }
     requires index { IsUtf8 order.now.index }
-    ensures told { D.told store.new ≡ D.told store.old }
-    ensures counts { CountsLoad (D.counts store.old) (D.counts store.new) result }
+    ensures store { LeavesStore (D.seen store.old) (D.seen store.new) result }
     ensures limits { IfOk result IsWithinLimits }
-    ensures site { IfSome (D.told store.old) (λ t. MayLoad order.now t.files result) }
+    ensures site { IfSome (D.seen store.old).told (λ t. MayLoad order.now t.files result) }
 {
     let names = match list_names(alloc, store, order.root.as_slice()) {
         Ok(names) => names,

@@ -267,9 +267,7 @@ struct CrowdedStore {
 }
 
 impl Store for CrowdedStore {
-    ghost told = { λ _. None };
-
-    ghost counts = { λ s. record { faults = 0; refusals = s.refusals } };
+    ghost seen = { λ s. record { told = None; counts = record { faults = 0; refusals = s.refusals } } };
 
     fn renew(&mut self) {}
 

@@ -1,3 +1,2 @@
-pub mod RangeLemmas
 pub mod TargetLemmas
 pub mod WritingLemmas

@@ -1,28 +1,20 @@
 -- The value of a Range field, and what it selects (RFC 9110, sections 14.1 and 14.2).
-use Rattle.std.specs.Prelude.{ℕ, ◌+◌, ◌-◌, ◌==◌, ◌&&◌, nat_lt, nat_le, min, Bool, List, length, take, drop, map, codes, Option, Some, None, option_map, option_and_then, if◌then◌else◌}
-use Rattle.std.specs.List.{after_first, before_first, list_all, position_or_len}
-use Rattle.std.specs.Char.{is_ascii_digit, to_ascii_lowercase}
+use Rattle.std.specs.Prelude.{ℕ, ◌+◌, ◌-◌, ◌==◌, nat_lt, nat_le, min, Bool, List, length, take, drop, map, codes, Option, None, option_map, option_and_then, if◌then◌else◌}
+use Rattle.std.specs.List.{after_first, before_first, position_or_len}
+use Rattle.std.specs.Char.{to_ascii_lowercase}
 use Rattle.std.specs.Str.{bytes_eq}
-use Rattle.std.specs.Str.Parse.{digits_value}
+use Rattle.mpm_base.specs.Digits.{decimal}
 use Rattle.http_core.specs.declared.range.Range.{Range}
 use Rattle.http_core.specs.declared.range.Range.TheVariants.{Between, From, Last}
 use Rattle.http_core.specs.declared.range.Selection.{Selection}
 use Rattle.http_core.specs.declared.range.Selection.TheVariants.{Whole, Part, Unsatisfiable}
 
--- 1 to 18 decimal digits
-abbrev pub is_position : List ℕ → Bool
-is_position text = nat_le 1 (length text) && nat_le (length text) 18 && list_all is_ascii_digit text
-
--- the number that they spell
-abbrev pub position_of : List ℕ → Option ℕ
-position_of text = if is_position text then Some (digits_value 10 text) else None
-
--- a range by what stands before and after its dash
+-- a range by what stands before and after its dash: numbers of 1 to 18 decimal digits, of which one may be missing
 abbrev pub range_between : List ℕ → List ℕ → Option Range
 range_between before after =
-    if length before == 0 then option_map (λ n. Last n) (position_of after)
-    else (if length after == 0 then option_map (λ a. From a) (position_of before)
-    else option_and_then (λ a. option_map (λ b. Between a b) (position_of after)) (position_of before))
+    if length before == 0 then option_map (λ n. Last n) (decimal 18 after)
+    else (if length after == 0 then option_map (λ a. From a) (decimal 18 before)
+    else option_and_then (λ a. option_map (λ b. Between a b) (decimal 18 after)) (decimal 18 before))
 
 -- the byte between two positions
 abbrev pub is_dash : ℕ → Bool

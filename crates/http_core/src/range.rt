@@ -1,12 +1,13 @@
 //! The value of a Range field, and what it selects.
-ghost use Rattle.std.specs.Prelude.{◌≡◌, ◌<◌, ◌^◌, IfSome};
-ghost use Rattle.std.specs.List.{list_all};
-ghost use Rattle.std.specs.Char.{is_ascii_digit};
-ghost use Rattle.http_core.specs.Range.{is_position, position_of, range_between, range_in_value, range_of_bytes, selection_of};
+ghost use Rattle.std.specs.Prelude.{◌≡◌, IfSome};
+ghost use Rattle.http_core.specs.Range.{range_between, range_in_value, range_of_bytes, selection_of};
 ghost use Rattle.http_core.specs.RangeInside.{HasSmallBound, IsWithinSize};
 
 use crate::target::place_of_byte;
-use mpm_base::decimal_value;
+use mpm_base::decimal;
+
+/// The most digits of a position.
+const MOST_DIGITS: usize = 18;
 
 /// A range of bytes (RFC 9110, section 14.1.2).
 #[derive(Clone, Copy, Debug, PartialEq, Eq)]
@@ -30,48 +31,22 @@ pub enum Selection {
     Unsatisfiable,
 }
 
-/// Whether there are digits alone.
-fn all_digits(text: &[u8]) -> bool
-    ensures { result ≡ list_all is_ascii_digit text.now }
-{
-    text.iter().all(|b| b.is_ascii_digit())
-}
-
-/// Whether it is 1 to 18 decimal digits.
-fn is_position(text: &[u8]) -> bool
-    ensures { result ≡ is_position text.now }
-{
-    1 <= text.len() && text.len() <= 18 && all_digits(text)
-}
-
-/// The number that 1 to 18 decimal digits spell.
-fn position_of(text: &[u8]) -> Option<u64>
-    ensures value { result ≡ position_of text.now }
-    ensures bound { IfSome result (λ n. n < 10 ^ 18) }
-{
-    if is_position(text) {
-        Some(decimal_value(text))
-    } else {
-        None
-    }
-}
-
 /// The range by what stands before and after its dash.
 fn range_between(before: &[u8], after: &[u8]) -> Option<Range>
     ensures value { result ≡ range_between before.now after.now }
     ensures bound { IfSome result HasSmallBound }
 {
     if before.is_empty() {
-        return match position_of(after) {
+        return match decimal(after, MOST_DIGITS) {
             Some(count) => Some(Range::Last(count)),
             None => None,
         };
     }
-    let first = position_of(before)?;
+    let first = decimal(before, MOST_DIGITS)?;
     if after.is_empty() {
         return Some(Range::From(first));
     }
-    match position_of(after) {
+    match decimal(after, MOST_DIGITS) {
         Some(last) => Some(Range::Between(first, last)),
         None => None,
     }

@@ -1,6 +1,7 @@
 //! A response: its head, and what its body is.
-ghost use Rattle.std.specs.Prelude.{◌≡◌, ◌<◌, true, IfOk};
+ghost use Rattle.std.specs.Prelude.{◌≡◌, true, IfOk};
 ghost use Rattle.httpdate.specs.Date.{unix_secs};
+ghost use Rattle.mpm_base.specs.Moment.{IsSecond};
 ghost use Rattle.http_core.specs.Ask.{IsServedOf};
 ghost use Rattle.http_core.specs.Reply as spec;
 ghost use Rattle.http_core.specs.Reply.{IsRefusalReply, IsReply};
@@ -34,7 +35,7 @@ pub struct Reply {
 
 /// The date at a second since 1970-01-01 00:00:00 UTC.
 fn date_at(second: u64) -> HttpDate
-    requires { second < 253402300800 }
+    requires { IsSecond second }
     ensures { unix_secs result ≡ second }
 {
     let Ok(date) = HttpDate::from_unix_secs(second) else {
@@ -84,7 +85,7 @@ pub fn response(
     plan: &Plan,
     note: &Note,
 ) -> Result<Reply, NoMemory>
-    requires date { note.now.date < 253402300800 }
+    requires date { IsSecond note.now.date }
     requires of { IsServedOf site.now plan.now.served }
     ensures { IfOk result (IsReply site.now plan.now note.now head) }
 {
@@ -97,7 +98,7 @@ pub fn response(
 
 /// The response to a head that was refused by the note's code.
 pub fn refusal(alloc: Global, head: Octets, note: &Note) -> Result<Reply, NoMemory>
-    requires date { note.now.date < 253402300800 }
+    requires date { IsSecond note.now.date }
     requires code { refuses_head note.now.code ≡ true }
     ensures { IfOk result (IsRefusalReply note.now head) }
 {

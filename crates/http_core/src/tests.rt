@@ -1,5 +1,6 @@
 //! Responses by example.
-ghost use Rattle.std.specs.Prelude.{◌≡◌, ◌<◌, true, IfOk, IsUtf8};
+ghost use Rattle.std.specs.Prelude.{◌≡◌, true, IfOk, IsUtf8};
+ghost use Rattle.mpm_base.specs.Moment.{IsSecond};
 ghost use Rattle.http_core.specs.Ask.{IsServedOf};
 ghost use Rattle.http_core.specs.Status.{refuses_head};
 
@@ -98,7 +99,7 @@ fn note_of(date: u64, last: bool, code: u16) -> Note
 
 /// The whole response of this plan.
 fn reply_of(alloc: Global, site: &Site, plan: &Plan, note: &Note) -> Result<Octets, NoMemory>
-    requires date { note.now.date < 253402300800 }
+    requires date { IsSecond note.now.date }
     requires of { IsServedOf site.now plan.now.served }
 {
     let reply = response(alloc, Octets::make(alloc), site, plan, note)?;

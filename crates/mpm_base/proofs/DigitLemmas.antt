@@ -1,11 +1,14 @@
 -- Decimal digits, and the number that they spell as it is read from the front.
-use Rattle.std.proofs.Common.{◌≡◌, ℕ, ◌+◌, ◌-◌, ◌*◌, ◌<◌, ◌≤◌, ◌^◌, List, length, take, get_or, arith, add-one}
-use Rattle.std.specs.Char.{digit_value}
+use Rattle.std.proofs.Common.{◌≡◌, ℕ, ◌+◌, ◌-◌, ◌*◌, ◌<◌, ◌≤◌, ◌^◌, List, length, take, get_or, [], ◌∷◌, true, arith, add-one}
+use Rattle.std.specs.Char.{is_ascii_digit, digit_value}
+use Rattle.std.specs.List.{list_all}
 use Rattle.std.specs.Str.Parse.{digits_value, AllDigits}
 use Rattle.std.proofs.Math.Nat.{pow-suc, pow-le-pow_right}
 use Rattle.std.proofs.lemmas.Bool.Decides.{nat_tests}
 use Rattle.std.proofs.lemmas.Int.Digits.{digits_value_more}
 use Rattle.std.proofs.lemmas.Str.Parse.{digit_at}
+use Rattle.std.proofs.lemmas.Grind.{common_steps}
+use Rattle.mpm_base.specs.Digits.{is_number}
 
 -- what one more digit does
 pub record Step (ds : List ℕ) (i n : ℕ) : Type 0 where
@@ -32,3 +35,24 @@ step ds i n few all h e b =
       value = omega (arith, more, is, e);
       bound = rw (add-one, pow-suc) (omega (arith, b, d.1));
     }
+
+-- a list that passes the test is of digits
+all_digits : (xs : List ℕ) → list_all is_ascii_digit xs ≡ true → AllDigits 10 xs
+all_digits [] h = tt
+all_digits (x ∷ xs) h = grind (arith, common_steps, nat_tests, all_digits xs, digit_is x)
+
+-- what the test of a number says
+pub record Number (most : ℕ) (text : List ℕ) : Type 0 where
+  pub few : length text ≤ most
+  pub digits : AllDigits 10 text
+
+pub number_parts : (most : ℕ) (text : List ℕ) → is_number most text ≡ true → Number most text
+number_parts most text h =
+    let all : list_all is_ascii_digit text ≡ true = grind (arith, nat_tests) in
+    record { few = grind (arith, nat_tests); digits = all_digits text all }
+
+-- a number of few digits is small
+pub small_number : (most n : ℕ) (text : List ℕ) → length text ≤ most → n < 10 ^ length text → n < 10 ^ most
+small_number most n text h k =
+    let power : 10 ^ length text ≤ 10 ^ most = pow-le-pow_right (omega arith) h in
+    omega (arith, power, k)

@@ -1,42 +1,117 @@
--- A front is where connections, signals and time come from. What it tells of itself, its counts, and what each call does to
--- them.
-use Rattle.std.specs.Prelude.{◌≡◌, ℕ, ◌<◌, ◌≤◌, Bool, true, false, not, List, [], ◌∷◌, ◌++◌, length, Option, None, Some, option_map, IfSome, slice_set, slice_index_or, ⊤}
+-- A front is where connections, command lines, signals and time come from. What it tells of itself, its counts, and what each
+-- call does to them.
+use Rattle.std.specs.Prelude.{◌≡◌, ◌⊎◌, ℕ, ◌-◌, ◌<◌, ◌≤◌, Bool, true, false, not, List, [], ◌∷◌, ◌++◌, length, find, nat_lt, min, Option, None, Some, option_map, is_some, IfSome, slice_get, slice_index_or, ⊤}
 use Rattle.std.specs.List.{flat_map}
 use Rattle.mpm_base.specs.Count.{next_count, RisesWhere, RisesExactlyWhere}
-use Rattle.mpm_base.specs.Link.{LinkTold, LinkCounts, OnlyFaults, fresh_link}
+use Rattle.mpm_base.specs.Link.{LinkTold, LinkSeen, OnlyFaults, fresh_link}
+use Rattle.mpm_base.specs.declared.addr.Addr.{Addr}
 use Rattle.mpm_base.specs.declared.conn.ConnName.{ConnName}
 use Rattle.mpm_base.specs.declared.front.Arrival.{Arrival}
 use Rattle.mpm_base.specs.declared.front.Arrival.TheVariants as arrival
 use Rattle.mpm_base.specs.declared.front.Woke.{Woke}
 use Rattle.mpm_base.specs.declared.front.Woke.TheVariants as woke
+use Rattle.mpm_base.specs.declared.script_line.ScriptLine.{ScriptLine}
 
--- a wait of a front: the slots that it gave, and its answer
+-- what waited to be taken just before a wait let time pass: connections that had arrived, and command lines that had come
+pub record Waiting : Type 0 where
+  pub arrivals : ℕ
+  pub lines : ℕ
+
+-- a wait of a front: until when it was to last at most, and whether time might pass in it; the slots that it gave, and its
+-- answer; and what waited to be taken just before it let time pass, where it did
 pub record WaitTold : Type 0 where
+  pub until : Option ℕ
+  pub quiet : Bool
   pub slots : List ℕ
   pub answer : Woke
+  pub passed : Option Waiting
+
+-- a watch of a front: the number of the link, and the name under which it was watched
+pub record WatchTold : Type 0 where
+  pub rank : ℕ
+  pub name : ConnName
+
+-- what a front was bound to: where connections are taken, and the port where command lines are, if they are
+pub record BoundTold : Type 0 where
+  pub listen : Addr
+  pub control : Option ℕ
 
 -- what a front that tells has done and has before it: what the client of each connection sends, of those that have arrived
--- and of those that will; how many have arrived, and how many of these were handed out; under which name each was watched;
--- how many things are still to happen; the moment at which it stands; and its waits, in order
+-- and of those that will; how many have arrived, and how many of these were handed out; its watches, in order; the command
+-- lines that have come, and how many of these were read; what it was bound to, and whether listening was stopped; how many
+-- things are still to happen; the moment at which it stands; of a patient one the moments at which something comes by itself,
+-- in order; whether an accept failed since the last wait; and its waits, in order
 pub record FrontTold : Type 0 where
   pub clients : List (List ℕ)
   pub arrived : ℕ
   pub accepted : ℕ
-  pub watched : List (Option ConnName)
+  pub watches : List WatchTold
+  pub lines : List (List ℕ)
+  pub read : ℕ
+  pub bound : List BoundTold
+  pub hushed : Bool
   pub left : ℕ
   pub moment : ℕ
+  pub comings : Option (List ℕ)
+  pub failed : Bool
   pub waits : List WaitTold
 
--- counts that each front keeps, whether it tells or not: of failed waits, of failed accepts, and of waits that answered Ended
+-- counts that each front keeps, whether it tells or not: of failed binds and waits, of failed accepts, of waits that answered
+-- Ended, and of the command lines that it gave
 pub record FrontCounts : Type 0 where
   pub faults : ℕ
   pub accept_faults : ℕ
   pub ends : ℕ
+  pub commands : ℕ
+
+-- what is seen of a front: the script that it was made of, where it was made of one; what it tells, where it tells; and its
+-- counts
+pub record FrontSeen : Type 0 where
+  pub script : Option (List ScriptLine)
+  pub told : Option FrontTold
+  pub counts : FrontCounts
 
 -- it tells before and after, and this holds of what it tells; or it tells nothing
 abbrev pub TellsOn : (FrontTold → FrontTold → Type 0) → Option FrontTold → Option FrontTold → Type 0
 TellsOn Goes None told' = told' ≡ None
 TellsOn Goes (Some t) told' = (t' : FrontTold) × (told' ≡ Some t') × Goes t t'
+
+-- nothing was asked of it yet, and a patient one stands at moment 0
+pub record IsUnused (t : FrontTold) : Type 0 where
+  pub arrived : t.arrived ≡ 0
+  pub accepted : t.accepted ≡ 0
+  pub watches : t.watches ≡ []
+  pub lines : t.lines ≡ []
+  pub read : t.read ≡ 0
+  pub bound : t.bound ≡ []
+  pub hushed : t.hushed ≡ false
+  pub waits : t.waits ≡ []
+  pub failed : t.failed ≡ false
+  pub stands : is_some t.comings ≡ true → t.moment ≡ 0
+
+-- ## Opening and closing
+
+-- what the front tells after it was bound to these, or could not be
+abbrev pub after_bind : Bool → Addr → Option ℕ → FrontTold → FrontTold
+after_bind true listen control t = record t { bound = t.bound ++ record { listen = listen; control = control } ∷ [] }
+after_bind false listen control t = t
+
+-- what a bind answered, and left of the front
+pub record Binds (old new : FrontSeen) (listen : Addr) (control : Option ℕ) (answer : Bool) : Type 0 where
+  pub script : new.script ≡ old.script
+  pub told_is : new.told ≡ option_map (after_bind answer listen control) old.told
+  pub faults : RisesWhere (not answer) old.counts.faults new.counts.faults
+  pub accept_faults : new.counts.accept_faults ≡ old.counts.accept_faults
+  pub ends : new.counts.ends ≡ old.counts.ends
+  pub commands : new.counts.commands ≡ old.counts.commands
+
+-- the front takes no further connection
+abbrev pub hushed_front : FrontTold → FrontTold
+hushed_front t = record t { hushed = true }
+
+-- what is seen of a front after listening was stopped
+abbrev pub after_hush : FrontSeen → FrontSeen
+after_hush f = record f { told = option_map hushed_front f.told }
 
 -- ## A wait
 
@@ -62,10 +137,11 @@ moments_in woke.Failed = []
 abbrev pub moments_of : List WaitTold → List ℕ
 moments_of waits = flat_map (λ wait. moments_in wait.answer) waits
 
--- all has happened, and each connection was handed out
+-- all has happened, each command line was read, and each connection was handed out or listening was stopped
 pub record HasAllTaken (t : FrontTold) : Type 0 where
   pub left : t.left ≡ 0
-  pub accepted : t.accepted ≡ length t.clients
+  pub read : t.read ≡ length t.lines
+  pub accepted : ((t.accepted ≡ t.arrived) × (t.accepted ≡ length t.clients)) ⊎ (t.hushed ≡ true)
 
 -- a wait that wakes gives the moment at which the front then stands, and one answers Ended only where all was taken
 abbrev pub IsAnswerOf : Woke → FrontTold → Type 0
@@ -73,20 +149,60 @@ IsAnswerOf (woke.Woke m) t = m ≡ t.moment
 IsAnswerOf woke.Ended t = HasAllTaken t
 IsAnswerOf woke.Failed t = ⊤
 
--- what a front that tells does in a wait: connections and time come, and nothing goes back
-pub record GoesForward (answer : Woke) (ready : List ℕ) (t t' : FrontTold) : Type 0 where
+-- the smaller of the moments that are there
+abbrev pub earlier : Option ℕ → Option ℕ → Option ℕ
+earlier None other = other
+earlier (Some m) None = Some m
+earlier (Some m) (Some other) = Some (min m other)
+
+-- of the moments at which something comes by itself, in the order in which it comes, the first that is later than this one
+abbrev pub next_coming : ℕ → List ℕ → Option ℕ
+next_coming moment comings = find (nat_lt moment) comings
+
+-- how many connections and command lines wait to be taken
+abbrev pub waiting_in : FrontTold → Waiting
+waiting_in t = record { arrivals = t.arrived - t.accepted; lines = length t.lines - t.read }
+
+-- a patient front let time pass in a wait: the wait was told that it may, and no accept failed since the one before; the front
+-- went on to the earlier of `until` and the next moment at which something comes by itself, and woke; and this waited before
+pub record LetsTimePass (comings : List ℕ) (until : Option ℕ) (quiet : Bool) (answer : Woke) (waited : Waiting) (t t' : FrontTold) : Type 0 where
+  pub may : quiet ≡ true
+  pub steady : t.failed ≡ false
+  pub to : earlier until (next_coming t.moment comings) ≡ Some t'.moment
+  pub later : t.moment < t'.moment
+  pub wakes : answer ≡ woke.Woke t'.moment
+  pub waited_is : waited ≡ waiting_in t
+
+-- a patient front, at which something comes by itself at these moments, lets time pass only so, and else stands where it stood
+abbrev pub IsPatient : List ℕ → Option ℕ → Bool → Woke → Option Waiting → FrontTold → FrontTold → Type 0
+IsPatient comings until quiet answer None t t' = t'.moment ≡ t.moment
+IsPatient comings until quiet answer (Some waited) t t' = LetsTimePass comings until quiet answer waited t t'
+
+-- what a front that tells does in a wait: connections, command lines and time come, and nothing goes back
+pub record GoesForward (until : Option ℕ) (quiet : Bool) (answer : Woke) (ready : List ℕ) (t t' : FrontTold) : Type 0 where
   pub clients : t'.clients ≡ t.clients
   pub arrived : t.arrived ≤ t'.arrived
+  pub within : t'.arrived ≤ length t.clients
   pub accepted : t'.accepted ≡ t.accepted
-  pub watched : t'.watched ≡ t.watched
+  pub watches : t'.watches ≡ t.watches
+  pub come : List (List ℕ)
+  pub lines : t'.lines ≡ t.lines ++ come
+  pub read : t'.read ≡ t.read
+  pub bound : t'.bound ≡ t.bound
+  pub hushed : t'.hushed ≡ t.hushed
   pub left : t'.left ≤ t.left
   pub moment : t.moment ≤ t'.moment
+  pub comings : t'.comings ≡ t.comings
+  pub failed : t'.failed ≡ false
   pub answers : IsAnswerOf answer t'
-  pub waits : t'.waits ≡ t.waits ++ record { slots = ready; answer = answer } ∷ []
+  pub passed : Option Waiting
+  pub patient : IfSome t.comings (λ comings. IsPatient comings until quiet answer passed t t')
+  pub waits : t'.waits ≡ t.waits ++ record { until = until; quiet = quiet; slots = ready; answer = answer; passed = passed } ∷ []
 
 -- nothing comes any more
 pub record StandsStill (t t' : FrontTold) : Type 0 where
   pub arrived : t'.arrived ≡ t.arrived
+  pub lines : t'.lines ≡ t.lines
   pub left : t'.left ≡ t.left
   pub moment : t'.moment ≡ t.moment
 
@@ -102,14 +218,16 @@ pub record IsOver (told told' : Option FrontTold) (ready : List ℕ) : Type 0 wh
   pub still : TellsOn StandsStill told told'
 
 -- what a wait answered and gave, and left of the front
-pub record Waits (told told' : Option FrontTold) (counts counts' : FrontCounts) (answer : Woke) (ready : List ℕ) : Type 0 where
-  pub tells : TellsOn (GoesForward answer ready) told told'
-  pub over : 0 < counts.ends → IsOver told told' ready
+pub record Waits (old new : FrontSeen) (until : Option ℕ) (quiet : Bool) (answer : Woke) (ready : List ℕ) : Type 0 where
+  pub script : new.script ≡ old.script
+  pub tells : TellsOn (GoesForward until quiet answer ready) old.told new.told
+  pub over : 0 < old.counts.ends → IsOver old.told new.told ready
   pub awake : GivesOnlyAwake answer ready
   pub few : length ready ≤ 256
-  pub faults : RisesWhere (wait_failed answer) counts.faults counts'.faults
-  pub accept_faults : counts'.accept_faults ≡ counts.accept_faults
-  pub ends : RisesExactlyWhere (is_ended answer) counts.ends counts'.ends
+  pub faults : RisesWhere (wait_failed answer) old.counts.faults new.counts.faults
+  pub accept_faults : new.counts.accept_faults ≡ old.counts.accept_faults
+  pub ends : RisesExactlyWhere (is_ended answer) old.counts.ends new.counts.ends
+  pub commands : new.counts.commands ≡ old.counts.commands
 
 -- ## An accept
 
@@ -117,9 +235,13 @@ pub record Waits (told told' : Option FrontTold) (counts counts' : FrontCounts) 
 abbrev pub client_at : List (List ℕ) → ℕ → List ℕ
 client_at clients number = slice_index_or clients number []
 
+-- one waits, and listening was not stopped
+pub record HasOneToTake (t : FrontTold) : Type 0 where
+  pub listens : t.hushed ≡ false
+  pub arrived : t.accepted < t.arrived
+
 -- the link is that of the next connection: its number is how many were handed out before it
 pub record IsNext (t : FrontTold) (link : LinkTold) : Type 0 where
-  pub arrived : t.accepted < t.arrived
   pub known : t.accepted < length t.clients
   pub fresh : link ≡ fresh_link t.accepted (client_at t.clients t.accepted)
 
@@ -128,11 +250,16 @@ abbrev pub IsHandedOut : Option FrontTold → Option LinkTold → Type 0
 IsHandedOut told None = ⊤
 IsHandedOut told (Some link) = (t : FrontTold) × (told ≡ Some t) × IsNext t link
 
--- a link comes fresh and without a fault, and none comes only where none waits
-abbrev pub Hands : {L : Type 0} → (L → Option LinkTold) → (L → LinkCounts) → Option FrontTold → Arrival L → Type 0
-Hands link_told link_counts told (arrival.Some link) = IsHandedOut told (link_told link) × ((link_counts link).faults ≡ 0)
-Hands link_told link_counts told arrival.None = IfSome told (λ t. t.accepted ≡ t.arrived)
-Hands link_told link_counts told arrival.Failed = ⊤
+-- none waits, or listening was stopped
+abbrev pub HasNoneToTake : FrontTold → Type 0
+HasNoneToTake t = (t.accepted ≡ t.arrived) ⊎ (t.hushed ≡ true)
+
+-- a link comes fresh and without a fault, where one waits and listening was not stopped, and none comes only where it is not so
+abbrev pub Hands : {L : Type 0} → (L → LinkSeen) → Option FrontTold → Arrival L → Type 0
+Hands link_seen told (arrival.Some link) =
+    IfSome told HasOneToTake × IsHandedOut told (link_seen link).told × ((link_seen link).counts.faults ≡ 0)
+Hands link_seen told arrival.None = IfSome told HasNoneToTake
+Hands link_seen told arrival.Failed = ⊤
 
 -- the accept handed a link out
 abbrev pub is_handed : {L : Type 0} → Arrival L → Bool
@@ -146,29 +273,57 @@ accept_failed (arrival.Some link) = false
 accept_failed arrival.None = false
 accept_failed arrival.Failed = true
 
--- what the front tells after an accept that handed a link out, or none
-abbrev pub after_accept : Bool → FrontTold → FrontTold
-after_accept true t = record t { accepted = next_count t.accepted }
-after_accept false t = t
+-- what the front tells after an accept that answered this
+abbrev pub after_accept : {L : Type 0} → Arrival L → FrontTold → FrontTold
+after_accept (arrival.Some link) t = record t { accepted = next_count t.accepted }
+after_accept arrival.None t = t
+after_accept arrival.Failed t = record t { failed = true }
 
 -- what an accept answered, and left of the front
-pub record Accepts {L : Type 0} (link_told : L → Option LinkTold) (link_counts : L → LinkCounts) (told told' : Option FrontTold) (counts counts' : FrontCounts) (answer : Arrival L) : Type 0 where
-  pub told_is : told' ≡ option_map (after_accept (is_handed answer)) told
-  pub hands : Hands link_told link_counts told answer
-  pub faults : counts'.faults ≡ counts.faults
-  pub accept_faults : RisesWhere (accept_failed answer) counts.accept_faults counts'.accept_faults
-  pub ends : counts'.ends ≡ counts.ends
+pub record Accepts {L : Type 0} (link_seen : L → LinkSeen) (old new : FrontSeen) (answer : Arrival L) : Type 0 where
+  pub script : new.script ≡ old.script
+  pub told_is : new.told ≡ option_map (after_accept answer) old.told
+  pub hands : Hands link_seen old.told answer
+  pub faults : new.counts.faults ≡ old.counts.faults
+  pub accept_faults : RisesWhere (accept_failed answer) old.counts.accept_faults new.counts.accept_faults
+  pub ends : new.counts.ends ≡ old.counts.ends
+  pub commands : new.counts.commands ≡ old.counts.commands
 
 -- ## A watch
 
--- the link of that number is watched under the name
+-- the link was watched under the name once more
 abbrev pub after_watch : ConnName → Option LinkTold → FrontTold → FrontTold
 after_watch name None t = t
-after_watch name (Some link) t = record t { watched = slice_set t.watched link.rank (Some name) }
+after_watch name (Some link) t = record t { watches = t.watches ++ record { rank = link.rank; name = name } ∷ [] }
+
+-- what is seen of a front after a watch
+abbrev pub front_after_watch : ConnName → Option LinkTold → FrontSeen → FrontSeen
+front_after_watch name link f = record f { told = option_map (after_watch name link) f.told }
 
 -- what a watch answered, and left of the front and of the link, which tells the same
-pub record Watches (told told' : Option FrontTold) (counts counts' : FrontCounts) (name : ConnName) (link link' : Option LinkTold) (link_counts link_counts' : LinkCounts) (answer : Bool) : Type 0 where
-  pub told_is : told' ≡ option_map (after_watch name link) told
-  pub counts_are : counts' ≡ counts
-  pub link_is : link' ≡ link
-  pub only_faults : OnlyFaults (not answer) link_counts link_counts'
+pub record Watches (old new : FrontSeen) (name : ConnName) (link link' : LinkSeen) (answer : Bool) : Type 0 where
+  pub front : new ≡ front_after_watch name link.told old
+  pub link_is : link'.told ≡ link.told
+  pub only_faults : OnlyFaults (not answer) link.counts link'.counts
+
+-- ## A command line
+
+-- what the front tells after it gave a command line, or none
+abbrev pub after_command : Bool → FrontTold → FrontTold
+after_command true t = record t { read = next_count t.read }
+after_command false t = t
+
+-- the line is the next one that came, and none is given only where each was read
+abbrev pub GivesLine : Option (List ℕ) → FrontTold → Type 0
+GivesLine None t = t.read ≡ length t.lines
+GivesLine (Some line) t = slice_get t.lines t.read ≡ Some line
+
+-- what a call for a command line answered, and left of the front
+pub record Commands (old new : FrontSeen) (answer : Option (List ℕ)) : Type 0 where
+  pub script : new.script ≡ old.script
+  pub told_is : new.told ≡ option_map (after_command (is_some answer)) old.told
+  pub gives : IfSome old.told (GivesLine answer)
+  pub faults : new.counts.faults ≡ old.counts.faults
+  pub accept_faults : new.counts.accept_faults ≡ old.counts.accept_faults
+  pub ends : new.counts.ends ≡ old.counts.ends
+  pub commands : RisesExactlyWhere (is_some answer) old.counts.commands new.counts.commands

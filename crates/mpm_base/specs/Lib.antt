@@ -1,6 +1,7 @@
 pub mod Cause
 pub mod Clock
 pub mod Count
+pub mod Digits
 pub mod Front
 pub mod Link
 pub mod Moment

@@ -1,5 +1,5 @@
 -- A link is one connection's way to its client. What it tells of itself, its counts, and what each call does to them.
-use Rattle.std.specs.Prelude.{◌≡◌, ◌==◌, ℕ, ◌<◌, ◌≤◌, Bool, true, false, not, List, [], ◌++◌, take, drop, length, Option, option_map, IfSome, if◌then◌else◌, ⊤}
+use Rattle.std.specs.Prelude.{◌≡◌, ◌==◌, ℕ, ◌<◌, ◌≤◌, Bool, true, false, not, List, [], ◌++◌, take, drop, length, Option, Some, option_map, IfSome, if◌then◌else◌, ⊤}
 use Rattle.mpm_base.specs.Count.{next_count, RisesWhere, RisesExactlyWhere}
 use Rattle.mpm_base.specs.declared.link.Got.{Got}
 use Rattle.mpm_base.specs.declared.link.Got.TheVariants as got
@@ -25,6 +25,15 @@ pub record LinkCounts : Type 0 where
   pub late_reads : ℕ
   pub late_writes : ℕ
   pub ends : ℕ
+
+-- what is seen of a link: what it tells, where it tells, and its counts
+pub record LinkSeen : Type 0 where
+  pub told : Option LinkTold
+  pub counts : LinkCounts
+
+-- the same of a link that tells
+abbrev pub telling_link : LinkTold → LinkCounts → LinkSeen
+telling_link told counts = record { told = Some told; counts = counts }
 
 -- a link as the front hands it out, whose client sends these bytes: nothing was received or sent, and it was neither
 -- half-closed nor closed
@@ -88,14 +97,14 @@ read_failed got.NotReady = false
 read_failed got.Failed = true
 
 -- what a read answered, and left of the link and of the buffer
-pub record Reads (told told' : Option LinkTold) (counts counts' : LinkCounts) (answer : Got) (buffer : List ℕ) : Type 0 where
-  pub told_is : told' ≡ option_map (after_read answer) told
-  pub gives : IfSome told (GivesNext answer buffer)
+pub record Reads (old new : LinkSeen) (answer : Got) (buffer : List ℕ) : Type 0 where
+  pub told_is : new.told ≡ option_map (after_read answer) old.told
+  pub gives : IfSome old.told (GivesNext answer buffer)
   pub fits : FitsBuffer answer (length buffer)
-  pub faults : RisesWhere (read_failed answer) counts.faults counts'.faults
-  pub late_reads : RisesExactlyWhere (read_late answer) counts.late_reads counts'.late_reads
-  pub late_writes : counts'.late_writes ≡ counts.late_writes
-  pub ends : RisesExactlyWhere (found_end answer) counts.ends counts'.ends
+  pub faults : RisesWhere (read_failed answer) old.counts.faults new.counts.faults
+  pub late_reads : RisesExactlyWhere (read_late answer) old.counts.late_reads new.counts.late_reads
+  pub late_writes : new.counts.late_writes ≡ old.counts.late_writes
+  pub ends : RisesExactlyWhere (found_end answer) old.counts.ends new.counts.ends
 
 -- what the link tells after a write of these bytes
 abbrev pub after_write : Sent → List ℕ → LinkTold → LinkTold
@@ -122,13 +131,13 @@ write_failed sent.NotReady = false
 write_failed sent.Failed = true
 
 -- what a write of these bytes answered, and left of the link
-pub record Writes (told told' : Option LinkTold) (counts counts' : LinkCounts) (answer : Sent) (bytes : List ℕ) : Type 0 where
-  pub told_is : told' ≡ option_map (after_write answer bytes) told
+pub record Writes (old new : LinkSeen) (answer : Sent) (bytes : List ℕ) : Type 0 where
+  pub told_is : new.told ≡ option_map (after_write answer bytes) old.told
   pub fits : FitsPiece answer (length bytes)
-  pub faults : RisesWhere (write_failed answer) counts.faults counts'.faults
-  pub late_reads : counts'.late_reads ≡ counts.late_reads
-  pub late_writes : RisesExactlyWhere (write_late answer) counts.late_writes counts'.late_writes
-  pub ends : counts'.ends ≡ counts.ends
+  pub faults : RisesWhere (write_failed answer) old.counts.faults new.counts.faults
+  pub late_reads : new.counts.late_reads ≡ old.counts.late_reads
+  pub late_writes : RisesExactlyWhere (write_late answer) old.counts.late_writes new.counts.late_writes
+  pub ends : new.counts.ends ≡ old.counts.ends
 
 -- what the link tells after its writing side was closed, or could not be
 abbrev pub after_shut : Bool → LinkTold → LinkTold
@@ -143,15 +152,15 @@ pub record OnlyFaults (failed : Bool) (counts counts' : LinkCounts) : Type 0 whe
   pub ends : counts'.ends ≡ counts.ends
 
 -- what a half-close answered, and left of the link
-pub record Shuts (told told' : Option LinkTold) (counts counts' : LinkCounts) (answer : Bool) : Type 0 where
-  pub told_is : told' ≡ option_map (after_shut answer) told
-  pub only_faults : OnlyFaults (not answer) counts counts'
+pub record Shuts (old new : LinkSeen) (answer : Bool) : Type 0 where
+  pub told_is : new.told ≡ option_map (after_shut answer) old.told
+  pub only_faults : OnlyFaults (not answer) old.counts new.counts
 
 -- what the link tells after it was closed
 abbrev pub after_close : LinkTold → LinkTold
 after_close t = record t { closes = next_count t.closes }
 
 -- what a close left of the link
-pub record Closes (told told' : Option LinkTold) (counts counts' : LinkCounts) : Type 0 where
-  pub told_is : told' ≡ option_map after_close told
-  pub only_faults : OnlyFaults false counts counts'
+pub record Closes (old new : LinkSeen) : Type 0 where
+  pub told_is : new.told ≡ option_map after_close old.told
+  pub only_faults : OnlyFaults false old.counts new.counts

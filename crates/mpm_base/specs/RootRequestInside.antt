@@ -1,4 +1,4 @@
--- What helps to prove, and no public contract reaches, of: The one form of request that is read so far: a GET of "/" by HTTP/1.1 whose one field is Host (RFC 9112,
+-- What helps to prove of the one form of request that is read so far, and no public contract reaches.
 use Rattle.std.specs.Prelude.{ℕ, List, ◌++◌}
 use Rattle.mpm_base.specs.RootRequest.{IsHost, IsProperFront, after_host}
 

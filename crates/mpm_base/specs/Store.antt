@@ -17,6 +17,15 @@ pub record StoreCounts : Type 0 where
   pub faults : ℕ
   pub refusals : ℕ
 
+-- what is seen of a store: its files, where it tells them, and its counts
+pub record StoreSeen : Type 0 where
+  pub told : Option StoreTold
+  pub counts : StoreCounts
+
+-- the same of a store that tells
+abbrev pub telling_store : StoreTold → StoreCounts → StoreSeen
+telling_store told counts = record { told = Some told; counts = counts }
+
 -- the files of the next edition, or these where there is none
 abbrev pub next_files : List File → List (List File) → List File
 next_files files [] = files
@@ -81,10 +90,10 @@ MayRead known most (Err fault.Failed) = ⊤
 MayRead known most (Err fault.NoMemory) = ⊤
 
 -- what a read of at most so many bytes of the file of that name answered, and left of the store
-pub record ReadsFile (told told' : Option StoreTold) (counts counts' : StoreCounts) (name : List ℕ) (most : ℕ) (answer : Result (List ℕ) StoreFault) : Type 0 where
-  pub told_stays : told' ≡ told
-  pub counted : CountsAsk counts counts' answer
-  pub may : MayRead (option_map (λ t. bytes_of name t.files) told) most answer
+pub record ReadsFile (old new : StoreSeen) (name : List ℕ) (most : ℕ) (answer : Result (List ℕ) StoreFault) : Type 0 where
+  pub told_stays : new.told ≡ old.told
+  pub counted : CountsAsk old.counts new.counts answer
+  pub may : MayRead (option_map (λ t. bytes_of name t.files) old.told) most answer
 
 -- what a listing may answer, where the names are known and whether they are
 abbrev pub MayList : Option (List (List ℕ)) → ℕ → Result (List (List ℕ)) StoreFault → Type 0
@@ -96,17 +105,17 @@ MayList known most (Err fault.Failed) = ⊤
 MayList known most (Err fault.NoMemory) = ⊤
 
 -- what a listing of at most so many names below a folder answered, each of which lies there, and left of the store
-pub record ListsNames (told told' : Option StoreTold) (counts counts' : StoreCounts) (folder : List ℕ) (most : ℕ) (answer : Result (List (List ℕ)) StoreFault) : Type 0 where
-  pub told_stays : told' ≡ told
-  pub counted : CountsAsk counts counts' answer
-  pub may : MayList (option_map (λ t. names_under folder t.files) told) most answer
+pub record ListsNames (old new : StoreSeen) (folder : List ℕ) (most : ℕ) (answer : Result (List (List ℕ)) StoreFault) : Type 0 where
+  pub told_stays : new.told ≡ old.told
+  pub counted : CountsAsk old.counts new.counts answer
+  pub may : MayList (option_map (λ t. names_under folder t.files) old.told) most answer
   pub below : IfOk answer (All (λ name. lies_under folder name ≡ true))
 
 -- what a call of `renew` left of the store
-pub record Renews (told told' : Option StoreTold) (counts counts' : StoreCounts) : Type 0 where
-  pub told_is : told' ≡ option_map after_renew told
-  pub faults : NeverFalls counts.faults counts'.faults
-  pub refusals : NeverFalls counts.refusals counts'.refusals
+pub record Renews (old new : StoreSeen) : Type 0 where
+  pub told_is : new.told ≡ option_map after_renew old.told
+  pub faults : NeverFalls old.counts.faults new.counts.faults
+  pub refusals : NeverFalls old.counts.refusals new.counts.refusals
 
 -- the answer tells what the files are: it is neither that the call failed nor that memory lacked
 abbrev pub IsOutcome : {T : Type 0} → Result T StoreFault → Type 0

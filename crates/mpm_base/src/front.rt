@@ -1,6 +1,8 @@
 //! The front: where connections, signals and time come from.
 
+use crate::addr::Addr;
 use crate::conn::{ConnName, Moment};
+use crate::line::Line;
 use crate::link::Link;
 use crate::ready::Ready;
 use std::sync::Wait;
@@ -27,26 +29,26 @@ pub enum Arrival<L> {
     Failed,
 }
 
-/// Where connections, signals and time come from.
+/// Where connections, command lines, signals and time come from.
 ///
 /// What a front tells of itself (`told`) is there only where the object tells it: the front of a script does, one over
 /// sockets does not. One that tells does so to its end. Its counts are there for every front.
 pub trait Front {
-    ghost use Rattle.std.specs.Prelude.{◌≡◌, List, Option};
-    ghost use Rattle.mpm_base.specs.Front.{FrontTold, FrontCounts, Waits, Accepts, Watches};
-    ghost use Rattle.mpm_base.specs.declared.script_line.ScriptLine.{ScriptLine as Line};
+    ghost use Rattle.std.specs.Prelude.{◌≡◌};
+    ghost use Rattle.mpm_base.specs.Front.{FrontSeen, Accepts, Binds, Commands, Waits, Watches, after_hush};
 
     /// The links that it hands out.
     type L: Link + Send;
 
-    /// What has come and what will, what was taken, and its waits.
-    ghost told: { Self → Option FrontTold };
+    /// The script that it was made of, which no call changes; what it tells: what has come and what will, what was taken, and
+    /// its waits; and its counts of failed binds and waits, of failed accepts, of waits that answered Ended, and of command
+    /// lines, none of which ever falls.
+    ghost seen: { Self → FrontSeen };
 
-    /// The script that it was made of, where it was made of one. No call changes it.
-    ghost script: { Self → Option (List Line) };
-
-    /// Counts of failed waits, of failed accepts, and of waits that answered Ended. None ever falls.
-    ghost counts: { Self → FrontCounts };
+    /// From now on connections are taken at the address, and command lines at the port of this machine, where there is one.
+    /// False where the call failed.
+    fn bind(&mut self, listen: Addr, control: Option<u16>) -> bool
+        ensures binds { Binds (seen self.old) (seen self.new) listen control result };
 
     /// Waits until something comes, until the moment `until`, or until the bell rings; and gives the slots for which
     /// something came. Where `quiet` is false a connection is being served, and the bell will ring.
@@ -57,17 +59,22 @@ pub trait Front {
         quiet: bool,
         ready: &mut Ready,
     ) -> Woke
-        ensures waits { Waits (told self.old) (told self.new) (counts self.old) (counts self.new) result ready.new }
-        ensures script { script self.new ≡ script self.old };
+        ensures waits { Waits (seen self.old) (seen self.new) until quiet result ready.new };
 
     /// The link of the next connection that arrived and was not taken yet.
     fn accept(&mut self) -> Arrival<Self::L>
-        ensures accepts { Accepts Self.L.told Self.L.counts (told self.old) (told self.new) (counts self.old) (counts self.new) result }
-        ensures script { script self.new ≡ script self.old };
+        ensures accepts { Accepts Self.L.seen (seen self.old) (seen self.new) result };
 
     /// From now on the slot of that name is given where something comes for the link, which `accept` handed out. False
     /// where the call failed.
     fn watch(&mut self, name: ConnName, link: &mut Self::L) -> bool
-        ensures watches { Watches (told self.old) (told self.new) (counts self.old) (counts self.new) name (Self.L.told link.old) (Self.L.told link.new) (Self.L.counts link.old) (Self.L.counts link.new) result }
-        ensures script { script self.new ≡ script self.old };
+        ensures watches { Watches (seen self.old) (seen self.new) name (Self.L.seen link.old) (Self.L.seen link.new) result };
+
+    /// Stops listening: no connection is taken any more.
+    fn hush(&mut self)
+        ensures { seen self.new ≡ after_hush (seen self.old) };
+
+    /// The next command line that came and was not read yet.
+    fn command(&mut self) -> Option<Line>
+        ensures commands { Commands (seen self.old) (seen self.new) result };
 }

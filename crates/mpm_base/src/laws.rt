@@ -1,19 +1,19 @@
 //! Laws of the outside: what follows for each store and each link from the clauses of their traits. Each is the contract of
 //! a function that does nothing.
-ghost use Rattle.std.specs.Prelude.{◌≡◌, ℕ, ◌<◌, Bool, List, Option, Some, Result};
+ghost use Rattle.std.specs.Prelude.{◌≡◌, ℕ, ◌<◌, Bool, List, Result};
 ghost use Rattle.mpm_base.specs.Link.{LinkTold, fresh_link, after_read, after_shut};
-ghost use Rattle.mpm_base.specs.Store.{StoreTold, StoreCounts, ReadsFile, ListsNames, IsOutcome};
+ghost use Rattle.mpm_base.specs.Store.{StoreTold, StoreCounts, StoreSeen, ReadsFile, ListsNames, IsOutcome, telling_store};
 ghost use Rattle.mpm_base.specs.declared.link.Got.{Got};
 ghost use Rattle.mpm_base.specs.declared.store.StoreFault.{StoreFault};
 
 /// Of one store that tells its files, two reads of a file have one outcome, and so have two listings of a folder: where
 /// neither call failed, nor memory lacked, they answer the same.
 pub fn told_stores_have_one_outcome()
-    ensures read { (told : StoreTold) (told' told'' : Option StoreTold) (c c' d d' : StoreCounts) (name : List ℕ) (most : ℕ)
-        (one other : Result (List ℕ) StoreFault) → ReadsFile (Some told) told' c c' name most one → ReadsFile (Some told) told'' d d' name most other
+    ensures read { (told : StoreTold) (c d : StoreCounts) (new new' : StoreSeen) (name : List ℕ) (most : ℕ) (one other : Result (List ℕ) StoreFault)
+        → ReadsFile (telling_store told c) new name most one → ReadsFile (telling_store told d) new' name most other
         → IsOutcome one → IsOutcome other → one ≡ other }
-    ensures names { (told : StoreTold) (told' told'' : Option StoreTold) (c c' d d' : StoreCounts) (folder : List ℕ) (most : ℕ)
-        (one other : Result (List (List ℕ)) StoreFault) → ListsNames (Some told) told' c c' folder most one → ListsNames (Some told) told'' d d' folder most other
+    ensures names { (told : StoreTold) (c d : StoreCounts) (new new' : StoreSeen) (folder : List ℕ) (most : ℕ) (one other : Result (List (List ℕ)) StoreFault)
+        → ListsNames (telling_store told c) new folder most one → ListsNames (telling_store told d) new' folder most other
         → IsOutcome one → IsOutcome other → one ≡ other }
 {}
 

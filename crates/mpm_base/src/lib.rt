@@ -6,7 +6,8 @@
 //! stand in `specs/`, one file for each trait. `stand_ins` has objects in memory that keep these traits.
 //!
 //! `ScriptLine` is a line of a script, as a front may tell it; `mpm_script` reads scripts, and `script_front` plays them.
-//! `host_of` and `is_started` tell the one form of request that is read so far (`specs/RootRequest.antt`).
+//! `host_of` and `is_started` tell the one form of request that is read so far (`specs/RootRequest.antt`), and `decimal` reads
+//! a number of decimal digits (`specs/Digits.antt`).
 #![tactic(auto)]
 
 mod addr;
@@ -15,6 +16,7 @@ mod conn;
 mod digits;
 mod front;
 pub mod laws;
+mod line;
 mod link;
 mod memory;
 mod note;
@@ -33,8 +35,9 @@ mod words;
 pub use addr::Addr;
 pub use clock::Clock;
 pub use conn::{Ask, Cause, ConnName, GREATEST_MOMENT, Kind, Moment, Tail};
-pub use digits::decimal_value;
+pub use digits::decimal;
 pub use front::{Arrival, Front, Woke};
+pub use line::Line;
 pub use link::{Got, Link, Sent};
 pub use memory::NoMemory;
 pub use note::{Note, Notes, Snapshot};

@@ -1,5 +1,4 @@
 //! A connection's way to its client.
-ghost use Rattle.std.specs.Prelude.{Option};
 
 /// What a read of a link answers.
 #[derive(Clone, Copy, Debug, PartialEq, Eq)]
@@ -30,27 +29,25 @@ pub enum Sent {
 /// What a link tells of itself (`told`) is there only where the object tells it: the links of a script do,
 /// a real socket does not. Its counts are there for every link.
 pub trait Link: Drop {
-    ghost use Rattle.mpm_base.specs.Link.{LinkTold, LinkCounts, Reads, Writes, Shuts, Closes};
+    ghost use Rattle.mpm_base.specs.Link.{LinkSeen, Reads, Writes, Shuts, Closes};
 
-    /// What was received and sent, and whether the link was half-closed or closed.
-    ghost told: { Self → Option LinkTold };
-
-    /// Counts of faults, of calls that were not ready, and of reads that found the end. None ever falls.
-    ghost counts: { Self → LinkCounts };
+    /// What it tells: what was received and sent, and whether it was half-closed or closed; and its counts of faults, of calls
+    /// that were not ready, and of reads that found the end, none of which ever falls.
+    ghost seen: { Self → LinkSeen };
 
     /// Reads into the front of the buffer.
     fn read(&mut self, buffer: &mut [u8]) -> Got
-        ensures { Reads (told self.old) (told self.new) (counts self.old) (counts self.new) result buffer.new };
+        ensures { Reads (seen self.old) (seen self.new) result buffer.new };
 
     /// Writes from the front of the piece.
     fn write(&mut self, bytes: &[u8]) -> Sent
-        ensures { Writes (told self.old) (told self.new) (counts self.old) (counts self.new) result bytes.now };
+        ensures { Writes (seen self.old) (seen self.new) result bytes.now };
 
     /// Half-closes the link: the client is told that no more comes. False where the call failed.
     fn shut(&mut self) -> bool
-        ensures { Shuts (told self.old) (told self.new) (counts self.old) (counts self.new) result };
+        ensures { Shuts (seen self.old) (seen self.new) result };
 
     /// Closes the link.
     fn close(&mut self)
-        ensures { Closes (told self.old) (told self.new) (counts self.old) (counts self.new) };
+        ensures { Closes (seen self.old) (seen self.new) };
 }

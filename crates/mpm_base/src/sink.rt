@@ -1,5 +1,4 @@
 //! Where the texts of a run go.
-ghost use Rattle.std.specs.Prelude.{Option, List, ℕ};
 
 /// What a write to a sink answers.
 #[derive(Clone, Copy, Debug, PartialEq, Eq)]
@@ -12,15 +11,12 @@ pub enum Put {
 
 /// An output, as standard output is one.
 pub trait Sink {
-    ghost use Rattle.mpm_base.specs.Sink.{Puts};
+    ghost use Rattle.mpm_base.specs.Sink.{SinkSeen, Puts};
 
-    /// The bytes written, where the object tells them.
-    ghost told: { Self → Option (List ℕ) };
-
-    /// A count of faults, which rises where a call fails and never falls.
-    ghost faults: { Self → ℕ };
+    /// The bytes written, where the object tells them; and its count of faults, which rises where a call fails and never falls.
+    ghost seen: { Self → SinkSeen };
 
     /// Writes from the front of the piece.
     fn write(&mut self, bytes: &[u8]) -> Put
-        ensures { Puts (told self.old) (told self.new) (faults self.old) (faults self.new) result bytes.now };
+        ensures { Puts (seen self.old) (seen self.new) result bytes.now };
 }

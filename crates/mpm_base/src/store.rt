@@ -1,5 +1,4 @@
 //! A folder of files by name.
-ghost use Rattle.std.specs.Prelude.{Option};
 
 use crate::octets::Octets;
 use crate::sequence::Sequence;
@@ -38,23 +37,21 @@ pub enum StoreFault {
 
 /// A folder of files by name. Where it tells its files, they change at a call of `renew` alone.
 pub trait Store {
-    ghost use Rattle.mpm_base.specs.Store.{StoreTold, StoreCounts, Renews, ListsNames, ReadsFile};
+    ghost use Rattle.mpm_base.specs.Store.{StoreSeen, Renews, ListsNames, ReadsFile};
 
-    /// The files, where the object tells them.
-    ghost told: { Self → Option StoreTold };
-
-    /// Counts of faults, and of refusals for what the files are. None ever falls.
-    ghost counts: { Self → StoreCounts };
+    /// The files, where the object tells them; and its counts of faults, and of refusals for what the files are, none of which
+    /// ever falls.
+    ghost seen: { Self → StoreSeen };
 
     /// Goes to the next edition of the files, or keeps the last one.
     fn renew(&mut self)
-        ensures { Renews (told self.old) (told self.new) (counts self.old) (counts self.new) };
+        ensures { Renews (seen self.old) (seen self.new) };
 
     /// The names below a folder, at most so many. Answers Many, Failed or NoMemory where it gives none.
     fn names(&mut self, alloc: Global, under: &str, most: u32) -> Result<Names, StoreFault>
-        ensures { ListsNames (told self.old) (told self.new) (counts self.old) (counts self.new) under.now most result };
+        ensures { ListsNames (seen self.old) (seen self.new) under.now most result };
 
     /// The bytes of a file, at most so many. Answers Missing, Large, Failed or NoMemory where it gives none.
     fn read(&mut self, alloc: Global, name: &str, most: u64) -> Result<Octets, StoreFault>
-        ensures { ReadsFile (told self.old) (told self.new) (counts self.old) (counts self.new) name.now most result };
+        ensures { ReadsFile (seen self.old) (seen self.new) name.now most result };
 }

@@ -1,5 +1,4 @@
 pub mod CorrectionLemmas
-pub mod DigitLemmas
 pub mod FormLemmas
 pub mod LawLemmas
 pub mod LineLemmas

@@ -1,9 +1,8 @@
 -- What the value of a directive spells.
 use Rattle.std.specs.Prelude.{ℕ, ◌+◌, ◌-◌, ◌*◌, ◌==◌, ◌&&◌, nat_le, nat_lt, if◌then◌else◌, Bool, true, false, not, List, [], ◌∷◌, length, take, drop, codes, Option, Some, None, option_map, option_and_then, slice_index}
-use Rattle.std.specs.List.{list_all, list_any, before_first, after_first, position_or_len}
-use Rattle.std.specs.Char.{is_ascii_digit}
+use Rattle.std.specs.List.{list_any, before_first, after_first, position_or_len}
 use Rattle.std.specs.Str.{bytes_eq}
-use Rattle.std.specs.Str.Parse.{digits_value}
+use Rattle.mpm_base.specs.Digits.{decimal}
 use Rattle.mpm_base.specs.declared.addr.Addr.{Addr}
 use Rattle.mpm_config.specs.declared.directive.Quantity.{Quantity}
 use Rattle.mpm_config.specs.declared.directive.Quantity.TheVariants.{AsyncRequestWorkerFactor, KeepAliveTimeout}
@@ -11,17 +10,9 @@ use Rattle.mpm_config.specs.declared.range.Range.{Range}
 use Rattle.mpm_config.specs.Range.{range_of, millisecond_range, octet_range, port_range, number_in}
 use Rattle.mpm_config.specs.Directive.{is_same_word}
 
--- 1 to `most` decimal digits
-abbrev pub is_number : ℕ → List ℕ → Bool
-is_number most v = nat_le 1 (length v) && nat_le (length v) most && list_all is_ascii_digit v
-
--- the number that they spell
-abbrev pub whole : ℕ → List ℕ → Option ℕ
-whole most v = if is_number most v then Some (digits_value 10 v) else None
-
 -- a whole number, of at most nine digits, in a range of the table
 abbrev pub number : Range → List ℕ → Option ℕ
-number r v = option_and_then (number_in r) (whole 9 v)
+number r v = option_and_then (number_in r) (decimal 9 v)
 
 -- what stands before and after the first byte c
 pub record Parts : Type 0 where
@@ -34,12 +25,12 @@ parts_around c v = if nat_lt (position_or_len (λ b. b == c) v) (length v) then 
 
 -- hundredths: one or two digits after the point
 abbrev pub decimals : List ℕ → Option ℕ
-decimals v = option_map (λ n. if length v == 1 then 10 * n else n) (whole 2 v)
+decimals v = option_map (λ n. if length v == 1 then 10 * n else n) (decimal 2 v)
 
 -- hundredths: one to three digits, and where there is a point (46) the decimals after it
 abbrev pub hundredths_of : List ℕ → Option Parts → Option ℕ
-hundredths_of v None = option_map (λ n. 100 * n) (whole 3 v)
-hundredths_of v (Some p) = option_and_then (λ n. option_map (λ m. 100 * n + m) (decimals p.after)) (whole 3 p.before)
+hundredths_of v None = option_map (λ n. 100 * n) (decimal 3 v)
+hundredths_of v (Some p) = option_and_then (λ n. option_map (λ m. 100 * n + m) (decimals p.after)) (decimal 3 p.before)
 
 -- the hundredths that a value spells: digits, perhaps with a point and decimals
 abbrev pub hundredths : List ℕ → Option ℕ

@@ -1,43 +1,25 @@
 //! What the value of a directive spells: numbers, switches, addresses and names.
-ghost use Rattle.std.specs.Prelude.{◌≡◌, ◌==◌, position, ◌<◌, ◌≤◌, ◌^◌, length, option_map, IfSome};
-ghost use Rattle.std.specs.List.{list_all, list_any};
-ghost use Rattle.std.specs.Char.{is_ascii_digit};
-ghost use Rattle.std.specs.Str.Parse.{digits_value, AllDigits};
+ghost use Rattle.std.specs.Prelude.{◌≡◌, ◌==◌, position, ◌<◌, ◌≤◌, ◌^◌, option_map, IfSome};
+ghost use Rattle.std.specs.List.{list_any};
+ghost use Rattle.mpm_base.specs.Digits.{decimal};
 ghost use Rattle.mpm_config.specs.Range.{millisecond_range, octet_range, port_range, number_in, IsAllowed, IsNumberIn};
 ghost use Rattle.mpm_config.specs.RangeInside.{IsWellFormed};
-ghost use Rattle.mpm_config.specs.Value.{address, parts_around, decimals, hundredths, is_file, is_folder, is_number, is_short, milliseconds, number, number_of, octets, switch, whole, Parts};
+ghost use Rattle.mpm_config.specs.Value.{address, parts_around, decimals, hundredths, is_file, is_folder, is_short, milliseconds, number, number_of, octets, switch, Parts};
 
 use crate::directive::{Quantity, is_word};
 use crate::range::{
     ASYNC_REQUEST_WORKER_FACTOR, KEEP_ALIVE_MILLISECONDS, KEEP_ALIVE_TIMEOUT, OCTET, PORT, Range,
 };
-use mpm_base::{Addr, decimal_value};
-
-/// Whether each byte is a decimal digit.
-fn all_digits(value: &[u8]) -> bool
-    ensures { result ≡ list_all is_ascii_digit value.now }
-{
-    value.iter().all(|b| b.is_ascii_digit())
-}
-
-/// Whether these are 1 to `most` decimal digits.
-fn is_digits(value: &[u8], most: usize) -> bool
-    ensures { result ≡ is_number most value.now }
-{
-    1 <= value.len() && value.len() <= most && all_digits(value)
-}
+use mpm_base::{Addr, decimal};
 
 /// The number of 1 to `most` decimal digits.
 fn whole(value: &[u8], most: usize) -> Option<u32>
     requires { most ≤ 9 }
-    ensures value { result ≡ whole most value.now }
+    ensures value { result ≡ decimal most value.now }
     ensures bound { IfSome result (λ n. n < 10 ^ most) }
 {
-    if is_digits(value, most) {
-        Some(decimal_value(value) as u32)
-    } else {
-        None
-    }
+    let n = decimal(value, most)?;
+    Some(n as u32)
 }
 
 impl Range {

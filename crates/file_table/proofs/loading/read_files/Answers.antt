@@ -6,25 +6,24 @@ use Rattle.file_table.proofs.loading.read_files.Goals as goal
 
 pub loop-name-init : goal.loop-name-init
 loop-name-init g c = record {
-  told = refl;
-  counts = record { faults = omega arith; refusals = omega arith };
-  read = rw c.new-files.ensures.items (nothing_read c.args.root.now (g.D.Store.told c.args.store.now));
+  store = record { told = refl; faults = omega arith; refusals = omega arith };
+  read = rw c.new-files.ensures.items (nothing_read c.args.root.now (g.D.Store.seen c.args.store.now).told);
 }
 
 pub loop-name-preserved : goal.loop-name-preserved
 loop-name-preserved g c =
     let ok : is_ok c.push.result ≡ true = c.if-is_err.ensures.negation in
     record {
-      told = c.read_next.ensures.told ∙ c.loop-name.invariant.told;
-      counts = record {
-        faults = omega (arith, c.in-Ok.ensures.counts.faults, c.loop-name.invariant.counts.faults);
-        refusals = omega (arith, c.in-Ok.ensures.counts.refusals, c.loop-name.invariant.counts.refusals);
+      store = record {
+        told = c.in-Ok.ensures.store.told ∙ c.loop-name.invariant.store.told;
+        faults = omega (arith, c.in-Ok.ensures.store.faults, c.loop-name.invariant.store.faults);
+        refusals = omega (arith, c.in-Ok.ensures.store.refusals, c.loop-name.invariant.store.refusals);
       };
       read =
           rw (c.push.ensures.items, ok, c.len.ensures)
           (one_more_read c.args.root.now (map (λ name. name.now) c.args.names.now) c.loop-name.name-index _ (rw length-map c.loop-name-test.true)
           (sym (get_or-map (λ name. name.now) c.args.names.now c.loop-name.name-index _ [] c.loop-name-test.true))
-          (g.D.Store.told c.args.store.now) (g.D.Store.told c.loop-name.store) c.loop-name.files.items c.loop-name.sum c.in-Ok.file c.loop-name.invariant.told c.loop-name.invariant.read
+          (g.D.Store.seen c.args.store.now).told (g.D.Store.seen c.loop-name.store).told c.loop-name.files.items c.loop-name.sum c.in-Ok.file c.loop-name.invariant.store.told c.loop-name.invariant.read
           c.in-Ok.ensures.file.0 c.in-Ok.ensures.file.1 c.in-Ok.ensures.known);
     }
 
@@ -32,7 +31,7 @@ pub returns-in-Err-clause-known : goal.returns-in-Err-clause-known
 returns-in-Err-clause-known g c =
     none_read c.args.root.now (map (λ name. name.now) c.args.names.now) c.loop-name.name-index _ (rw length-map c.loop-name-test.true)
     (sym (get_or-map (λ name. name.now) c.args.names.now c.loop-name.name-index _ [] c.loop-name-test.true))
-    (g.D.Store.told c.args.store.now) (g.D.Store.told c.loop-name.store) c.loop-name.files.items c.loop-name.sum c.in-Err.fault c.loop-name.invariant.told c.loop-name.invariant.read
+    (g.D.Store.seen c.args.store.now).told (g.D.Store.seen c.loop-name.store).told c.loop-name.files.items c.loop-name.sum c.in-Err.fault c.loop-name.invariant.store.told c.loop-name.invariant.read
     (c.requires.under c.loop-name.name-index _ c.loop-name-test.true) c.in-Err.ensures.known
 
 pub returns-clause-small : goal.returns-clause-small

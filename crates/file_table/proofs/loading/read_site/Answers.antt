@@ -33,14 +33,14 @@ pub returns-in-Err-clause-site : goal.returns-in-Err-clause-site
 returns-in-Err-clause-site g c =
     let items = c.in_ok-sorted.sorted.items in
     no_site c.args.order.now c.as_slice-root.result.now c.as_slice-root.ensures c.args.names.now (map (λ n. n.now) items) c.in_ok-sorted.ensures.names
-    (g.D.Store.told c.args.store.now) c.in-Err.fault c.requires.few (sorted_mapped (λ n. n.now) (slice_cmp nat_cmp) items c.in_ok-sorted.ensures.in_order)
+    (g.D.Store.seen c.args.store.now).told c.in-Err.fault c.requires.few (sorted_mapped (λ n. n.now) (slice_cmp nat_cmp) items c.in_ok-sorted.ensures.in_order)
     (rw (← c.as_slice.ensures.value) c.in-Err.ensures.known)
 
 pub returns-in-Ok-of-clause-site : goal.returns-in-Ok-of-clause-site
 returns-in-Ok-of-clause-site g c =
     let items = c.in_ok-sorted.sorted.items in
     loaded_site c.args.order.now c.as_slice-root.result.now c.as_slice-root.ensures c.args.names.now (map (λ n. n.now) items) c.in_ok-sorted.ensures.names
-    (g.D.Store.told c.args.store.now) c.in-Ok.files.items c.in-Ok-of.site
+    (g.D.Store.seen c.args.store.now).told c.in-Ok.files.items c.in-Ok-of.site
     (ap (λ (s : SeenSite). s.index) c.in-Ok-of.ensures ∙ c.as_slice-2.ensures) (ap (λ (s : SeenSite). s.files) c.in-Ok-of.ensures)
     (in_order_within c.as_slice-root.result.now (map (λ n. n.now) items) c.in-Ok.files.items
     (c.in-Ok.ensures.names ∙ ap (λ l. map (name_within c.as_slice-root.result.now) (map (λ n. n.now) l)) c.as_slice.ensures.value)
