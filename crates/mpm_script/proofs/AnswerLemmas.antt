@@ -77,7 +77,7 @@ no_next_failing one fails disagrees lines rest failing line behind h agree =
 -- ## What an answer says of the longest good reading
 
 abbrev pub Says : Result (List ScriptLine) ScriptFault → List ScriptLine → List ℕ → Type 0
-Says (Ok script) lines rest = (script ≡ lines) × (rest ≡ []) × AreBuilt [] lines []
+Says (Ok script) lines rest = (script ≡ lines) × (rest ≡ []) × AreBuilt [] lines
 Says (Err (fault.BadLine n)) lines rest = (n ≡ suc (length lines)) × IsBadLine lines rest
 Says (Err (fault.MomentBackwards n)) lines rest = (n ≡ suc (length lines)) × BeginsFailing is_backwards lines rest
 Says (Err (fault.UnknownName n)) lines rest = (n ≡ suc (length lines)) × BeginsFailing is_unknown lines rest

@@ -6,18 +6,17 @@ use Rattle.mpm_base.specs.declared.script_line.ScriptLine.{ScriptLine}
 use Rattle.mpm_base.proofs.ListLemmas.{two_cuts}
 
 -- each line of built ones is built
-pub built_at : (before front : List ScriptLine) (line : ScriptLine) (more behind : List ScriptLine)
-    → AreBuilt before (front ++ line ∷ more) behind → IsBuilt (before ++ front) line (more ++ behind)
-built_at before [] line more behind h = subst (λ b. IsBuilt b line (more ++ behind)) (sym (append-nil before)) h.0
-built_at before (first ∷ front) line more behind h =
-    subst (λ b. IsBuilt b line (more ++ behind)) (append_assoc before (first ∷ []) front)
-    (built_at (before ++ first ∷ []) front line more behind h.1)
+pub built_at : (before front : List ScriptLine) (line : ScriptLine) (more : List ScriptLine)
+    → AreBuilt before (front ++ line ∷ more) → IsBuilt (before ++ front) line
+built_at before [] line more h = subst (λ b. IsBuilt b line) (sym (append-nil before)) h.0
+built_at before (first ∷ front) line more h =
+    subst (λ b. IsBuilt b line) (append_assoc before (first ∷ []) front)
+    (built_at (before ++ first ∷ []) front line more h.1)
 
 -- where all are built, none is the first that isn't
-pub no_first_unbuilt : (lines : List ScriptLine) (place : ℕ) → AreBuilt [] lines [] → ¬ FirstUnbuilt lines place
+pub no_first_unbuilt : (lines : List ScriptLine) (place : ℕ) → AreBuilt [] lines → ¬ FirstUnbuilt lines place
 no_first_unbuilt lines place all h =
-    let at = built_at [] h.before h.line h.behind [] (subst (λ l. AreBuilt [] l []) h.whole all) in
-    h.unbuilt (subst (λ b. IsBuilt h.before h.line b) (append-nil h.behind) at)
+    h.unbuilt (built_at [] h.before h.line h.behind (subst (λ l. AreBuilt [] l) h.whole all))
 
 -- a first line that isn't built doesn't stand among those before another
 not_before : (lines : List ScriptLine) (place other : ℕ) (h : FirstUnbuilt lines place) (k : FirstUnbuilt lines other)
@@ -25,9 +24,8 @@ not_before : (lines : List ScriptLine) (place other : ℕ) (h : FirstUnbuilt lin
     → h.line ∷ h.behind ≡ (line ∷ more) ++ k.line ∷ k.behind → ⊥
 not_before lines place other h k line more before from =
     let same : line ≡ h.line = cc in
-    let behind : more ++ k.line ∷ k.behind ≡ h.behind = cc in
-    let at = built_at [] h.before line more (k.line ∷ k.behind) (subst (λ b. AreBuilt [] b (k.line ∷ k.behind)) before k.built_before) in
-    h.unbuilt (subst (λ b. IsBuilt h.before h.line b) behind (subst (λ l. IsBuilt h.before l (more ++ k.line ∷ k.behind)) same at))
+    let at = built_at [] h.before line more (subst (λ b. AreBuilt [] b) before k.built_before) in
+    h.unbuilt (subst (λ l. IsBuilt h.before l) same at)
 
 -- there is one place
 same_place : (lines : List ScriptLine) (place other : ℕ) (h : FirstUnbuilt lines place) (k : FirstUnbuilt lines other)

@@ -1,5 +1,6 @@
 pub mod AgreementLemmas
 pub mod AnswerLemmas
+pub mod BuiltClientLemmas
 pub mod BuiltFrontLemmas
 pub mod BuiltLemmas
 pub mod BuiltProgressLemmas

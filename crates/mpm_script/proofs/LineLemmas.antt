@@ -1,12 +1,9 @@
 -- Lines of a script: a text is one of them at most.
 use Rattle.std.proofs.Common.{◌≡◌, ℕ, Bool, true, false, cond, length, arith, List, [], ◌∷◌, ◌++◌, ◌==◌, get_or, refl, sym, ap, subst, ◌∙◌, Option, None, Some, MatchOption}
 use Rattle.std.specs.Prelude.{codes}
-use Rattle.std.specs.Char.{is_ascii_digit}
-use Rattle.std.specs.List.{AllPass}
-use Rattle.std.specs.Str.Parse.{digits_value}
+use Rattle.mpm_base.specs.Digits.{decimal}
 use Rattle.std.proofs.lemmas.Bool.{false≢true}
 use Rattle.std.proofs.lemmas.List.{append_cancel_left}
-use Rattle.std.proofs.lemmas.List.Elements.{All-head}
 use Rattle.mpm_base.specs.StopsInside.{Stops}
 use Rattle.mpm_script.specs.Escapes.{Spells}
 use Rattle.mpm_script.specs.ScriptLine.{is_name_byte, is_file_byte, IsNumber, act_word, IsBehindName, IsSiteLine, command_word, IsLine}
@@ -66,14 +63,15 @@ IsNumberBehind word text n = (digits : List ℕ) × (text ≡ word ++ digits) ×
 one_number : (word text : List ℕ) (n m : ℕ) → IsNumberBehind word text n → IsNumberBehind word text m → n ≡ m
 one_number word text n m h k =
     let same : h.0 ≡ k.0 = append_cancel_left word h.0 k.0 (sym h.1 ∙ k.1) in
-    sym h.2.value ∙ ap (λ ds. digits_value 10 ds) same ∙ k.2.value
+    let value : Some n ≡ Some m = sym h.2 ∙ ap (λ ds. decimal 15 ds) same ∙ k.2 in
+    cc
 
 -- no number is the word of all
 all_no_digits : (digits : List ℕ) (n : ℕ) → codes " all" ≡ codes " " ++ digits → ¬ (IsNumber digits n)
 all_no_digits digits n e number =
     let word : codes "all" ≡ digits = append_cancel_left (codes " ") (codes "all") digits e in
-    let pass = subst (AllPass is_ascii_digit) (sym word) number.bytes in
-    false≢true (All-head (λ c. is_ascii_digit c ≡ true) 97 (codes "ll") pass)
+    let read : decimal 15 (codes "all") ≡ Some n = ap (λ ds. decimal 15 ds) word ∙ number in
+    absurd (cc)
 
 -- ---- what happens to a link
 

@@ -1,31 +1,14 @@
--- The words of a script's lines: what one more digit does, and where a name ends.
-use Rattle.std.proofs.Common.{◌≡◌, ℕ, ◌+◌, ◌-◌, ◌<◌, Bool, true, List, [], ◌∷◌, ◌++◌, length, take, drop, get_or, refl, sym, ap, subst, ◌∙◌, arith}
+-- The words of a script's lines: where a name ends.
+use Rattle.std.proofs.Common.{◌≡◌, ℕ, Bool, true, List, [], ◌∷◌, ◌++◌, take, drop, refl, sym, ap, subst, ◌∙◌}
 use Rattle.std.specs.Prelude.{codes}
-use Rattle.std.specs.Char.{is_ascii_digit}
-use Rattle.std.specs.Int.{IsInRange}
 use Rattle.std.specs.List.{AllPass, prefix_len}
-use Rattle.std.specs.Str.Parse.{AllDigits}
 use Rattle.std.proofs.lemmas.Bool.{false≢true}
-use Rattle.std.proofs.lemmas.Bool.Decides.{nat_tests}
 use Rattle.std.proofs.lemmas.List.{append_cancel_left}
 use Rattle.std.proofs.lemmas.List.Elements.{All-head, All-tail}
-use Rattle.std.proofs.lemmas.Str.Parse.{numerals_by_value, tells_by_index}
 use Rattle.mpm_base.specs.StopsInside.{Stops}
 use Rattle.mpm_script.specs.ScriptLine.{is_name_byte, is_file_byte}
 use Rattle.mpm_script.specs.LineWordsInside.{IsNamed, IsFiled}
 use Rattle.mpm_base.proofs.ListLemmas.{run_passes, run_stops}
-
--- ---- numbers
-
-digit_range : (d : ℕ) → is_ascii_digit d ≡ true → IsInRange 48 57 d
-digit_range d h = grind (arith, nat_tests)
-
-pub all_digits : (ds : List ℕ) → AllPass is_ascii_digit ds → AllDigits 10 ds
-all_digits ds pass =
-    let by_place = numerals_by_value (λ xs. (i : ℕ) → i < length xs → IsInRange 48 57 (get_or xs i 0)) tells_by_index in
-    by_place.to ds (λ i l. digit_range (get_or ds i 0) (pass i 0 l))
-
--- ---- names
 
 -- a list is cut in one way at the end of the elements that pass
 pub one_cut : (test : ℕ → Bool) (front other end also : List ℕ) → AllPass test front → AllPass test other → Stops test end → Stops test also

@@ -1,8 +1,8 @@
 -- How far the bytes of a client came through requests of the known form, and which bytes may follow.
 use Rattle.std.specs.Prelude.{◌≡◌, ℕ, ◌+◌, ◌<◌, ◌≤◌, Bool, false, nat_le, List, ◌∷◌, ◌++◌, length, drop, ◌↔◌, ◌⊎◌}
-use Rattle.std.specs.List.{AllPass, AllByRecursion, flat_map}
-use Rattle.mpm_base.specs.RootRequest.{is_host_byte, IsHost, before_host, after_host, request_of, IsStarted}
-use Rattle.mpm_script.specs.declared.built_requests.Progress.{Progress}
+use Rattle.std.specs.List.{AllPass}
+use Rattle.mpm_base.specs.RootRequest.{is_host_byte, IsHost, before_host, after_host}
+use Rattle.mpm_script.specs.BuiltLines.{IsPipelined}
 use Rattle.mpm_script.specs.declared.built_requests.Spot.{Spot}
 use Rattle.mpm_script.specs.declared.built_requests.Spot.TheVariants as spot
 
@@ -29,44 +29,34 @@ Completes (spot.BehindHost n) bytes = bytes ≡ drop n after_host
 abbrev pub Advances : Spot → ℕ → Spot → Type 0
 Advances spot b next = (bytes : List ℕ) → Completes spot (b ∷ bytes) ↔ Completes next bytes
 
--- after so many requests: some further ones, which are at most 99 with those, and then a proper front of one
-pub record IsPipelinedAfter (requests : ℕ) (bytes : List ℕ) : Type 0 where
-  pub hosts : List (List ℕ)
-  pub rest : List ℕ
-  pub few : requests + length hosts ≤ 99
-  pub are_hosts : AllByRecursion IsHost hosts
-  pub started : IsStarted rest
-  pub whole : bytes ≡ flat_map request_of hosts ++ rest
-
 -- the bytes don't make the started request whole, and begin what does
 pub record StaysWithin (spot : Spot) (bytes : List ℕ) : Type 0 where
   pub more : List ℕ
   pub some : 0 < length more
   pub completes : Completes spot (bytes ++ more)
 
--- the bytes make the started request whole, and then go on, after so many requests before it
-pub record GoesPast (requests : ℕ) (spot : Spot) (bytes : List ℕ) : Type 0 where
+-- the bytes make the started request whole, and then go on
+pub record GoesPast (spot : Spot) (bytes : List ℕ) : Type 0 where
   pub end : List ℕ
   pub rest : List ℕ
   pub completes : Completes spot end
   pub whole : bytes ≡ end ++ rest
-  pub pipelined : IsPipelinedAfter (requests + 1) rest
+  pub pipelined : IsPipelined rest
 
--- at most 99 requests are whole, and the next one isn't
-pub record IsProgress (progress : Progress) : Type 0 where
-  pub few : progress.requests ≤ 99
-  pub is_spot : IsSpot progress.spot
-  pub open_spot : is_whole progress.spot ≡ false
+-- the place is one of a request that isn't whole
+pub record IsOpen (spot : Spot) : Type 0 where
+  pub is_spot : IsSpot spot
+  pub open_spot : is_whole spot ≡ false
 
--- with these bytes behind those so far there are at most 99 requests, and then a proper front of one
-abbrev pub BytesMayFollow : Progress → List ℕ → Type 0
-BytesMayFollow progress bytes = StaysWithin progress.spot bytes ⊎ GoesPast progress.requests progress.spot bytes
+-- with these bytes behind those so far there are requests, and then a proper front of one
+abbrev pub BytesMayFollow : Spot → List ℕ → Type 0
+BytesMayFollow spot bytes = StaysWithin spot bytes ⊎ GoesPast spot bytes
 
--- the bytes take the client that far: what may follow them is what may follow then
-pub record Leads (progress : Progress) (bytes : List ℕ) (next : Progress) : Type 0 where
-  pub is_progress : IsProgress next
-  pub follows : (more : List ℕ) → BytesMayFollow progress (bytes ++ more) ↔ BytesMayFollow next more
+-- the bytes take the client from one place to the other: what may follow them is what may follow then
+pub record Leads (spot : Spot) (bytes : List ℕ) (next : Spot) : Type 0 where
+  pub is_open : IsOpen next
+  pub follows : (more : List ℕ) → BytesMayFollow spot (bytes ++ more) ↔ BytesMayFollow next more
 
 -- the bytes may not follow, whatever comes behind them
-abbrev pub Breaks : Progress → List ℕ → Type 0
-Breaks progress bytes = (more : List ℕ) → ¬ BytesMayFollow progress (bytes ++ more)
+abbrev pub Breaks : Spot → List ℕ → Type 0
+Breaks spot bytes = (more : List ℕ) → ¬ BytesMayFollow spot (bytes ++ more)

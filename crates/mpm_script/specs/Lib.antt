@@ -1,3 +1,4 @@
+pub mod BuiltClientsInside
 pub mod BuiltLines
 pub mod BuiltProgressInside
 pub mod Clients

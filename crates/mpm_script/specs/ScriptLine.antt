@@ -2,8 +2,8 @@
 use Rattle.std.specs.Prelude.{◌≡◌, ℕ, ◌<◌, ◌≤◌, Bool, ◌||◌, ◌&&◌, nat_le, List, [], ◌++◌, length, codes, None, Some}
 use Rattle.std.specs.Char.{is_ascii_lowercase, is_ascii_digit}
 use Rattle.std.specs.List.{AllPass}
-use Rattle.std.specs.Str.Parse.{digits_value}
 use Rattle.mpm_script.specs.Escapes.{Spells}
+use Rattle.mpm_base.specs.Digits.{decimal}
 use Rattle.mpm_base.specs.Moment.{greatest_moment}
 use Rattle.mpm_base.specs.declared.script_line.LinkCall.{LinkCall}
 use Rattle.mpm_base.specs.declared.script_line.LinkCall.TheVariants as call
@@ -39,11 +39,8 @@ pub record IsFileName (name : List ℕ) : Type 0 where
   pub bytes : AllPass is_file_byte name
 
 -- NUMBER: 1 to 15 decimal digits, of which the first ones may be zeros, and their value
-pub record IsNumber (digits : List ℕ) (n : ℕ) : Type 0 where
-  pub some : 0 < length digits
-  pub fits : length digits ≤ 15
-  pub bytes : AllPass is_ascii_digit digits
-  pub value : digits_value 10 digits ≡ n
+abbrev pub IsNumber : List ℕ → ℕ → Type 0
+IsNumber digits n = decimal 15 digits ≡ Some n
 
 -- ## What happens to a link
 

@@ -4,12 +4,10 @@
 //! `specs/BuiltProgressInside.antt`.
 ghost use Rattle.std.specs.Prelude.{◌≡◌, ℕ, List, [], ◌∷◌, true, false, ◌≤◌, ◌↔◌, IsTrue, IfSome, IfNone};
 ghost use Rattle.mpm_script.specs.BuiltLines.{IsPipelined};
-ghost use Rattle.mpm_script.specs.BuiltProgressInside.{IsSpot, is_whole, Completes, Advances, IsProgress, BytesMayFollow, Leads, Breaks};
+ghost use Rattle.mpm_script.specs.BuiltProgressInside.{IsSpot, is_whole, IsOpen, Completes, Advances, BytesMayFollow, Leads, Breaks};
 ghost use Rattle.mpm_script.specs.declared.built_requests.Spot.TheVariants.{BeforeHost, InHost};
 
 use mpm_base::{AFTER_HOST, BEFORE_HOST, LONGEST_HOST, is_host_byte};
-
-const MOST_REQUESTS: usize = 99;
 
 /// A place in a request.
 #[derive(Clone, Copy, Debug, PartialEq, Eq)]
@@ -22,62 +20,46 @@ pub(crate) enum Spot {
     BehindHost(usize),
 }
 
-/// How far the bytes of a client came.
-#[derive(Clone, Copy, Debug, PartialEq, Eq)]
-pub(crate) struct Progress {
-    /// How many requests are whole.
-    requests: usize,
-    /// Where the next one stands.
-    spot: Spot,
-}
-
-/// Whether the bytes are at most 99 requests of the form, and then a proper front of one.
+/// Whether the bytes are requests of the form, any number of them, and then a proper front of one.
 pub fn is_pipelined(bytes: &[u8]) -> bool
     ensures { IsTrue result ↔ IsPipelined bytes.now }
 {
-    after_bytes(no_progress(), bytes).is_some()
+    after_bytes(first_spot(), bytes).is_some()
 }
 
 /// Where nothing has come yet.
-pub(crate) fn no_progress() -> Progress
-    ensures progress { IsProgress result }
+pub(crate) fn first_spot() -> Spot
+    ensures is { result ≡ BeforeHost 0 }
+    ensures opened { IsOpen result }
     ensures follows { (bytes : List ℕ) → BytesMayFollow result bytes ↔ IsPipelined bytes }
 {
-    Progress {
-        requests: 0,
-        spot: Spot::BeforeHost(0),
-    }
+    Spot::BeforeHost(0)
 }
 
-/// How far the client is with these bytes too, where they may follow.
-pub(crate) fn after_bytes(progress: Progress, bytes: &[u8]) -> Option<Progress>
-    requires { IsProgress progress }
-    ensures some { IfSome result (Leads progress bytes.now) }
-    ensures none { IfNone result (Breaks progress bytes.now) }
+/// Where the client is with these bytes too, where they may follow.
+pub(crate) fn after_bytes(spot: Spot, bytes: &[u8]) -> Option<Spot>
+    requires { IsOpen spot }
+    ensures some { IfSome result (Leads spot bytes.now) }
+    ensures none { IfNone result (Breaks spot bytes.now) }
 {
-    let mut reached = progress;
+    let mut reached = spot;
     for byte in bytes {
         reached = after_byte(reached, *byte)?;
     }
     Some(reached)
 }
 
-fn after_byte(progress: Progress, byte: u8) -> Option<Progress>
-    requires { IsProgress progress }
-    ensures some { IfSome result (Leads progress (byte ∷ [])) }
-    ensures none { IfNone result (Breaks progress (byte ∷ [])) }
+fn after_byte(spot: Spot, byte: u8) -> Option<Spot>
+    requires { IsOpen spot }
+    ensures some { IfSome result (Leads spot (byte ∷ [])) }
+    ensures none { IfNone result (Breaks spot (byte ∷ [])) }
 {
-    let spot = next_spot(progress.spot, byte)?;
-    if !is_whole(spot) {
-        return Some(Progress { spot, ..progress });
+    let next = next_spot(spot, byte)?;
+    if is_whole(next) {
+        Some(first_spot())
+    } else {
+        Some(next)
     }
-    if progress.requests == MOST_REQUESTS {
-        return None;
-    }
-    Some(Progress {
-        requests: progress.requests + 1,
-        spot: Spot::BeforeHost(0),
-    })
 }
 
 fn is_whole(spot: Spot) -> bool

@@ -4,13 +4,14 @@
 //! only where there is none it refuses the first line that isn't built yet. `one_answer` says that bytes have one answer as
 //! a script, `one_line` that a text is one line at most, and `is_pipelined` tells requests of the known form, one behind
 //! the other. Which text is which line stands in `specs/ScriptLine.antt`, which lines are a script in `specs/Script.antt`,
-//! and what its clients send in `specs/Clients.antt`.
+//! and what its clients send and which calls of their links fail in `specs/Clients.antt`.
 //!
-//! The files whose names begin with `built`, and `tests/built.rt`, say which lines are built. They go when every line is
-//! (`specs/BuiltLines.antt`).
+//! The files whose names begin with `built`, and `tests/built.rt`, say which lines are built: each but commands, lines of
+//! the site, and sends of other requests. They go when every line is (`specs/BuiltLines.antt`).
 #![tactic(auto)]
 
 mod agreement;
+mod built_clients;
 mod built_lines;
 mod built_requests;
 mod escapes;

@@ -1,11 +1,10 @@
 //! The words of a script's lines: numbers, and the names of connections and of files.
 ghost use Rattle.std.specs.Prelude.{◌≡◌, ℕ, List, ◌↔◌, IsTrue, IfSome, IfNone};
 ghost use Rattle.std.specs.List.{prefix_len};
-ghost use Rattle.std.specs.Str.Parse.{digits_value};
 ghost use Rattle.mpm_script.specs.ScriptLine.{is_name_byte, is_file_byte, IsName, IsFileName, IsNumber};
 ghost use Rattle.mpm_script.specs.LineWordsInside.{IsNamed, IsFiled};
 
-use mpm_base::decimal_value;
+use mpm_base::decimal;
 
 const LONGEST_NAME: usize = 16;
 
@@ -18,17 +17,7 @@ pub(crate) fn number(text: &[u8]) -> Option<u64>
     ensures some { IfSome result (IsNumber text.now) }
     ensures none { IfNone result ((n : ℕ) → ¬ IsNumber text.now n) }
 {
-    if is_digits(text) {
-        Some(decimal_value(text))
-    } else {
-        None
-    }
-}
-
-fn is_digits(text: &[u8]) -> bool
-    ensures { IsTrue result ↔ IsNumber text.now (digits_value 10 text.now) }
-{
-    !text.is_empty() && text.len() <= MOST_DIGITS && text.iter().all(u8::is_ascii_digit)
+    decimal(text, MOST_DIGITS)
 }
 
 fn is_name_byte(byte: u8) -> bool

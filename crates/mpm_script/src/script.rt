@@ -99,7 +99,7 @@ pub fn read_script(alloc: Global, bytes: &[u8]) -> Result<Script, ScriptFault>
     ensures answer { ScriptIs bytes.now result }
 {
     let script = read_lines(alloc, bytes)?;
-    match first_unbuilt(script.lines()) {
+    match first_unbuilt(alloc, script.lines())? {
         Some(place) => Err(ScriptFault::NotYet(place as u64 + 1)),
         None => Ok(script),
     }

@@ -1,13 +1,16 @@
 -- The parts of a front that plays a script, after a step.
-use Rattle.std.proofs.Common.{◌≡◌, ℕ, zero, suc, ◌+◌, ◌-◌, ◌<◌, ◌≤◌, Bool, true, List, [], ◌∷◌, ◌++◌, length, get_or, take, drop, ap, sym, refl, ◌∙◌, drop-drop, add-one, arith}
+use Rattle.std.proofs.Common.{◌≡◌, ℕ, zero, suc, ◌+◌, ◌-◌, ◌<◌, ◌≤◌, ◌⊎◌, inl, inr, Bool, true, false, List, [], ◌∷◌, ◌++◌, length, get_or, map, take, drop, None, ap, sym, refl, ◌∙◌, drop-drop, add-one, arith}
 use Rattle.std.proofs.Math.Seq.{take-add}
 use Rattle.std.proofs.lemmas.Grind.{flat_map-append}
-use Rattle.std.proofs.lemmas.List.{length-append, length-drop, length-map, length-take, take-append-drop}
+use Rattle.std.proofs.lemmas.List.{get_or-map, length-append, length-drop, length-map, length-take, take-append-drop}
 use Rattle.mpm_script.specs.Clients.{clients_of, made_by, names_of, sent_by}
-use Rattle.script_front.specs.PlayedFront.{ArePlayed, SeenClients}
-use Rattle.script_front.specs.ScriptFront.{lines_now}
+use Rattle.mpm_base.specs.Front.{next_coming}
+use Rattle.script_front.specs.PlayedFront.{ArePlayed, SeenClients, plan_of, plans_of}
+use Rattle.script_front.specs.declared.client_plans.LinkPlan.{LinkPlan}
+use Rattle.script_front.specs.ScriptFront.{comings_of, lines_now}
 use Rattle.mpm_base.specs.declared.script_line.ScriptLine.{ScriptLine}
 use Rattle.script_front.proofs.ComingLemmas.{names-few}
+use Rattle.script_front.proofs.MomentLemmas.{past-add, past-later}
 use Rattle.script_front.proofs.SignalLemmas.{names}
 
 -- the connections of the lines up to one place, and from there to another
@@ -26,56 +29,74 @@ arrived-within lines h =
     let all : names_of (take h lines) ++ names_of (drop h lines) ≡ names_of lines = rw (← flat_map-append made_by (take h lines) (drop h lines)) (ap names_of (take-append-drop h lines)) in
     omega (arith, ap length all, length-append (names_of (take h lines)) (names_of (drop h lines)), length-map (names_of lines) (λ name. sent_by name lines))
 
--- the first of the rest of a list
-record IsFirst (xs : List (List ℕ)) (k : ℕ) (x : List ℕ) (rest : List (List ℕ)) : Type 0 where
+-- the first of the rest of what the items of a list are made into
+record IsFirst {X : Type 0} (f : List ℕ → X) (xs : List (List ℕ)) (k : ℕ) (x : X) (rest : List X) : Type 0 where
   pub within : k < length xs
-  pub is : x ≡ get_or xs k []
-  pub rest_is : rest ≡ drop (suc k) xs
+  pub is : x ≡ f (get_or xs k [])
+  pub rest_is : rest ≡ drop (suc k) (map f xs)
 
-first-rest : (xs : List (List ℕ)) (k : ℕ) (x : List ℕ) (rest : List (List ℕ)) → drop k xs ≡ x ∷ rest → IsFirst xs k x rest
-first-rest [] zero x rest e = absurd (cc)
-first-rest [] (suc k) x rest e = absurd (cc)
-first-rest (y ∷ ys) zero x rest e = record { within = omega arith; is = cc; rest_is = cc }
-first-rest (y ∷ ys) (suc k) x rest e =
-    let r = first-rest ys k x rest e in
+first-rest : {X : Type 0} (f : List ℕ → X) (xs : List (List ℕ)) (k : ℕ) (x : X) (rest : List X) → drop k (map f xs) ≡ x ∷ rest
+    → IsFirst f xs k x rest
+first-rest f [] zero x rest e = absurd (cc)
+first-rest f [] (suc k) x rest e = absurd (cc)
+first-rest f (y ∷ ys) zero x rest e = record { within = omega arith; is = cc; rest_is = cc }
+first-rest f (y ∷ ys) (suc k) x rest e =
+    let r = first-rest f ys k x rest e in
     record { within = omega (arith, r.within); is = r.is; rest_is = r.rest_is }
 
-module _ (lines : List ScriptLine) (h : ℕ) (waited : Bool) (a taken : ℕ) (cs : SeenClients) (ended : ℕ) (p : ArePlayed lines h waited a taken cs ended) where
-  -- the first of the texts that wait is that of the next connection
-  pub next-taken : (text : List ℕ) (rest : List (List ℕ)) → cs.waiting ≡ text ∷ rest → (taken < length (clients_of lines)) × (text ≡ get_or (clients_of lines) taken [])
-  next-taken text rest is =
-      let r = first-rest (clients_of lines) taken text rest (sym p.texts_are ∙ is) in
-      (r.within, r.is)
+-- there is a plan for each client
+pub plans-clients : (lines : List ScriptLine) → length (plans_of lines) ≡ length (clients_of lines)
+plans-clients lines = length-map (names_of lines) (plan_of lines) ∙ sym (length-map (names_of lines) (λ name. sent_by name lines))
+
+-- a connection is left where fewer were taken and listening wasn't stopped
+some-left : {n taken : ℕ} {hushed : Bool} → (taken ≡ n) ⊎ (hushed ≡ true) → taken < n → hushed ≡ false → ⊥
+some-left (inl all) l listens = absurd (omega arith)
+some-left (inr stopped) l listens = absurd (cc)
+
+module _ (lines : List ScriptLine) (h : ℕ) (waited : Bool) (m a taken : ℕ) (hushed : Bool) (cs : SeenClients) (ended : ℕ) (p : ArePlayed lines h waited m a taken hushed cs ended) where
+  -- the first of the plans that wait is that of the next connection
+  pub next-taken : (plan : LinkPlan) (rest : List LinkPlan) → cs.waiting ≡ plan ∷ rest
+      → (taken < length (clients_of lines)) × (plan ≡ plan_of lines (get_or (names_of lines) taken []))
+      × (plan.text ≡ get_or (clients_of lines) taken [])
+  next-taken plan rest is =
+      let r = first-rest (plan_of lines) (names_of lines) taken plan rest (sym p.plans_are ∙ is) in (
+        omega (arith, r.within, length-map (names_of lines) (λ name. sent_by name lines)),
+        r.is,
+        ap (λ (plan : LinkPlan). plan.text) r.is ∙ sym (get_or-map (λ name. sent_by name lines) (names_of lines) taken [] [] r.within),
+      )
 
   -- the next connection was handed out
-  pub played-accept : (cs' : SeenClients) (text : List ℕ) → cs.waiting ≡ text ∷ cs'.waiting → cs' ≡ record cs { waiting = cs'.waiting } → (taken ≡ a → ⊥)
-      → ArePlayed lines h waited a (taken + 1) cs' ended
-  played-accept cs' text is only waits =
-      let r = first-rest (clients_of lines) taken text cs'.waiting (sym p.texts_are ∙ is) in
+  pub played-accept : (cs' : SeenClients) (plan : LinkPlan) → cs.waiting ≡ plan ∷ cs'.waiting → cs' ≡ record cs { waiting = cs'.waiting } → (taken ≡ a → ⊥) → hushed ≡ false
+      → ArePlayed lines h waited m a (taken + 1) hushed cs' ended
+  played-accept cs' plan is only waits listens =
+      let r = first-rest (plan_of lines) (names_of lines) taken plan cs'.waiting (sym p.plans_are ∙ is) in
+      let few : taken < length (clients_of lines) = omega (arith, r.within, length-map (names_of lines) (λ name. sent_by name lines)) in
       record {
         happened = p.happened;
+        past = p.past;
         arrived = p.arrived;
         accepted = omega (arith, p.accepted);
-        texts_are = rw add-one r.rest_is;
+        plans_are = rw add-one r.rest_is;
         clients_are = ap (λ (s : SeenClients). names s.clients) only ∙ p.clients_are;
         names_are = ap (λ (s : SeenClients). length s.watched) only ∙ p.names_are;
         next = p.next;
-        over = λ e. absurd (omega (arith, (p.over e).2, r.within));
+        over = λ e. absurd (some-left (p.over e).each few listens);
       }
 
-  -- where a connection waits its text does
+  -- where a connection waits its plan does
   pub none-waits : length cs.waiting ≡ 0 → (taken ≡ a → ⊥) → ⊥
   none-waits is waits =
-      omega (arith, p.accepted, p.arrived, arrived-within lines h, length-drop taken (clients_of lines), ap length p.texts_are)
+      omega (arith, p.accepted, p.arrived, arrived-within lines h, length-drop taken (plans_of lines), plans-clients lines, ap length p.plans_are)
 
   -- of the clients something else is known
   pub played-clients : (cs' : SeenClients) → cs'.waiting ≡ cs.waiting → length cs'.watched ≡ length cs.watched → names cs'.clients ≡ names cs.clients
-      → ArePlayed lines h waited a taken cs' ended
+      → ArePlayed lines h waited m a taken hushed cs' ended
   played-clients cs' waiting watched named = record {
     happened = p.happened;
+    past = p.past;
     arrived = p.arrived;
     accepted = p.accepted;
-    texts_are = waiting ∙ p.texts_are;
+    plans_are = waiting ∙ p.plans_are;
     clients_are = named ∙ p.clients_are;
     names_are = watched ∙ p.names_are;
     next = p.next;
@@ -84,27 +105,43 @@ module _ (lines : List ScriptLine) (h : ℕ) (waited : Bool) (a taken : ℕ) (cs
 
   -- so many further lines happened
   pub played-lines : (n more : ℕ) → n ≤ length lines - h → more ≡ length (names_of (take n (drop h lines))) → lines_now (drop n (drop h lines)) ≡ 0
-      → ArePlayed lines (h + n) waited (a + more) taken cs ended
-  played-lines n more few is next = record {
+      → next_coming m (comings_of (take n (drop h lines))) ≡ None → ArePlayed lines (h + n) waited m (a + more) taken hushed cs ended
+  played-lines n more few is next past = record {
     happened = omega (arith, p.happened);
+    past = past-add m lines h n p.past past;
     arrived = omega (arith, p.arrived, names-add lines h n);
     accepted = omega (arith, p.accepted);
-    texts_are = p.texts_are;
+    plans_are = p.plans_are;
     clients_are = p.clients_are;
     names_are = p.names_are;
     next = λ e. ap lines_now (sym (drop-drop n h lines)) ∙ next;
-    over = λ e. let o = p.over e in (o.0, omega (arith, o.1, p.happened), o.2);
+    over = λ e. let o = p.over e in record { begun = o.begun; all = omega (arith, o.all, p.happened); each = o.each };
+  }
+
+  -- time passed
+  pub played-moment : (later : ℕ) → m ≤ later → ArePlayed lines h waited later a taken hushed cs ended
+  played-moment later l = record {
+    happened = p.happened;
+    past = past-later m later (comings_of (take h lines)) l p.past;
+    arrived = p.arrived;
+    accepted = p.accepted;
+    plans_are = p.plans_are;
+    clients_are = p.clients_are;
+    names_are = p.names_are;
+    next = p.next;
+    over = p.over;
   }
 
   -- it waited
-  pub played-begun : lines_now (drop h lines) ≡ 0 → ArePlayed lines h true a taken cs ended
+  pub played-begun : lines_now (drop h lines) ≡ 0 → ArePlayed lines h true m a taken hushed cs ended
   played-begun next = record {
     happened = p.happened;
+    past = p.past;
     arrived = p.arrived;
     accepted = p.accepted;
-    texts_are = p.texts_are;
+    plans_are = p.plans_are;
     clients_are = p.clients_are;
     names_are = p.names_are;
     next = λ e. next;
-    over = λ e. let o = p.over e in (refl, o.1, o.2);
+    over = λ e. let o = p.over e in record { begun = refl; all = o.all; each = o.each };
   }

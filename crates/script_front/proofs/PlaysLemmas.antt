@@ -1,9 +1,9 @@
 -- What a wait did, from what its front is then.
-use Rattle.std.proofs.Common.{◌≡◌, ◌==◌, ℕ, ◌<◌, ◌⊎◌, inl, inr, Bool, true, false, max, List, [], ◌∷◌, length, Option, None, Some, refl, arith}
+use Rattle.std.proofs.Common.{◌≡◌, ◌==◌, ℕ, ◌<◌, ◌⊎◌, inl, inr, Bool, true, false, max, List, [], ◌∷◌, length, take, Option, None, Some, refl, arith}
 use Rattle.std.proofs.lemmas.Bool.Decides.{nat_tests}
-use Rattle.mpm_base.specs.Front.{HasAllTaken}
+use Rattle.mpm_base.specs.Front.{HasAllTaken, earlier}
 use Rattle.script_front.specs.PlayedFrontInside.{gone_to, with_begun, with_clients, with_end, with_lines}
-use Rattle.script_front.specs.ScriptFront.{IsUnderWay, Moves, Plays, SeenFront, begins, earlier, ends, lines_by, lines_now, next_moment, over, passes, served, signals, stays, to_come}
+use Rattle.script_front.specs.ScriptFront.{IsUnderWay, Moves, Plays, SeenFront, begins, ends, lines_by, lines_now, next_moment, over, passes, served, signals, stays, taken_closed, to_come}
 use Rattle.script_front.specs.Signals.{Gives, SeenClient, all_closed}
 use Rattle.mpm_base.specs.declared.front.Woke.TheVariants as woke
 
@@ -40,15 +40,15 @@ module _ (old new : SeenFront) (until : Option ℕ) (quiet : Bool) (ready : List
   plays-begins m is none stands lasts first some =
       rw (none, stands) (begins lasts first some (moves-lines old new (lines_now (to_come old)) is) (rw is refl))
 
-  module _ (still : List SeenClient) (goes : IsUnderWay old) (gives : Gives 256 old.clients old.told.watched still ready) where
-    gives-new : new ≡ with_clients still (with_begun old) → Gives 256 old.clients old.told.watched new.clients ready
+  module _ (still : List SeenClient) (goes : IsUnderWay old) (gives : Gives 256 old.clients old.names still ready) where
+    gives-new : new ≡ with_clients still (with_begun old) → Gives 256 old.clients old.names new.clients ready
     gives-new is = rw is gives
 
     pub plays-signals : (m : ℕ) → new ≡ with_clients still (with_begun old) → m ≡ old.told.moment → (quiet ≡ false) ⊎ (0 < length ready)
         → Plays old new until quiet (woke.Woke m) ready
     plays-signals m is stands why = rw stands (go ready (gives-new is) why)
       where
-        go : (slots : List ℕ) → Gives 256 old.clients old.told.watched new.clients slots → (quiet ≡ false) ⊎ (0 < length slots)
+        go : (slots : List ℕ) → Gives 256 old.clients old.names new.clients slots → (quiet ≡ false) ⊎ (0 < length slots)
             → Plays old new until quiet (woke.Woke old.told.moment) slots
         go [] g (inl busy) = served goes g busy (moves-still old new still is)
         go [] g (inr some) = absurd (omega arith)
@@ -60,10 +60,10 @@ module _ (old new : SeenFront) (until : Option ℕ) (quiet : Bool) (ready : List
         rw (none, stands) (passes goes (rw none at gives) idle comes refl (moves-gone old new still (max old.told.moment next) is) (rw is refl))
 
     pub plays-ends : new ≡ with_end (with_clients still (with_begun old)) → ready ≡ [] → quiet ≡ true → earlier until (next_moment (to_come old)) ≡ None → HasAllTaken old.told
-        → all_closed still ≡ true → Plays old new until quiet woke.Ended ready
+        → all_closed (take old.told.accepted still) ≡ true → Plays old new until quiet woke.Ended ready
     plays-ends is none idle comes taken closed =
         rw none (ends goes (rw is (rw none at gives)) idle comes (rw is taken) (rw is closed) (moves-end old new still is))
 
     pub plays-stays : (m : ℕ) → new ≡ with_clients still (with_begun old) → ready ≡ [] → m ≡ old.told.moment → quiet ≡ true → earlier until (next_moment (to_come old)) ≡ None
-        → (HasAllTaken new.told → all_closed new.clients ≡ false) → Plays old new until quiet (woke.Woke m) ready
+        → (HasAllTaken new.told → taken_closed new ≡ false) → Plays old new until quiet (woke.Woke m) ready
     plays-stays m is none stands idle comes some = rw (none, stands) (stays goes (rw none at gives-new is) idle comes some (moves-still old new still is))

@@ -1,19 +1,23 @@
 -- A wait of a front that plays a script is one of a front.
-use Rattle.std.proofs.Common.{◌≡◌, ℕ, ◌+◌, ◌-◌, ◌<◌, ◌≤◌, Bool, true, false, List, [], ◌∷◌, ◌++◌, length, take, Option, Some, ap, sym, refl, ◌∙◌, arith}
-use Rattle.mpm_script.specs.Clients.{clients_of, names_of}
+use Rattle.std.proofs.Common.{◌≡◌, ℕ, ◌+◌, ◌-◌, ◌<◌, ◌≤◌, Bool, true, false, nat_lt, max, if◌then◌else◌, List, [], ◌∷◌, ◌++◌, append-nil, length, take, Option, None, Some, ap, subst, sym, refl, ◌∙◌, arith}
+use Rattle.std.specs.Prelude.{option_map, IfSome}
+use Rattle.std.proofs.lemmas.Bool.Decides.{nat_tests}
+use Rattle.mpm_script.specs.Clients.{names_of}
 use Rattle.mpm_base.specs.Count.{RisesExactlyWhere, RisesWhere}
-use Rattle.mpm_base.specs.Front.{GivesOnlyAwake, HasAllTaken, IsAnswerOf, StandsStill, WaitTold, Waits, is_ended, wait_failed}
-use Rattle.script_front.specs.PlayedFront.{counts_of}
-use Rattle.script_front.specs.PlayedFrontInside.{KeepsRest, with_wait}
-use Rattle.script_front.specs.ScriptFront.{IsOfScript, Moves, Plays, SeenFront, begins, ends, over, passes, served, signals, stays}
+use Rattle.mpm_base.specs.Front.{FrontTold, Waiting, GivesOnlyAwake, HasAllTaken, IsAnswerOf, IsPatient, LetsTimePass, StandsStill, Waits, earlier, is_ended, wait_failed}
+use Rattle.script_front.specs.PlayedFrontInside.{KeepsRest, arrivals_waiting, passed_between, with_wait}
+use Rattle.script_front.specs.ScriptFront.{IsOfScript, Moves, Plays, SeenFront, begins, comings_of, ends, front_seen, next_moment, lines_now, only_arrivals, over, passes, served, signals, stays, to_come}
+use Rattle.script_front.specs.declared.wait_end.WaitEnd.{WaitEnd}
 use Rattle.mpm_base.specs.declared.front.Woke.{Woke}
+use Rattle.mpm_base.specs.declared.front.Woke.TheVariants as woke
 use Rattle.mpm_base.specs.declared.script_line.ScriptLine.{ScriptLine}
-use Rattle.script_front.proofs.PlayedLemmas.{names-add}
+use Rattle.script_front.proofs.MomentLemmas.{next-later}
+use Rattle.script_front.proofs.PlayedLemmas.{arrived-within, names-add}
 use Rattle.script_front.proofs.SignalLemmas.{gives-few}
 
 -- ## That a wait is put down changes nothing else
 
-module _ (slots : List ℕ) (given : Woke) where
+module _ (slots : List ℕ) (given : WaitEnd) where
   moves-put_down : (old mid : SeenFront) (count m : ℕ) → Moves old mid count m → Moves old (with_wait slots given mid) count m
   moves-put_down old mid count m p = record { script = p.script; begun = p.begun; happened = p.happened; moment_is = p.moment_is }
 
@@ -24,12 +28,12 @@ module _ (slots : List ℕ) (given : Woke) where
   plays-with_wait (signals o s l m) = signals o s l (moves-put_down _ _ _ _ m)
   plays-with_wait (served o s q m) = served o s q (moves-put_down _ _ _ _ m)
   plays-with_wait (passes o s q n t m c) = passes o s q n t (moves-put_down _ _ _ _ m) c
-  plays-with_wait (ends o s q n t d m) = ends o s q n (record { left = t.left; accepted = t.accepted }) d (moves-put_down _ _ _ _ m)
-  plays-with_wait (stays o s q n t m) = stays o s q n (λ all. t (record { left = all.left; accepted = all.accepted })) (moves-put_down _ _ _ _ m)
+  plays-with_wait (ends o s q n t d m) = ends o s q n (record { left = t.left; read = t.read; accepted = t.accepted }) d (moves-put_down _ _ _ _ m)
+  plays-with_wait (stays o s q n t m) = stays o s q n (λ all. t (record { left = all.left; read = all.read; accepted = all.accepted })) (moves-put_down _ _ _ _ m)
 
-pub plays-put_down : (old mid new : SeenFront) (until : Option ℕ) (quiet : Bool) (answer : Woke) (ready : List ℕ) → new ≡ with_wait ready answer mid
+pub plays-put_down : (old mid new : SeenFront) (until : Option ℕ) (quiet : Bool) (answer : Woke) (ready : List ℕ) (end : WaitEnd) → new ≡ with_wait ready end mid
     → Plays old mid until quiet answer ready → Plays old new until quiet answer ready
-plays-put_down old mid new until quiet answer ready is p = rw is (plays-with_wait ready answer p)
+plays-put_down old mid new until quiet answer ready end is p = rw is (plays-with_wait ready end p)
 
 -- ## What a wait did is what a front may do
 
@@ -72,6 +76,53 @@ plays-few (passes o s q n t m c) = omega arith
 plays-few (ends o s q n t d m) = omega arith
 plays-few (stays o s q n t m) = omega arith
 
+-- ## Whether it let time pass
+
+-- what the wait tells of that
+abbrev passed-of : SeenFront → ℕ → Option Waiting
+passed-of old moment = option_map only_arrivals (passed_between old.told.moment moment (arrivals_waiting old))
+
+-- the front stands where it stood
+patient-still : (old new : SeenFront) (until : Option ℕ) (quiet : Bool) (answer : Woke) (comings : List ℕ) → new.told.moment ≡ old.told.moment
+    → IsPatient comings until quiet answer (passed-of old new.told.moment) old.told new.told
+patient-still old new until quiet answer comings stands =
+    let early : nat_lt old.told.moment new.told.moment ≡ false = grind (arith, nat_tests) in
+    rw early stands
+
+-- it went on to that moment, or it was there
+module _ (old new : SeenFront) (until : Option ℕ) (quiet : Bool) (m : ℕ) (was : IsOfScript old) (now : lines_now (to_come old) ≡ 0) (may : quiet ≡ true)
+    (comes : earlier until (next_moment (to_come old)) ≡ Some m) (to : new.told.moment ≡ max old.told.moment m) where
+  lets-pass : old.told.moment < new.told.moment
+      → LetsTimePass (comings_of old.script) until quiet (woke.Woke new.told.moment) (only_arrivals (arrivals_waiting old)) old.told new.told
+  lets-pass later =
+      let is : m ≡ new.told.moment = omega (arith, to, later) in
+      record {
+        may = may;
+        steady = was.failed;
+        to = next-later old.told.moment new.told.moment old.script old.happened until was.past now (comes ∙ ap (λ n. let some : Option ℕ = Some n in some) is) later;
+        later = later;
+        wakes = refl;
+        waited_is = rw (was.lines, was.read) refl;
+      }
+
+  patient-passes : (passed : Bool) → nat_lt old.told.moment new.told.moment ≡ passed
+      → IsPatient (comings_of old.script) until quiet (woke.Woke new.told.moment) (option_map only_arrivals (if passed then Some (arrivals_waiting old) else None)) old.told new.told
+  patient-passes true e = lets-pass (grind (arith, nat_tests))
+  patient-passes false e = let stands : new.told.moment ≡ old.told.moment = grind (arith, nat_tests) in stands
+
+plays-patient : {old new : SeenFront} {until : Option ℕ} {quiet : Bool} {answer : Woke} {ready : List ℕ} → IsOfScript old → Plays old new until quiet answer ready
+    → IsPatient (comings_of old.script) until quiet answer (passed-of old new.told.moment) old.told new.told
+plays-patient {old} {new} {until} {quiet} was (over e m c) = patient-still old new until quiet woke.Ended (comings_of old.script) m.moment_is
+plays-patient {old} {new} {until} {quiet} was (begins e b l m c) = patient-still old new until quiet (woke.Woke old.told.moment) (comings_of old.script) m.moment_is
+plays-patient {old} {new} {until} {quiet} was (signals o s l m) = patient-still old new until quiet (woke.Woke old.told.moment) (comings_of old.script) m.moment_is
+plays-patient {old} {new} {until} {quiet} was (served o s q m) = patient-still old new until quiet (woke.Woke old.told.moment) (comings_of old.script) m.moment_is
+plays-patient {old} {new} {until} {quiet} was (passes {m = next} o s q n t m c) =
+    rw (← m.moment_is) (patient-passes old new until quiet next was o.next q n (m.moment_is ∙ t) (nat_lt old.told.moment new.told.moment) refl)
+plays-patient {old} {new} {until} {quiet} was (ends o s q n t d m) = patient-still old new until quiet woke.Ended (comings_of old.script) m.moment_is
+plays-patient {old} {new} {until} {quiet} was (stays o s q n t m) = patient-still old new until quiet (woke.Woke old.told.moment) (comings_of old.script) m.moment_is
+
+-- ## A wait is one of a front
+
 -- no count fell
 never-fell : (ended : Bool) (n n' : ℕ) → RisesExactlyWhere ended n n' → n ≤ n'
 never-fell true n n' p = p.0
@@ -83,41 +134,60 @@ arrived-more lines h h' more =
     let up : h' ≡ h + (h' - h) = omega arith in
     rw up (omega (arith, names-add lines h (h' - h)))
 
-still-put_down : (old mid new : SeenFront) (answer : Woke) (ready : List ℕ) → new ≡ with_wait ready answer mid → StandsStill old.told mid.told → StandsStill old.told new.told
-still-put_down old mid new answer ready is still = record {
+still-put_down : (old mid new : SeenFront) (end : WaitEnd) (ready : List ℕ) → new ≡ with_wait ready end mid → StandsStill old.told mid.told → StandsStill old.told new.told
+still-put_down old mid new end ready is still = record {
   arrived = ap (λ (f : SeenFront). f.told.arrived) is ∙ still.arrived;
+  lines = ap (λ (f : SeenFront). f.told.lines) is ∙ still.lines;
   left = ap (λ (f : SeenFront). f.told.left) is ∙ still.left;
   moment = ap (λ (f : SeenFront). f.told.moment) is ∙ still.moment;
 }
 
-pub waits : (old mid new : SeenFront) (until : Option ℕ) (quiet : Bool) (answer : Woke) (ready : List ℕ) → IsOfScript old → IsOfScript new → (0 < new.ends → HasAllTaken new.told)
-    → new ≡ with_wait ready answer mid → Plays old new until quiet answer ready → KeepsRest answer old mid
+pub waits : (old mid new : SeenFront) (until : Option ℕ) (quiet : Bool) (answer : Woke) (ready : List ℕ) (passed : Option ℕ) → IsOfScript old → IsOfScript new → (0 < new.ends → HasAllTaken new.told)
+    → passed ≡ passed_between old.told.moment mid.told.moment (arrivals_waiting old)
+    → new ≡ with_wait ready (record { until = until; quiet = quiet; answer = answer; passed = passed }) mid → Plays old new until quiet answer ready → KeepsRest answer old mid
     → (0 < old.ends → (ready ≡ []) × StandsStill old.told mid.told)
-    → Waits (Some old.told) (Some new.told) (counts_of old) (counts_of new) answer ready
-waits old mid new until quiet answer ready was now taken is plays rest ended =
+    → Waits (front_seen old) (front_seen new) until quiet answer ready
+waits old mid new until quiet answer ready passed was now taken passed_so is plays rest ended =
     let went = plays-went plays in
+    let told : new.told ≡ record mid.told { waits = new.told.waits } = rw is refl in
+    let kept : record new.told { arrived = 0; left = 0; moment = 0; waits = [] } ≡ record old.told { arrived = 0; left = 0; moment = 0; waits = [] } = rw (told, rest.told_is) refl in
     let ends : new.ends ≡ mid.ends = ap (λ (f : SeenFront). f.ends) is in
     let rises : RisesExactlyWhere (is_ended answer) old.ends new.ends = rw ends rest.ends in
     let says = plays-answers (λ e. taken (omega (arith, e, never-fell (is_ended answer) old.ends new.ends rises))) plays in
+    let moment : mid.told.moment ≡ new.told.moment = sym (ap (λ (f : SeenFront). f.told.moment) is) in
     record {
+      script = ap (λ (lines : List ScriptLine). let some : Option (List ScriptLine) = Some lines in some) went.script;
       tells = (
         new.told,
         refl,
         record {
-          clients = now.clients ∙ ap clients_of went.script ∙ sym was.clients;
+          clients = ap (λ (t : FrontTold). t.clients) kept;
           arrived = rw (was.arrived, now.arrived, went.script) (arrived-more old.script old.happened new.happened went.happened);
-          accepted = ap (λ (f : SeenFront). f.told.accepted) is ∙ rest.accepted;
-          watched = ap (λ (f : SeenFront). f.told.watched) is ∙ rest.watched;
+          within = rw (now.arrived, was.clients, went.script) (arrived-within old.script new.happened);
+          accepted = ap (λ (t : FrontTold). t.accepted) kept;
+          watches = ap (λ (t : FrontTold). t.watches) kept;
+          come = [];
+          lines = ap (λ (t : FrontTold). t.lines) kept ∙ sym (append-nil old.told.lines);
+          read = ap (λ (t : FrontTold). t.read) kept;
+          bound = ap (λ (t : FrontTold). t.bound) kept;
+          hushed = ap (λ (t : FrontTold). t.hushed) kept;
           left = omega (arith, was.left, now.left, went.happened, ap length went.script);
           moment = went.moment_is;
+          comings = ap (λ (t : FrontTold). t.comings) kept;
+          failed = now.failed;
           answers = says.0;
-          waits = ap (λ (f : SeenFront). f.told.waits) is ∙ ap (λ (before : List WaitTold). before ++ record { slots = ready; answer = answer } ∷ []) rest.waits;
+          passed = passed-of old new.told.moment;
+          patient = subst (λ (o : Option (List ℕ)). IfSome o (λ comings. IsPatient comings until quiet answer (passed-of old new.told.moment) old.told new.told)) (sym was.comings) (plays-patient was plays);
+          waits =
+              ap (λ (f : SeenFront). f.told.waits) is
+              ∙ rw (passed_so, moment) (ap (λ (t : FrontTold). t.waits ++ record { until = until; quiet = quiet; slots = ready; answer = answer; passed = passed-of old new.told.moment } ∷ []) rest.told_is);
         },
       );
-      over = λ e. record { none = (ended e).0; still = (new.told, refl, still-put_down old mid new answer ready is (ended e).1) };
+      over = λ e. record { none = (ended e).0; still = (new.told, refl, still-put_down old mid new _ ready is (ended e).1) };
       awake = says.1;
       few = plays-few plays;
       faults = says.2;
       accept_faults = refl;
       ends = rises;
+      commands = refl;
     }

@@ -1,10 +1,11 @@
--- What helps to prove, and no public contract reaches, of: The parts of a front that plays a script: what holds between them, and the steps of its waits.
-use Rattle.std.specs.Prelude.{◌≡◌, ℕ, ◌+◌, ◌-◌, Bool, true, false, nat_le, List, [], ◌∷◌, ◌++◌, length, take}
+-- What helps to prove of a front that plays a script, and no public contract reaches: the steps of its waits.
+use Rattle.std.specs.Prelude.{◌≡◌, ℕ, ◌+◌, ◌-◌, Bool, true, false, nat_le, nat_lt, if◌then◌else◌, List, [], ◌∷◌, ◌++◌, length, take, Option, None, Some}
 use Rattle.mpm_script.specs.Clients.{names_of}
 use Rattle.mpm_base.specs.Count.{next_count, RisesExactlyWhere}
-use Rattle.mpm_base.specs.Front.{is_ended}
-use Rattle.script_front.specs.ScriptFront.{SeenFront, after_next, lines_by, to_come}
+use Rattle.mpm_base.specs.Front.{is_ended, waiting_in}
+use Rattle.script_front.specs.ScriptFront.{SeenFront, after_next, lines_by, to_come, wait_told}
 use Rattle.script_front.specs.Signals.{SeenClient}
+use Rattle.script_front.specs.declared.wait_end.WaitEnd.{WaitEnd}
 use Rattle.mpm_base.specs.declared.front.Woke.{Woke}
 use Rattle.mpm_base.specs.declared.script_line.ScriptLine.{ScriptLine}
 use Rattle.mpm_base.specs.declared.script_line.ScriptLine.TheVariants as line
@@ -59,12 +60,20 @@ with_lines count f =
 
 -- it stands at that moment, and what happens by then happened
 abbrev pub gone_to : ℕ → SeenFront → SeenFront
-gone_to m f = with_moment m (with_lines (lines_by m (to_come f)) f)
+gone_to m f = with_lines (lines_by m (to_come f)) (with_moment m f)
 
--- it made one wait more, which gave these slots and answered this
-abbrev pub with_wait : List ℕ → Woke → SeenFront → SeenFront
-with_wait slots answer f =
-    record f { told = record f.told { waits = f.told.waits ++ record { slots = slots; answer = answer } ∷ [] } }
+-- how many connections wait to be taken
+abbrev pub arrivals_waiting : SeenFront → ℕ
+arrivals_waiting f = (waiting_in f.told).arrivals
+
+-- so many connections waited before time passed, where the second of the moments is later than the first
+abbrev pub passed_between : ℕ → ℕ → ℕ → Option ℕ
+passed_between from to count = if nat_lt from to then Some count else None
+
+-- it made one wait more, which gave these slots and ended so
+abbrev pub with_wait : List ℕ → WaitEnd → SeenFront → SeenFront
+with_wait slots end f =
+    record f { told = record f.told { waits = f.told.waits ++ wait_told (slots, end) ∷ [] } }
 
 -- a further wait answered Ended
 abbrev pub with_end : SeenFront → SeenFront
@@ -72,7 +81,6 @@ with_end f = record f { ends = next_count f.ends }
 
 -- what a wait leaves of the rest
 pub record KeepsRest (answer : Woke) (old new : SeenFront) : Type 0 where
-  pub accepted : new.told.accepted ≡ old.told.accepted
-  pub watched : new.told.watched ≡ old.told.watched
-  pub waits : new.told.waits ≡ old.told.waits
+  pub names_are : new.names ≡ old.names
+  pub told_is : new.told ≡ record old.told { arrived = new.told.arrived; left = new.told.left; moment = new.told.moment }
   pub ends : RisesExactlyWhere (is_ended answer) old.ends new.ends

@@ -1,30 +1,75 @@
 -- The front that plays a script: what contracts see of it, and what its waits do.
-use Rattle.std.specs.Prelude.{◌≡◌, ℕ, suc, ◌+◌, ◌<◌, ◌≤◌, Bool, true, false, max, min, nat_le, if◌then◌else◌, List, [], ◌∷◌, drop, take, length, map, Option, None, Some, ⊤}
-use Rattle.mpm_script.specs.Clients.{clients_of, names_of}
-use Rattle.mpm_base.specs.Front.{FrontTold, HasAllTaken, WaitTold, client_at}
+use Rattle.std.specs.Prelude.{◌≡◌, ℕ, suc, ◌+◌, ◌<◌, ◌≤◌, Bool, true, false, max, nat_le, if◌then◌else◌, List, [], ◌∷◌, drop, take, length, map, Option, None, Some, option_map, ⊤}
+use Rattle.std.specs.List.{flat_map}
+use Rattle.mpm_script.specs.Clients.{clients_of, fails_of, is_dropped, name_at, names_of}
+use Rattle.mpm_base.specs.Front.{BoundTold, FrontSeen, FrontTold, HasAllTaken, WaitTold, Waiting, WatchTold, client_at, earlier, next_coming}
 use Rattle.stand_ins.specs.ScriptLink.{SeenScriptLink, new_paced_link}
 use Rattle.script_front.specs.Signals.{SeenClient, Gives, client_after_lines, all_closed, new_client}
+use Rattle.script_front.specs.declared.wait_end.WaitEnd.{WaitEnd}
+use Rattle.mpm_base.specs.declared.addr.Addr.{Addr}
 use Rattle.mpm_base.specs.declared.conn.ConnName.{ConnName}
 use Rattle.mpm_base.specs.declared.front.Arrival.{Arrival}
 use Rattle.mpm_base.specs.declared.front.Arrival.TheVariants as arrival
 use Rattle.mpm_base.specs.declared.front.Woke.{Woke}
 use Rattle.mpm_base.specs.declared.front.Woke.TheVariants as woke
+use Rattle.mpm_base.specs.declared.script_line.LinkCall.TheVariants as call
 use Rattle.mpm_base.specs.declared.script_line.ScriptLine.{ScriptLine}
 use Rattle.mpm_base.specs.declared.script_line.ScriptLine.TheVariants as line
 
 -- its script, how many of the lines have happened, whether it waited before, its clients in the order of their connections,
--- what it tells, and how often a wait answered Ended
+-- under which name the link of each is watched, what it tells, and how often a wait answered Ended
 pub record SeenFront : Type 0 where
   pub script : List ScriptLine
   pub happened : ℕ
   pub begun : Bool
   pub clients : List SeenClient
+  pub names : List (Option ConnName)
   pub told : FrontTold
   pub ends : ℕ
 
--- a wait of it, from the slots that it gave and its answer
-abbrev pub wait_told : List ℕ × Woke → WaitTold
-wait_told wait = record { slots = wait.0; answer = wait.1 }
+-- so many connections wait to be taken, and no command line
+abbrev pub only_arrivals : ℕ → Waiting
+only_arrivals count = record { arrivals = count; lines = 0 }
+
+-- a wait of it, from the slots that it gave and how it ended
+abbrev pub wait_told : List ℕ × WaitEnd → WaitTold
+wait_told wait =
+    record {
+      until = wait.1.until;
+      quiet = wait.1.quiet;
+      slots = wait.0;
+      answer = wait.1.answer;
+      passed = option_map only_arrivals wait.1.passed;
+    }
+
+-- a watch of it, from the number of the link and the name
+abbrev pub watch_told : ℕ × ConnName → WatchTold
+watch_told watch = record { rank = watch.0; name = watch.1 }
+
+-- what it was bound to, from the address and the port for command lines
+abbrev pub bound_told : Addr × Option ℕ → BoundTold
+bound_told bound = record { listen = bound.0; control = bound.1 }
+
+-- it as each front is seen: it has a script and tells, and of its calls none fails and none gives a command line
+abbrev pub front_seen : SeenFront → FrontSeen
+front_seen f =
+    record {
+      script = Some f.script;
+      told = Some f.told;
+      counts = record { faults = 0; accept_faults = 0; ends = f.ends; commands = 0 };
+    }
+
+-- the moment of the line, where it is an `at`
+abbrev pub comings_by : ScriptLine → List ℕ
+comings_by (line.At m) = m ∷ []
+comings_by (line.Conn name) = []
+comings_by (line.Client name act) = []
+comings_by (line.Command word) = []
+comings_by (line.Site site) = []
+
+-- the moments of the `at` lines, in order
+abbrev pub comings_of : List ScriptLine → List ℕ
+comings_of lines = flat_map comings_by lines
 
 -- ## Before the first wait
 
@@ -40,13 +85,20 @@ new_front lines =
       happened = 0;
       begun = false;
       clients = map new_client (names_of lines);
+      names = map no_name_yet (names_of lines);
       told = record {
         clients = clients_of lines;
         arrived = 0;
         accepted = 0;
-        watched = map no_name_yet (names_of lines);
+        watches = [];
+        lines = [];
+        read = 0;
+        bound = [];
+        hushed = false;
         left = length lines;
         moment = 0;
+        comings = Some (comings_of lines);
+        failed = false;
         waits = [];
       };
       ends = 0;
@@ -85,12 +137,6 @@ next_moment (line.Client name act ∷ lines) = None
 next_moment (line.Command word ∷ lines) = None
 next_moment (line.Site site ∷ lines) = None
 
--- the smaller of the moments that are there
-abbrev pub earlier : Option ℕ → Option ℕ → Option ℕ
-earlier None other = other
-earlier (Some m) None = Some m
-earlier (Some m) (Some other) = Some (min m other)
-
 -- the clients after so many further lines
 abbrev pub after_next : ℕ → SeenFront → List SeenClient → List SeenClient
 after_next count f clients = map (client_after_lines (take count (to_come f))) clients
@@ -98,16 +144,22 @@ after_next count f clients = map (client_after_lines (take count (to_come f))) c
 -- ## Any time
 
 -- what holds of every such front: it tells the connections of its script, of which those have arrived whose lines have
--- happened, and how many lines have not; each client has its name; and once it has waited the next line is an `at`, where there
--- is one
+-- happened, how many lines have not, and the moments of the `at` lines, of which none that has happened is later than the
+-- moment; no command line has come and no accept failed; each client has its name, and a place for the name under which its link
+-- is watched; and once it has waited the next line is an `at`, where there is one
 pub record IsOfScript (f : SeenFront) : Type 0 where
   pub happened : f.happened ≤ length f.script
   pub left : f.told.left + f.happened ≡ length f.script
   pub clients : f.told.clients ≡ clients_of f.script
   pub arrived : f.told.arrived ≡ length (names_of (take f.happened f.script))
   pub accepted : f.told.accepted ≤ f.told.arrived
-  pub watched : length f.told.watched ≡ length f.told.clients
-  pub names : map (λ client. client.name) f.clients ≡ names_of f.script
+  pub lines : f.told.lines ≡ []
+  pub read : f.told.read ≡ 0
+  pub failed : f.told.failed ≡ false
+  pub comings : f.told.comings ≡ Some (comings_of f.script)
+  pub past : next_coming f.told.moment (comings_of (take f.happened f.script)) ≡ None
+  pub named : map (λ client. client.name) f.clients ≡ names_of f.script
+  pub watched : length f.names ≡ length f.told.clients
   pub next : f.begun ≡ true → lines_now (to_come f) ≡ 0
 
 -- ## A wait
@@ -118,6 +170,10 @@ pub record Moves (old new : SeenFront) (count moment : ℕ) : Type 0 where
   pub begun : new.begun ≡ true
   pub happened : new.happened ≡ old.happened + count
   pub moment_is : new.told.moment ≡ moment
+
+-- each link that was handed out was found closed
+abbrev pub taken_closed : SeenFront → Bool
+taken_closed f = all_closed (take f.told.accepted f.clients)
 
 -- it hasn't answered Ended, and no line stands before the next `at`
 pub record IsUnderWay (f : SeenFront) : Type 0 where
@@ -133,26 +189,32 @@ pub data Plays (old new : SeenFront) (until : Option ℕ) (quiet : Bool) : Woke 
   begins : old.ends ≡ 0 → old.begun ≡ false → 0 < lines_now (to_come old) → Moves old new (lines_now (to_come old)) old.told.moment
       → new.clients ≡ after_next (lines_now (to_come old)) old old.clients → Plays old new until quiet (woke.Woke old.told.moment) []
   -- it gives the signals that are due, as far as there is room
-  signals : {ready : List ℕ} → IsUnderWay old → Gives 256 old.clients old.told.watched new.clients ready → 0 < length ready
+  signals : {ready : List ℕ} → IsUnderWay old → Gives 256 old.clients old.names new.clients ready → 0 < length ready
       → Moves old new 0 old.told.moment → Plays old new until quiet (woke.Woke old.told.moment) ready
   -- where a connection is being served no time passes
-  served : IsUnderWay old → Gives 256 old.clients old.told.watched new.clients [] → quiet ≡ false → Moves old new 0 old.told.moment
+  served : IsUnderWay old → Gives 256 old.clients old.names new.clients [] → quiet ≡ false → Moves old new 0 old.told.moment
       → Plays old new until quiet (woke.Woke old.told.moment) []
   -- it goes on to the moment of the next `at`, or to `until`, whichever is earlier, and never back; what happens by then happens
-  passes : {m to : ℕ} {still : List SeenClient} → IsUnderWay old → Gives 256 old.clients old.told.watched still [] → quiet ≡ true
+  passes : {m to : ℕ} {still : List SeenClient} → IsUnderWay old → Gives 256 old.clients old.names still [] → quiet ≡ true
       → earlier until (next_moment (to_come old)) ≡ Some m → to ≡ max old.told.moment m → Moves old new (lines_by to (to_come old)) to
       → new.clients ≡ after_next (lines_by to (to_come old)) old still → Plays old new until quiet (woke.Woke to) []
   -- nothing comes any more
-  ends : IsUnderWay old → Gives 256 old.clients old.told.watched new.clients [] → quiet ≡ true → earlier until (next_moment (to_come old)) ≡ None
-      → HasAllTaken new.told → all_closed new.clients ≡ true → Moves old new 0 old.told.moment → Plays old new until quiet woke.Ended []
+  ends : IsUnderWay old → Gives 256 old.clients old.names new.clients [] → quiet ≡ true → earlier until (next_moment (to_come old)) ≡ None
+      → HasAllTaken new.told → taken_closed new ≡ true → Moves old new 0 old.told.moment → Plays old new until quiet woke.Ended []
   -- it waits for its links to be taken or closed
-  stays : IsUnderWay old → Gives 256 old.clients old.told.watched new.clients [] → quiet ≡ true → earlier until (next_moment (to_come old)) ≡ None
-      → (HasAllTaken new.told → all_closed new.clients ≡ false) → Moves old new 0 old.told.moment → Plays old new until quiet (woke.Woke old.told.moment) []
+  stays : IsUnderWay old → Gives 256 old.clients old.names new.clients [] → quiet ≡ true → earlier until (next_moment (to_come old)) ≡ None
+      → (HasAllTaken new.told → taken_closed new ≡ false) → Moves old new 0 old.told.moment → Plays old new until quiet (woke.Woke old.told.moment) []
 
 -- ## An accept
 
--- a link is handed out as that of its client, with no call that is to fail, and its bytes and room come little by little
+-- the link of that number as it is handed out: its client sends these bytes, the calls that the lines of its name list fail once
+-- these have happened, and only where a line drops it may it be dropped
+abbrev pub paced_link_of : List ScriptLine → ℕ → List ℕ → SeenScriptLink
+paced_link_of lines number text =
+    new_paced_link number text (fails_of call.Read (name_at lines number) lines) (fails_of call.Write (name_at lines number) lines) (is_dropped (name_at lines number) lines)
+
+-- a link is handed out as that of its client, and its bytes and room come little by little
 abbrev pub HandsPaced : SeenFront → Arrival SeenScriptLink → Type 0
-HandsPaced f (arrival.Some link) = link ≡ new_paced_link f.told.accepted (client_at f.told.clients f.told.accepted) [] []
+HandsPaced f (arrival.Some link) = link ≡ paced_link_of f.script f.told.accepted (client_at f.told.clients f.told.accepted)
 HandsPaced f arrival.None = ⊤
 HandsPaced f arrival.Failed = ⊤

@@ -22,13 +22,14 @@ new_client name = record { name = name; came = false; ended = false; due = false
 
 -- ## When a signal becomes due
 
--- its act happened; what it sends behind its end does nothing, and neither does a second end
+-- its act happened; what it sends behind its end does nothing, and neither does a second end; a call that is to fail gives no
+-- signal
 abbrev pub after_act : ClientAct → SeenClient → SeenClient
 after_act (act.Send bytes) client =
     if client.ended then client
     else record client { came = client.came || nat_lt 0 (length bytes); due = true }
 after_act act.End client = if client.ended then client else record client { ended = true; due = true }
-after_act act.Drop client = client
+after_act act.Drop client = record client { due = true }
 after_act (act.Room room) client = record client { due = true }
 after_act (act.Fail which number) client = client
 

@@ -1,8 +1,9 @@
 //! Which lines of a script happen next.
 ghost use Rattle.std.specs.Prelude.{◌≡◌, ◌+◌, ◌≤◌, take, drop, length};
+ghost use Rattle.mpm_base.specs.Front.{earlier};
 ghost use Rattle.mpm_script.specs.Clients.{names_of};
 ghost use Rattle.script_front.specs.PlayedFrontInside.{happens_by, is_at, is_conn};
-ghost use Rattle.script_front.specs.ScriptFront.{earlier, lines_by, lines_now, next_moment};
+ghost use Rattle.script_front.specs.ScriptFront.{lines_by, lines_now, next_moment};
 
 use mpm_base::{Moment, ScriptLine};
 

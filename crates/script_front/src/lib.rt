@@ -1,11 +1,12 @@
 //! The front and the clock that play a script.
 //!
-//! `ScriptFront` is a front over a script: its connections arrive, send and end as the lines say, and time goes from moment
-//! to moment while nobody is served. It meets the trait `Front` of `mpm_base`; what it shows of itself and the rules of its
-//! waits stand in `specs/ScriptFront.antt`, which signals are due in `specs/Signals.antt`, and what holds between its parts
-//! in `specs/PlayedFront.antt`. `ScriptClock` is the clock that goes with it.
+//! `ScriptFront` is a front over a script: its connections arrive, send, end, fail and are dropped as the lines say, and
+//! time goes from moment to moment while nobody is served. It meets the trait `Front` of `mpm_base`; what it shows of
+//! itself and the rules of its waits stand in `specs/ScriptFront.antt`, which signals are due in `specs/Signals.antt`, and
+//! what holds between its parts in `specs/PlayedFront.antt`. `ScriptClock` is the clock that goes with it.
 #![tactic(auto)]
 
+mod client_plans;
 mod client_texts;
 mod coming_lines;
 mod script_client;
@@ -14,6 +15,7 @@ mod script_clock;
 mod script_front;
 #[cfg(test)]
 mod tests;
+mod wait_end;
 
 pub use script_clock::ScriptClock;
 pub use script_front::ScriptFront;

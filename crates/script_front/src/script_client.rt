@@ -86,7 +86,11 @@ impl ScriptClient {
                 self.wire.allow(*room);
                 self.due = true;
             }
-            ClientAct::Drop | ClientAct::Fail(_, _) => (),
+            ClientAct::Drop => {
+                self.wire.drop_link();
+                self.due = true;
+            }
+            ClientAct::Fail(call, _) => self.wire.fail(*call),
         }
     }
 

@@ -1,10 +1,11 @@
 //! The clients of a script, as its front knows them.
-ghost use Rattle.std.specs.Prelude.{◌≡◌, ◌<◌, false, None, Some, [], ◌∷◌, ◌++◌, length, map, slice_set, IfOk, IfSome, IfNone, OnOk, OnErr};
-ghost use Rattle.mpm_script.specs.Clients.{clients_of, made_by, names_of};
+ghost use Rattle.std.specs.Prelude.{◌≡◌, ◌<◌, ◌≤◌, false, None, Some, [], ◌∷◌, ◌++◌, length, take, map, slice_set, IfOk, IfSome, IfNone, OnOk, OnErr};
+ghost use Rattle.mpm_script.specs.Clients.{made_by, names_of};
+ghost use Rattle.script_front.specs.PlayedFront.{plans_of};
 ghost use Rattle.script_front.specs.ScriptFront.{no_name_yet};
 ghost use Rattle.script_front.specs.Signals.{Gives, client_after_lines, after_watch_of, all_closed, new_client};
 
-use crate::client_texts::sent_by;
+use crate::client_plans::{LinkPlan, plan_of};
 use crate::script_client::{ScriptClient, are_closed, give, happen};
 use mpm_base::{ConnName, NoMemory, Octets, Ready, ScriptLine};
 use stand_ins::Wire;
@@ -13,10 +14,10 @@ use std::collections::VecDeque;
 use std::marker::Model;
 use std::sync::Arc;
 
-/// What a link is made of that was not handed out: what its client sends, and what the front shares with it.
+/// What a link is made of that was not handed out, and what the front shares with it.
 #[derive(Drop)]
 pub(crate) struct Awaited {
-    pub(crate) text: Octets,
+    pub(crate) plan: LinkPlan,
     pub(crate) wire: Arc<Wire>,
 }
 
@@ -35,13 +36,13 @@ impl Model for ScriptClients {
 
     ghost Value = { SeenClients };
 
-    ghost view = { λ c. record { waiting = map (λ awaited. awaited.text) c.awaited.items; clients = c.clients.items; watched = c.names.items } };
+    ghost view = { λ c. record { waiting = map (λ awaited. awaited.plan) c.awaited.items; clients = c.clients.items; watched = c.names.items } };
 }
 
 impl ScriptClients {
     /// The clients of the script. No link was handed out.
     pub(crate) fn make(alloc: Global, lines: &[ScriptLine]) -> Result<ScriptClients, NoMemory>
-        ensures waiting { IfOk result (λ clients. clients.waiting ≡ clients_of lines.now) }
+        ensures waiting { IfOk result (λ clients. clients.waiting ≡ plans_of lines.now) }
         ensures clients { IfOk result (λ clients. clients.clients ≡ map new_client (names_of lines.now)) }
         ensures watched { IfOk result (λ clients. clients.watched ≡ map no_name_yet (names_of lines.now)) }
     {
@@ -52,29 +53,29 @@ impl ScriptClients {
         };
         for line in lines {
             if let Some(name) = made_by(line) {
-                let text = sent_by(alloc, name, lines)?;
-                clients.add(alloc, name, text)?;
+                let plan = plan_of(alloc, name, lines)?;
+                clients.add(alloc, name, plan)?;
             }
         }
         Ok(clients)
     }
 
     /// Puts a client behind the others. Where memory lacks a part of it may be there.
-    fn add(&mut self, alloc: Global, name: &[u8], text: Octets) -> Result<(), NoMemory>
-        ensures ok { OnOk result (self.new ≡ record { waiting = self.old.waiting ++ text ∷ []; clients = self.old.clients ++ new_client name.now ∷ []; watched = self.old.watched ++ None ∷ [] }) }
+    fn add(&mut self, alloc: Global, name: &[u8], plan: LinkPlan) -> Result<(), NoMemory>
+        ensures ok { OnOk result (self.new ≡ record { waiting = self.old.waiting ++ plan ∷ []; clients = self.old.clients ++ new_client name.now ∷ []; watched = self.old.watched ++ None ∷ [] }) }
     {
         let wire = Arc::new(alloc, Wire::make())?;
         let theirs = Arc::try_clone(&wire)?;
         let client = ScriptClient::make(Octets::of(alloc, name)?, wire);
         self.clients.push(client)?;
         self.names.push(None)?;
-        self.awaited.push_back(Awaited { text, wire: theirs })?;
+        self.awaited.push_back(Awaited { plan, wire: theirs })?;
         Ok(())
     }
 
     /// Takes out what the next link is made of.
     pub(crate) fn next(&mut self) -> Option<Awaited>
-        ensures some { IfSome result (λ next. self.old.waiting ≡ next.text ∷ self.new.waiting) }
+        ensures some { IfSome result (λ next. self.old.waiting ≡ next.plan ∷ self.new.waiting) }
         ensures none { IfNone result (self.old.waiting ≡ []) }
         ensures rest { self.new ≡ record self.old { waiting = self.new.waiting } }
     {
@@ -124,11 +125,12 @@ impl ScriptClients {
         give(self.clients.as_mut_slice(), self.names.as_slice(), ready);
     }
 
-    /// Whether each link was found closed.
-    pub(crate) fn are_closed(&self) -> bool
-        ensures { result ≡ all_closed self.now.clients }
+    /// Whether each of the first so many links was found closed.
+    pub(crate) fn are_closed(&self, count: usize) -> bool
+        requires few { count ≤ length self.now.clients }
+        ensures { result ≡ all_closed (take count self.now.clients) }
     {
-        are_closed(self.clients.as_slice())
+        are_closed(&self.clients.as_slice()[..count])
     }
 }
 

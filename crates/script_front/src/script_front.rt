@@ -1,19 +1,20 @@
 //! The front that plays a script.
-ghost use Rattle.std.specs.Prelude.{◌≡◌, ◌<◌, ◌≤◌, max, nat_lt, true, false, Some, [], drop, length, IfOk};
+ghost use Rattle.std.specs.Prelude.{◌≡◌, ◌<◌, ◌≤◌, ◌&&◌, max, nat_lt, not, true, false, None, Some, [], take, drop, length, slice_set, IfOk};
 ghost use Rattle.mpm_base.specs.Count.{Rises};
-ghost use Rattle.mpm_base.specs.Front.{Accepts, HasAllTaken, StandsStill, Waits, Watches, accept_failed, is_handed};
-ghost use Rattle.script_front.specs.PlayedFront.{counts_of};
-ghost use Rattle.script_front.specs.PlayedFrontInside.{KeepsRest, gone_to, with_begun, with_clients, with_end, with_lines, with_wait};
-ghost use Rattle.script_front.specs.ScriptFront.{HandsPaced, IsOfScript, Plays, lines_now, new_front, to_come};
-ghost use Rattle.script_front.specs.Signals.{Gives, after_watch_of, all_closed};
+ghost use Rattle.mpm_base.specs.Front.{Accepts, Binds, Commands, HasAllTaken, StandsStill, Waits, Watches, accept_failed, after_bind, after_hush, hushed_front, is_handed, next_coming};
+ghost use Rattle.mpm_base.specs.Link.{telling_link};
+ghost use Rattle.script_front.specs.PlayedFrontInside.{KeepsRest, arrivals_waiting, gone_to, with_begun, with_clients, with_end, with_lines, with_moment, with_wait};
+ghost use Rattle.script_front.specs.ScriptFront.{HandsPaced, IsOfScript, Plays, comings_of, front_seen, lines_now, new_front, taken_closed, to_come};
+ghost use Rattle.script_front.specs.Signals.{Gives, after_watch_of};
 ghost use Rattle.stand_ins.specs.ScriptLink.{SeenScriptLink};
 
 use crate::coming_lines::{arrivals, earlier, lines_by, lines_now, next_lines, next_moment};
 use crate::script_clients::ScriptClients;
+use crate::wait_end::{WaitEnd, passed_between};
 use http_server::Log;
-use mpm_base::{Arrival, ConnName, Front, Moment, NoMemory, Ready, ScriptLine, Woke};
+use mpm_base::{Addr, Arrival, ConnName, Front, Line, Moment, NoMemory, Ready, ScriptLine, Woke};
 use mpm_script::Script;
-use stand_ins::{Calls, ScriptLink};
+use stand_ins::ScriptLink;
 use std::alloc::Global;
 use std::marker::Model;
 use std::sync::Wait;
@@ -28,15 +29,18 @@ pub struct ScriptFront {
     moment: Moment,
     arrived: usize,
     accepted: usize,
+    hushed: bool,
     clients: ScriptClients,
-    // Kept for clauses alone: it takes no memory.
-    waits: Log<Ready, Woke>,
     ends: u64,
+    // Kept for clauses alone: they take no memory.
+    binds: Log<Addr, Option<u16>>,
+    watches: Log<u64, ConnName>,
+    waits: Log<Ready, WaitEnd>,
 }
 
 impl Model for ScriptFront {
-    ghost use Rattle.std.specs.Prelude.{◌-◌, length, map};
-    ghost use Rattle.script_front.specs.ScriptFront.{SeenFront, wait_told};
+    ghost use Rattle.std.specs.Prelude.{◌-◌, false, Some, [], length, map};
+    ghost use Rattle.script_front.specs.ScriptFront.{SeenFront, bound_told, comings_of, wait_told, watch_told};
 
     ghost Value = { SeenFront };
 
@@ -48,25 +52,32 @@ impl Model for ScriptFront {
       happened = f.happened;
       begun = f.begun;
       clients = f.clients.clients;
+      names = f.clients.watched;
       told = record {
         clients = clients_of f.script;
         arrived = f.arrived;
         accepted = f.accepted;
-        watched = f.clients.watched;
+        watches = map watch_told f.watches.items;
+        lines = [];
+        read = 0;
+        bound = map bound_told f.binds.items;
+        hushed = f.hushed;
         left = length f.script - f.happened;
         moment = f.moment;
+        comings = Some (comings_of f.script);
+        failed = false;
         waits = map wait_told f.waits.items;
       };
       ends = f.ends;
     } };
 
-    ghost invariant = { λ f. ArePlayed f.script f.happened f.begun f.arrived f.accepted f.clients f.ends };
+    ghost invariant = { λ f. ArePlayed f.script f.happened f.begun f.moment f.arrived f.accepted f.hushed f.clients f.ends };
 }
 
 impl ScriptFront {
-    /// The front of the script. No line has happened. `drop`, `fail`, `command` and the lines of the site do nothing when they
-    /// happen, and a line that names a client means each connection of that name; a script that was read has neither such
-    /// lines nor two connections of one name.
+    /// The front of the script. No line has happened. `command` and the lines of the site do nothing when they happen, and a
+    /// line that names a client means each connection of that name; a script that was read has neither such lines nor two
+    /// connections of one name.
     pub fn make(alloc: Global, script: Script) -> Result<ScriptFront, NoMemory>
         ensures { IfOk result (λ front. front ≡ new_front script) }
     {
@@ -79,9 +90,12 @@ impl ScriptFront {
             moment: 0,
             arrived: 0,
             accepted: 0,
+            hushed: false,
             clients,
-            waits: Log::new(),
             ends: 0,
+            binds: Log::new(),
+            watches: Log::new(),
+            waits: Log::new(),
         })
     }
 
@@ -118,6 +132,7 @@ impl ScriptFront {
     fn pass(&mut self, count: usize)
         requires few { count ≤ self.old.told.left }
         requires next { lines_now (drop count (to_come self.old)) ≡ 0 }
+        requires past { next_coming self.old.told.moment (comings_of (take count (to_come self.old))) ≡ None }
         ensures { self.new ≡ with_lines count self.old }
     {
         let lines = next_lines(self.script.lines(), self.happened, count);
@@ -145,7 +160,7 @@ impl ScriptFront {
     /// Gives the signals that are due, as far as there is room for them.
     fn signal(&mut self, ready: &mut Ready)
         requires { ready.old ≡ [] }
-        ensures gives { Gives 256 self.old.clients self.old.told.watched self.new.clients ready.new }
+        ensures gives { Gives 256 self.old.clients self.old.names self.new.clients ready.new }
         ensures state { self.new ≡ with_clients self.new.clients self.old }
     {
         self.clients.give(ready);
@@ -157,18 +172,27 @@ impl ScriptFront {
     {
         let to = self.moment.max(moment);
         let count = lines_by(to, self.to_come());
+        self.stand_at(to);
         self.pass(count);
-        self.moment = to;
     }
 
-    /// Whether all lines have happened, each connection was handed out, and each link was found closed.
+    /// Time passes up to that moment.
+    fn stand_at(&mut self, moment: Moment)
+        requires { self.old.told.moment ≤ moment }
+        ensures { self.new ≡ with_moment moment self.old }
+    {
+        self.moment = moment;
+    }
+
+    /// Whether all lines have happened, each connection was handed out or listening was stopped, and each link that was handed
+    /// out was found closed.
     fn is_over(&self) -> bool
-        ensures over { result ≡ true → HasAllTaken self.now.told × (all_closed self.now.clients ≡ true) }
-        ensures unclosed { result ≡ false → HasAllTaken self.now.told → all_closed self.now.clients ≡ false }
+        ensures over { result ≡ true → HasAllTaken self.now.told × (taken_closed self.now ≡ true) }
+        ensures unclosed { result ≡ false → HasAllTaken self.now.told → taken_closed self.now ≡ false }
     {
         self.happened == self.script.lines().len()
-            && self.accepted == self.clients.count()
-            && self.clients.are_closed()
+            && (self.hushed || self.accepted == self.clients.count())
+            && self.clients.are_closed(self.accepted)
     }
 
     /// Counts a wait that answers Ended.
@@ -211,26 +235,40 @@ impl ScriptFront {
         Woke::Woke(self.moment)
     }
 
-    /// Puts a wait down, with the slots that it gave and its answer.
-    fn put_down(&mut self, ready: &Ready, answer: Woke)
-        ensures { self.new ≡ with_wait ready.now answer self.old }
+    /// How many connections wait to be taken.
+    fn waiting(&self) -> usize
+        ensures { result ≡ arrivals_waiting self.now }
     {
-        self.waits = self.waits.and(ready, &answer);
+        self.arrived - self.accepted
+    }
+
+    /// Puts a wait down, with the slots that it gave and how it ended.
+    fn put_down(&mut self, ready: &Ready, end: &WaitEnd)
+        ensures { self.new ≡ with_wait ready.now end.now self.old }
+    {
+        self.waits = self.waits.and(ready, end);
     }
 }
 
 impl Front for ScriptFront {
     type L = ScriptLink;
 
-    ghost told = { λ f. Some f.told };
+    ghost seen = { λ f. front_seen f };
 
-    ghost script = { λ f. Some f.script };
+    /// No call fails.
+    fn bind(&mut self, listen: Addr, control: Option<u16>) -> bool
+        ensures binds { Binds (front_seen self.old) (front_seen self.new) listen control result }
+        ensures sure { result ≡ true }
+        ensures rest { self.new ≡ record self.old { told = after_bind true listen control self.old.told } }
+    {
+        self.binds = self.binds.and(&listen, &control);
+        true
+    }
 
-    ghost counts = { λ f. record { faults = 0; accept_faults = 0; ends = f.ends } };
-
-    /// A signal is due for a watched link where a send, be it of no byte, room or the end came for it, until it is given;
-    /// none is given in the wait in which that happened, and none of a link that was closed. The front ends only once each
-    /// link was closed. A moment `until` before the present one is as the present one.
+    /// A signal is due for a watched link where a send, be it of no byte, room or the end came for it, or where it was
+    /// dropped, until it is given; none is given in the wait in which that happened, and none of a link that was closed. The
+    /// front ends only once each link that was handed out was closed. A moment `until` before the present one is as the
+    /// present one.
     fn wait<R: Wait>(
         &mut self,
         rt: &R,
@@ -238,41 +276,49 @@ impl Front for ScriptFront {
         quiet: bool,
         ready: &mut Ready,
     ) -> Woke
-        ensures waits { Waits (Some self.old.told) (Some self.new.told) (counts_of self.old) (counts_of self.new) result ready.new }
-        ensures script { Some self.new.script ≡ Some self.old.script }
+        ensures waits { Waits (front_seen self.old) (front_seen self.new) until quiet result ready.new }
         ensures plays { Plays self.old self.new until quiet result ready.new }
     {
         let _ = rt;
         self.show();
         ready.clear();
+        let moment = self.moment;
+        let waiting = self.waiting();
         let answer = self.wake(until, quiet, ready);
-        self.put_down(ready, answer);
+        let end = WaitEnd {
+            until,
+            quiet,
+            answer,
+            passed: passed_between(moment, self.moment, waiting),
+        };
+        self.put_down(ready, &end);
         self.show();
         answer
     }
 
     fn accept(&mut self) -> Arrival<ScriptLink>
-        ensures script { Some self.new.script ≡ Some self.old.script }
-        ensures accepts { Accepts (λ (l : SeenScriptLink). Some l.told) (λ (l : SeenScriptLink). l.counts) (Some self.old.told) (Some self.new.told) (counts_of self.old) (counts_of self.new) result }
-        ensures some { is_handed result ≡ nat_lt self.old.told.accepted self.old.told.arrived }
+        ensures accepts { Accepts (λ (l : SeenScriptLink). telling_link l.told l.counts) (front_seen self.old) (front_seen self.new) result }
+        ensures some { is_handed result ≡ (not self.old.told.hushed && nat_lt self.old.told.accepted self.old.told.arrived) }
         ensures never { accept_failed result ≡ false }
         ensures link { HandsPaced self.old result }
         ensures rest { self.new ≡ record self.old { told = self.new.told } }
     {
-        if self.accepted == self.arrived {
+        if self.hushed || self.accepted == self.arrived {
             return Arrival::None;
         }
         match self.clients.next() {
             Some(next) => {
                 let rank = self.accepted as u64;
                 self.accepted += 1;
+                let plan = next.plan;
                 Arrival::Some(ScriptLink::paced(
                     self.alloc,
                     rank,
-                    next.text,
+                    plan.text,
                     next.wire,
-                    Calls::make(self.alloc),
-                    Calls::make(self.alloc),
+                    plan.fail_reads,
+                    plan.fail_writes,
+                    plan.drops,
                 ))
             }
             None => unreachable!(),
@@ -281,12 +327,30 @@ impl Front for ScriptFront {
 
     /// A signal is due at once where bytes came before, or the end has.
     fn watch(&mut self, name: ConnName, link: &mut ScriptLink) -> bool
-        ensures script { Some self.new.script ≡ Some self.old.script }
-        ensures watches { Watches (Some self.old.told) (Some self.new.told) (counts_of self.old) (counts_of self.new) name (Some link.old.told) (Some link.new.told) link.old.counts link.new.counts result }
+        ensures watches { Watches (front_seen self.old) (front_seen self.new) name (telling_link link.old.told link.old.counts) (telling_link link.new.told link.new.counts) result }
         ensures sure { result ≡ true }
-        ensures rest { self.new ≡ record self.old { clients = after_watch_of link.old.told.rank self.old.clients; told = self.new.told } }
+        ensures rest { self.new ≡ record self.old { clients = after_watch_of link.old.told.rank self.old.clients; names = slice_set self.old.names link.old.told.rank (Some name); told = self.new.told } }
     {
         self.clients.watch(link.rank() as usize, name);
+        self.watches = self.watches.and(&link.rank(), &name);
         true
+    }
+
+    /// No further link is handed out.
+    fn hush(&mut self)
+        ensures seen { front_seen self.new ≡ after_hush (front_seen self.old) }
+        ensures rest { self.new ≡ record self.old { told = hushed_front self.old.told } }
+    {
+        self.hushed = true;
+    }
+
+    /// No line comes.
+    fn command(&mut self) -> Option<Line>
+        ensures commands { Commands (front_seen self.old) (front_seen self.new) result }
+        ensures none { result ≡ None }
+        ensures same { self.new ≡ self.old }
+    {
+        self.show();
+        None
     }
 }

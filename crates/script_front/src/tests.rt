@@ -1,8 +1,8 @@
 //! Scripts that are played by hand, wait by wait.
 use crate::script_front::ScriptFront;
 use mpm_base::{
-    Arrival, ClientAct, CommandWord, ConnName, Front, Got, Link, Moment, NoMemory, Octets, Ready,
-    ScriptLine, Sent, Woke,
+    Addr, Arrival, ClientAct, CommandWord, ConnName, Front, Got, Link, LinkCall, Moment, NoMemory,
+    Octets, Ready, ScriptLine, Sent, Woke,
 };
 use mpm_script::Script;
 use stand_ins::ScriptLink;
@@ -19,6 +19,8 @@ enum Row {
     Send(&'static [u8], &'static [u8]),
     End(&'static [u8]),
     Room(&'static [u8], Option<u64>),
+    Drop(&'static [u8]),
+    Fail(&'static [u8], LinkCall, u64),
 }
 
 /// The script of these rows, and a command that does nothing here.
@@ -35,6 +37,10 @@ fn script_of(alloc: Global, rows: &[Row]) -> Result<Script, NoMemory> {
             Row::End(name) => ScriptLine::Client(Octets::of(alloc, name)?, ClientAct::End),
             Row::Room(name, room) => {
                 ScriptLine::Client(Octets::of(alloc, name)?, ClientAct::Room(*room))
+            }
+            Row::Drop(name) => ScriptLine::Client(Octets::of(alloc, name)?, ClientAct::Drop),
+            Row::Fail(name, call, number) => {
+                ScriptLine::Client(Octets::of(alloc, name)?, ClientAct::Fail(*call, *number))
             }
         };
         script.add(line)?;
@@ -236,6 +242,159 @@ fn a_send_room_and_the_end_signal_once_and_nothing_behind_it(rt: HostRuntime) ->
     Ok(())
 }
 
+/// Reads and writes a byte five times each. The calls of these numbers, and no others, are to fail.
+fn fails(rt: &impl Abort, link: &mut ScriptLink, reads: u64, writes: u64) {
+    let mut buffer = [0u8; 1];
+    for number in 1..=5u64 {
+        let failed = link.read(&mut buffer) == Got::Failed;
+        assert_eq!(rt; failed, number == reads, "read {number}");
+        let failed = link.write(b"x") == Sent::Failed;
+        assert_eq!(rt; failed, number == writes, "write {number}");
+    }
+    assert_eq!(rt; link.received(), b"GET".as_slice());
+}
+
+/// Plays a script of two clients who send, where that call of the first one's link is to fail.
+fn fails_once(
+    rt: &(impl Wait + Abort),
+    alloc: Global,
+    call: LinkCall,
+    number: u64,
+) -> Result<(), Fail> {
+    let rows = [
+        Row::Conn(b"a"),
+        Row::Send(b"a", b"GET"),
+        Row::Fail(b"a", call, number),
+        Row::Conn(b"b"),
+        Row::Send(b"b", b"GET"),
+    ];
+    let mut ready = Ready::make(alloc)?;
+    let mut front = ScriptFront::make(alloc, script_of(alloc, &rows)?)?;
+    waits(
+        rt,
+        &mut front,
+        &mut ready,
+        &[(None, true, Woke::Woke(0), &[], 6)],
+    );
+    let mut link = taken(rt, &mut front, 1);
+    let mut other = taken(rt, &mut front, 2);
+    match call {
+        LinkCall::Read => fails(rt, &mut link, number, 0),
+        LinkCall::Write => fails(rt, &mut link, 0, number),
+    }
+    fails(rt, &mut other, 0, 0);
+    assert_eq!(rt; (link.faults(), other.faults()), (1, 0));
+    Ok(())
+}
+
+#[test]
+fn the_call_of_the_number_fails_and_no_other(rt: HostRuntime) -> Result<(), Fail> {
+    for number in 1..=4 {
+        fails_once(&rt, rt.alloc(), LinkCall::Read, number)?;
+    }
+    for number in 1..=2 {
+        fails_once(&rt, rt.alloc(), LinkCall::Write, number)?;
+    }
+    Ok(())
+}
+
+/// One client, whose link's calls are to fail from a later moment on.
+const LATE: [Row; 6] = [
+    Row::Conn(b"a"),
+    Row::Send(b"a", b"GET"),
+    Row::At(1),
+    Row::Fail(b"a", LinkCall::Read, 1),
+    Row::Fail(b"a", LinkCall::Read, 3),
+    Row::Fail(b"a", LinkCall::Write, 2),
+];
+
+#[test]
+fn a_call_before_its_line_does_not_fail(rt: HostRuntime) -> Result<(), Fail> {
+    let mut ready = Ready::make(rt.alloc())?;
+    let mut front = ScriptFront::make(rt.alloc(), script_of(rt.alloc(), &LATE)?)?;
+    waits(
+        &rt,
+        &mut front,
+        &mut ready,
+        &[(None, true, Woke::Woke(0), &[], 2)],
+    );
+    let mut link = taken(&rt, &mut front, 3);
+    reads(&rt, &mut link, &[Got::Got(3)]);
+    writes(&rt, &mut link, &[(b"a", Sent::Put(1))]);
+    // No signal is due for what is to fail.
+    let turns: [Turn; 3] = [
+        (None, true, Woke::Woke(0), &[3], 2),
+        (None, true, Woke::Woke(1), &[], 7),
+        (None, true, Woke::Woke(1), &[], 7),
+    ];
+    waits(&rt, &mut front, &mut ready, &turns);
+    reads(&rt, &mut link, &[Got::NotReady, Got::Failed, Got::NotReady]);
+    writes(
+        &rt,
+        &mut link,
+        &[(b"b", Sent::Failed), (b"b", Sent::Put(1))],
+    );
+    assert_eq!(rt; link.faults(), 2);
+    Ok(())
+}
+
+/// Two clients, one of whose links is dropped, and a third whose link is before it was watched.
+const DROPS: [Row; 7] = [
+    Row::Conn(b"a"),
+    Row::Conn(b"b"),
+    Row::Send(b"a", b"GET"),
+    Row::At(1),
+    Row::Drop(b"a"),
+    Row::Conn(b"c"),
+    Row::Drop(b"c"),
+];
+
+/// Each call of the link but its close fails.
+fn is_dropped(rt: &impl Abort, link: &mut ScriptLink) {
+    reads(rt, link, &[Got::Failed]);
+    writes(rt, link, &[(b"x", Sent::Failed)]);
+    assert!(rt; !link.shut());
+    link.close();
+    assert_eq!(rt; (link.faults(), link.shuts(), link.closes()), (3, 0, 1));
+}
+
+#[test]
+fn a_dropped_link_is_signalled_and_fails(rt: HostRuntime) -> Result<(), Fail> {
+    let mut ready = Ready::make(rt.alloc())?;
+    let mut front = ScriptFront::make(rt.alloc(), script_of(rt.alloc(), &DROPS)?)?;
+    waits(
+        &rt,
+        &mut front,
+        &mut ready,
+        &[(None, true, Woke::Woke(0), &[], 3)],
+    );
+    let mut link = taken(&rt, &mut front, 3);
+    let mut other = taken(&rt, &mut front, 4);
+    let turns: [Turn; 2] = [
+        (None, true, Woke::Woke(0), &[3], 3),
+        (None, true, Woke::Woke(1), &[], 8),
+    ];
+    waits(&rt, &mut front, &mut ready, &turns);
+    let mut third = taken(&rt, &mut front, 5);
+    let turns: [Turn; 2] = [
+        (None, true, Woke::Woke(1), &[3], 8),
+        (None, true, Woke::Woke(1), &[], 8),
+    ];
+    waits(&rt, &mut front, &mut ready, &turns);
+    is_dropped(&rt, &mut link);
+    is_dropped(&rt, &mut third);
+    reads(&rt, &mut other, &[Got::NotReady]);
+    assert!(rt; other.shut());
+    other.close();
+    waits(
+        &rt,
+        &mut front,
+        &mut ready,
+        &[(None, true, Woke::Ended, &[], 8)],
+    );
+    Ok(())
+}
+
 #[test]
 fn an_empty_script_ends_at_once(rt: HostRuntime) -> Result<(), Fail> {
     let mut ready = Ready::make(rt.alloc())?;
@@ -246,6 +405,44 @@ fn an_empty_script_ends_at_once(rt: HostRuntime) -> Result<(), Fail> {
         (None, true, Woke::Ended, &[], 0),
     ];
     waits(&rt, &mut front, &mut ready, &turns);
+    Ok(())
+}
+
+/// Two connections. An `at` of the moment at which the script begins stands between them.
+const HUSHED: [Row; 3] = [Row::Conn(b"a"), Row::At(0), Row::Conn(b"b")];
+
+#[test]
+fn a_hushed_front_ends_without_its_last_connection(rt: HostRuntime) -> Result<(), Fail> {
+    let mut ready = Ready::make(rt.alloc())?;
+    let mut front = ScriptFront::make(rt.alloc(), script_of(rt.alloc(), &HUSHED)?)?;
+    let listen = Addr {
+        host: [127, 0, 0, 1],
+        port: 80,
+    };
+    assert!(rt; front.bind(listen, Some(8080)));
+    let first: [Turn; 1] = [(Some(5), true, Woke::Woke(0), &[], 1)];
+    waits(&rt, &mut front, &mut ready, &first);
+    let mut link = taken(&rt, &mut front, 3);
+    let turns: [Turn; 2] = [
+        (Some(5), true, Woke::Woke(0), &[], 4),
+        (Some(5), true, Woke::Woke(5), &[], 4),
+    ];
+    waits(&rt, &mut front, &mut ready, &turns);
+    front.hush();
+    assert!(rt; matches!(front.accept(), Arrival::None));
+    waits(
+        &rt,
+        &mut front,
+        &mut ready,
+        &[(None, true, Woke::Woke(5), &[], 4)],
+    );
+    link.close();
+    waits(
+        &rt,
+        &mut front,
+        &mut ready,
+        &[(None, true, Woke::Ended, &[], 4)],
+    );
     Ok(())
 }
 

@@ -68,6 +68,11 @@ count_write (sent.Put n) counts = counts
 count_write sent.NotReady counts = record counts { late_writes = next_count counts.late_writes }
 count_write sent.Failed counts = record counts { faults = next_count counts.faults }
 
+-- the counts after a half-close that answered this
+abbrev pub count_shut : Bool → LinkCounts → LinkCounts
+count_shut true counts = counts
+count_shut false counts = record counts { faults = next_count counts.faults }
+
 -- the link after a write of these bytes that answered this
 abbrev pub link_after_write : Sent → List ℕ → SeenLink → SeenLink
 link_after_write answer bytes link =

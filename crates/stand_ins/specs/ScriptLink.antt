@@ -1,22 +1,23 @@
 -- A link in memory some of whose calls fail: what contracts see of it, and what each call leaves of it.
-use Rattle.std.specs.Prelude.{◌≡◌, ℕ, Bool, true, false, List, if◌then◌else◌, ⊤}
+use Rattle.std.specs.Prelude.{◌≡◌, ℕ, Bool, true, false, ◌||◌, List, if◌then◌else◌, ⊤}
 use Rattle.mpm_base.specs.Count.{next_count}
-use Rattle.mpm_base.specs.Link.{LinkTold, LinkCounts, fresh_link, after_read, after_write}
+use Rattle.mpm_base.specs.Link.{LinkTold, LinkCounts, fresh_link, after_read, after_shut, after_write}
 use Rattle.stand_ins.specs.Calls.{next_is_listed}
-use Rattle.stand_ins.specs.PlainLink.{no_link_counts, read_answer, count_read, count_write}
+use Rattle.stand_ins.specs.PlainLink.{no_link_counts, read_answer, count_read, count_shut, count_write}
 use Rattle.mpm_base.specs.declared.link.Got.{Got}
 use Rattle.mpm_base.specs.declared.link.Got.TheVariants as got
 use Rattle.mpm_base.specs.declared.link.Sent.{Sent}
 use Rattle.mpm_base.specs.declared.link.Sent.TheVariants as sent
 
 -- what the link tells and counts, whether the client sends no more behind the bytes that come, whether the bytes and the
--- room for what is written come little by little, how many reads and writes were called, whatever they answered, and which
--- of them are to fail
+-- room for what is written come little by little, whether its script drops it at some moment, how many reads and writes were
+-- called, whatever they answered, and which of them are to fail
 pub record SeenScriptLink : Type 0 where
   pub told : LinkTold
   pub counts : LinkCounts
   pub ends : Bool
   pub paced : Bool
+  pub drops : Bool
   pub reads : ℕ
   pub writes : ℕ
   pub fail_reads : List ℕ
@@ -31,17 +32,22 @@ new_script_link number coming ended bad_reads bad_writes =
       counts = no_link_counts;
       ends = ended;
       paced = false;
+      drops = false;
       reads = 0;
       writes = 0;
       fail_reads = bad_reads;
       fail_writes = bad_writes;
     }
 
--- the link whose bytes and room come little by little: its number, all that its client sends, and the numbers of the reads
--- and writes that are to fail
-abbrev pub new_paced_link : ℕ → List ℕ → List ℕ → List ℕ → SeenScriptLink
-new_paced_link number coming bad_reads bad_writes =
-    record (new_script_link number coming false bad_reads bad_writes) { paced = true }
+-- the link whose bytes and room come little by little: its number, all that its client sends, the numbers of the reads and
+-- writes that are to fail once their lines have happened, and whether its script drops it
+abbrev pub new_paced_link : ℕ → List ℕ → List ℕ → List ℕ → Bool → SeenScriptLink
+new_paced_link number coming bad_reads bad_writes dropped =
+    record (new_script_link number coming false bad_reads bad_writes) { paced = true; drops = dropped }
+
+-- the next read may fail: it is listed, or the script drops the link
+abbrev pub read_may_fail : SeenScriptLink → Bool
+read_may_fail link = link.drops || next_is_listed link.fail_reads link.reads
 
 -- what a read into so much room answers where all has come: Failed where it is to fail, and else what a link without
 -- failures does
@@ -73,3 +79,8 @@ script_link_after_write answer bytes link =
       counts = count_write answer link.counts;
       writes = next_count link.writes;
     }
+
+-- the link after a half-close that answered this
+abbrev pub script_link_after_shut : Bool → SeenScriptLink → SeenScriptLink
+script_link_after_shut answer link =
+    record link { told = after_shut answer link.told; counts = count_shut answer link.counts }

@@ -1,5 +1,5 @@
 //! Which calls of a stand-in of the outside are to fail.
-ghost use Rattle.std.specs.Prelude.{◌≡◌, [], ◌∷◌, ◌++◌, OnOk, OnErr};
+ghost use Rattle.std.specs.Prelude.{◌≡◌, true, [], ◌∷◌, ◌++◌, take, OnOk, OnErr};
 ghost use Rattle.stand_ins.specs.Calls.{is_listed};
 
 use mpm_base::NoMemory;
@@ -46,5 +46,16 @@ impl Calls {
         ensures { result ≡ is_listed self.now number }
     {
         self.numbers.contains(&number)
+    }
+
+    /// Whether one of the first numbers of the list, so many of them, is this.
+    pub(crate) fn has_among(&self, count: u64, number: u64) -> bool
+        ensures is { result ≡ is_listed (take count self.now) number }
+        ensures listed { result ≡ true → is_listed self.now number ≡ true }
+    {
+        self.numbers
+            .iter()
+            .take(count as usize)
+            .any(|listed| *listed == number)
     }
 }

@@ -1,9 +1,9 @@
 //! What stands in for the outside in memory: links, sinks and stores.
 //!
 //! `PlainLink`, `PlainSink` and `PlainStore` never fail; `ScriptLink`, `MemSink` and `MemStore` fail at the calls whose
-//! numbers they are given. Each does what its trait of `mpm_base` says, and exactly what its own clauses say. Their
-//! definitions stand in `specs/`, one file for each type. `Wire` is what the front of a script and one of its links tell
-//! each other.
+//! numbers they are given, and a script may drop a `ScriptLink` besides. Each does what its trait of `mpm_base` says, and
+//! exactly what its own clauses say. Their definitions stand in `specs/`, one file for each type. `Wire` is what the front
+//! of a script and one of its links tell each other.
 #![tactic(auto)]
 
 mod calls;

@@ -1,8 +1,8 @@
 //! The counts that a link keeps.
-ghost use Rattle.std.specs.Prelude.{◌≡◌};
+ghost use Rattle.std.specs.Prelude.{◌≡◌, not};
 ghost use Rattle.mpm_base.specs.Count.{RisesWhere, RisesExactlyWhere};
-ghost use Rattle.mpm_base.specs.Link.{read_failed, read_late, found_end, write_failed, write_late};
-ghost use Rattle.stand_ins.specs.PlainLink.{no_link_counts, count_read, count_write};
+ghost use Rattle.mpm_base.specs.Link.{OnlyFaults, read_failed, read_late, found_end, write_failed, write_late};
+ghost use Rattle.stand_ins.specs.PlainLink.{no_link_counts, count_read, count_write, count_shut};
 
 use mpm_base::{Got, Sent};
 use std::marker::Model;
@@ -77,6 +77,16 @@ impl LinkCounters {
             Sent::Put(_) => (),
             Sent::NotReady => self.not_ready_writes = self.not_ready_writes.saturating_add(1),
             Sent::Failed => self.failures = self.failures.saturating_add(1),
+        }
+    }
+
+    /// A half-close answered this.
+    pub(crate) fn shut(&mut self, answer: bool)
+        ensures is { self.new ≡ count_shut answer self.old }
+        ensures only_faults { OnlyFaults (not answer) self.old self.new }
+    {
+        if !answer {
+            self.failures = self.failures.saturating_add(1);
         }
     }
 }

@@ -1,6 +1,6 @@
 //! A sink in memory, and one that keeps nothing.
 ghost use Rattle.std.specs.Prelude.{◌≡◌, true, false, Some, None, length};
-ghost use Rattle.mpm_base.specs.Sink.{Puts};
+ghost use Rattle.mpm_base.specs.Sink.{Puts, telling_sink, silent_sink};
 ghost use Rattle.stand_ins.specs.Calls.{next_is_listed};
 ghost use Rattle.stand_ins.specs.MemSink.{new_sink, taken_at_once, PutsUnless, sink_after_write};
 
@@ -73,14 +73,11 @@ impl MemSink {
 }
 
 impl Sink for MemSink {
-    ghost told = { λ s. Some s.bytes };
-
-    ghost faults = { λ s. s.faults };
+    ghost seen = { λ s. telling_sink s.bytes s.faults };
 
     /// Answers Failed where the call is listed, or memory for the bytes lacks.
     fn write(&mut self, bytes: &[u8]) -> Put
-        ensures sink { Puts (Some self.old.bytes) (Some self.new.bytes)
-            self.old.faults self.new.faults result bytes.now }
+        ensures sink { Puts (telling_sink self.old.bytes self.old.faults) (telling_sink self.new.bytes self.new.faults) result bytes.now }
         ensures answer { PutsUnless (next_is_listed self.old.fails self.old.writes) result
             (taken_at_once self.old.slow (length bytes.now)) }
         ensures state { self.new ≡ sink_after_write result bytes.now self.old }
@@ -104,13 +101,11 @@ impl Sink for MemSink {
 pub struct PlainSink;
 
 impl Sink for PlainSink {
-    ghost told = { λ s. None };
-
-    ghost faults = { λ s. 0 };
+    ghost seen = { λ s. silent_sink 0 };
 
     /// Takes the whole piece.
     fn write(&mut self, bytes: &[u8]) -> Put
-        ensures sink { Puts None None 0 0 result bytes.now }
+        ensures sink { Puts (silent_sink 0) (silent_sink 0) result bytes.now }
         ensures answer { result ≡ Put.Put (length bytes.now) }
     {
         Put::Put(bytes.len() as u64)

@@ -1,6 +1,6 @@
 //! A store in memory some of whose calls fail.
 ghost use Rattle.std.specs.Prelude.{◌≡◌, Some, OnOk, OnErr};
-ghost use Rattle.mpm_base.specs.Store.{Renews, ListsNames, ReadsFile, after_renew, bytes_of, names_under};
+ghost use Rattle.mpm_base.specs.Store.{Renews, ListsNames, ReadsFile, after_renew, bytes_of, names_under, telling_store};
 ghost use Rattle.stand_ins.specs.PlainStore.{with_edition, file_answer, names_answer, AnswersUnlessNoMemory};
 ghost use Rattle.stand_ins.specs.Calls.{next_is_listed};
 ghost use Rattle.stand_ins.specs.MemStore.{new_mem_store, failed_where, mem_store_after};
@@ -65,13 +65,10 @@ impl MemStore {
 }
 
 impl Store for MemStore {
-    ghost told = { λ s. Some s.told };
-
-    ghost counts = { λ s. s.counts };
+    ghost seen = { λ s. telling_store s.told s.counts };
 
     fn renew(&mut self)
-        ensures store { Renews (Some self.old.told) (Some self.new.told)
-            self.old.counts self.new.counts }
+        ensures store { Renews (telling_store self.old.told self.old.counts) (telling_store self.new.told self.new.counts) }
         ensures state { self.new ≡ record self.old { told = after_renew self.old.told } }
     {
         self.inner.renew();
@@ -80,8 +77,7 @@ impl Store for MemStore {
     /// Answers Failed where the call is listed, then Many where there are more names, and else the names or
     /// NoMemory.
     fn names(&mut self, alloc: Global, under: &str, most: u32) -> Result<Names, StoreFault>
-        ensures store { ListsNames (Some self.old.told) (Some self.new.told)
-            self.old.counts self.new.counts under.now most result }
+        ensures store { ListsNames (telling_store self.old.told self.old.counts) (telling_store self.new.told self.new.counts) under.now most result }
         ensures answer { AnswersUnlessNoMemory result
             (failed_where (next_is_listed self.old.fails self.old.calls)
             (names_answer (names_under under.now self.old.told.files) most)) }
@@ -98,8 +94,7 @@ impl Store for MemStore {
     /// Answers Failed where the call is listed, then Missing where the file isn't there, Large where it has
     /// more bytes, and else its bytes or NoMemory.
     fn read(&mut self, alloc: Global, name: &str, most: u64) -> Result<Octets, StoreFault>
-        ensures store { ReadsFile (Some self.old.told) (Some self.new.told)
-            self.old.counts self.new.counts name.now most result }
+        ensures store { ReadsFile (telling_store self.old.told self.old.counts) (telling_store self.new.told self.new.counts) name.now most result }
         ensures answer { AnswersUnlessNoMemory result
             (failed_where (next_is_listed self.old.fails self.old.calls)
             (file_answer (bytes_of name.now self.old.told.files) most)) }

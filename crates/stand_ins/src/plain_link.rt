@@ -1,6 +1,6 @@
 //! A link in memory that never fails.
 ghost use Rattle.std.specs.Prelude.{◌≡◌, true, Some, ◌++◌, ◌≤◌, min, take, drop, length};
-ghost use Rattle.mpm_base.specs.Link.{Reads, Writes, Shuts, Closes, with_received, after_shut, after_close};
+ghost use Rattle.mpm_base.specs.Link.{Reads, Writes, Shuts, Closes, with_received, after_shut, after_close, telling_link};
 ghost use Rattle.stand_ins.specs.PlainLink.{new_link, read_answer, buffer_after_read, link_after_read, TakesWhole, link_after_write};
 
 use mpm_base::{Got, Link, Octets, Sent};
@@ -155,14 +155,11 @@ fn copy_front(bytes: &[u8], buffer: &mut [u8]) -> usize
 }
 
 impl Link for PlainLink {
-    ghost told = { λ l. Some l.told };
-
-    ghost counts = { λ l. l.counts };
+    ghost seen = { λ l. telling_link l.told l.counts };
 
     /// Answers NotReady and End only where no byte is left, and `Got(0)` only into an empty buffer.
     fn read(&mut self, buffer: &mut [u8]) -> Got
-        ensures link { Reads (Some self.old.told) (Some self.new.told)
-            self.old.counts self.new.counts result buffer.new }
+        ensures link { Reads (telling_link self.old.told self.old.counts) (telling_link self.new.told self.new.counts) result buffer.new }
         ensures answer { result ≡ read_answer self.old.told.coming self.old.ends (length buffer.old) }
         ensures buffer { buffer.new ≡ buffer_after_read result self.old.told.coming buffer.old }
         ensures state { self.new ≡ link_after_read result self.old }
@@ -183,8 +180,7 @@ impl Link for PlainLink {
 
     /// Takes the whole piece, or answers NotReady where memory for it lacks.
     fn write(&mut self, bytes: &[u8]) -> Sent
-        ensures link { Writes (Some self.old.told) (Some self.new.told)
-            self.old.counts self.new.counts result bytes.now }
+        ensures link { Writes (telling_link self.old.told self.old.counts) (telling_link self.new.told self.new.counts) result bytes.now }
         ensures answer { TakesWhole result (length bytes.now) }
         ensures state { self.new ≡ link_after_write result bytes.now self.old }
     {
@@ -198,8 +194,7 @@ impl Link for PlainLink {
     }
 
     fn shut(&mut self) -> bool
-        ensures link { Shuts (Some self.old.told) (Some self.new.told)
-            self.old.counts self.new.counts result }
+        ensures link { Shuts (telling_link self.old.told self.old.counts) (telling_link self.new.told self.new.counts) result }
         ensures answer { result ≡ true }
         ensures state { self.new ≡ record self.old { told = after_shut true self.old.told } }
     {
@@ -208,8 +203,7 @@ impl Link for PlainLink {
     }
 
     fn close(&mut self)
-        ensures link { Closes (Some self.old.told) (Some self.new.told)
-            self.old.counts self.new.counts }
+        ensures link { Closes (telling_link self.old.told self.old.counts) (telling_link self.new.told self.new.counts) }
         ensures state { self.new ≡ record self.old { told = after_close self.old.told } }
     {
         self.closed = self.closed.saturating_add(1);

@@ -1,6 +1,6 @@
 //! A store in memory that never fails.
 ghost use Rattle.std.specs.Prelude.{◌≡◌, Some, count_by, All, IsUtf8, IfOk, OnOk, OnErr, true};
-ghost use Rattle.mpm_base.specs.Store.{Renews, ListsNames, ReadsFile, after_renew, bytes_of, lies_under, names_under, is_refusal, answers_with};
+ghost use Rattle.mpm_base.specs.Store.{Renews, ListsNames, ReadsFile, after_renew, bytes_of, lies_under, names_under, is_refusal, answers_with, telling_store};
 ghost use Rattle.stand_ins.specs.PlainStore.{no_store_counts, only_files, with_edition, file_answer, names_answer, AnswersUnlessNoMemory, count_answer};
 
 use crate::files::Files;
@@ -135,13 +135,10 @@ fn was_refused<T>(answer: &Result<T, StoreFault>) -> bool
 }
 
 impl Store for PlainStore {
-    ghost told = { λ s. Some s.told };
-
-    ghost counts = { λ s. s.counts };
+    ghost seen = { λ s. telling_store s.told s.counts };
 
     fn renew(&mut self)
-        ensures store { Renews (Some self.old.told) (Some self.new.told)
-            self.old.counts self.new.counts }
+        ensures store { Renews (telling_store self.old.told self.old.counts) (telling_store self.new.told self.new.counts) }
         ensures state { self.new ≡ record self.old { told = after_renew self.old.told } }
     {
         if let Some(next) = self.editions.pop_front() {
@@ -151,8 +148,7 @@ impl Store for PlainStore {
 
     /// Answers Many where there are more names, and else the names or NoMemory.
     fn names(&mut self, alloc: Global, under: &str, most: u32) -> Result<Names, StoreFault>
-        ensures store { ListsNames (Some self.old.told) (Some self.new.told)
-            self.old.counts self.new.counts under.now most result }
+        ensures store { ListsNames (telling_store self.old.told self.old.counts) (telling_store self.new.told self.new.counts) under.now most result }
         ensures answer { AnswersUnlessNoMemory result
             (names_answer (names_under under.now self.old.told.files) most) }
         ensures state { self.new ≡ record self.old { counts = count_answer result self.old.counts } }
@@ -167,8 +163,7 @@ impl Store for PlainStore {
     /// Answers Missing where the file isn't there, Large where it has more bytes, and else its bytes or
     /// NoMemory.
     fn read(&mut self, alloc: Global, name: &str, most: u64) -> Result<Octets, StoreFault>
-        ensures store { ReadsFile (Some self.old.told) (Some self.new.told)
-            self.old.counts self.new.counts name.now most result }
+        ensures store { ReadsFile (telling_store self.old.told self.old.counts) (telling_store self.new.told self.new.counts) name.now most result }
         ensures answer { AnswersUnlessNoMemory result
             (file_answer (bytes_of name.now self.old.told.files) most) }
         ensures state { self.new ≡ record self.old { counts = count_answer result self.old.counts } }

@@ -1,22 +1,22 @@
 //! A link in memory some of whose calls fail, and whose bytes may come little by little.
 ghost use Rattle.std.specs.Prelude.{◌≡◌, ◌≤◌, true, false, Some, length, is_some};
-ghost use Rattle.mpm_base.specs.Link.{Reads, Writes, Shuts, Closes, GivesNext, FitsBuffer, FitsPiece, read_failed, after_read, after_write, after_shut, after_close};
-ghost use Rattle.stand_ins.specs.Calls.{next_is_listed};
+ghost use Rattle.mpm_base.specs.Link.{Reads, Writes, Shuts, Closes, GivesNext, FitsBuffer, FitsPiece, read_failed, after_read, after_write, after_close, telling_link};
+ghost use Rattle.stand_ins.specs.Calls.{is_listed, next_is_listed};
 ghost use Rattle.stand_ins.specs.PlainLink.{buffer_after_read, read_answer};
-ghost use Rattle.stand_ins.specs.ScriptLink.{new_script_link, new_paced_link, script_read_answer, script_link_after_read, TakesWholeUnless, script_link_after_write};
-ghost use Rattle.mpm_base.specs.declared.link.Sent.TheVariants as sent;
+ghost use Rattle.stand_ins.specs.ScriptLink.{new_script_link, new_paced_link, read_may_fail, script_read_answer, script_link_after_read, TakesWholeUnless, script_link_after_write, script_link_after_shut};
 
 use crate::calls::Calls;
 use crate::link_counters::LinkCounters;
 use crate::plain_link::PlainLink;
 use crate::wire::Wire;
-use mpm_base::{Got, Link, Octets, Sent};
+use mpm_base::{Got, Link, LinkCall, Octets, Sent};
 use std::alloc::Global;
 use std::marker::Model;
 use std::sync::Arc;
 
 /// A link whose client sends certain bytes, and whose listed reads and writes fail. Either all has come and there is room
-/// for all that is written, or a front says how much has come and how much it may take.
+/// for all that is written, or a front says how much has come, how much it may take, which of the listed calls are to fail
+/// by now, and whether the link was dropped, so that each call of it but its close fails.
 #[derive(Debug, Drop)]
 pub struct ScriptLink {
     inner: PlainLink,
@@ -26,6 +26,7 @@ pub struct ScriptLink {
     write_calls: u64,
     bad_reads: Calls,
     bad_writes: Calls,
+    drops: bool,
 }
 
 impl Model for ScriptLink {
@@ -39,6 +40,7 @@ impl Model for ScriptLink {
       counts = l.counters;
       ends = l.inner.ends;
       paced = is_some l.wire;
+      drops = l.drops;
       reads = l.read_calls;
       writes = l.write_calls;
       fail_reads = l.bad_reads;
@@ -68,11 +70,14 @@ impl ScriptLink {
             write_calls: 0,
             bad_reads: fail_reads,
             bad_writes: fail_writes,
+            drops: false,
         }
     }
 
     /// A link of that number whose client sends the bytes `coming` in all. The front that has the wire says how many of
-    /// them came, whether the end has, and for how many bytes there is room.
+    /// them came, whether the end has, and for how many bytes there is room. It says besides how many lines by which a
+    /// read or a write fails have happened: the numbers are those of all these lines, in order, and a call fails only
+    /// where its line has. Only where the script `drops` the link may it be dropped.
     pub fn paced(
         alloc: Global,
         rank: u64,
@@ -80,8 +85,9 @@ impl ScriptLink {
         wire: Arc<Wire>,
         fail_reads: Calls,
         fail_writes: Calls,
+        drops: bool,
     ) -> ScriptLink
-        ensures { result ≡ new_paced_link rank coming fail_reads fail_writes }
+        ensures { result ≡ new_paced_link rank coming fail_reads fail_writes drops }
     {
         ScriptLink {
             inner: PlainLink::make(alloc, rank, coming, false),
@@ -91,6 +97,7 @@ impl ScriptLink {
             write_calls: 0,
             bad_reads: fail_reads,
             bad_writes: fail_writes,
+            drops,
         }
     }
 
@@ -141,6 +148,46 @@ impl ScriptLink {
         ensures { result ≡ self.now.counts.faults }
     {
         self.counters.faults()
+    }
+
+    /// Whether the link was dropped by now.
+    fn is_dropped(&self) -> bool
+        ensures only { result ≡ true → self.now.drops ≡ true }
+        ensures unpaced { self.now.paced ≡ false → result ≡ false }
+    {
+        match &self.wire {
+            Some(wire) => self.drops && wire.dropped(),
+            None => false,
+        }
+    }
+
+    /// Whether the next read is to fail.
+    fn read_fails(&self) -> bool
+        ensures only { result ≡ true → read_may_fail self.now ≡ true }
+        ensures unpaced { self.now.paced ≡ false → result ≡ next_is_listed self.now.fail_reads self.now.reads }
+    {
+        let number = self.read_calls.saturating_add(1);
+        self.is_dropped() || is_failing(&self.wire, LinkCall::Read, &self.bad_reads, number)
+    }
+
+    /// Whether the next write is to fail, but for want of memory.
+    fn write_fails(&self) -> bool
+        ensures { self.now.paced ≡ false → result ≡ next_is_listed self.now.fail_writes self.now.writes }
+    {
+        let number = self.write_calls.saturating_add(1);
+        self.is_dropped() || is_failing(&self.wire, LinkCall::Write, &self.bad_writes, number)
+    }
+}
+
+/// Whether the call of that number is to fail: where there is no wire if it is listed, and else if its line has happened
+/// too.
+fn is_failing(wire: &Option<Arc<Wire>>, call: LinkCall, listed: &Calls, number: u64) -> bool
+    ensures only { result ≡ true → is_listed listed.now number ≡ true }
+    ensures unpaced { is_some wire.now ≡ false → result ≡ is_listed listed.now number }
+{
+    match wire {
+        Some(wire) => listed.has_among(wire.fails(call), number),
+        None => listed.has(number),
     }
 }
 
@@ -222,22 +269,20 @@ fn write_by(inner: &mut PlainLink, wire: &Option<Arc<Wire>>, bytes: &[u8]) -> Se
 }
 
 impl Link for ScriptLink {
-    ghost told = { λ l. Some l.told };
-
-    ghost counts = { λ l. l.counts };
+    ghost seen = { λ l. telling_link l.told l.counts };
 
     /// Gives what came by now. Answers NotReady where there is none at this moment, End only where no byte is left and the
-    /// end has come, and Failed only where the call is listed.
+    /// end has come, and Failed only where the call is listed, or the script drops the link.
     fn read(&mut self, buffer: &mut [u8]) -> Got
-        ensures link { Reads (Some self.old.told) (Some self.new.told)
-            self.old.counts self.new.counts result buffer.new }
-        ensures failed { read_failed result ≡ next_is_listed self.old.fail_reads self.old.reads }
+        ensures link { Reads (telling_link self.old.told self.old.counts) (telling_link self.new.told self.new.counts) result buffer.new }
+        ensures failed { read_failed result ≡ true → read_may_fail self.old ≡ true }
         ensures answer { self.old.paced ≡ false → result ≡ script_read_answer self.old (length buffer.old) }
         ensures buffer { buffer.new ≡ buffer_after_read result self.old.told.coming buffer.old }
         ensures state { self.new ≡ script_link_after_read result self.old }
     {
+        let fails = self.read_fails();
         self.read_calls = self.read_calls.saturating_add(1);
-        if self.bad_reads.has(self.read_calls) {
+        if fails {
             self.counters.read(Got::Failed);
             return Got::Failed;
         }
@@ -247,16 +292,15 @@ impl Link for ScriptLink {
     }
 
     /// Takes as much of the piece as there is room for. Answers NotReady where there is none for a piece that is not
-    /// empty, and Failed where the call is listed, or memory for the piece lacks.
+    /// empty, and Failed where the call is listed, the script drops the link, or memory for the piece lacks.
     fn write(&mut self, bytes: &[u8]) -> Sent
-        ensures link { Writes (Some self.old.told) (Some self.new.told)
-            self.old.counts self.new.counts result bytes.now }
-        ensures failed { next_is_listed self.old.fail_writes self.old.writes ≡ true → result ≡ sent.Failed }
+        ensures link { Writes (telling_link self.old.told self.old.counts) (telling_link self.new.told self.new.counts) result bytes.now }
         ensures answer { self.old.paced ≡ false → TakesWholeUnless (next_is_listed self.old.fail_writes self.old.writes) result (length bytes.now) }
         ensures state { self.new ≡ script_link_after_write result bytes.now self.old }
     {
+        let fails = self.write_fails();
         self.write_calls = self.write_calls.saturating_add(1);
-        if self.bad_writes.has(self.write_calls) {
+        if fails {
             self.counters.write(Sent::Failed);
             return Sent::Failed;
         }
@@ -265,18 +309,19 @@ impl Link for ScriptLink {
         answer
     }
 
+    /// Answers false only where the script drops the link.
     fn shut(&mut self) -> bool
-        ensures link { Shuts (Some self.old.told) (Some self.new.told)
-            self.old.counts self.new.counts result }
-        ensures answer { result ≡ true }
-        ensures state { self.new ≡ record self.old { told = after_shut true self.old.told } }
+        ensures link { Shuts (telling_link self.old.told self.old.counts) (telling_link self.new.told self.new.counts) result }
+        ensures answer { self.old.drops ≡ false → result ≡ true }
+        ensures state { self.new ≡ script_link_after_shut result self.old }
     {
-        self.inner.shut()
+        let answer = !self.is_dropped() && self.inner.shut();
+        self.counters.shut(answer);
+        answer
     }
 
     fn close(&mut self)
-        ensures link { Closes (Some self.old.told) (Some self.new.told)
-            self.old.counts self.new.counts }
+        ensures link { Closes (telling_link self.old.told self.old.counts) (telling_link self.new.told self.new.counts) }
         ensures state { self.new ≡ record self.old { told = after_close self.old.told } }
     {
         self.inner.close();

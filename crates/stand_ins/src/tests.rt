@@ -7,7 +7,7 @@ use crate::plain_link::PlainLink;
 use crate::plain_store::PlainStore;
 use crate::script_link::ScriptLink;
 use crate::wire::Wire;
-use mpm_base::{Got, Link, Names, NoMemory, Octets, Put, Sent, Sink, Store, StoreFault};
+use mpm_base::{Got, Link, LinkCall, Names, NoMemory, Octets, Put, Sent, Sink, Store, StoreFault};
 use std::alloc::Global;
 use std::process::Abort;
 use std::sync::Arc;
@@ -193,48 +193,81 @@ fn what_came_before_a_half_close_stays(rt: HostRuntime) -> Result<(), Fail> {
     Ok(())
 }
 
+/// A link with the wire whose client sends `GET`, and whose listed calls fail once their lines have happened.
+fn paced(
+    alloc: Global,
+    wire: &Arc<Wire>,
+    fail_reads: &[u64],
+    fail_writes: &[u64],
+    drops: bool,
+) -> Result<ScriptLink, NoMemory> {
+    let coming = Octets::of(alloc, b"GET")?;
+    let bad_reads = calls(alloc, fail_reads)?;
+    let bad_writes = calls(alloc, fail_writes)?;
+    let theirs = Arc::try_clone(wire)?;
+    Ok(ScriptLink::paced(alloc, 0, coming, theirs, bad_reads, bad_writes, drops))
+}
+
+/// What the front of a link does, or a call of the link with the answer that is wanted.
+#[derive(Clone, Copy)]
+enum Step {
+    Brings(u64),
+    Ends,
+    Allows(Option<u64>),
+    Fails(LinkCall),
+    Drops,
+    Read(usize, Got),
+    Write(&'static [u8], Sent),
+    Shut(bool),
+}
+
+/// Takes each step once, and keeps what came.
+fn steps(
+    rt: &impl Abort,
+    wire: &Wire,
+    link: &mut ScriptLink,
+    came: &mut Octets,
+    wanted: &[Step],
+) -> Result<(), NoMemory> {
+    for step in wanted {
+        match step {
+            Step::Brings(count) => wire.bring(*count),
+            Step::Ends => wire.end(),
+            Step::Allows(room) => wire.allow(*room),
+            Step::Fails(call) => wire.fail(*call),
+            Step::Drops => wire.drop_link(),
+            Step::Read(room, answer) => reads(rt, link, &[(*room, *answer)], came)?,
+            Step::Write(piece, answer) => writes(rt, link, &[(*piece, *answer)]),
+            Step::Shut(answer) => assert_eq!(rt; link.shut(), *answer),
+        }
+    }
+    Ok(())
+}
+
 #[test]
 fn a_link_with_a_wire_reads_and_takes_as_its_front_says(rt: HostRuntime) -> Result<(), Fail> {
     let alloc = rt.alloc();
     let wire = Arc::new(alloc, Wire::make())?;
-    let coming = Octets::of(alloc, b"GET")?;
-    let theirs = Arc::try_clone(&wire)?;
-    let mut link = ScriptLink::paced(
-        alloc,
-        0,
-        coming,
-        theirs,
-        Calls::make(alloc),
-        Calls::make(alloc),
-    );
+    let mut link = paced(alloc, &wire, &[], &[], false)?;
     let mut came = Octets::make(alloc);
-    reads(&rt, &mut link, &[(8, Got::NotReady)], &mut came)?;
-    wire.bring(2);
-    reads(
-        &rt,
-        &mut link,
-        &[(8, Got::Got(2)), (8, Got::NotReady)],
-        &mut came,
-    )?;
-    wire.bring(1);
-    reads(
-        &rt,
-        &mut link,
-        &[(8, Got::Got(1)), (8, Got::NotReady)],
-        &mut came,
-    )?;
-    assert_eq!(rt; link.left(), b"".as_slice());
-    wire.end();
-    reads(&rt, &mut link, &[(8, Got::End)], &mut came)?;
-    writes(&rt, &mut link, &[(b"ab", Sent::Put(2))]);
-    wire.allow(Some(3));
-    writes(
-        &rt,
-        &mut link,
-        &[(b"cdef", Sent::Put(3)), (b"f", Sent::NotReady)],
-    );
-    wire.allow(None);
-    writes(&rt, &mut link, &[(b"f", Sent::Put(1))]);
+    let wanted = [
+        Step::Read(8, Got::NotReady),
+        Step::Brings(2),
+        Step::Read(8, Got::Got(2)),
+        Step::Read(8, Got::NotReady),
+        Step::Brings(1),
+        Step::Read(8, Got::Got(1)),
+        Step::Read(8, Got::NotReady),
+        Step::Ends,
+        Step::Read(8, Got::End),
+        Step::Write(b"ab", Sent::Put(2)),
+        Step::Allows(Some(3)),
+        Step::Write(b"cdef", Sent::Put(3)),
+        Step::Write(b"f", Sent::NotReady),
+        Step::Allows(None),
+        Step::Write(b"f", Sent::Put(1)),
+    ];
+    steps(&rt, &wire, &mut link, &mut came, &wanted)?;
     assert_eq!(rt;
         (wire.came(), wire.ended(), wire.closed()),
         (3, true, false)
@@ -243,6 +276,83 @@ fn a_link_with_a_wire_reads_and_takes_as_its_front_says(rt: HostRuntime) -> Resu
     assert!(rt; wire.closed());
     assert_eq!(rt; came.as_slice(), b"GET".as_slice());
     assert_eq!(rt; link.sent(), b"abcdef".as_slice());
+    Ok(())
+}
+
+#[test]
+fn a_call_fails_only_from_its_line_on(rt: HostRuntime) -> Result<(), Fail> {
+    let alloc = rt.alloc();
+    let wire = Arc::new(alloc, Wire::make())?;
+    let mut link = paced(alloc, &wire, &[2, 5, 4, 0], &[1, 3], false)?;
+    let mut came = Octets::make(alloc);
+    // The second read and the first write come before their lines, and the line of the fourth read never happens.
+    let wanted = [
+        Step::Brings(3),
+        Step::Read(1, Got::Got(1)),
+        Step::Read(1, Got::Got(1)),
+        Step::Write(b"a", Sent::Put(1)),
+        Step::Fails(LinkCall::Read),
+        Step::Fails(LinkCall::Read),
+        Step::Fails(LinkCall::Write),
+        Step::Read(8, Got::Got(1)),
+        Step::Read(8, Got::NotReady),
+        Step::Read(8, Got::Failed),
+        Step::Read(8, Got::NotReady),
+        Step::Write(b"b", Sent::Put(1)),
+        Step::Fails(LinkCall::Write),
+        Step::Write(b"c", Sent::Failed),
+        Step::Write(b"c", Sent::Put(1)),
+        Step::Shut(true),
+    ];
+    steps(&rt, &wire, &mut link, &mut came, &wanted)?;
+    assert_eq!(rt; came.as_slice(), b"GET".as_slice());
+    assert_eq!(rt; link.sent(), b"abc".as_slice());
+    assert_eq!(rt; link.faults(), 2);
+    Ok(())
+}
+
+#[test]
+fn each_call_of_a_dropped_link_but_its_close_fails(rt: HostRuntime) -> Result<(), Fail> {
+    let alloc = rt.alloc();
+    let wire = Arc::new(alloc, Wire::make())?;
+    let mut link = paced(alloc, &wire, &[1], &[], true)?;
+    let mut came = Octets::make(alloc);
+    let wanted = [
+        Step::Brings(3),
+        Step::Read(1, Got::Got(1)),
+        Step::Write(b"a", Sent::Put(1)),
+        Step::Drops,
+        Step::Ends,
+        Step::Read(8, Got::Failed),
+        Step::Read(0, Got::Failed),
+        Step::Write(b"b", Sent::Failed),
+        Step::Write(b"", Sent::Failed),
+        Step::Shut(false),
+    ];
+    steps(&rt, &wire, &mut link, &mut came, &wanted)?;
+    link.close();
+    assert!(rt; wire.closed());
+    assert_eq!(rt; (link.faults(), link.shuts(), link.closes()), (5, 0, 1));
+    assert_eq!(rt; came.as_slice(), b"G".as_slice());
+    assert_eq!(rt; link.sent(), b"a".as_slice());
+    Ok(())
+}
+
+#[test]
+fn a_link_that_no_line_drops_goes_on(rt: HostRuntime) -> Result<(), Fail> {
+    let alloc = rt.alloc();
+    let wire = Arc::new(alloc, Wire::make())?;
+    let mut link = paced(alloc, &wire, &[], &[], false)?;
+    let mut came = Octets::make(alloc);
+    let wanted = [
+        Step::Drops,
+        Step::Brings(3),
+        Step::Read(8, Got::Got(3)),
+        Step::Write(b"a", Sent::Put(1)),
+        Step::Shut(true),
+    ];
+    steps(&rt, &wire, &mut link, &mut came, &wanted)?;
+    assert_eq!(rt; (link.faults(), link.shuts()), (0, 1));
     Ok(())
 }
 

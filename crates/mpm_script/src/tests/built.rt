@@ -63,7 +63,7 @@ fn script(alloc: Global, rows: &[Row]) -> Result<Script, NoMemory> {
 }
 
 #[test]
-fn bytes_are_pipelined_up_to_99_requests_and_a_front(rt: HostRuntime) -> Result<(), Fail> {
+fn bytes_are_pipelined_as_requests_and_a_front(rt: HostRuntime) -> Result<(), Fail> {
     let alloc = rt.alloc();
     let wanted: [(usize, &[u8], bool); 12] = [
         (0, b"", true),
@@ -71,9 +71,9 @@ fn bytes_are_pipelined_up_to_99_requests_and_a_front(rt: HostRuntime) -> Result<
         (1, b"", true),
         (2, b"GET / HTTP/1.1\r\nHost: ", true),
         (2, b"GET / HTTP/1.1\r\nHost: example.org:80\r\n\r", true),
-        (99, b"GET / HTTP/1.1\r\nHost: a\r\n\r", true),
-        (99, REQUEST, false),
-        (100, b"", false),
+        (99, REQUEST, true),
+        (101, b"GET / HTTP/1.1\r\nHost: a\r\n\r", true),
+        (101, b"GET / HTTP/1.1\r\nHost: a\r\n\n", false),
         (0, b"GET  /", false),
         (1, b"\r\n", false),
         (0, b"GET / HTTP/1.1\r\nHost: \r", false),
@@ -94,48 +94,37 @@ fn finds(
     place: Option<usize>,
 ) -> Result<(), NoMemory> {
     let script = script(alloc, rows)?;
-    assert_eq!(rt; first_unbuilt(script.lines()), place);
+    assert_eq!(rt; first_unbuilt(alloc, script.lines())?, place);
     Ok(())
 }
 
 #[test]
-fn moments_ends_and_rooms_are_built_where_they_fit(rt: HostRuntime) -> Result<(), Fail> {
+fn commands_and_lines_of_the_site_are_not_built(rt: HostRuntime) -> Result<(), Fail> {
     let alloc = rt.alloc();
     let (a, b): (&[u8], &[u8]) = (b"a", b"b");
+    let built = [
+        Row::At(4_999),
+        Row::At(5_000),
+        Row::At(253_402_300_799_999),
+        Row::Conn(a),
+        Row::Room(a, Some(5)),
+        Row::Conn(b),
+        Row::Fail(a),
+        Row::Drop(a),
+        Row::Room(a, None),
+        Row::End(b),
+        Row::Drop(b),
+        Row::Fail(b),
+    ];
     finds(&rt, alloc, &[], None)?;
-    finds(&rt, alloc, &[Row::At(4_999)], None)?;
-    finds(&rt, alloc, &[Row::At(4_999), Row::At(5_000)], Some(1))?;
-    finds(&rt, alloc, &[Row::Conn(a), Row::End(a)], None)?;
-    finds(&rt, alloc, &[Row::Conn(a), Row::End(b)], Some(0))?;
-    finds(&rt, alloc, &[Row::End(a), Row::Conn(a)], Some(1))?;
+    finds(&rt, alloc, &built, None)?;
+    finds(&rt, alloc, &[Row::At(0), Row::Command, Row::Site], Some(1))?;
     finds(
         &rt,
         alloc,
-        &[Row::Room(a, Some(5)), Row::Room(a, None)],
-        None,
-    )?;
-    finds(
-        &rt,
-        alloc,
-        &[Row::Room(a, Some(5)), Row::Room(a, Some(6))],
-        Some(0),
-    )?;
-    finds(
-        &rt,
-        alloc,
-        &[Row::Room(a, Some(5)), Row::Room(b, None)],
-        Some(0),
-    )?;
-    finds(
-        &rt,
-        alloc,
-        &[Row::Room(a, None), Row::Room(a, Some(5))],
+        &[Row::Drop(a), Row::Site, Row::Command],
         Some(1),
     )?;
-    finds(&rt, alloc, &[Row::End(a), Row::Drop(a)], Some(1))?;
-    finds(&rt, alloc, &[Row::End(a), Row::Fail(a)], Some(1))?;
-    finds(&rt, alloc, &[Row::At(0), Row::Command], Some(1))?;
-    finds(&rt, alloc, &[Row::At(0), Row::Site], Some(1))?;
     Ok(())
 }
 
@@ -146,18 +135,48 @@ fn sends_are_built_where_they_make_requests_together(rt: HostRuntime) -> Result<
     let get = Row::Send(a, 0, b"GET");
     let further = Row::Send(a, 0, b" / HTTP/1.1\r\nHost: a\r\n\r\nGET");
     let wrong = Row::Send(a, 0, b"POST");
-    finds(&rt, alloc, &[Row::Send(a, 99, b"GET")], None)?;
+    finds(&rt, alloc, &[Row::Send(a, 100, b"")], None)?;
     finds(
         &rt,
         alloc,
-        &[Row::Send(a, 99, b""), Row::Send(a, 1, b"")],
-        Some(1),
+        &[
+            Row::Send(a, 101, b"GET"),
+            Row::Send(a, 0, b""),
+            further,
+            wrong,
+        ],
+        Some(3),
     )?;
     finds(&rt, alloc, &[get, further, further], None)?;
     finds(&rt, alloc, &[get, get], Some(1))?;
     finds(&rt, alloc, &[get, Row::Send(b, 0, b"GET"), further], None)?;
-    finds(&rt, alloc, &[get, wrong, Row::Drop(a)], Some(1))?;
+    finds(&rt, alloc, &[get, Row::Fail(a), wrong, get], Some(2))?;
+    finds(&rt, alloc, &[get, Row::Drop(a), further, wrong], Some(3))?;
     finds(&rt, alloc, &[get, Row::End(a), wrong], None)?;
     finds(&rt, alloc, &[get, Row::End(b), wrong], Some(2))?;
+    Ok(())
+}
+
+/// Two clients send the text, each in two pieces that are cut at that place, and then one of them something else.
+fn is_built_cut(rt: &impl Abort, alloc: Global, text: &[u8], cut: usize) -> Result<(), NoMemory> {
+    assert!(rt; cut <= text.len());
+    let (front, behind) = text.split_at(cut);
+    let rows = [
+        Row::Send(b"a", 0, front),
+        Row::Send(b"b", 1, front),
+        Row::Send(b"a", 0, behind),
+        Row::Send(b"b", 0, behind),
+        Row::Send(b"a", 0, b"POST"),
+    ];
+    finds(rt, alloc, &rows, Some(4))
+}
+
+#[test]
+fn sends_are_built_however_they_are_cut(rt: HostRuntime) -> Result<(), Fail> {
+    let alloc = rt.alloc();
+    let text = requests(alloc, 2, b"GET / ")?;
+    for cut in 0..=text.as_slice().len() {
+        is_built_cut(&rt, alloc, text.as_slice(), cut)?;
+    }
     Ok(())
 }

@@ -50,7 +50,7 @@ fn reads_the_lines_of_two_connections(rt: HostRuntime) -> Result<(), Fail> {
 
 #[test]
 fn tells_the_earliest_line_that_is_refused(rt: HostRuntime) -> Result<(), Fail> {
-    let cases: [(&[u8], Result<usize, ScriptFault>); 25] = [
+    let cases: [(&[u8], Result<usize, ScriptFault>); 29] = [
         (b"", Ok(0)),
         (b"conn a\nend a\n", Ok(2)),
         (b"at 7\nat 7\nat 4999\n", Ok(3)),
@@ -84,19 +84,32 @@ fn tells_the_earliest_line_that_is_refused(rt: HostRuntime) -> Result<(), Fail> 
             b"conn a\nconn a\nend b\nat 7\nat 6\n",
             Err(ScriptFault::BadLine(2)),
         ),
-        (b"conn a\n", Err(ScriptFault::NotYet(1))),
-        (b"at 4999\nat 5000\n", Err(ScriptFault::NotYet(2))),
+        (b"conn a\n", Ok(1)),
+        (b"conn a\nroom a 5\n", Ok(2)),
+        (b"at 4999\nat 5000\nat 253402300799999\n", Ok(3)),
+        (
+            b"conn a\nfail a read 1\nfail a write 2\ndrop a\nend a\n",
+            Ok(5),
+        ),
         (
             b"conn a\ndrop a\nend a\ncommand stop\n",
+            Err(ScriptFault::NotYet(4)),
+        ),
+        (
+            b"conn a\nat 9\nsend a POST / HTTP/1.1\\r\\n\nconf KeepAlive Off\n",
+            Err(ScriptFault::NotYet(3)),
+        ),
+        (
+            b"conn a\nunfile a\nsend a POST\n",
             Err(ScriptFault::NotYet(2)),
         ),
         (b"command stop\n", Err(ScriptFault::NotYet(1))),
         (b"clear\nend a\n", Err(ScriptFault::UnknownName(2))),
         (
-            b"conn a\nat 5000\nat 4999\n",
-            Err(ScriptFault::MomentBackwards(3)),
+            b"clear\nconn a\nat 5000\nat 4999\n",
+            Err(ScriptFault::MomentBackwards(4)),
         ),
-        (b"at 5000\nend", Err(ScriptFault::BadLine(2))),
+        (b"command stop\nend", Err(ScriptFault::BadLine(2))),
     ];
     for (text, wanted) in cases {
         assert_eq!(rt; answer(rt.alloc(), text)?, wanted, "at {text:?}");

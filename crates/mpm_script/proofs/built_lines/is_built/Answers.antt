@@ -1,10 +1,16 @@
-use Rattle.std.proofs.Common.{◌≡◌, ◌↔◌, IsTrue, sym, ap, subst, ◌∙◌}
-use Rattle.mpm_script.specs.BuiltLines.{is_end, has_act, IsBuilt}
+use Rattle.std.proofs.Common.{◌++◌, ◌∷◌, [], sym, subst}
+use Rattle.mpm_script.specs.BuiltClientsInside.{AreFollowed}
+use Rattle.mpm_script.specs.BuiltLines.{IsBuilt}
+use Rattle.mpm_base.specs.declared.script_line.ScriptLine.{ScriptLine as Line}
+use Rattle.mpm_script.proofs.BuiltClientLemmas.{at_past, conn_past}
 use Rattle.mpm_script.proofs.built_lines.is_built.Goals as goal
 
-pub returns-in-Conn : goal.returns-in-Conn
-returns-in-Conn c = λ before _.
-    let behind = c.args.behind.now in
-    let answer : c.has_end.result ≡ has_act is_end c.in-Conn.name behind =
-    c.has_end.ensures ∙ ap (λ name. has_act is_end name behind) c.as_slice.ensures in
-    subst (λ line. IsTrue c.has_end.result ↔ IsBuilt before line behind) (sym c.in-Conn.is) (λ h. sym answer ∙ h, λ h. answer ∙ h)
+pub returns-in-At-clause-built : goal.returns-in-At-clause-built
+returns-in-At-clause-built c = λ is before followed.
+    let courses = c.args.courses.now in
+    subst (λ (l : Line). IsBuilt before l × AreFollowed (before ++ l ∷ []) courses) (sym c.in-At.is) (at_past before _ courses followed)
+
+pub returns-in-Conn-clause-built : goal.returns-in-Conn-clause-built
+returns-in-Conn-clause-built c = λ is before followed.
+    let courses = c.args.courses.now in
+    subst (λ (l : Line). IsBuilt before l × AreFollowed (before ++ l ∷ []) courses) (sym c.in-Conn.is) (conn_past before _ courses followed)

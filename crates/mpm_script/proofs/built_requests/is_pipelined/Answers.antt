@@ -7,4 +7,4 @@ pub returns : goal.returns
 returns c =
     let last = c.after_bytes in
     subst (λ b. IsTrue b ↔ IsPipelined c.args.bytes.now) (sym c.is_some.ensures)
-    (pipelined_where_some c.no_progress.result c.args.bytes.now last.result c.no_progress.ensures.follows last.ensures.some last.ensures.none)
+    (pipelined_where_some c.first_spot.result c.args.bytes.now last.result c.first_spot.ensures.follows last.ensures.some last.ensures.none)

@@ -1,6 +1,7 @@
 use Rattle.std.proofs.Common.{◌≡◌, drop, ap, sym, ◌∙◌, drop-drop, arith}
 use Rattle.script_front.specs.ScriptFront.{SeenFront, lines_now, to_come}
 use Rattle.script_front.proofs.ComingLemmas.{now_passed}
+use Rattle.script_front.proofs.MomentLemmas.{now_past}
 use Rattle.script_front.proofs.PlayedLemmas.{played-begun}
 use Rattle.script_front.proofs.script_front.ScriptFront.begin.Goals as goal
 use Rattle.script_front.proofs.script_front.ScriptFront.begin.Goals.{then-count-gt0, else-count-gt0}
@@ -8,6 +9,10 @@ use Rattle.script_front.proofs.script_front.ScriptFront.begin.Goals.{then-count-
 pub pass-requires-clause-next : goal.pass-requires-clause-next
 pass-requires-clause-next c =
     rw (c.lines_now-count.ensures.is, c.to_come.ensures) (now_passed (to_come c.args.self.now))
+
+pub pass-requires-clause-past : goal.pass-requires-clause-past
+pass-requires-clause-past c =
+    rw (c.lines_now-count.ensures.is, c.to_come.ensures) (now_past c.args.self.now.told.moment (to_come c.args.self.now))
 
 pub invariant_of-self : goal.invariant_of-self
 invariant_of-self c =
@@ -23,4 +28,4 @@ invariant_of-self c =
       | else-count-gt0 w ↦ rw w.self-is (omega (arith, counts, w.if-count-gt0.false))
     ] in
     let next = ap (λ (f : SeenFront). lines_now (to_come f)) c.self-2.view_is ∙ none in
-    played-begun s.script s.happened s.begun s.arrived s.accepted s.clients s.ends c.self-2.invariant next
+    played-begun s.script s.happened s.begun s.moment s.arrived s.accepted s.hushed s.clients s.ends c.self-2.invariant next

@@ -1,6 +1,7 @@
 use Rattle.std.proofs.Common.{length, map, ap, sym, refl, ◌∙◌, arith}
 use Rattle.std.proofs.lemmas.List.{length-map}
-use Rattle.mpm_script.specs.Clients.{clients_of, names_of, sent_by}
+use Rattle.mpm_script.specs.Clients.{names_of, sent_by}
+use Rattle.script_front.specs.PlayedFront.{plans_of}
 use Rattle.script_front.specs.ScriptFront.{no_name_yet}
 use Rattle.script_front.proofs.SignalLemmas.{names, names-new}
 use Rattle.script_front.proofs.script_front.ScriptFront.make.Goals as goal
@@ -12,9 +13,10 @@ invariant_of-result c =
     let lines = c.lines.ensures in
     record {
       happened = omega arith;
+      past = refl;
       arrived = refl;
       accepted = omega arith;
-      texts_are = made.waiting ∙ ap clients_of lines;
+      plans_are = made.waiting ∙ ap plans_of lines;
       clients_are = ap names made.clients ∙ names-new (names_of c.lines.result.now) ∙ ap names_of lines;
       names_are =
           ap length made.watched ∙ ap (λ lines. length (map no_name_yet (names_of lines))) lines ∙ length-map (names_of script) no_name_yet

@@ -28,9 +28,10 @@ invariant_of-self c =
     let s = c.self.inside in
     let at = (goal.at.invariant_of-self c).After-arrivals in
     let next = rw (← c.self.view_is) at c.requires.next in
-    let p = played-lines s.script s.happened s.begun s.arrived s.accepted s.clients s.ends c.self.invariant c.args.count c.arrivals.result (few at) (more at) next in
+    let past = rw (← c.self.view_is) at c.requires.past in
+    let p = played-lines s.script s.happened s.begun s.moment s.arrived s.accepted s.hushed s.clients s.ends c.self.invariant c.args.count c.arrivals.result (few at) (more at) next past in
     let is = c.happen.ensures in
-    played-clients s.script _ s.begun _ s.accepted s.clients s.ends p c.happen.new.self
+    played-clients s.script _ s.begun s.moment _ s.accepted s.hushed s.clients s.ends p c.happen.new.self
     (ap (λ (cs : SeenClients). cs.waiting) is) (ap (λ (cs : SeenClients). length cs.watched) is)
     (ap (λ (cs : SeenClients). names cs.clients) is ∙ names-lines c.next_lines-lines.result.now s.clients.clients)
 

@@ -1,7 +1,7 @@
 use Rattle.std.proofs.Common.{◌≡◌, ℕ, ◌<◌, inl, inr, List, [], max, length, ap, sym, subst, ◌∙◌, arith}
-use Rattle.mpm_base.specs.Front.{HasAllTaken}
+use Rattle.mpm_base.specs.Front.{HasAllTaken, earlier}
 use Rattle.script_front.specs.PlayedFrontInside.{gone_to, with_begun, with_clients, with_end}
-use Rattle.script_front.specs.ScriptFront.{IsUnderWay, SeenFront, earlier, next_moment, to_come}
+use Rattle.script_front.specs.ScriptFront.{IsUnderWay, SeenFront, next_moment, taken_closed, to_come}
 use Rattle.script_front.specs.Signals.{Gives}
 use Rattle.script_front.proofs.PlaysLemmas.{plays-begins, plays-ends, plays-over, plays-passes, none-of, plays-signals, plays-stays, some-of}
 use Rattle.script_front.proofs.script_front.ScriptFront.wake.Goals as goal
@@ -11,7 +11,7 @@ pub returns-then-self-gt0-clause-plays : goal.returns-then-self-gt0-clause-plays
 returns-then-self-gt0-clause-plays c =
     let view = c.self.view_is in
     let ends : 0 < c.args.self.now.ends = omega (arith, c.if-self-gt0.true, ap (λ (f : SeenFront). f.ends) view) in
-    let begun = sym (ap (λ (f : SeenFront). f.begun) view) ∙ (c.self.invariant.over c.if-self-gt0.true).0 in
+    let begun = sym (ap (λ (f : SeenFront). f.begun) view) ∙ (c.self.invariant.over c.if-self-gt0.true).begun in
     plays-over c.args.self.now c.end.new.self c.args.until c.args.quiet _ c.end.ensures.state c.requires begun ends
 
 pub returns-then-begin-clause-plays : goal.returns-then-begin-clause-plays
@@ -29,7 +29,7 @@ goes c = record {
   next = (c.begin.ensures.goes_on c.if-begin.false).0;
 }
 
-gives : (c : After-signal) → Gives 256 c.args.self.now.clients c.args.self.now.told.watched c.signal.new.self.clients c.signal.new.ready
+gives : (c : After-signal) → Gives 256 c.args.self.now.clients c.args.self.now.names c.signal.new.self.clients c.signal.new.ready
 gives c = rw (c.begin.ensures.goes_on c.if-begin.false).1 at c.signal.ensures.gives
 
 is : (c : After-signal) → c.signal.new.self ≡ with_clients c.signal.new.self.clients (with_begun c.args.self.now)
@@ -69,7 +69,7 @@ returns-then-is_over-clause-plays c =
     let taken = subst (λ (f : SeenFront). HasAllTaken f.told) begun over.0 in
     plays-ends c.args.self.now c.end-then-is_over.new.self c.args.until c.args.quiet _ _ (goes at.After-signal) (gives at.After-signal)
     (c.end-then-is_over.ensures.state ∙ ap with_end begun) (none at.After-earlier-next) c.if-not-quiet.false (comes at.After-earlier-next begun ∙ c.in_default.is)
-    (record { left = taken.left; accepted = taken.accepted }) over.1
+    (record { left = taken.left; read = taken.read; accepted = taken.accepted }) (ap taken_closed (sym begun) ∙ over.1)
 
 pub returns-clause-plays : goal.returns-clause-plays
 returns-clause-plays c =
