@@ -7,6 +7,7 @@ use Rattle.mpm_base.specs.declared.note.Note.{Note}
 use Rattle.http_read.specs.declared.root_head.RootHead.{RootHead}
 use Rattle.conn_state.specs.declared.turn.LastTurn.{LastTurn}
 use Rattle.conn_state.specs.declared.turn.LastTurn.TheVariants as turn
+use Rattle.conn_state.specs.declared.turn.LastLinger.TheVariants as linger
 use Rattle.conn_state.specs.Items.{Item, BeginsItem, ask_of}
 use Rattle.conn_state.specs.Known.{KnownOutside}
 use Rattle.conn_state.specs.Response.{IsResponse, response_at}
@@ -14,6 +15,7 @@ use Rattle.conn_state.specs.Replies.{IsNoteFor, first_part}
 use Rattle.conn_state.specs.Conn.{SeenConn, is_usable, Streams, TurnFits}
 use Rattle.conn_state.specs.Turns.{IsNoteOf, TakesNote}
 use Rattle.conn_state.specs.Held.{IsSizeOf, IsHeld}
+use Rattle.conn_state.proofs.LinkLemmas.{open-link, still-open}
 use Rattle.conn_state.proofs.ConnLemmas.{usable-streams, told-broken, streams-answered}
 
 -- the item that the last turn asked, with a note for it
@@ -73,7 +75,7 @@ told-answered (Some t) notes rest item behind note response s goes_on begins not
 abbrev after_answer : SeenConn → Note → List ℕ → List ℕ → SeenConn
 after_answer c note pending behind = record c { notes = c.notes ++ note ∷ []; pending = pending; rest = behind; turn = turn.Answered }
 
-module _ (known : Option KnownOutside) (c seen : SeenConn) (size : ℕ) (note : Note) (response : List ℕ) (held : IsHeld known c size) (is : c ≡ seen) (asked : IsNoteOf seen.turn note)
+module _ (known : Option KnownOutside) (c seen : SeenConn) (size : ℕ) (note : Note) (response : List ℕ) (held : IsHeld known c size) (is : c ≡ seen) (asked : IsNoteOf seen.turn note) (not_shut : seen.linger ≡ linger.Open)
     (file : note.code ≡ 200 → (request : RootHead) → IsResponse (inl request) note response)
     (refusal : ¬ (note.code ≡ 200) → IsResponse (inr note.code) note response) where
   -- the item that was asked
@@ -102,6 +104,8 @@ module _ (known : Option KnownOutside) (c seen : SeenConn) (size : ℕ) (note : 
   -- the connection holds then
   pub held-answered : IsHeld known (after_answer c note response (drop size c.rest)) size
   held-answered =
+      let not_shut' : c.linger ≡ linger.Open = ap (λ (x : SeenConn). x.linger) is ∙ not_shut in
+      let way = still-open c (after_answer c note response (drop size c.rest)) held.conn not_shut' refl refl (open-link c held.conn not_shut') in
       let streams = subst (λ xs. IfSome c.told (Streams c.notes xs c.rest)) ready-here.none_pending (usable-streams c held.conn ready-here.usable) in
       let answered = told-answered c.told c.notes c.rest ready-here.item (drop size c.rest) note response streams ready-here.goes_on ready-here.begins
       ready-here.noted response-here in
@@ -109,6 +113,8 @@ module _ (known : Option KnownOutside) (c seen : SeenConn) (size : ℕ) (note : 
         conn = record {
           turn_fits = some-response ready-here.item note response response-here;
           ended = λ e. absurd (cc);
+          linger_fits = way.fits;
+          link = way.link;
           streams = subst (λ xs. IfSome c.told (Streams (c.notes ++ note ∷ []) xs (drop size c.rest))) pending-here answered;
         };
         size_is = tt;
@@ -116,11 +122,19 @@ module _ (known : Option KnownOutside) (c seen : SeenConn) (size : ℕ) (note : 
       }
 
 -- a connection holds where memory lacks
-pub held-no_memory : (known : Option KnownOutside) (c : SeenConn) (size : ℕ) (notes' : List Note) → IsHeld known c size → notes' ≡ c.notes
-    → IsHeld known (record c { notes = notes'; turn = turn.NoMemory }) size
-held-no_memory known c size notes' held same =
+pub held-no_memory : (known : Option KnownOutside) (c seen : SeenConn) (size : ℕ) (notes' : List Note) → IsHeld known c size → c ≡ seen → seen.linger ≡ linger.Open
+    → notes' ≡ c.notes → IsHeld known (record c { notes = notes'; turn = turn.NoMemory }) size
+held-no_memory known c seen size notes' held is not_shut same =
+    let not_shut' : c.linger ≡ linger.Open = ap (λ (x : SeenConn). x.linger) is ∙ not_shut in
+    let way = still-open c (record c { turn = turn.NoMemory }) held.conn not_shut' refl refl (open-link c held.conn not_shut') in
     subst (λ ns. IsHeld known (record c { notes = ns; turn = turn.NoMemory }) size) (sym same) (record {
-      conn = record { turn_fits = tt; ended = λ e. absurd (cc); streams = told-broken (is_usable c.turn) c.told c.notes c.pending c.rest held.conn.streams };
+      conn = record {
+        turn_fits = tt;
+        ended = λ e. absurd (cc);
+        linger_fits = way.fits;
+        link = way.link;
+        streams = told-broken (is_usable c.turn) c.told c.notes c.pending c.rest held.conn.streams;
+      };
       size_is = tt;
       client = held.client;
     })

@@ -12,34 +12,28 @@ use Rattle.conn_state.specs.declared.turn.ReadTurn.{ReadTurn}
 use Rattle.conn_state.specs.declared.turn.ReadTurn.TheVariants as read
 use Rattle.conn_state.specs.declared.turn.WriteTurn.{WriteTurn}
 use Rattle.conn_state.specs.declared.turn.WriteTurn.TheVariants as write
+use Rattle.conn_state.specs.declared.turn.LastLinger.TheVariants as linger
 use Rattle.conn_state.specs.Items.{Item, BeginsItem, IsAskedIn, ask_of}
 use Rattle.conn_state.specs.Known.{KnownOutside}
 use Rattle.conn_state.specs.Response.{IsResponse}
 use Rattle.conn_state.specs.Replies.{IsFitting, AreReplies, IsNoteFor, first_part}
-use Rattle.conn_state.specs.Conn.{SeenConn, is_usable, IsOpenLink, Streams, BrokeOff, StreamsWhile, TurnFits, IsConn}
+use Rattle.conn_state.specs.Conn.{SeenConn, is_usable, Streams, BrokeOff, StreamsWhile, LinkFits, TurnFits, IsConn}
 use Rattle.conn_state.specs.Turns.{after_reading, is_gone, KeepsRead, AsksNothing, after_writing, with_sent}
 use Rattle.conn_state.specs.Held.{IsSizeOf, IsHeld}
 use Rattle.conn_state.specs.ExchangeInside.{TakesIn, IsSame, SendsOn}
 use Rattle.conn_state.proofs.KnownLemmas.{client-received, client-sent}
+use Rattle.conn_state.proofs.LinkLemmas.{before-open, told-open_received, told-open_sent, open-link, still-open}
 use Rattle.conn_state.proofs.StreamLemmas.{fitting-more, fitting-snoc, replies-snoc}
 
 -- ## The reply stream
 
--- a link that was neither half-closed nor closed stays so when it gives bytes
-open-received : (n : ℕ) (t : LinkTold) → IsOpenLink t → IsOpenLink (with_received n t)
-open-received n t o = record {
-  shuts = o.shuts;
-  closes = o.closes;
-  before_shut = rw o.shuts (ap (λ xs. xs ++ take n t.coming) o.before_shut);
-}
-
 -- more bytes come
-streams-more : (notes : List Note) (pending rest more : List ℕ) (t : LinkTold) → Streams notes pending rest t → more ≡ take (length more) t.coming
+streams-more : (notes : List Note) (pending rest more : List ℕ) (t : LinkTold) → Streams notes pending rest t → t.shuts ≡ 0 → more ≡ take (length more) t.coming
     → Streams notes pending (rest ++ more) (with_received (length more) t)
-streams-more notes pending rest more t s comes = record {
-  open_link = open-received (length more) t s.open_link;
+streams-more notes pending rest more t s not_shut comes = record {
   items = s.items;
-  fitting = subst (λ xs. IsFitting notes (t.received ++ xs) s.items (rest ++ more)) comes (fitting-more notes t.received s.items rest more s.fitting);
+  fitting = subst (λ xs. IsFitting notes xs s.items (rest ++ more)) (ap (λ xs. t.before_shut ++ xs) comes ∙ sym (before-open (length more) t not_shut))
+      (fitting-more notes t.before_shut s.items rest more s.fitting);
   replies = s.replies;
 }
 
@@ -47,7 +41,6 @@ streams-more notes pending rest more t s comes = record {
 streams-sent : (notes : List Note) (pending sent left rest : List ℕ) (t : LinkTold) → Streams notes pending rest t → pending ≡ sent ++ left
     → Streams notes left rest (with_sent sent t)
 streams-sent notes pending sent left rest t s front = record {
-  open_link = record { shuts = s.open_link.shuts; closes = s.open_link.closes; before_shut = s.open_link.before_shut };
   items = s.items;
   fitting = s.fitting;
   replies = subst (AreReplies s.items notes) (ap (λ xs. t.sent ++ xs) front ∙ sym (append_assoc t.sent sent left)) s.replies;
@@ -58,16 +51,14 @@ pub streams-answered : (notes : List Note) (rest : List ℕ) (t : LinkTold) (ite
     → Streams notes [] rest t → says_last notes ≡ false → BeginsItem rest item behind → IsNoteFor (ask_of item) note → IsResponse item note response
     → Streams (notes ++ note ∷ []) (first_part item ++ response) behind t
 streams-answered notes rest t item behind note response s goes_on begins noted is_response = record {
-  open_link = s.open_link;
   items = s.items ++ item ∷ [];
-  fitting = fitting-snoc notes t.received s.items rest item behind note s.fitting goes_on begins noted;
+  fitting = fitting-snoc notes t.before_shut s.items rest item behind note s.fitting goes_on begins noted;
   replies = replies-snoc s.items notes t.sent item note response (subst (AreReplies s.items notes) (append-nil t.sent) s.replies) is_response;
 }
 
 -- it breaks off
 broke_off : (notes : List Note) (pending rest : List ℕ) (t : LinkTold) → Streams notes pending rest t → BrokeOff notes t
 broke_off notes pending rest t s = record {
-  open_link = s.open_link;
   items = s.items;
   left = rest;
   replies = t.sent ++ pending;
@@ -90,29 +81,29 @@ told-broken usable (Some t) notes pending rest s = broke_while usable notes pend
 -- ## Reading
 
 -- a turn of reading keeps it, or breaks it off
-streams-read : (answer : ReadTurn) (notes : List Note) (pending rest rest' got : List ℕ) (t : LinkTold) → Streams notes pending rest t
+streams-read : (answer : ReadTurn) (notes : List Note) (pending rest rest' got : List ℕ) (t : LinkTold) → Streams notes pending rest t → t.shuts ≡ 0
     → got ≡ take (length got) t.coming → KeepsRead answer got rest rest'
     → StreamsWhile (is_usable (after_reading answer)) notes pending rest' (with_received (length got) t)
-streams-read (read.Asked ask) notes pending rest rest' got t s comes keeps =
-    subst (λ xs. Streams notes pending xs (with_received (length got) t)) (sym keeps) (streams-more notes pending rest got t s comes)
-streams-read read.More notes pending rest rest' got t s comes keeps =
-    subst (λ xs. Streams notes pending xs (with_received (length got) t)) (sym keeps) (streams-more notes pending rest got t s comes)
-streams-read read.Gone notes pending rest rest' got t s comes keeps =
-    subst (λ xs. Streams notes pending xs (with_received (length got) t)) (sym keeps) (streams-more notes pending rest got t s comes)
-streams-read read.LinkFailed notes pending rest rest' got t s comes keeps =
-    broke_off notes pending (rest ++ got) (with_received (length got) t) (streams-more notes pending rest got t s comes)
-streams-read read.NoMemory notes pending rest rest' got t s comes keeps =
-    broke_off notes pending (rest ++ got) (with_received (length got) t) (streams-more notes pending rest got t s comes)
+streams-read (read.Asked ask) notes pending rest rest' got t s not_shut comes keeps =
+    subst (λ xs. Streams notes pending xs (with_received (length got) t)) (sym keeps) (streams-more notes pending rest got t s not_shut comes)
+streams-read read.More notes pending rest rest' got t s not_shut comes keeps =
+    subst (λ xs. Streams notes pending xs (with_received (length got) t)) (sym keeps) (streams-more notes pending rest got t s not_shut comes)
+streams-read read.Gone notes pending rest rest' got t s not_shut comes keeps =
+    subst (λ xs. Streams notes pending xs (with_received (length got) t)) (sym keeps) (streams-more notes pending rest got t s not_shut comes)
+streams-read read.LinkFailed notes pending rest rest' got t s not_shut comes keeps =
+    broke_off notes pending (rest ++ got) (with_received (length got) t) (streams-more notes pending rest got t s not_shut comes)
+streams-read read.NoMemory notes pending rest rest' got t s not_shut comes keeps =
+    broke_off notes pending (rest ++ got) (with_received (length got) t) (streams-more notes pending rest got t s not_shut comes)
 
 -- the same of a link that may tell
 told-read : (answer : ReadTurn) (notes : List Note) (pending rest rest' got : List ℕ) (told : Option LinkTold)
-    → IfSome told (Streams notes pending rest) → IfSome told (λ t. got ≡ take (length got) t.coming) → KeepsRead answer got rest rest'
+    → IfSome told (Streams notes pending rest) → IfSome told (LinkFits linger.Open 0) → IfSome told (λ t. got ≡ take (length got) t.coming) → KeepsRead answer got rest rest'
     → IfSome (option_map (with_received (length got)) told) (StreamsWhile (is_usable (after_reading answer)) notes pending rest')
-told-read answer notes pending rest rest' got None s comes keeps = tt
-told-read answer notes pending rest rest' got (Some t) s comes keeps = streams-read answer notes pending rest rest' got t s comes keeps
+told-read answer notes pending rest rest' got None s link comes keeps = tt
+told-read answer notes pending rest rest' got (Some t) s link comes keeps = streams-read answer notes pending rest rest' got t s link.shuts comes keeps
 
 -- a count that rose isn't 0
-rises-some : (old new : ℕ) → Rises old new → 0 < new
+pub rises-some : (old new : ℕ) → Rises old new → 0 < new
 rises-some old new rises = grind (arith, rises.0, rises.1)
 
 -- what a turn of reading says holds of what it leaves
@@ -144,14 +135,19 @@ usable-streams c is usable = subst (λ b. IfSome c.told (StreamsWhile b c.notes 
 
 -- a connection holds after a turn of reading
 pub held-read : (known : Option KnownOutside) (c seen : SeenConn) (size size' : ℕ) (told' : Option LinkTold) (counts' : LinkCounts) (rest' : List ℕ) (answer : ReadTurn) (turn' : LastTurn)
-    → IsHeld known c size → c ≡ seen → is_usable seen.turn ≡ true → seen.pending ≡ [] → says_last seen.notes ≡ false
+    → IsHeld known c size → c ≡ seen → is_usable seen.turn ≡ true → seen.pending ≡ [] → says_last seen.notes ≡ false → seen.linger ≡ linger.Open
     → TakesIn c.told told' c.counts counts' c.rest rest' answer → turn' ≡ after_reading answer → IsSizeOf (after_reading answer) rest' size'
     → IsHeld known (record c { told = told'; counts = counts'; rest = rest'; turn = turn' }) size'
-held-read known c seen size size' told' counts' rest' answer turn' held is usable sent goes_on takes turn_is sized =
+held-read known c seen size size' told' counts' rest' answer turn' held is usable sent goes_on not_shut takes turn_is sized =
     let usable' : is_usable c.turn ≡ true = ap (λ (x : SeenConn). is_usable x.turn) is ∙ usable in
     let sent' : c.pending ≡ [] = ap (λ (x : SeenConn). x.pending) is ∙ sent in
     let goes_on' : says_last c.notes ≡ false = ap (λ (x : SeenConn). says_last x.notes) is ∙ goes_on in
-    let streams = told-read answer c.notes c.pending c.rest rest' takes.got c.told (usable-streams c held.conn usable') takes.gives takes.bytes_are in
+    let not_shut' : c.linger ≡ linger.Open = ap (λ (x : SeenConn). x.linger) is ∙ not_shut in
+    let link = open-link c held.conn not_shut' in
+    let link' : IfSome told' (LinkFits linger.Open 0) =
+    subst (λ o. IfSome o (LinkFits linger.Open 0)) (sym takes.told_is) (told-open_received (length takes.got) c.told link) in
+    let way = still-open c (record c { told = told'; counts = counts'; rest = rest'; turn = after_reading answer }) held.conn not_shut' refl refl link' in
+    let streams = told-read answer c.notes c.pending c.rest rest' takes.got c.told (usable-streams c held.conn usable') link takes.gives takes.bytes_are in
     subst (λ (u : LastTurn). IsHeld known (record c { told = told'; counts = counts'; rest = rest'; turn = u }) size') (sym turn_is)
     (record {
       conn = record {
@@ -160,6 +156,8 @@ held-read known c seen size size' told' counts' rest' answer turn' held is usabl
           found = ends-read answer c.counts.ends counts'.ends takes.ends (gone-read answer e);
           all_came = takes.none_comes (gone-read answer e);
         };
+        linger_fits = way.fits;
+        link = way.link;
         streams = subst (λ o. IfSome o (StreamsWhile (is_usable (after_reading answer)) c.notes c.pending rest')) (sym takes.told_is) streams;
       };
       size_is = sized;
@@ -214,17 +212,23 @@ size-written write.LinkFailed rest size = tt
 
 -- a connection holds after a turn of writing
 pub held-written : (known : Option KnownOutside) (c seen : SeenConn) (size : ℕ) (told' : Option LinkTold) (counts' : LinkCounts) (left : List ℕ) (answer : WriteTurn) (turn' : LastTurn)
-    → IsHeld known c size → c ≡ seen → is_usable seen.turn ≡ true
+    → IsHeld known c size → c ≡ seen → is_usable seen.turn ≡ true → seen.linger ≡ linger.Open
     → SendsOn c.told told' c.counts counts' c.pending left answer → turn' ≡ after_writing answer
     → IsHeld known (record c { told = told'; counts = counts'; pending = left; turn = turn' }) size
-held-written known c seen size told' counts' left answer turn' held is usable sends turn_is =
+held-written known c seen size told' counts' left answer turn' held is usable not_shut sends turn_is =
     let usable' : is_usable c.turn ≡ true = ap (λ (x : SeenConn). is_usable x.turn) is ∙ usable in
+    let not_shut' : c.linger ≡ linger.Open = ap (λ (x : SeenConn). x.linger) is ∙ not_shut in
+    let link' : IfSome told' (LinkFits linger.Open 0) =
+    subst (λ o. IfSome o (LinkFits linger.Open 0)) (sym sends.told_is) (told-open_sent sends.sent c.told (open-link c held.conn not_shut')) in
+    let way = still-open c (record c { told = told'; counts = counts'; pending = left; turn = after_writing answer }) held.conn not_shut' refl refl link' in
     let streams = told-written answer c.notes c.pending sends.sent left c.rest c.told (usable-streams c held.conn usable') sends.front in
     subst (λ (u : LastTurn). IsHeld known (record c { told = told'; counts = counts'; pending = left; turn = u }) size) (sym turn_is)
     (record {
       conn = record {
         turn_fits = fits-written answer c told' counts' left sends;
         ended = λ e. absurd (gone-written answer e);
+        linger_fits = way.fits;
+        link = way.link;
         streams = subst (λ o. IfSome o (StreamsWhile (is_usable (after_writing answer)) c.notes left c.rest)) (sym sends.told_is) streams;
       };
       size_is = size-written answer c.rest size;

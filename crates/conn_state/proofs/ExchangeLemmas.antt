@@ -100,28 +100,29 @@ has_read-none told counts bytes = record {
   ends = refl;
 }
 
-module _ (told told1 told2 : Option LinkTold) (counts counts1 counts2 : LinkCounts) (bytes bytes1 bytes2 : List ℕ) where
+module _ (told told1 told2 : Option LinkTold) where
   -- two receipts are one
-  told-joined : (a b : List ℕ) → told1 ≡ option_map (with_received (length a)) told → told2 ≡ option_map (with_received (length b)) told1
+  pub told-joined : (a b : List ℕ) → told1 ≡ option_map (with_received (length a)) told → told2 ≡ option_map (with_received (length b)) told1
       → told2 ≡ option_map (with_received (length (a ++ b))) told
   told-joined a b first second =
       second ∙ ap (λ o. option_map (with_received (length b)) o) first ∙ told-received_twice (length a) (length b) told
       ∙ ap (λ n. option_map (with_received n) told) (sym (length-append a b))
 
   -- what both gave comes next
-  gives-joined : (a b : List ℕ) → told1 ≡ option_map (with_received (length a)) told → IfSome told (λ t. a ≡ take (length a) t.coming)
+  pub gives-joined : (a b : List ℕ) → told1 ≡ option_map (with_received (length a)) told → IfSome told (λ t. a ≡ take (length a) t.coming)
       → IfSome told1 (λ t. b ≡ take (length b) t.coming) → IfSome told (λ t. a ++ b ≡ take (length (a ++ b)) t.coming)
   gives-joined a b is first second =
       gives-twice told a b first (subst (λ o. IfSome o (λ t. b ≡ take (length b) t.coming)) is second)
 
+module _ (told told1 told2 : Option LinkTold) (counts counts1 counts2 : LinkCounts) (bytes bytes1 bytes2 : List ℕ) where
   -- a further read
   pub has_read-more : HasRead told told1 counts counts1 bytes bytes1 → HasRead told1 told2 counts1 counts2 bytes1 bytes2
       → HasRead told told2 counts counts2 bytes bytes2
   has_read-more first later = record {
     got = first.got ++ later.got;
     bytes_are = later.bytes_are ∙ ap (λ xs. xs ++ later.got) first.bytes_are ∙ append_assoc bytes first.got later.got;
-    told_is = told-joined first.got later.got first.told_is later.told_is;
-    gives = gives-joined first.got later.got first.told_is first.gives later.gives;
+    told_is = told-joined told told1 told2 first.got later.got first.told_is later.told_is;
+    gives = gives-joined told told1 told2 first.got later.got first.told_is first.gives later.gives;
     faults = omega (arith, first.faults, later.faults);
     late_reads = later.late_reads ∙ first.late_reads;
     late_writes = later.late_writes ∙ first.late_writes;
@@ -143,8 +144,8 @@ module _ (told told1 told2 : Option LinkTold) (counts counts1 counts2 : LinkCoun
     finds = later.finds;
     got = first.got ++ later.got;
     bytes_are = keeps-joined answer first.got later.got first.bytes_are later.bytes_are;
-    told_is = told-joined first.got later.got first.told_is later.told_is;
-    gives = gives-joined first.got later.got first.told_is first.gives later.gives;
+    told_is = told-joined told told1 told2 first.got later.got first.told_is later.told_is;
+    gives = gives-joined told told1 told2 first.got later.got first.told_is first.gives later.gives;
     none_comes = later.none_comes;
     faults = rises-after (is_read_failure answer) counts.faults counts1.faults counts2.faults first.faults later.faults;
     late_reads = subst (λ n. RisesExactlyWhere (is_more answer) n counts2.late_reads) first.late_reads later.late_reads;
@@ -153,14 +154,14 @@ module _ (told told1 told2 : Option LinkTold) (counts counts1 counts2 : LinkCoun
   }
 
 -- what a read gave comes next
-gives-taken : (told : Option LinkTold) (count : ℕ) (buffer : List ℕ) → count ≤ length buffer → IfSome told (GivesNext (got.Got count) buffer)
+pub gives-taken : (told : Option LinkTold) (count : ℕ) (buffer : List ℕ) → count ≤ length buffer → IfSome told (GivesNext (got.Got count) buffer)
     → IfSome told (λ t. take count buffer ≡ take (length (take count buffer)) t.coming)
 gives-taken None count buffer fits gives = tt
 gives-taken (Some t) count buffer fits gives = rw (length-take-le count buffer fits) gives.1
 
 -- memory lacked for the bytes that a read gave
 pub takes_in-lost : (told told' : Option LinkTold) (counts counts' : LinkCounts) (bytes bytes' buffer : List ℕ) (count : ℕ)
-    → Reads told told' counts counts' (got.Got count) buffer → TakesIn told told' counts counts' bytes bytes' read.NoMemory
+    → Reads (record { told = told; counts = counts }) (record { told = told'; counts = counts' }) (got.Got count) buffer → TakesIn told told' counts counts' bytes bytes' read.NoMemory
 takes_in-lost told told' counts counts' bytes bytes' buffer count reads = record {
   finds = tt;
   got = take count buffer;
@@ -230,7 +231,7 @@ module _ (told told1 told2 : Option LinkTold) (counts counts1 counts2 : LinkCoun
 
 -- a write took so many bytes of a piece
 pub has_sent-piece : (told told' : Option LinkTold) (counts counts' : LinkCounts) (bytes piece bytes' : List ℕ) (count most : ℕ)
-    → piece ≡ take most bytes → bytes' ≡ drop count bytes → Writes told told' counts counts' (sent.Put count) piece
+    → piece ≡ take most bytes → bytes' ≡ drop count bytes → Writes (record { told = told; counts = counts }) (record { told = told'; counts = counts' }) (sent.Put count) piece
     → HasSent told told' counts counts' bytes bytes'
 has_sent-piece told told' counts counts' bytes piece bytes' count most is left writes =
     let whole : bytes ≡ piece ++ drop most bytes = sym (take-append-drop most bytes) ∙ ap (λ xs. xs ++ drop most bytes) (sym is) in

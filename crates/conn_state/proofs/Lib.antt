@@ -1,7 +1,10 @@
 pub mod AnswerLemmas
 pub mod ConnLemmas
+pub mod DropLemmas
 pub mod EndLemmas
 pub mod ExchangeLemmas
 pub mod ItemLemmas
 pub mod KnownLemmas
+pub mod LeaveLemmas
+pub mod LinkLemmas
 pub mod StreamLemmas

@@ -1,5 +1,5 @@
 -- A connection that ended, and what its link shows of it.
-use Rattle.std.specs.Prelude.{◌≡◌, ◌⊎◌, ℕ, ◌<◌, true, false, List, [], ◌++◌, Option, IfSome, option_map, ⊤}
+use Rattle.std.specs.Prelude.{◌≡◌, ◌⊎◌, ℕ, ◌<◌, ◌+◌, true, false, List, [], ◌++◌, length, Option, IfSome, option_map, ⊤}
 use Rattle.mpm_base.specs.Link.{LinkTold, LinkCounts, OnlyFaults, after_close}
 use Rattle.mpm_base.specs.Notes.{says_last}
 use Rattle.mpm_base.specs.declared.conn.ConnName.{ConnName}
@@ -9,9 +9,11 @@ use Rattle.mpm_base.specs.declared.conn.Tail.{Tail}
 use Rattle.mpm_base.specs.declared.conn.Tail.TheVariants as tail
 use Rattle.mpm_base.specs.declared.note.Note.{Note}
 use Rattle.conn_state.specs.declared.turn.LastTurn.TheVariants as turn
+use Rattle.conn_state.specs.declared.turn.LastLinger.{LastLinger}
+use Rattle.conn_state.specs.declared.turn.LastLinger.TheVariants as linger
 use Rattle.conn_state.specs.Items.{Item, AreFirst, SpellsNone}
 use Rattle.conn_state.specs.Replies.{IsFitting, AreReplies, IsInterim}
-use Rattle.conn_state.specs.Conn.{SeenConn, IsFrontOf}
+use Rattle.conn_state.specs.Conn.{SeenConn, IsFrontOf, is_usable, is_half_closed}
 
 -- a connection that ended, and how
 pub record SeenEnded : Type 0 where
@@ -26,13 +28,57 @@ pub record SeenEnded : Type 0 where
 
 -- ## When a connection may be ended so
 
--- what must have been shown for a close without lingering, which is the only one so far
-abbrev pub IsShown : Cause → Tail → SeenConn → Type 0
-IsShown cause.ClientDone tail.Direct c = c.turn ≡ turn.Gone
-IsShown cause.LinkFailed tail.Direct c = 0 < c.counts.faults
-IsShown cause.Stopped tail.Direct c = ⊤
-IsShown cause.NoMemory tail.Direct c = ⊤
-IsShown other how c = ⊥
+-- what a connection shows for a cause with which it is closed without lingering
+abbrev pub ShowsAtOnce : Cause → SeenConn → Type 0
+ShowsAtOnce cause.ClientDone c = c.turn ≡ turn.Gone
+ShowsAtOnce cause.LinkFailed c = 0 < c.counts.faults
+ShowsAtOnce cause.Stopped c = ⊤
+ShowsAtOnce cause.NoMemory c = ⊤
+ShowsAtOnce other c = ⊥
+
+-- the last response was sent whole
+pub record SentLast (c : SeenConn) : Type 0 where
+  pub none_pending : c.pending ≡ []
+  pub says_it : says_last c.notes ≡ true
+
+-- each response was sent whole, and no further request is there
+pub record SentAll (c : SeenConn) : Type 0 where
+  pub none_pending : c.pending ≡ []
+  pub none_whole : SpellsNone c.rest
+
+-- what a connection shows for a cause with which it lingers
+abbrev pub ShowsLingering : Cause → SeenConn → Type 0
+ShowsLingering cause.LastSent c = SentLast c
+ShowsLingering cause.KeepAliveLate c = SentAll c
+ShowsLingering cause.ReadLate c = SentAll c
+ShowsLingering cause.WriteLate c = ⊤
+ShowsLingering cause.Retiring c = SentAll c
+ShowsLingering other c = ⊥
+
+-- nothing failed before the connection began to linger, and it shows the cause
+pub record MayLinger (why : Cause) (c : SeenConn) : Type 0 where
+  pub usable : is_usable c.turn ≡ true
+  pub shows : ShowsLingering why c
+
+-- what the connection shows for the cause, by how its link is left
+abbrev pub ShowsCause : Cause → Tail → SeenConn → Type 0
+ShowsCause why tail.Direct c = ShowsAtOnce why c
+ShowsCause why other c = MayLinger why c
+
+-- how far the connection is on its way out, by how its link is left
+abbrev pub IsLeft : Tail → LastLinger → Type 0
+IsLeft tail.Direct last = is_half_closed last ≡ false
+IsLeft tail.Drained last = last ≡ linger.Drained
+IsLeft tail.Sated last = last ≡ linger.Sated
+IsLeft tail.Late last = is_half_closed last ≡ true
+IsLeft tail.Failed last = last ≡ linger.LinkFailed
+IsLeft tail.Halted last = is_half_closed last ≡ true
+IsLeft tail.NoMemory last = is_half_closed last ≡ true
+
+-- what a connection must have shown that is ended so
+pub record IsShown (why : Cause) (how : Tail) (c : SeenConn) : Type 0 where
+  pub shows : ShowsCause why how c
+  pub left : IsLeft how c.linger
 
 -- ## What its link shows then
 
@@ -60,11 +106,9 @@ abbrev pub shuts_of : Tail → ℕ
 shuts_of tail.Direct = 0
 shuts_of other = 1
 
--- the connection was answered: what was sent for its notes and the bytes that it received; its link was closed once; and
--- where its client had done, all that the client sent was received
-pub record IsAnswered (why : Cause) (how : Tail) (notes : List Note) (t : LinkTold) : Type 0 where
-  pub closed : t.closes ≡ 1
-  pub shuts : t.shuts ≡ shuts_of how
+-- the connection was answered: what was sent for its notes and the bytes that it received; and where its client had done,
+-- all that the client sent was received
+pub record HasAnswered (why : Cause) (notes : List Note) (t : LinkTold) : Type 0 where
   pub items : List Item
   pub rest : List ℕ
   pub replies : List ℕ
@@ -75,15 +119,35 @@ pub record IsAnswered (why : Cause) (how : Tail) (notes : List Note) (t : LinkTo
   pub sent : SentFor why items notes rest replies interim t
   pub received : why ≡ cause.ClientDone → t.coming ≡ []
 
+-- the connection was answered, and its link was closed once; where it lingered until the client closed its side, all that the
+-- client sent was received; and where it lingered until all was dropped that may be, so many bytes were
+pub record IsAnswered (why : Cause) (how : Tail) (notes : List Note) (t : LinkTold) : Type 0 where
+  pub closed : t.closes ≡ 1
+  pub shuts : t.shuts ≡ shuts_of how
+  pub answers : HasAnswered why notes t
+  pub drained : how ≡ tail.Drained → t.coming ≡ []
+  pub sated : how ≡ tail.Sated → length t.received ≡ length t.before_shut + 1048576
+
 -- what the counts of the link show for the cause, whether it tells or not: a read found the end, or a call failed
-abbrev pub IsLicensed : Cause → LinkCounts → Type 0
-IsLicensed cause.ClientDone counts = 0 < counts.ends
-IsLicensed cause.LinkFailed counts = 0 < counts.faults
-IsLicensed other counts = ⊤
+abbrev pub LicensesCause : Cause → LinkCounts → Type 0
+LicensesCause cause.ClientDone counts = 0 < counts.ends
+LicensesCause cause.LinkFailed counts = 0 < counts.faults
+LicensesCause other counts = ⊤
+
+-- what they show for how it was left: a read found the end, or a call failed
+abbrev pub LicensesTail : Tail → LinkCounts → Type 0
+LicensesTail tail.Drained counts = 0 < counts.ends
+LicensesTail tail.Failed counts = 0 < counts.faults
+LicensesTail other counts = ⊤
+
+-- what the counts of the link show for the cause, and for how it was left
+pub record IsLicensed (why : Cause) (how : Tail) (counts : LinkCounts) : Type 0 where
+  pub by_cause : LicensesCause why counts
+  pub by_tail : LicensesTail how counts
 
 -- what holds of every connection that ended
 pub record IsEnded (e : SeenEnded) : Type 0 where
-  pub licensed : IsLicensed e.cause e.counts
+  pub licensed : IsLicensed e.cause e.tail e.counts
   pub answered : IfSome e.told (IsAnswered e.cause e.tail e.notes)
 
 -- the connection ended so: its link was closed, and it has the notes that it had

@@ -1,5 +1,5 @@
 -- What is seen of a connection, and what holds of it at every turn.
-use Rattle.std.specs.Prelude.{◌≡◌, ℕ, ◌<◌, Bool, true, false, List, [], ◌++◌, length, Option, IfSome, ⊤}
+use Rattle.std.specs.Prelude.{◌≡◌, ℕ, ◌<◌, Bool, true, false, List, [], ◌++◌, length, Option, IfSome, if◌then◌else◌, ⊤}
 use Rattle.mpm_base.specs.Link.{LinkTold, LinkCounts, fresh_link}
 use Rattle.mpm_base.specs.Notes.{says_last}
 use Rattle.mpm_base.specs.declared.conn.ConnName.{ConnName}
@@ -7,11 +7,14 @@ use Rattle.mpm_base.specs.declared.conn.Ask.{Ask}
 use Rattle.mpm_base.specs.declared.note.Note.{Note}
 use Rattle.conn_state.specs.declared.turn.LastTurn.{LastTurn}
 use Rattle.conn_state.specs.declared.turn.LastTurn.TheVariants as turn
+use Rattle.conn_state.specs.declared.turn.LastLinger.{LastLinger}
+use Rattle.conn_state.specs.declared.turn.LastLinger.TheVariants as linger
 use Rattle.conn_state.specs.Items.{Item, IsAskedIn, SpellsNone}
 use Rattle.conn_state.specs.Replies.{IsFitting, AreReplies}
 
 -- a connection: what its link tells and counts, its name, child and generation, its responses so far, what of them is still
--- to be sent, the bytes that were read and not yet answered, and what its last turn answered
+-- to be sent, the bytes that were read and not yet answered, what its last turn answered, how far it is on its way out, and
+-- how many bytes it dropped while it lingered
 pub record SeenConn : Type 0 where
   pub told : Option LinkTold
   pub counts : LinkCounts
@@ -22,6 +25,8 @@ pub record SeenConn : Type 0 where
   pub pending : List ℕ
   pub rest : List ℕ
   pub turn : LastTurn
+  pub linger : LastLinger
+  pub dropped : ℕ
 
 -- nothing failed so far: the connection may be read, answered and written
 abbrev pub is_usable : LastTurn → Bool
@@ -35,32 +40,60 @@ is_usable turn.NotReady = true
 is_usable turn.LinkFailed = false
 is_usable turn.NoMemory = false
 
+-- ## The way out
+
+-- the link was half-closed
+abbrev pub is_half_closed : LastLinger → Bool
+is_half_closed linger.Open = false
+is_half_closed linger.ShutFailed = false
+is_half_closed linger.Shut = true
+is_half_closed linger.Drained = true
+is_half_closed linger.Sated = true
+is_half_closed linger.NotReady = true
+is_half_closed linger.LinkFailed = true
+
+-- the connection lingers: it may be read, to drop what still comes
+abbrev pub lingers : LastLinger → Bool
+lingers linger.Open = false
+lingers linger.ShutFailed = false
+lingers linger.Shut = true
+lingers linger.Drained = false
+lingers linger.Sated = false
+lingers linger.NotReady = true
+lingers linger.LinkFailed = false
+
+-- how often its link was half-closed
+abbrev pub shuts_at : LastLinger → ℕ
+shuts_at last = if is_half_closed last then 1 else 0
+
+-- the link wasn't closed, was half-closed as far as the connection is on its way out, and received what it received before
+-- that, followed by what was dropped
+pub record LinkFits (last : LastLinger) (dropped : ℕ) (t : LinkTold) : Type 0 where
+  pub closes : t.closes ≡ 0
+  pub shuts : t.shuts ≡ shuts_at last
+  pub behind : List ℕ
+  pub received : t.received ≡ t.before_shut ++ behind
+  pub count : length behind ≡ dropped
+
 -- ## The reply stream
 
--- the link was neither half-closed nor closed
-pub record IsOpenLink (t : LinkTold) : Type 0 where
-  pub shuts : t.shuts ≡ 0
-  pub closes : t.closes ≡ 0
-  pub before_shut : t.before_shut ≡ t.received
-
--- what was sent and what is pending are the replies to the first requests that were received, and the rest is left
+-- what was sent and what is pending are the replies to the first requests that were received before the half-close, and the
+-- rest is left
 pub record Streams (notes : List Note) (pending rest : List ℕ) (t : LinkTold) : Type 0 where
-  pub open_link : IsOpenLink t
   pub items : List Item
-  pub fitting : IsFitting notes t.received items rest
+  pub fitting : IsFitting notes t.before_shut items rest
   pub replies : AreReplies items notes (t.sent ++ pending)
 
 -- the list goes on behind the front
 abbrev pub IsFrontOf : List ℕ → List ℕ → Type 0
 IsFrontOf whole front = (more : List ℕ) × (whole ≡ front ++ more)
 
--- what was sent is a front of the replies to the first requests that were received
+-- what was sent is a front of the replies to the first requests that were received before the half-close
 pub record BrokeOff (notes : List Note) (t : LinkTold) : Type 0 where
-  pub open_link : IsOpenLink t
   pub items : List Item
   pub left : List ℕ
   pub replies : List ℕ
-  pub fitting : IsFitting notes t.received items left
+  pub fitting : IsFitting notes t.before_shut items left
   pub are_replies : AreReplies items notes replies
   pub front : IsFrontOf replies t.sent
 
@@ -106,10 +139,32 @@ pub record IsDone (c : SeenConn) : Type 0 where
   pub found : 0 < c.counts.ends
   pub all_came : IfSome c.told (λ t. t.coming ≡ [])
 
+-- ## What the last linger turn leaves
+
+-- fewer bytes were dropped than the most that may be
+abbrev pub IsBelowMost : ℕ → Type 0
+IsBelowMost dropped = dropped < 1048576
+
+-- a call of the link failed
+abbrev pub HasFailed : SeenConn → Type 0
+HasFailed c = 0 < c.counts.faults
+
+-- how many bytes were dropped, and what the link shows, as far as the connection is on its way out
+abbrev pub LingerFits : LastLinger → SeenConn → Type 0
+LingerFits linger.Open c = c.dropped ≡ 0
+LingerFits linger.ShutFailed c = (c.dropped ≡ 0) × HasFailed c
+LingerFits linger.Shut c = c.dropped ≡ 0
+LingerFits linger.Drained c = IsBelowMost c.dropped × IsDone c
+LingerFits linger.Sated c = c.dropped ≡ 1048576
+LingerFits linger.NotReady c = IsBelowMost c.dropped
+LingerFits linger.LinkFailed c = IsBelowMost c.dropped × HasFailed c
+
 -- what holds of every connection
 pub record IsConn (c : SeenConn) : Type 0 where
   pub turn_fits : TurnFits c.turn c
   pub ended : c.turn ≡ turn.Gone → IsDone c
+  pub linger_fits : LingerFits c.linger c
+  pub link : IfSome c.told (LinkFits c.linger c.dropped)
   pub streams : IfSome c.told (StreamsWhile (is_usable c.turn) c.notes c.pending c.rest)
 
 -- ## A new connection
@@ -131,4 +186,6 @@ new_conn told counts name child generation =
       pending = [];
       rest = [];
       turn = turn.New;
+      linger = linger.Open;
+      dropped = 0;
     }

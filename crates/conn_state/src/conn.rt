@@ -1,23 +1,25 @@
 //! One connection over its link.
 ghost use Rattle.std.specs.Prelude.{◌≡◌, ◌==◌, ◌<◌, true, false, not, [], ◌∷◌, ◌++◌, length, IfSome, IfOk, OnOk, OnErr};
 ghost use Rattle.std.proofs.Common.{inl, inr};
+ghost use Rattle.mpm_base.specs.Moment.{IsSecond};
 ghost use Rattle.mpm_base.specs.Notes.{says_last};
 ghost use Rattle.mpm_base.specs.declared.conn.Ask.{Ask};
 ghost use Rattle.http_read.specs.declared.root_head.RootHead.{RootHead};
 ghost use Rattle.conn_state.specs.declared.turn.LastTurn.TheVariants as turn;
+ghost use Rattle.conn_state.specs.declared.turn.LastLinger.TheVariants as linger;
 ghost use Rattle.conn_state.specs.Items.{IsAskedIn};
 ghost use Rattle.conn_state.specs.Known.{IsOfClient};
-ghost use Rattle.conn_state.specs.Conn.{IsConn, IsFresh, is_usable, new_conn};
-ghost use Rattle.conn_state.specs.Turns.{ReadsOn, AsksNothing, IsNoteOf, TakesNote, WritesOn};
+ghost use Rattle.conn_state.specs.Conn.{IsConn, IsFresh, is_usable, lingers, new_conn};
+ghost use Rattle.conn_state.specs.Turns.{ReadsOn, AsksNothing, IsNoteOf, TakesNote, WritesOn, ShutsOn, LingersOn};
 ghost use Rattle.conn_state.specs.Answered.{IsShown, IsEnded, IsEndOf};
 ghost use Rattle.conn_state.specs.Response.{IsResponse};
 
 use crate::buffers::{Pending, Received};
 use crate::ended::Ended;
-use crate::exchange::{read_item, send};
+use crate::exchange::{drop_rest, read_item, send};
 use crate::known::{Known, Nothing};
 use crate::response::response;
-use crate::turn::{LastTurn, ReadTurn, WriteTurn};
+use crate::turn::{LastLinger, LastTurn, LingerTurn, ReadTurn, WriteTurn};
 use mpm_base::{Cause, ConnName, Link, NoMemory, Note, Notes, Octets, Tail};
 use std::alloc::Global;
 use std::marker::{Model, PhantomData};
@@ -36,6 +38,9 @@ pub struct Conn<L: Link, N: Known> {
     turn: LastTurn,
     // How many bytes the item has that the last turn asked.
     size: usize,
+    linger: LastLinger,
+    // How many bytes were dropped while it lingered.
+    dropped: usize,
     of: PhantomData<N>,
 }
 
@@ -46,8 +51,8 @@ impl<L: Link, N: Known> Model for Conn<L, N> {
     ghost Value = { SeenConn };
 
     ghost view = { λ c. record {
-      told = L.told c.link;
-      counts = L.counts c.link;
+      told = (L.seen c.link).told;
+      counts = (L.seen c.link).counts;
       name = c.name;
       child = c.child;
       generation = c.generation;
@@ -55,11 +60,13 @@ impl<L: Link, N: Known> Model for Conn<L, N> {
       pending = c.pending;
       rest = c.rest;
       turn = c.turn;
+      linger = c.linger;
+      dropped = c.dropped;
     } };
 
     ghost invariant = { λ c. IsHeld N.known (record {
-      told = L.told c.link;
-      counts = L.counts c.link;
+      told = (L.seen c.link).told;
+      counts = (L.seen c.link).counts;
       name = c.name;
       child = c.child;
       generation = c.generation;
@@ -67,15 +74,17 @@ impl<L: Link, N: Known> Model for Conn<L, N> {
       pending = c.pending;
       rest = c.rest;
       turn = c.turn;
+      linger = c.linger;
+      dropped = c.dropped;
     }) c.size };
 }
 
 impl<L: Link, N: Known> Conn<L, N> {
     /// A connection of that name over a link of which nothing was read, and to which nothing was written. Takes no memory.
     pub fn new(alloc: Global, name: ConnName, child: u32, generation: u32, link: L) -> Conn<L, N>
-        requires fresh { IfSome (L.told link) IsFresh }
-        requires client { IsOfClient N.known (L.told link) }
-        ensures { result ≡ new_conn (L.told link) (L.counts link) name child generation }
+        requires fresh { IfSome (L.seen link).told IsFresh }
+        requires client { IsOfClient N.known (L.seen link).told }
+        ensures { result ≡ new_conn (L.seen link).told (L.seen link).counts name child generation }
     {
         Conn {
             alloc,
@@ -88,6 +97,8 @@ impl<L: Link, N: Known> Conn<L, N> {
             rest: Received::make(alloc),
             turn: LastTurn::New,
             size: 0,
+            linger: LastLinger::Open,
+            dropped: 0,
             of: PhantomData,
         }
     }
@@ -108,6 +119,8 @@ impl<L: Link, N: Known> Conn<L, N> {
             rest: self.rest,
             turn: self.turn,
             size: self.size,
+            linger: self.linger,
+            dropped: self.dropped,
             of: PhantomData,
         }
     }
@@ -174,6 +187,7 @@ impl<L: Link, N: Known> Conn<L, N> {
         requires usable { is_usable self.old.turn ≡ true }
         requires sent { self.old.pending ≡ [] }
         requires open { says_last self.old.notes ≡ false }
+        requires not_shut { self.old.linger ≡ linger.Open }
         ensures reads { ReadsOn self.old self.new result }
         ensures still { (ask : Ask) → IsAskedIn self.old.rest ask → AsksNothing self.old self.new }
     {
@@ -187,7 +201,8 @@ impl<L: Link, N: Known> Conn<L, N> {
     /// but the turn changes, and the connection can only be ended.
     pub fn answer(&mut self, note: Note) -> Result<(), NoMemory>
         requires asked { IsNoteOf self.old.turn note }
-        requires date { note.date < 253402300800 }
+        requires date { IsSecond note.date }
+        requires not_shut { self.old.linger ≡ linger.Open }
         ensures ok { OnOk result (TakesNote note self.old self.new) }
         ensures err { OnErr result (self.new ≡ record self.old { turn = turn.NoMemory }) }
     {
@@ -208,10 +223,32 @@ impl<L: Link, N: Known> Conn<L, N> {
     /// Sends what is pending, until the link has no room. Takes no memory.
     pub fn write_turn(&mut self) -> WriteTurn
         requires usable { is_usable self.old.turn ≡ true }
+        requires not_shut { self.old.linger ≡ linger.Open }
         ensures { WritesOn self.old self.new result }
     {
         let turn = send(&mut self.link, &mut self.pending);
         self.turn = turn.leaves();
+        turn
+    }
+
+    /// Half-closes the link: the client is told that no more comes. False where the call failed. Takes no memory.
+    pub fn shut(&mut self) -> bool
+        requires not_shut { self.old.linger ≡ linger.Open }
+        ensures { ShutsOn self.old self.new result }
+    {
+        let half_closed = self.link.shut();
+        self.linger = LastLinger::after_half_close(half_closed);
+        half_closed
+    }
+
+    /// Reads and drops what still comes, until the link gives no more, or 1,048,576 bytes were dropped in all turns. Takes no
+    /// memory.
+    pub fn linger_turn(&mut self) -> LingerTurn
+        requires lingers { lingers self.old.linger ≡ true }
+        ensures { LingersOn self.old self.new result }
+    {
+        let turn = drop_rest(&mut self.link, &mut self.dropped);
+        self.linger = turn.leaves();
         turn
     }
 
@@ -233,6 +270,8 @@ impl<L: Link, N: Known> Conn<L, N> {
             rest: _,
             turn: _,
             size: _,
+            linger: _,
+            dropped: _,
             of: _,
         } = self;
         link.close();
@@ -250,7 +289,7 @@ impl<L: Link, N: Known> Conn<L, N> {
 
 /// Makes the response of the note, and puts the note behind the others. Where memory lacks nothing changes.
 fn take_note(alloc: Global, notes: &mut Notes, note: Note) -> Result<Octets, NoMemory>
-    requires { note.date < 253402300800 }
+    requires { IsSecond note.date }
     ensures ok { OnOk result (notes.new ≡ notes.old ++ note ∷ []) }
     ensures file { note.code ≡ 200 → IfOk result (λ bytes. (request : RootHead) → IsResponse (inl request) note bytes) }
     ensures refusal { ¬ (note.code ≡ 200) → IfOk result (IsResponse (inr note.code) note) }

@@ -27,8 +27,8 @@ impl<L: Link> Model for Ended<L> {
     ghost Value = { SeenEnded };
 
     ghost view = { λ e. record {
-      told = L.told e.link;
-      counts = L.counts e.link;
+      told = (L.seen e.link).told;
+      counts = (L.seen e.link).counts;
       name = e.name;
       child = e.child;
       generation = e.generation;

@@ -1,19 +1,22 @@
 //! What a connection takes from its link and gives to it.
-ghost use Rattle.std.specs.Prelude.{IfSome};
+ghost use Rattle.std.specs.Prelude.{◌<◌, IfSome};
 ghost use Rattle.mpm_base.specs.declared.conn.Ask.{Ask};
 ghost use Rattle.conn_state.specs.Items.{IsAskedIn, SpellsNone};
 ghost use Rattle.conn_state.specs.Turns.{after_reading};
 ghost use Rattle.conn_state.specs.Held.{IsSizeOf};
-ghost use Rattle.conn_state.specs.ExchangeInside.{ReadsPiece, TakesIn, SendsOn, IsSame};
+ghost use Rattle.conn_state.specs.ExchangeInside.{ReadsPiece, TakesIn, SendsOn, DropsOn, DropsPiece, IsSame};
 
 use crate::buffers::{Pending, Received};
 use crate::item::{Found, find_item};
-use crate::turn::{ReadTurn, WriteTurn};
+use crate::turn::{LingerTurn, ReadTurn, WriteTurn};
 use mpm_base::{Got, Link, Sent, one_request};
 use std::alloc::Global;
 
 /// How many bytes a link is asked for, and is offered, at once.
 const PIECE: usize = 4_096;
+
+/// How many bytes are dropped at most while a link lingers.
+const MOST_DROPPED: usize = 1_048_576;
 
 /// What a turn of reading answers, and the size of the item that it found.
 #[derive(Clone, Copy, Debug, PartialEq, Eq)]
@@ -27,11 +30,11 @@ pub struct Reading {
 /// Reads until the first item is whole or refused, or the link gives no more. The link is asked only while more bytes have
 /// to come.
 pub fn read_item<L: Link>(alloc: Global, link: &mut L, bytes: &mut Received) -> Reading
-    ensures takes { TakesIn (L.told link.old) (L.told link.new) (L.counts link.old) (L.counts link.new)
+    ensures takes { TakesIn (L.seen link.old).told (L.seen link.new).told (L.seen link.old).counts (L.seen link.new).counts
         bytes.old bytes.new result.turn }
     ensures size { IsSizeOf (after_reading result.turn) bytes.new result.size }
     ensures still { (ask : Ask) → IsAskedIn bytes.old ask
-        → IsSame (L.told link.old) (L.told link.new) (L.counts link.old) (L.counts link.new) bytes.old bytes.new }
+        → IsSame (L.seen link.old).told (L.seen link.new).told (L.seen link.old).counts (L.seen link.new).counts bytes.old bytes.new }
 {
     one_request();
     loop {
@@ -59,7 +62,7 @@ pub fn read_item<L: Link>(alloc: Global, link: &mut L, bytes: &mut Received) -> 
 /// Reads what the link has, at most a piece. None where bytes came.
 fn read_piece<L: Link>(link: &mut L, bytes: &mut Received) -> Option<ReadTurn>
     requires none { SpellsNone bytes.old }
-    ensures piece { ReadsPiece (L.told link.old) (L.told link.new) (L.counts link.old) (L.counts link.new)
+    ensures piece { ReadsPiece (L.seen link.old).told (L.seen link.new).told (L.seen link.old).counts (L.seen link.new).counts
         bytes.old bytes.new result }
     ensures no_item { IfSome result (λ turn. IsSizeOf (after_reading turn) bytes.new 0) }
 {
@@ -77,7 +80,7 @@ fn read_piece<L: Link>(link: &mut L, bytes: &mut Received) -> Option<ReadTurn>
 
 /// Sends the bytes, until the link has no room.
 pub fn send<L: Link>(link: &mut L, bytes: &mut Pending) -> WriteTurn
-    ensures { SendsOn (L.told link.old) (L.told link.new) (L.counts link.old) (L.counts link.new)
+    ensures { SendsOn (L.seen link.old).told (L.seen link.new).told (L.seen link.old).counts (L.seen link.new).counts
         bytes.old bytes.new result }
 {
     while !bytes.is_empty() {
@@ -88,4 +91,38 @@ pub fn send<L: Link>(link: &mut L, bytes: &mut Pending) -> WriteTurn
         }
     }
     WriteTurn::Done
+}
+
+/// Reads and drops what the link has, until it gives no more or as many bytes were dropped in all as may be. `dropped` counts
+/// them, also those of earlier calls.
+pub fn drop_rest<L: Link>(link: &mut L, dropped: &mut usize) -> LingerTurn
+    requires { dropped.old < 1048576 }
+    ensures { DropsOn (L.seen link.old).told (L.seen link.new).told (L.seen link.old).counts (L.seen link.new).counts
+        dropped.old dropped.new result }
+{
+    while *dropped < MOST_DROPPED {
+        if let Some(turn) = drop_piece(link, dropped) {
+            return turn;
+        }
+    }
+    LingerTurn::Sated
+}
+
+/// Reads and drops what the link has, at most a piece, and no more than is left to drop. None where bytes came.
+fn drop_piece<L: Link>(link: &mut L, dropped: &mut usize) -> Option<LingerTurn>
+    requires { dropped.old < 1048576 }
+    ensures { DropsPiece (L.seen link.old).told (L.seen link.new).told (L.seen link.old).counts (L.seen link.new).counts
+        dropped.old dropped.new result }
+{
+    let mut buffer = [0; PIECE];
+    let room = PIECE.min(MOST_DROPPED - *dropped);
+    match link.read(&mut buffer[..room]) {
+        Got::Got(count) => {
+            *dropped += count as usize;
+            None
+        }
+        Got::End => Some(LingerTurn::Drained),
+        Got::NotReady => Some(LingerTurn::NotReady),
+        Got::Failed => Some(LingerTurn::LinkFailed),
+    }
 }

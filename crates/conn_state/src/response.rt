@@ -4,6 +4,7 @@ ghost use Rattle.std.specs.Fmt.{decimal};
 ghost use Rattle.std.proofs.Common.{inl, inr};
 ghost use Rattle.httpdate.specs.Date.{date_text};
 ghost use Rattle.http_read.specs.declared.root_head.RootHead.{RootHead};
+ghost use Rattle.mpm_base.specs.Moment.{IsSecond};
 ghost use Rattle.conn_state.specs.Response.{IsResponse};
 ghost use Rattle.conn_state.specs.Response as spec;
 
@@ -22,7 +23,7 @@ const LINE_END: &[u8] = b"\r\n";
 
 /// The response that the note says: the file, or else a refusal by the note's code.
 pub fn response(alloc: Global, note: &Note) -> Result<Octets, NoMemory>
-    requires date { note.now.date < 253402300800 }
+    requires date { IsSecond note.now.date }
     ensures file { note.now.code ≡ 200 → IfOk result (λ bytes. (request : RootHead) → IsResponse (inl request) note.now bytes) }
     ensures refusal { ¬ (note.now.code ≡ 200) → IfOk result (IsResponse (inr note.now.code) note.now) }
 {

@@ -1,11 +1,14 @@
 //! Connections over links in memory: what they ask, send and show when they end.
 ghost use Rattle.std.specs.Prelude.{◌≡◌, true, false, [], ◌||◌, IfOk, OnOk};
 ghost use Rattle.mpm_base.specs.Notes.{says_last};
+ghost use Rattle.conn_state.specs.declared.turn.LastLinger.TheVariants as linger;
 ghost use Rattle.conn_state.specs.Conn.{is_usable};
 
 mod counting;
 mod cuts;
+mod lingering;
 mod pieces;
+mod refusing;
 
 use crate::conn::Conn;
 use crate::ended::Ended;
@@ -52,6 +55,7 @@ fn over(
     ensures usable { IfOk result (λ conn. is_usable conn.turn ≡ true) }
     ensures sent { IfOk result (λ conn. conn.pending ≡ []) }
     ensures not_last { IfOk result (λ conn. says_last conn.notes ≡ false) }
+    ensures not_shut { IfOk result (λ conn. conn.linger ≡ linger.Open) }
 {
     let mut reads = Calls::make(alloc);
     if bad_read {
@@ -88,9 +92,11 @@ fn read_and_answer(
     requires usable { is_usable conn.old.turn ≡ true }
     requires sent { conn.old.pending ≡ [] }
     requires not_last { says_last conn.old.notes ≡ false }
+    requires not_shut { conn.old.linger ≡ linger.Open }
     requires closes { (asked.asked_close || asked.refused) ≡ true → last ≡ true }
     requires page { asked.page ≡ false }
     ensures usable { OnOk result (is_usable conn.new.turn ≡ true) }
+    ensures not_shut { OnOk result (conn.new.linger ≡ linger.Open) }
 {
     assert_eq!(rt; conn.read_turn(), ReadTurn::Asked(asked));
     conn.answer(Note {
@@ -114,9 +120,11 @@ fn answer_next(
     requires usable { is_usable conn.old.turn ≡ true }
     requires sent { conn.old.pending ≡ [] }
     requires not_last { says_last conn.old.notes ≡ false }
+    requires not_shut { conn.old.linger ≡ linger.Open }
     requires closes { (asked.asked_close || asked.refused) ≡ true → last ≡ true }
     requires page { asked.page ≡ false }
     ensures usable { OnOk result (is_usable conn.new.turn ≡ true) }
+    ensures not_shut { OnOk result (conn.new.linger ≡ linger.Open) }
     ensures sent { OnOk result (conn.new.pending ≡ []) }
     ensures last { OnOk result (says_last conn.new.notes ≡ last) }
 {
@@ -135,6 +143,7 @@ fn answer_both(
     requires usable { is_usable conn.turn ≡ true }
     requires sent { conn.pending ≡ [] }
     requires not_last { says_last conn.notes ≡ false }
+    requires not_shut { conn.linger ≡ linger.Open }
 {
     answer_next(rt, &mut conn, FOUND, false)?;
     assert!(rt; !conn.rest_empty());

@@ -1,6 +1,6 @@
 //! A link for tests that counts its writes, and notes how many bytes its reads are offered.
 ghost use Rattle.std.specs.Prelude.{◌≡◌, Some};
-ghost use Rattle.mpm_base.specs.Link.{Reads, Writes, Shuts, Closes};
+ghost use Rattle.mpm_base.specs.Link.{Reads, Writes, Shuts, Closes, telling_link};
 
 use mpm_base::{Got, Link, Sent};
 use stand_ins::ScriptLink;
@@ -44,12 +44,10 @@ impl Counting {
 }
 
 impl Link for Counting {
-    ghost told = { λ l. Some l.inner.told };
-
-    ghost counts = { λ l. l.inner.counts };
+    ghost seen = { λ l. telling_link l.inner.told l.inner.counts };
 
     fn read(&mut self, buffer: &mut [u8]) -> Got
-        ensures link { Reads (Some self.old.inner.told) (Some self.new.inner.told) self.old.inner.counts self.new.inner.counts result buffer.new }
+        ensures link { Reads (telling_link self.old.inner.told self.old.inner.counts) (telling_link self.new.inner.told self.new.inner.counts) result buffer.new }
     {
         self.fewest = self.fewest.min(buffer.len());
         self.most = self.most.max(buffer.len());
@@ -57,20 +55,20 @@ impl Link for Counting {
     }
 
     fn write(&mut self, bytes: &[u8]) -> Sent
-        ensures link { Writes (Some self.old.inner.told) (Some self.new.inner.told) self.old.inner.counts self.new.inner.counts result bytes.now }
+        ensures link { Writes (telling_link self.old.inner.told self.old.inner.counts) (telling_link self.new.inner.told self.new.inner.counts) result bytes.now }
     {
         self.writes = self.writes.saturating_add(1);
         self.inner.write(bytes)
     }
 
     fn shut(&mut self) -> bool
-        ensures link { Shuts (Some self.old.inner.told) (Some self.new.inner.told) self.old.inner.counts self.new.inner.counts result }
+        ensures link { Shuts (telling_link self.old.inner.told self.old.inner.counts) (telling_link self.new.inner.told self.new.inner.counts) result }
     {
         self.inner.shut()
     }
 
     fn close(&mut self)
-        ensures link { Closes (Some self.old.inner.told) (Some self.new.inner.told) self.old.inner.counts self.new.inner.counts }
+        ensures link { Closes (telling_link self.old.inner.told self.old.inner.counts) (telling_link self.new.inner.told self.new.inner.counts) }
     {
         self.inner.close();
     }

@@ -1,6 +1,7 @@
 //! Connections over links that give and take in pieces, and whose calls fail.
 ghost use Rattle.std.specs.Prelude.{◌≡◌, true, false, [], IfSome, IfOk};
 ghost use Rattle.mpm_base.specs.Notes.{says_last};
+ghost use Rattle.conn_state.specs.declared.turn.LastLinger.TheVariants as linger;
 ghost use Rattle.conn_state.specs.Conn.{IsFresh, is_usable};
 
 use crate::conn::Conn;
@@ -40,7 +41,9 @@ const REPLY: &[u8] =
 fn step<L: Link>(conn: &mut Conn<L, Nothing>) -> Result<LastTurn, NoMemory>
     requires usable { is_usable conn.old.turn ≡ true }
     requires open { conn.old.pending ≡ [] → says_last conn.old.notes ≡ false }
+    requires not_shut { conn.old.linger ≡ linger.Open }
     ensures turn { IfOk result (λ turn. conn.new.turn ≡ turn) }
+    ensures not_shut { IfOk result (λ turn. conn.new.linger ≡ linger.Open) }
 {
     if conn.pending() {
         return Ok(conn.write_turn().leaves());
@@ -62,7 +65,7 @@ fn step<L: Link>(conn: &mut Conn<L, Nothing>) -> Result<LastTurn, NoMemory>
 /// Makes the turns of a connection over the link, at most so many, until the client sends no more, nothing more comes at this
 /// moment, or something failed. Ends it, and answers how the last turn came out.
 fn converse<L: Link>(alloc: Global, link: L, turns: u64) -> Result<(Ended<L>, LastTurn), NoMemory>
-    requires fresh { IfSome (L.told link) IsFresh }
+    requires fresh { IfSome (L.seen link).told IsFresh }
 {
     let mut conn = Conn::<L, Nothing>::new(alloc, NAME, 2, 5, link);
     let mut turn = LastTurn::New;
@@ -92,6 +95,7 @@ fn goes_on(turn: LastTurn) -> bool
 /// Ends a connection for the cause that its last turn is.
 fn close<L: Link>(conn: Conn<L, Nothing>, turn: LastTurn) -> Ended<L>
     requires turn { conn.turn ≡ turn }
+    requires not_shut { conn.linger ≡ linger.Open }
 {
     conn.show();
     match turn {

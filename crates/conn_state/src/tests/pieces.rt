@@ -1,6 +1,6 @@
 //! A link for tests that gives and takes in pieces.
 ghost use Rattle.std.specs.Prelude.{◌≡◌, Some};
-ghost use Rattle.mpm_base.specs.Link.{Reads, Writes, Shuts, Closes};
+ghost use Rattle.mpm_base.specs.Link.{Reads, Writes, Shuts, Closes, telling_link};
 
 use mpm_base::{Got, Link, Sent};
 use stand_ins::ScriptLink;
@@ -45,8 +45,7 @@ impl Pieces {
 
     /// Writes to the link without pieces, and counts where that isn't ready.
     fn put(&mut self, bytes: &[u8]) -> Sent
-        ensures { Writes (Some self.old.inner.told) (Some self.new.inner.told)
-            (record self.old.inner.counts { late_writes = self.old.late }) (record self.new.inner.counts { late_writes = self.new.late })
+        ensures { Writes (telling_link self.old.inner.told (record self.old.inner.counts { late_writes = self.old.late })) (telling_link self.new.inner.told (record self.new.inner.counts { late_writes = self.new.late }))
             result bytes.now }
     {
         let answer = self.inner.write(bytes);
@@ -65,13 +64,10 @@ impl Pieces {
 }
 
 impl Link for Pieces {
-    ghost told = { λ l. Some l.inner.told };
-
-    ghost counts = { λ l. record l.inner.counts { late_writes = l.late } };
+    ghost seen = { λ l. telling_link l.inner.told (record l.inner.counts { late_writes = l.late }) };
 
     fn read(&mut self, buffer: &mut [u8]) -> Got
-        ensures link { Reads (Some self.old.inner.told) (Some self.new.inner.told)
-            (record self.old.inner.counts { late_writes = self.old.late }) (record self.new.inner.counts { late_writes = self.new.late })
+        ensures link { Reads (telling_link self.old.inner.told (record self.old.inner.counts { late_writes = self.old.late })) (telling_link self.new.inner.told (record self.new.inner.counts { late_writes = self.new.late }))
             result buffer.new }
     {
         let most = buffer.len().min(self.cut.max(1));
@@ -80,8 +76,7 @@ impl Link for Pieces {
     }
 
     fn write(&mut self, bytes: &[u8]) -> Sent
-        ensures link { Writes (Some self.old.inner.told) (Some self.new.inner.told)
-            (record self.old.inner.counts { late_writes = self.old.late }) (record self.new.inner.counts { late_writes = self.new.late })
+        ensures link { Writes (telling_link self.old.inner.told (record self.old.inner.counts { late_writes = self.old.late })) (telling_link self.new.inner.told (record self.new.inner.counts { late_writes = self.new.late }))
             result bytes.now }
     {
         match self.room {
@@ -99,16 +94,14 @@ impl Link for Pieces {
     }
 
     fn shut(&mut self) -> bool
-        ensures link { Shuts (Some self.old.inner.told) (Some self.new.inner.told)
-            (record self.old.inner.counts { late_writes = self.old.late }) (record self.new.inner.counts { late_writes = self.new.late })
+        ensures link { Shuts (telling_link self.old.inner.told (record self.old.inner.counts { late_writes = self.old.late })) (telling_link self.new.inner.told (record self.new.inner.counts { late_writes = self.new.late }))
             result }
     {
         self.inner.shut()
     }
 
     fn close(&mut self)
-        ensures link { Closes (Some self.old.inner.told) (Some self.new.inner.told)
-            (record self.old.inner.counts { late_writes = self.old.late }) (record self.new.inner.counts { late_writes = self.new.late }) }
+        ensures link { Closes (telling_link self.old.inner.told (record self.old.inner.counts { late_writes = self.old.late })) (telling_link self.new.inner.told (record self.new.inner.counts { late_writes = self.new.late })) }
     {
         self.inner.close();
     }

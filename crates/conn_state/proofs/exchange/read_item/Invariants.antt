@@ -7,9 +7,9 @@ use Rattle.conn_state.proofs.exchange.read_item.Given as goal
 -- bytes came so far, and none where the first item was there
 abbrev pub invariant-loop-ask : goal.invariant-loop-ask
 invariant-loop-ask g l = record {
-  read : HasRead (g.L.Link.told l.fn.link) (g.L.Link.told l.link) (g.L.Link.counts l.fn.link) (g.L.Link.counts l.link) l.fn.bytes l.bytes;
+  read : HasRead (g.L.Link.seen l.fn.link).told (g.L.Link.seen l.link).told (g.L.Link.seen l.fn.link).counts (g.L.Link.seen l.link).counts l.fn.bytes l.bytes;
   still : (ask : Ask) → IsAskedIn l.fn.bytes ask
-      → IsSame (g.L.Link.told l.fn.link) (g.L.Link.told l.link) (g.L.Link.counts l.fn.link) (g.L.Link.counts l.link) l.fn.bytes l.bytes;
+      → IsSame (g.L.Link.seen l.fn.link).told (g.L.Link.seen l.link).told (g.L.Link.seen l.fn.link).counts (g.L.Link.seen l.link).counts l.fn.bytes l.bytes;
 }
 
 -- how many more bytes a list in memory may have

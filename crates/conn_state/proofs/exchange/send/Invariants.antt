@@ -5,7 +5,7 @@ use Rattle.conn_state.proofs.exchange.send.Given as goal
 -- a front of the bytes was sent so far
 abbrev pub invariant-loop-link : goal.invariant-loop-link
 invariant-loop-link g l =
-    HasSent (g.L.Link.told l.fn.link) (g.L.Link.told l.link) (g.L.Link.counts l.fn.link) (g.L.Link.counts l.link) l.fn.bytes l.bytes
+    HasSent (g.L.Link.seen l.fn.link).told (g.L.Link.seen l.link).told (g.L.Link.seen l.fn.link).counts (g.L.Link.seen l.link).counts l.fn.bytes l.bytes
 
 -- how many bytes are left
 abbrev pub decreases-loop-link : goal.decreases-loop-link
