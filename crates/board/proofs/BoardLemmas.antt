@@ -12,11 +12,14 @@ use Rattle.conn_machine.specs.States.{is_halted}
 use Rattle.conn_machine.specs.Table.{is_allowed}
 use Rattle.conn_machine.proofs.SizeLemmas.{length-update}
 use Rattle.conn_machine.proofs.UpdateLemmas.{get_changed}
+use Rattle.timeout_queues.specs.Waiting.{ParkedName}
 use Rattle.conn_state.specs.Conn.{SeenConn}
 use Rattle.conn_state.specs.Answered.{SeenEnded}
 use Rattle.conn_state.specs.Known.{KnownOutside}
 use Rattle.board.specs.Book.{SeenBook}
 use Rattle.board.specs.Board.{SeenBoard, IsHome, AreHome, IsBoard, conn_at}
+use Rattle.board.specs.QueuesInside.{waits_in, queues_of}
+use Rattle.board.proofs.QueueLemmas.{queued-set}
 
 -- ## One item
 
@@ -102,15 +105,16 @@ may_while seen b e is may going =
 
 -- ## The connections that wait
 
--- each row that waits has its connection, and each live connection finds room behind so many that ended
-pub record AreThere (rows : List Row) (conns : List (Option SeenConn)) (ended room : ℕ) : Type 0 where
+-- each row that waits has its connection, and stands in the queues; and each live connection finds room behind so many that ended
+pub record AreThere (rows : List Row) (conns : List (Option SeenConn)) (queues : List (Option ParkedName)) (ended room : ℕ) : Type 0 where
   pub waiting : AreHome rows conns
+  pub queued : queues ≡ queues_of rows
   pub has_room : ended + count_by is_live rows ≤ room
 
 -- a board has its connections so
-pub there_of : (known : Option KnownOutside) (book : SeenBook) (conns : List (Option SeenConn)) (ended : List SeenEnded) (room : ℕ)
-    → IsBoard known (record { book = book; conns = conns; ended = ended }) room → AreThere book.state.rows conns (length ended) room
-there_of known book conns ended room is = record { waiting = is.agrees.waiting; has_room = is.has_room }
+pub there_of : (known : Option KnownOutside) (book : SeenBook) (conns : List (Option SeenConn)) (ended : List SeenEnded) (queues : List (Option ParkedName)) (room : ℕ)
+    → IsBoard known (record { book = book; conns = conns; ended = ended }) queues room → AreThere book.state.rows conns queues (length ended) room
+there_of known book conns ended queues room is = record { waiting = is.agrees.waiting; queued = is.queued; has_room = is.has_room }
 
 -- the connection of a slot, once that of this slot was set
 homes_by : (rows : List Row) (conns : List (Option SeenConn)) (slot : ℕ) (r : Row) (change : Row → Row) (c : Option SeenConn)
@@ -131,15 +135,17 @@ homes_by rows conns slot r change c are at home j r' false other at' =
     let before : slice_get rows j ≡ Some r' = sym (get-update_other rows slot j change differs) ∙ at' in
     rw (get_or-set_other conns slot j c None differs) (are.homes j r' before)
 
--- one row and the connection of its slot change together
-pub there_set : (rows : List Row) (conns : List (Option SeenConn)) (slot : ℕ) (r : Row) (change : Row → Row) (c : Option SeenConn) (ended room : ℕ)
-    → AreHome rows conns → slice_get rows slot ≡ Some r → IsHome slot (change r) c
-    → ended + count_by is_live (update rows slot change) ≤ room
-    → AreThere (update rows slot change) (set conns slot c) ended room
-there_set rows conns slot r change c ended room are at home space = record {
+-- one row, the connection of its slot and what the queues have there change together
+pub there_set : (rows : List Row) (conns : List (Option SeenConn)) (queues : List (Option ParkedName)) (slot : ℕ) (r : Row) (change : Row → Row)
+    (c : Option SeenConn) (q : Option ParkedName) (ended ended' room room' : ℕ)
+    → AreThere rows conns queues ended room → slice_get rows slot ≡ Some r → IsHome slot (change r) c → waits_in (change r) ≡ q
+    → ended' + count_by is_live (update rows slot change) ≤ room'
+    → AreThere (update rows slot change) (set conns slot c) (set queues slot q) ended' room'
+there_set rows conns queues slot r change c q ended ended' room room' there at home waits space = record {
   waiting = record {
-    slots = length-set conns slot c ∙ are.slots ∙ sym (length-update rows slot change);
-    homes = λ j r' at'. homes_by rows conns slot r change c are at home j r' (j == slot) refl at';
+    slots = length-set conns slot c ∙ there.waiting.slots ∙ sym (length-update rows slot change);
+    homes = λ j r' at'. homes_by rows conns slot r change c there.waiting at home j r' (j == slot) refl at';
   };
+  queued = queued-set queues rows slot r change q there.queued at waits;
   has_room = space;
 }

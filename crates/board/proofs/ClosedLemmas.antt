@@ -9,6 +9,7 @@ use Rattle.conn_machine.specs.declared.state.State.{State}
 use Rattle.conn_machine.specs.States.{unused_row}
 use Rattle.conn_machine.specs.Table.{next}
 use Rattle.conn_machine.specs.Runs.{after}
+use Rattle.timeout_queues.specs.Waiting.{ParkedName}
 use Rattle.conn_state.specs.Conn.{SeenConn}
 use Rattle.conn_state.specs.Answered.{SeenEnded, IsEnded}
 use Rattle.conn_state.specs.Known.{KnownOutside, IsOfClient}
@@ -45,11 +46,11 @@ ended_more (y ∷ ended) x are is = (are.0, ended_more ended x are.1 is)
 -- ## The board
 
 -- a board goes on by an event that closes nothing
-pub board_on : (known : Option KnownOutside) (book : SeenBook) (conns conns' : List (Option SeenConn)) (ended : List SeenEnded) (room room' who : ℕ) (e : Event)
-    → IsBoard known (record { book = book; conns = conns; ended = ended }) room → ((s : State) → ClosesFirst s e (λ others. others ≡ []) [])
-    → AreThere (next book.state e).rows conns' (length ended) room' → WaitForClients known conns'
-    → IsBoard known (record { book = book_with_entry who e book; conns = conns'; ended = ended }) room'
-board_on known book conns conns' ended room room' who e is closes there clients = record {
+pub board_on : (known : Option KnownOutside) (book : SeenBook) (conns conns' : List (Option SeenConn)) (ended : List SeenEnded) (queues queues' : List (Option ParkedName)) (room room' who : ℕ) (e : Event)
+    → IsBoard known (record { book = book; conns = conns; ended = ended }) queues room → ((s : State) → ClosesFirst s e (λ others. others ≡ []) [])
+    → AreThere (next book.state e).rows conns' queues' (length ended) room' → WaitForClients known conns'
+    → IsBoard known (record { book = book_with_entry who e book; conns = conns'; ended = ended }) queues' room'
+board_on known book conns conns' ended queues queues' room room' who e is closes there clients = record {
   agrees = record {
     waiting = there.waiting;
     closed = subst (AreClosed book.base (book.history ++ entry_of who e book ∷ [])) (append-nil ended)
@@ -57,16 +58,17 @@ board_on known book conns conns' ended room room' who e is closes there clients 
     answered = is.agrees.answered;
   };
   clients = record { conns = clients; ended = is.clients.ended };
+  queued = there.queued;
   has_room = there.has_room;
 }
 
 -- a board goes on by an event that closes a connection, which is the last that ended
-pub board_closed : (known : Option KnownOutside) (book : SeenBook) (conns : List (Option SeenConn)) (ended : List SeenEnded) (x : SeenEnded) (room room' who : ℕ)
-    → IsBoard known (record { book = book; conns = conns; ended = ended }) room → after book.base book.history ≡ book.state
+pub board_closed : (known : Option KnownOutside) (book : SeenBook) (conns : List (Option SeenConn)) (ended : List SeenEnded) (x : SeenEnded) (queues : List (Option ParkedName)) (room room' who : ℕ)
+    → IsBoard known (record { book = book; conns = conns; ended = ended }) queues room → after book.base book.history ≡ book.state
     → IsClosing book.state x.name x.cause x.tail x → IsEnded x → IsOfClient known x.told
-    → AreThere (next book.state (event.Close x.name x.cause x.tail)).rows conns (length ended + 1) room'
-    → IsBoard known (record { book = book_with_entry who (event.Close x.name x.cause x.tail) book; conns = conns; ended = ended ++ x ∷ [] }) room'
-board_closed known book conns ended x room room' who is state_is closing shown client there =
+    → AreThere (next book.state (event.Close x.name x.cause x.tail)).rows conns queues (length ended + 1) room'
+    → IsBoard known (record { book = book_with_entry who (event.Close x.name x.cause x.tail) book; conns = conns; ended = ended ++ x ∷ [] }) queues room'
+board_closed known book conns ended x queues room room' who is state_is closing shown client there =
     let e = event.Close x.name x.cause x.tail in
     let len : length (ended ++ x ∷ []) ≡ length ended + 1 = length-append ended (x ∷ []) in
     record {
@@ -77,46 +79,50 @@ board_closed known book conns ended x room room' who is state_is closing shown c
         answered = ended_more ended x is.agrees.answered shown;
       };
       clients = record { conns = is.clients.conns; ended = ended_clients known ended x is.clients.ended client };
+      queued = there.queued;
       has_room = omega (arith, len, there.has_room);
     }
 
 -- a board goes on by an event that changes no row
-pub board_same : (known : Option KnownOutside) (book : SeenBook) (conns : List (Option SeenConn)) (ended : List SeenEnded) (room who : ℕ) (e : Event)
-    → IsBoard known (record { book = book; conns = conns; ended = ended }) room → ((s : State) → ClosesFirst s e (λ others. others ≡ []) [])
+pub board_same : (known : Option KnownOutside) (book : SeenBook) (conns : List (Option SeenConn)) (ended : List SeenEnded) (queues : List (Option ParkedName)) (room who : ℕ) (e : Event)
+    → IsBoard known (record { book = book; conns = conns; ended = ended }) queues room → ((s : State) → ClosesFirst s e (λ others. others ≡ []) [])
     → (next book.state e).rows ≡ book.state.rows
-    → IsBoard known (record { book = book_with_entry who e book; conns = conns; ended = ended }) room
-board_same known book conns ended room who e is closes same =
-    board_on known book conns conns ended room room who e is closes
-    (subst (λ (rows : List Row). AreThere rows conns (length ended) room) (sym same)
-    (record { waiting = is.agrees.waiting; has_room = is.has_room })) is.clients.conns
+    → IsBoard known (record { book = book_with_entry who e book; conns = conns; ended = ended }) queues room
+board_same known book conns ended queues room who e is closes same =
+    board_on known book conns conns ended queues queues room room who e is closes
+    (subst (λ (rows : List Row). AreThere rows conns queues (length ended) room) (sym same)
+    (record { waiting = is.agrees.waiting; queued = is.queued; has_room = is.has_room })) is.clients.conns
 
 -- a board begins without connections, in a state without any
-pub board_first : (known : Option KnownOutside) (book : SeenBook) (conns : List (Option SeenConn)) (ended : List SeenEnded) (slots room : ℕ)
+pub board_first : (known : Option KnownOutside) (book : SeenBook) (conns : List (Option SeenConn)) (ended : List SeenEnded) (queues : List (Option ParkedName)) (slots room : ℕ)
     → book.history ≡ [] → book.state.rows ≡ replicate slots unused_row → conns ≡ replicate slots None → ended ≡ []
-    → IsBoard known (record { book = book; conns = conns; ended = ended }) room
-board_first known book conns ended slots room history_is rows_is conns_is ended_is =
-    let there : AreThere book.state.rows conns 0 room = rw (rows_is, conns_is) (opening-there slots room) in
+    → queues ≡ replicate slots None → IsBoard known (record { book = book; conns = conns; ended = ended }) queues room
+board_first known book conns ended queues slots room history_is rows_is conns_is ended_is queues_is =
+    let there : AreThere book.state.rows conns queues 0 room = rw (rows_is, conns_is, queues_is) (opening-there slots room) in
     rw ended_is
     (record {
       agrees = record { waiting = there.waiting; closed = rw history_is refl; answered = tt };
       clients = record { conns = rw conns_is (clients_first known slots); ended = tt };
+      queued = there.queued;
       has_room = there.has_room;
     })
 
 -- a board is one too of a type that knows nothing
-pub board_forgotten : (known : Option KnownOutside) (b : SeenBoard) (room : ℕ) → IsBoard known b room → IsBoard None b room
-board_forgotten known b room is = record {
+pub board_forgotten : (known : Option KnownOutside) (b : SeenBoard) (queues : List (Option ParkedName)) (room : ℕ) → IsBoard known b queues room → IsBoard None b queues room
+board_forgotten known b queues room is = record {
   agrees = is.agrees;
   clients = record { conns = λ slot c has. tt; ended = ended_unknown b.ended };
+  queued = is.queued;
   has_room = is.has_room;
 }
 
 -- more room was taken for those that end
-pub board_roomier : (known : Option KnownOutside) (b : SeenBoard) (ended : List SeenEnded) (room room' : ℕ) → ended ≡ b.ended → room ≤ room'
-    → IsBoard known b room → IsBoard known (record b { ended = ended }) room'
-board_roomier known b ended room room' same more is =
-    subst (λ (es : List SeenEnded). IsBoard known (record b { ended = es }) room') (sym same) (record {
+pub board_roomier : (known : Option KnownOutside) (b : SeenBoard) (ended : List SeenEnded) (queues : List (Option ParkedName)) (room room' : ℕ) → ended ≡ b.ended → room ≤ room'
+    → IsBoard known b queues room → IsBoard known (record b { ended = ended }) queues room'
+board_roomier known b ended queues room room' same more is =
+    subst (λ (es : List SeenEnded). IsBoard known (record b { ended = es }) queues room') (sym same) (record {
       agrees = is.agrees;
       clients = is.clients;
+      queued = is.queued;
       has_room = omega (arith, more, is.has_room);
     })

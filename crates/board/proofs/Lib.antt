@@ -6,6 +6,7 @@ pub mod EventLemmas
 pub mod FindLemmas
 pub mod HandLemmas
 pub mod PassLemmas
+pub mod QueueLemmas
 pub mod RoomLemmas
 pub mod SlotLemmas
 pub mod StopLemmas

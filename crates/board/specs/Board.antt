@@ -9,11 +9,13 @@ use Rattle.conn_machine.specs.declared.event.Entry.{Entry}
 use Rattle.conn_machine.specs.declared.state.State.{State}
 use Rattle.conn_machine.specs.Rows.{is_live}
 use Rattle.conn_machine.specs.Table.{next}
+use Rattle.timeout_queues.specs.Waiting.{ParkedName}
 use Rattle.conn_state.specs.Conn.{SeenConn}
 use Rattle.conn_state.specs.Answered.{SeenEnded, IsEnded}
 use Rattle.conn_state.specs.Known.{KnownOutside, IsOfClient}
 use Rattle.board.specs.Book.{SeenBook}
 use Rattle.board.specs.Fits.{Fits, IsSettled, IsClosing}
+use Rattle.board.specs.QueuesInside.{queues_of}
 
 -- a board: its history and state, the connections that it has by their slots, and those that ended
 pub record SeenBoard : Type 0 where
@@ -28,7 +30,7 @@ abbrev pub IsHeldHere : Place → Row → SeenConn → Type 0
 IsHeldHere Vacant r c = ⊥
 IsHeldHere Spent r c = ⊥
 IsHeldHere Held r c = ⊥
-IsHeldHere (Parked kind) r c = IsSettled kind c
+IsHeldHere (Parked kind) r c = IsSettled kind r.cause c
 IsHeldHere Queued r c = ⊥
 IsHeldHere (Working cell phase) r c = ⊥
 
@@ -105,9 +107,10 @@ pub record AreOfClients (known : Option KnownOutside) (b : SeenBoard) : Type 0 w
 
 -- ## Every board
 
--- a board whose type knows this agrees with its history, its links are those of clients, and each live connection finds room
--- among those that ended
-pub record IsBoard (known : Option KnownOutside) (b : SeenBoard) (room : ℕ) : Type 0 where
+-- a board whose type knows this agrees with its history, its links are those of clients, its timeout queues have the rows that
+-- wait, and each live connection finds room among those that ended
+pub record IsBoard (known : Option KnownOutside) (b : SeenBoard) (queues : List (Option ParkedName)) (room : ℕ) : Type 0 where
   pub agrees : Agrees b
   pub clients : AreOfClients known b
+  pub queued : queues ≡ queues_of b.book.state.rows
   pub has_room : length b.ended + count_by is_live b.book.state.rows ≤ room

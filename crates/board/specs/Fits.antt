@@ -1,5 +1,5 @@
 -- How a connection fits its row, and what holds of one that the board has.
-use Rattle.std.specs.Prelude.{◌≡◌, ◌⊎◌, List, [], ◌∷◌, ◌++◌, Option, None, Some, IfSome}
+use Rattle.std.specs.Prelude.{◌≡◌, ◌⊎◌, true, List, [], ◌∷◌, ◌++◌, Option, None, Some, IfSome, ⊤}
 use Rattle.mpm_base.specs.declared.conn.Kind.{Kind}
 use Rattle.mpm_base.specs.declared.conn.Kind.TheVariants.{Reading, KeepAlive, Writing, Linger, ShortLinger}
 use Rattle.mpm_base.specs.declared.conn.ConnName.{ConnName}
@@ -11,8 +11,9 @@ use Rattle.conn_machine.specs.declared.row.Row.{Row}
 use Rattle.conn_machine.specs.declared.state.State.{State}
 use Rattle.conn_machine.specs.Rows.{live_row}
 use Rattle.conn_state.specs.declared.turn.LastTurn.TheVariants as turn
-use Rattle.conn_state.specs.Conn.{SeenConn, IsConn}
-use Rattle.conn_state.specs.Answered.{SeenEnded}
+use Rattle.conn_state.specs.declared.turn.LastLinger.TheVariants as linger
+use Rattle.conn_state.specs.Conn.{SeenConn, IsConn, is_usable, lingers}
+use Rattle.conn_state.specs.Answered.{SeenEnded, MayLinger}
 
 -- the connection is the one of the row: a link that tells has the row's arrival as its rank
 pub record Fits (c : SeenConn) (r : Row) : Type 0 where
@@ -29,23 +30,42 @@ pub record WaitsForNext (c : SeenConn) : Type 0 where
   pub rest : c.rest ≡ []
 
 -- the connection may wait so: as new or after a turn that found no whole request; after one that found nothing at all; after
--- one that found no room to write. None lingers yet.
+-- one that found no room to write; or, to linger, after one in which nothing failed
 abbrev pub WaitsAs : Kind → SeenConn → Type 0
 WaitsAs Reading c = (c.turn ≡ turn.New) ⊎ (c.turn ≡ turn.More)
 WaitsAs KeepAlive c = WaitsForNext c
 WaitsAs Writing c = c.turn ≡ turn.NotReady
-WaitsAs Linger c = ⊥
-WaitsAs ShortLinger c = ⊥
+WaitsAs Linger c = is_usable c.turn ≡ true
+WaitsAs ShortLinger c = is_usable c.turn ≡ true
+
+-- its link was half-closed, its client has not ended yet, and it shows the cause for which it lingers
+pub record LingersFor (why : Cause) (c : SeenConn) : Type 0 where
+  pub half_closed : lingers c.linger ≡ true
+  pub shows : MayLinger why c
+
+-- how far it is on its way out, where its row lingers for this cause or for none
+abbrev pub IsOnItsWay : Option Cause → SeenConn → Type 0
+IsOnItsWay None c = c.linger ≡ linger.Open
+IsOnItsWay (Some why) c = LingersFor why c
 
 -- what holds of a connection that waits, or did until it was taken up
-pub record IsSettled (kind : Kind) (c : SeenConn) : Type 0 where
+pub record IsSettled (kind : Kind) (why : Option Cause) (c : SeenConn) : Type 0 where
   pub waits : WaitsAs kind c
+  pub way : IsOnItsWay why c
   pub is_conn : IsConn c
 
 -- the same by what its row waited for
-abbrev pub IsSettledFrom : Option Kind → SeenConn → Type 0
-IsSettledFrom None c = ⊥
-IsSettledFrom (Some kind) c = IsSettled kind c
+abbrev pub IsSettledFrom : Option Kind → Option Cause → SeenConn → Type 0
+IsSettledFrom None why c = ⊥
+IsSettledFrom (Some kind) why c = IsSettled kind why c
+
+-- one that lingers waits on only after a turn that found nothing more so far
+abbrev pub FoundNoMore : Kind → SeenConn → Type 0
+FoundNoMore Reading c = ⊤
+FoundNoMore KeepAlive c = ⊤
+FoundNoMore Writing c = ⊤
+FoundNoMore Linger c = c.linger ≡ linger.NotReady
+FoundNoMore ShortLinger c = c.linger ≡ linger.NotReady
 
 -- ## A connection in hand
 
@@ -60,7 +80,7 @@ pub record IsTakenUp (s : State) (c : SeenConn) : Type 0 where
   pub row : Row
   pub found : live_row s.rows c.name ≡ Some row
   pub fits : Fits c row
-  pub settled : IsSettledFrom row.from c
+  pub settled : IsSettledFrom row.from row.cause c
 
 -- ## A connection that ended
 

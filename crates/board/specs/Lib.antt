@@ -8,5 +8,6 @@ pub mod FaultsInside
 pub mod Finds
 pub mod Fits
 pub mod Ledger
+pub mod QueuesInside
 pub mod ReportLine
 pub mod RoomInside

@@ -11,7 +11,9 @@ ghost use Rattle.conn_machine.specs.declared.event.Event.TheVariants as event;
 ghost use Rattle.conn_machine.specs.declared.event.Commanded.TheVariants.{Stop};
 ghost use Rattle.conn_machine.specs.declared.event.Reply.TheVariants.{Took};
 ghost use Rattle.conn_machine.specs.declared.event.Why.TheVariants as why;
-ghost use Rattle.conn_state.specs.Answered.{IsEnded};
+ghost use Rattle.mpm_base.specs.Moment.{IsSecond};
+ghost use Rattle.conn_state.specs.declared.turn.LastLinger.TheVariants as linger;
+ghost use Rattle.conn_state.specs.Answered.{IsEnded, MayLinger};
 ghost use Rattle.conn_state.specs.Conn.{SeenConn};
 ghost use Rattle.conn_state.specs.Known.{IsOfClient};
 ghost use Rattle.board.specs.Book.{StopsWhereFull, TellsFullStop, book_with_entry};
@@ -19,16 +21,19 @@ ghost use Rattle.board.specs.Board.{Agrees, AreOfClients, WaitForClients, conn_a
 ghost use Rattle.board.specs.Events.{IsAdded, IsDecided, IsTaken, with_recorded};
 ghost use Rattle.board.specs.EventsInside.{decided_note};
 ghost use Rattle.board.specs.Faults.{IsNotTakenFor, IsRefusedFor};
-ghost use Rattle.board.specs.Fits.{IsClosing, IsTakenUp, IsOf, IsSettled};
+ghost use Rattle.board.specs.Finds.{cause_of};
+ghost use Rattle.board.specs.Fits.{FoundNoMore, IsClosing, IsOnItsWay, IsTakenUp, IsOf, IsSettled};
 
 use crate::accept::slot_for_accept;
 use crate::book::Book;
 use crate::faults::{AcceptFault, BoardFault};
+use crate::waits::wait_in_queue;
 use conn_machine::{Commanded, Entry, Event, Kept, Reply, State, Why};
 use conn_state::{Conn, Ended, Known, Nothing};
-use mpm_base::{Ask, ConnName, Kind, Link, Moment, NoMemory, Note, Shape};
+use mpm_base::{Ask, Cause, ConnName, Kind, Link, Moment, NoMemory, Note, Shape};
 use std::alloc::Global;
 use std::marker::{Model, PhantomData};
+use timeout_queues::Queues;
 
 /// The connection that was taken.
 #[derive(Clone, Copy, Debug, PartialEq, Eq)]
@@ -49,6 +54,8 @@ pub struct Board<L: Link, N: Known> {
     // What `N` knows of them is kept by the board itself, so that a board forgets it without a move.
     conns: Vec<Option<Conn<L, Nothing>>>,
     ended: Vec<Ended<L>>,
+    // The rows that wait, so that the first of them to be late is found.
+    pub(crate) queues: Queues,
     of: PhantomData<N>,
 }
 
@@ -60,7 +67,7 @@ impl<L: Link, N: Known> Model for Board<L, N> {
 
     ghost view = { λ b. record { book = b.book; conns = b.conns.items; ended = b.ended.items } };
 
-    ghost invariant = { λ b. IsBoard N.known (record { book = b.book; conns = b.conns.items; ended = b.ended.items }) (vec_capacity b.ended) };
+    ghost invariant = { λ b. IsBoard N.known (record { book = b.book; conns = b.conns.items; ended = b.ended.items }) b.queues (vec_capacity b.ended) };
 }
 
 impl<L: Link, N: Known> Kept for Board<L, N> {
@@ -94,6 +101,7 @@ impl<L: Link, N: Known> Board<L, N> {
         ensures ended { IfOk result (λ board. board.ended ≡ []) }
     {
         let book = Book::open(alloc, slots, children, passes, shape)?;
+        let queues = Queues::make(alloc, slots)?;
         let mut conns = Vec::new(alloc);
         for _ in 0..slots {
             if conns.push(None).is_err() {
@@ -104,6 +112,7 @@ impl<L: Link, N: Known> Board<L, N> {
             book,
             conns,
             ended: Vec::new(alloc),
+            queues,
             of: PhantomData,
         })
     }
@@ -117,12 +126,14 @@ impl<L: Link, N: Known> Board<L, N> {
             book,
             conns,
             ended,
+            queues,
             of: _,
         } = self;
         Board {
             book,
             conns,
             ended,
+            queues,
             of: PhantomData,
         }
     }
@@ -209,7 +220,8 @@ impl<L: Link, N: Known> Board<L, N> {
         requires row { row_of who self.old.book.history ≡ Some conn.name }
         requires allowed { is_halted self.old.book.state.going ≡ false → is_allowed self.old.book.state (event.Park conn.name kind) ≡ true }
         requires fits { IsOf self.old.book.state conn }
-        requires settled { IsSettled kind conn }
+        requires settled { IsSettled kind (cause_of self.old.book.state conn.name) conn }
+        requires turned { FoundNoMore kind conn }
         ensures ok { OnOk result (IsAdded who (event.Park conn.name kind) self.old (record self.new { conns = self.old.conns })) }
         ensures parked { OnOk result (self.new.conns ≡ slice_set self.old.conns conn.name.slot (Some conn)) }
         ensures why { IfErr result (λ e. IsRefusedFor e.0 self.old.book) }
@@ -222,6 +234,7 @@ impl<L: Link, N: Known> Board<L, N> {
         let name = conn.name();
         match self.book.record(who, Event::Park(name, kind)) {
             Ok(_) => {
+                wait_in_queue(&mut self.queues, self.book.state(), name);
                 self.conns[name.slot as usize] = Some(conn.forget());
                 Ok(())
             }
@@ -239,11 +252,13 @@ impl<L: Link, N: Known> Board<L, N> {
         ensures conn { conn_at self.old.conns name.slot ≡ Some result }
         ensures name { result.name ≡ name }
         ensures handed { IsTakenUp self.new.book.state result }
+        ensures way { IsOnItsWay (cause_of self.old.book.state name) result }
         ensures entries { Adds who self.old.book.base self.old.book.history self.new.book.history }
         ensures row { row_of who self.new.book.history ≡ Some name }
     {
         self.book.show();
         let _ = self.book.record_sure(who, Event::Hold(name));
+        let _ = self.queues.unpark(name);
         take_out(&mut self.conns, name)
     }
 
@@ -258,6 +273,7 @@ impl<L: Link, N: Known> Board<L, N> {
         ensures conn { IfOk result (λ conn. conn_at self.old.conns name.slot ≡ Some conn) }
         ensures name { IfOk result (λ conn. conn.name ≡ name) }
         ensures handed { IfOk result (λ conn. IsTakenUp self.new.book.state conn) }
+        ensures stays_open { IfOk result (λ conn. conn.linger ≡ linger.Open) }
         ensures why { IfErr result (λ fault. IsRefusedFor fault self.old.book) }
         ensures err { OnErr result (self.new ≡ self.old) }
         ensures entries { Adds who self.old.book.base self.old.book.history self.new.book.history }
@@ -265,6 +281,7 @@ impl<L: Link, N: Known> Board<L, N> {
     {
         self.book.show();
         self.book.record(who, Event::Queue(name))?;
+        let _ = self.queues.unpark(name);
         Ok(take_out(&mut self.conns, name))
     }
 
@@ -293,7 +310,7 @@ impl<L: Link, N: Known> Board<L, N> {
         requires allowed { is_halted self.old.book.state.going ≡ false → is_allowed self.old.book.state (event.Answer name ask) ≡ true }
         ensures ok { OnOk result (IsAdded who (event.Answer name ask) self.old self.new) }
         ensures note { IfOk result (λ note. IsDecided self.old.book.state name ask note) }
-        ensures date { IfOk result (λ note. note.date < 253402300800) }
+        ensures date { IfOk result (λ note. IsSecond note.date) }
         ensures why { IfErr result (λ fault. IsRefusedFor fault self.old.book) }
         ensures err { OnErr result (self.new ≡ self.old) }
         ensures entries { Adds who self.old.book.base self.old.book.history self.new.book.history }
@@ -304,6 +321,26 @@ impl<L: Link, N: Known> Board<L, N> {
             unreachable!()
         };
         Ok(note_of(self.book.state(), &ask, last))
+    }
+
+    /// The service of the connection ended: it lingers, in the queue of its kind, until its client has ended too or its time is
+    /// over. Takes no memory.
+    pub fn linger(&mut self, who: u32, cause: Cause, conn: Conn<L, N>)
+        requires who { who < self.old.book.passes }
+        requires row { row_of who self.old.book.history ≡ Some conn.name }
+        requires allowed { is_allowed self.old.book.state (event.Linger conn.name cause) ≡ true }
+        requires fits { IsOf self.old.book.state conn }
+        requires half_closed { conn.linger ≡ linger.Shut }
+        requires shows { MayLinger cause conn }
+        ensures is { self.new ≡ record (with_recorded who (event.Linger conn.name cause) self.old) { conns = slice_set self.old.conns conn.name.slot (Some conn) } }
+        ensures entries { Adds who self.old.book.base self.old.book.history self.new.book.history }
+        ensures row { row_of who self.new.book.history ≡ None }
+    {
+        conn.show();
+        let name = conn.name();
+        let _ = self.book.record_sure(who, Event::Linger(name, cause));
+        wait_in_queue(&mut self.queues, self.book.state(), name);
+        self.conns[name.slot as usize] = Some(conn.forget());
     }
 
     /// The connection ended. Takes no memory.

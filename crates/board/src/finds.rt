@@ -1,16 +1,15 @@
 //! The board's tests of its state: none takes memory, and each is exact.
-ghost use Rattle.std.specs.Prelude.{◌≡◌, ◌≤◌, length, filter, find, map, min};
+ghost use Rattle.std.specs.Prelude.{◌≡◌, ℕ, ◌≤◌, ◌++◌, List, length, find, min, IfSome};
 ghost use Rattle.std.specs.List.{list_any, range_with_len, reduce};
 ghost use Rattle.conn_machine.specs.Children.{is_empty};
-ghost use Rattle.conn_machine.specs.Rows.{is_parked, is_vacant};
-ghost use Rattle.conn_machine.specs.States.{is_overdue};
+ghost use Rattle.conn_machine.specs.Rows.{is_vacant};
 ghost use Rattle.conn_machine.specs.Table.{child_passes};
-ghost use Rattle.board.specs.Finds.{FindsRetirable, FindsRow, acceptable, is_due, is_in_hand, is_late, is_quiet, is_waiting, next_deadline_of, startable, waits_for};
+ghost use Rattle.board.specs.Finds.{FindsRetirable, FindsRow, IsFirstDue, acceptable, cause_of, ending_moments, has_to_be_drained, is_due, is_in_hand, is_late, is_let_go, is_quiet, is_waiting, next_deadline_of, startable, waits_for};
 
 use crate::board::Board;
 use conn_machine::{Going, Place, Row, State};
 use conn_state::Known;
-use mpm_base::{ConnName, Kind, Link, Moment};
+use mpm_base::{Cause, ConnName, Kind, Link, Moment};
 
 impl<L: Link, N: Known> Board<L, N> {
     /// The child that the next connection goes to, while the server takes connections and a slot is vacant.
@@ -37,12 +36,13 @@ impl<L: Link, N: Known> Board<L, N> {
         can_retire(self.book.state())
     }
 
-    /// A connection that waits and is late.
+    /// A connection that waits and is late; of those that wait none has an earlier deadline. Goes over the slots of the queues
+    /// once, as `next_deadline` does.
     pub fn overdue(&self) -> Option<ConnName>
-        ensures { FindsRow (is_late self.now.book.state) self.now.book.state result }
+        ensures late { FindsRow (is_late self.now.book.state) self.now.book.state result }
+        ensures first { IfSome result (IsFirstDue self.now.book.state) }
     {
-        self.book.show();
-        overdue(self.book.state())
+        self.queues.overdue(self.book.state().moment)
     }
 
     /// A connection that waits for service, for which something may have come and a worker of its child is free.
@@ -51,6 +51,22 @@ impl<L: Link, N: Known> Board<L, N> {
     {
         self.book.show();
         signalled(self.book.state())
+    }
+
+    /// A connection that waits for a further request, for which nothing came, of a child that stops.
+    pub fn retiring(&self) -> Option<ConnName>
+        ensures { FindsRow (is_let_go self.now.book.state) self.now.book.state result }
+    {
+        self.book.show();
+        retiring(self.book.state())
+    }
+
+    /// A connection that lingers, for which something may have come.
+    pub fn signalled_linger(&self) -> Option<ConnName>
+        ensures { FindsRow (has_to_be_drained self.now.book.state) self.now.book.state result }
+    {
+        self.book.show();
+        signalled_linger(self.book.state())
     }
 
     /// A connection that waits.
@@ -68,11 +84,18 @@ impl<L: Link, N: Known> Board<L, N> {
         kind(self.book.state(), name)
     }
 
+    /// Why the service of the connection of that name ended, where it lives and lingers.
+    pub fn cause(&self, name: ConnName) -> Option<Cause>
+        ensures { result ≡ cause_of self.now.book.state name }
+    {
+        self.book.state().rows.live(name)?.cause
+    }
+
     /// The least deadline of a connection that waits; the moment at which the server stops counts too.
     pub fn next_deadline(&self) -> Option<Moment>
         ensures { result ≡ next_deadline_of self.now.book.state }
     {
-        next_deadline(self.book.state())
+        least_with_ending(self.queues.next_deadline(), self.book.state().going)
     }
 
     /// Whether no connection is in hand: queued, served or held.
@@ -163,30 +186,6 @@ fn can_retire(state: &State) -> Option<u32>
     Some(number as u32)
 }
 
-/// A connection that waits and is late.
-fn overdue(state: &State) -> Option<ConnName>
-    requires few_rows { length state.now.rows ≤ 8192 }
-    ensures { FindsRow (is_late state.now) state.now result }
-{
-    let (slot, row) = state
-        .rows
-        .as_slice()
-        .iter()
-        .enumerate()
-        .find(|(_, row)| is_row_late(state, row))?;
-    Some(ConnName {
-        slot: slot as u32,
-        life: row.life,
-    })
-}
-
-/// Whether the row waits, and its deadline has come.
-fn is_row_late(state: &State, row: &Row) -> bool
-    ensures { result ≡ is_overdue state.now.moment row.now }
-{
-    row.place.is_parked() && row.deadline <= state.moment
-}
-
 /// A connection that waits for service, for which something may have come and a worker of its child is free.
 fn signalled(state: &State) -> Option<ConnName>
     requires few_rows { length state.now.rows ≤ 8192 }
@@ -209,6 +208,55 @@ fn is_row_due(state: &State, slot: u32, row: &Row) -> bool
     ensures { result ≡ is_due state.now slot row.now }
 {
     state.signals.get(slot) && state.may_be_queued(row)
+}
+
+/// A connection that waits for a further request, for which nothing came, of a child that stops.
+fn retiring(state: &State) -> Option<ConnName>
+    requires few_rows { length state.now.rows ≤ 8192 }
+    ensures { FindsRow (is_let_go state.now) state.now result }
+{
+    for (slot, row) in state.rows.as_slice().iter().enumerate() {
+        if is_row_let_go(state, slot as u32, row) {
+            return Some(ConnName {
+                slot: slot as u32,
+                life: row.life,
+            });
+        }
+    }
+    None
+}
+
+/// Whether the row of that slot waits for a further request, for which nothing came, and its child stops.
+fn is_row_let_go(state: &State, slot: u32, row: &Row) -> bool
+    ensures { result ≡ is_let_go state.now slot row.now }
+{
+    row.place.is_parked()
+        && row.is_from(Kind::KeepAlive)
+        && state.child_of(row).phase.is_stopping()
+        && !state.signals.get(slot)
+}
+
+/// A connection that lingers, for which something may have come.
+fn signalled_linger(state: &State) -> Option<ConnName>
+    requires few_rows { length state.now.rows ≤ 8192 }
+    ensures { FindsRow (has_to_be_drained state.now) state.now result }
+{
+    for (slot, row) in state.rows.as_slice().iter().enumerate() {
+        if has_row_to_be_drained(state, slot as u32, row) {
+            return Some(ConnName {
+                slot: slot as u32,
+                life: row.life,
+            });
+        }
+    }
+    None
+}
+
+/// Whether the row of that slot waits and lingers, and something may have come for it.
+fn has_row_to_be_drained(state: &State, slot: u32, row: &Row) -> bool
+    ensures { result ≡ has_to_be_drained state.now slot row.now }
+{
+    row.place.is_parked() && row.is_lingering() && state.signals.get(slot)
 }
 
 /// A connection that waits.
@@ -238,29 +286,15 @@ fn kind(state: &State, name: ConnName) -> Option<Kind>
     }
 }
 
-/// The least deadline of a connection that waits; the moment at which the server stops counts too.
+/// The least of some moments, once the moment at which the server stops is one of them.
 #[tactic(auto, using(crate::proofs::FindLemmas::reduce_push))]
-fn next_deadline(state: &State) -> Option<Moment>
-    ensures { result ≡ next_deadline_of state.now }
+fn least_with_ending(least: Option<Moment>, going: Going) -> Option<Moment>
+    ensures { (moments : List ℕ) → least ≡ reduce min moments → result ≡ reduce min (moments ++ ending_moments going) }
 {
-    let least = least_deadline(state);
-    match state.going {
+    match going {
         Going::Ending(Some(until)) => Some(least.map_or(until, |other| until.min(other))),
         _ => least,
     }
-}
-
-/// The least deadline of a connection that waits.
-fn least_deadline(state: &State) -> Option<Moment>
-    ensures { result ≡ reduce min (map (λ r. r.deadline) (filter (λ r. is_parked r.place) state.now.rows)) }
-{
-    state
-        .rows
-        .as_slice()
-        .iter()
-        .filter(|row| row.place.is_parked())
-        .map(|row| row.deadline)
-        .min()
 }
 
 /// Whether no connection is in hand: queued, served or held.

@@ -1,11 +1,12 @@
 //! The board: the table of connections, with one call for each event of the machine.
 //!
 //! Each call records one entry of the pass that makes it, and takes state, reply and history on by the machine's step; all
-//! else stays, and a call that is refused changes nothing. The board has the connection of each row that waits, and the
-//! connections that ended, in the order of their closes; that these agree with the history is `Agrees` in
-//! `specs/Board.antt`, and holds of every board. How a connection fits its row stands in `specs/Fits.antt`, what is kept of
-//! the history in `specs/Book.antt` and `specs/RoomInside.antt`, why a call is refused in `specs/Faults.antt`, and what the tests
-//! look for in `specs/Finds.antt`.
+//! else stays, and a call that is refused changes nothing. The board has the connection of each row that waits or lingers, and
+//! the connections that ended, in the order of their closes; that these agree with the history is `Agrees` in
+//! `specs/Board.antt`, and holds of every board. How a connection fits its row, and how far it is on its way out, stands in
+//! `specs/Fits.antt`, what is kept of the history in `specs/Book.antt` and `specs/RoomInside.antt`, why a call is refused in
+//! `specs/Faults.antt`, and what the tests look for in `specs/Finds.antt`. The rows that wait stand in timeout queues besides,
+//! of which no contract tells (`specs/QueuesInside.antt`).
 #![tactic(auto)]
 
 mod accept;
@@ -15,6 +16,7 @@ mod faults;
 mod finds;
 #[cfg(test)]
 mod tests;
+mod waits;
 
 pub use board::{Board, Taken};
 pub use faults::{AcceptFault, BoardFault};

@@ -2,14 +2,17 @@
 ghost use Rattle.std.specs.Prelude.{◌≡◌, ◌<◌, ◌≤◌, true, false, None, Some, [], IfOk, OnOk};
 ghost use Rattle.mpm_base.specs.Notes.{says_last};
 ghost use Rattle.mpm_base.specs.declared.conn.Kind.TheVariants.{Reading};
-ghost use Rattle.mpm_base.specs.declared.conn.Tail.TheVariants.{Direct};
+ghost use Rattle.conn_machine.specs.Children.{is_in_bounds};
 ghost use Rattle.conn_machine.specs.Runs.{row_of};
 ghost use Rattle.conn_machine.specs.Table.{is_allowed};
+ghost use Rattle.conn_state.specs.declared.turn.LastLinger.TheVariants as linger;
 ghost use Rattle.conn_state.specs.Answered.{IsShown};
 ghost use Rattle.conn_state.specs.Conn.{IsConn, is_usable};
 ghost use Rattle.conn_state.specs.Turns.{after_reading};
-ghost use Rattle.board.specs.Fits.{IsOf, IsSettled};
+ghost use Rattle.board.specs.Fits.{FoundNoMore, IsOf, IsSettled};
 
+mod deadlines;
+mod lingering;
 mod lives;
 
 use crate::board::Board;
@@ -66,12 +69,18 @@ fn refuses(rt: &impl Abort, board: &mut Board<ScriptLink, Nothing>, fault: Accep
 }
 
 /// A board of so many slots, whose child 0 runs.
-fn opened(rt: &impl Abort, alloc: Global, slots: u32) -> Result<Board<ScriptLink, Nothing>, Fail>
-    requires { (1 ≤ slots) × (slots ≤ 8192) }
+fn opened(
+    rt: &impl Abort,
+    alloc: Global,
+    slots: u32,
+    shape: Shape,
+) -> Result<Board<ScriptLink, Nothing>, Fail>
+    requires slots { (1 ≤ slots) × (slots ≤ 8192) }
+    requires shape { is_in_bounds shape ≡ true }
     ensures passes { IfOk result (λ board. board.book.passes ≡ 1) }
     ensures free { IfOk result (λ board. row_of 0 board.book.history ≡ None) }
 {
-    let mut board = Board::make(alloc, slots, 2, 1, SHAPE)?;
+    let mut board = Board::make(alloc, slots, 2, 1, shape)?;
     refuses(rt, &mut board, AcceptFault::NoChild);
     assert_eq!(rt; board.can_start(), Some(0));
     allow(rt, &board, Event::StartChild(0));
@@ -82,23 +91,26 @@ fn opened(rt: &impl Abort, alloc: Global, slots: u32) -> Result<Board<ScriptLink
     Ok(board)
 }
 
-/// The first connection is taken. Its client sends these bytes, and no more where `ends`; the third read fails.
+/// A connection is taken, under that name. Its client sends these bytes, and no more where `ends`. The read of that number
+/// fails.
 fn arrives(
     rt: &impl Abort,
     alloc: Global,
     board: &mut Board<ScriptLink, Nothing>,
+    name: ConnName,
     coming: &[u8],
     ends: bool,
+    bad_read: u64,
 ) -> Result<Conn<ScriptLink, Nothing>, Fail>
     requires who { 0 < board.old.book.passes }
     requires free { row_of 0 board.old.book.history ≡ None }
     ensures passes { OnOk result (board.new.book.passes ≡ board.old.book.passes) }
     ensures fits { IfOk result (λ conn. IsOf board.new.book.state conn) }
-    ensures settled { IfOk result (λ conn. IsSettled Reading conn) }
+    ensures settled { IfOk result (λ conn. IsSettled Reading None conn) }
     ensures row { IfOk result (λ conn. row_of 0 board.new.book.history ≡ Some conn.name) }
 {
     let taken = board.accept(0)?;
-    assert_eq!(rt; taken.name, FIRST);
+    assert_eq!(rt; taken.name, name);
     assert!(rt; !board.quiet());
     let row = board
         .state()
@@ -107,12 +119,12 @@ fn arrives(
         .expect(rt, "the connection lives");
     assert_eq!(rt; row.child, 0);
     assert_eq!(rt; row.generation, 0);
-    assert_eq!(rt; row.arrival, 0);
     assert!(rt; row.notes.is_empty());
+    let arrival = row.arrival;
     let mut reads = Calls::make(alloc);
-    reads.add(3)?;
+    reads.add(bad_read)?;
     let coming = Octets::of(alloc, coming)?;
-    let link = ScriptLink::make(alloc, 0, coming, ends, reads, Calls::make(alloc));
+    let link = ScriptLink::make(alloc, arrival, coming, ends, reads, Calls::make(alloc));
     let conn = Conn::new(alloc, taken.name, 0, 0, link);
     conn.show();
     Ok(conn)
@@ -129,11 +141,13 @@ fn waits(
     requires who { 0 < board.old.book.passes }
     requires row { row_of 0 board.old.book.history ≡ Some conn.name }
     requires fits { IsOf board.old.book.state conn }
-    requires settled { IsSettled kind conn }
+    requires settled { IsSettled kind None conn }
+    requires turned { FoundNoMore kind conn }
     ensures passes { board.new.book.passes ≡ board.old.book.passes }
     ensures free { row_of 0 board.new.book.history ≡ None }
 {
     let name = conn.name();
+    assert_eq!(rt; board.cause(name), None);
     allow(rt, board, Event::Park(name, kind));
     let Ok(()) = board.park(0, kind, conn) else {
         panic!(rt; "the wait was refused");
@@ -158,6 +172,7 @@ fn serves(
     ensures usable { IfOk result (λ conn. is_usable conn.turn ≡ true) }
     ensures sent { IfOk result (λ conn. conn.pending ≡ []) }
     ensures not_last { IfOk result (λ conn. says_last conn.notes ≡ false) }
+    ensures not_shut { IfOk result (λ conn. conn.linger ≡ linger.Open) }
     ensures row { IfOk result (λ conn. row_of 0 board.new.book.history ≡ Some conn.name) }
 {
     allow(rt, board, Event::Ready(0));
@@ -189,8 +204,10 @@ fn reads(
     requires usable { is_usable conn.old.turn ≡ true }
     requires sent { conn.old.pending ≡ [] }
     requires not_last { says_last conn.old.notes ≡ false }
+    requires not_shut { conn.old.linger ≡ linger.Open }
     ensures fits { IsOf board.now.book.state conn.new }
     ensures turn { conn.new.turn ≡ after_reading wanted }
+    ensures not_shut { conn.new.linger ≡ linger.Open }
     ensures shown { IsConn conn.new }
     ensures name { conn.new.name ≡ conn.old.name }
 {
@@ -199,11 +216,12 @@ fn reads(
     conn.show();
 }
 
-/// The next request is answered, and its response sent.
+/// The next request is answered, and its response sent. It is the last where `last`.
 fn answers(
     rt: &impl Abort,
     board: &mut Board<ScriptLink, Nothing>,
     conn: &mut Conn<ScriptLink, Nothing>,
+    last: bool,
 ) -> Result<(), Fail>
     requires who { 0 < board.old.book.passes }
     requires row { row_of 0 board.old.book.history ≡ Some conn.old.name }
@@ -211,11 +229,13 @@ fn answers(
     requires usable { is_usable conn.old.turn ≡ true }
     requires sent { conn.old.pending ≡ [] }
     requires not_last { says_last conn.old.notes ≡ false }
+    requires not_shut { conn.old.linger ≡ linger.Open }
     ensures passes { OnOk result (board.new.book.passes ≡ board.old.book.passes) }
     ensures fits { OnOk result (IsOf board.new.book.state conn.new) }
     ensures usable { OnOk result (is_usable conn.new.turn ≡ true) }
     ensures sent { OnOk result (conn.new.pending ≡ []) }
-    ensures not_last { OnOk result (says_last conn.new.notes ≡ false) }
+    ensures last { OnOk result (says_last conn.new.notes ≡ last) }
+    ensures not_shut { OnOk result (conn.new.linger ≡ linger.Open) }
     ensures row { OnOk result (row_of 0 board.new.book.history ≡ Some conn.new.name) }
 {
     reads(rt, board, conn, ReadTurn::Asked(FOUND));
@@ -223,43 +243,51 @@ fn answers(
     allow(rt, board, Event::Answer(name, FOUND));
     let note = board.answer(0, name, FOUND)?;
     conn.answer(note)?;
-    sends(rt, board, conn);
+    sends(rt, board, conn, last);
     Ok(())
 }
 
-/// What is pending is sent. The response isn't the last.
-fn sends(rt: &impl Abort, board: &Board<ScriptLink, Nothing>, conn: &mut Conn<ScriptLink, Nothing>)
+/// What is pending is sent. The response is the last where `last`.
+fn sends(
+    rt: &impl Abort,
+    board: &Board<ScriptLink, Nothing>,
+    conn: &mut Conn<ScriptLink, Nothing>,
+    last: bool,
+)
     requires fits { IsOf board.now.book.state conn.old }
     requires usable { is_usable conn.old.turn ≡ true }
+    requires not_shut { conn.old.linger ≡ linger.Open }
     ensures fits { IsOf board.now.book.state conn.new }
     ensures usable { is_usable conn.new.turn ≡ true }
     ensures sent { conn.new.pending ≡ [] }
-    ensures not_last { says_last conn.new.notes ≡ false }
+    ensures last { says_last conn.new.notes ≡ last }
+    ensures not_shut { conn.new.linger ≡ linger.Open }
     ensures name { conn.new.name ≡ conn.old.name }
 {
     assert!(rt; conn.pending());
     let turn = conn.write_turn();
     assert_eq!(rt; turn, WriteTurn::Done);
-    assert!(rt; !conn.last());
+    assert_eq!(rt; conn.last(), last);
 }
 
-/// The connection ends for the cause.
+/// The connection ends for the cause, and its link is left so.
 fn ends(
     rt: &impl Abort,
     board: &mut Board<ScriptLink, Nothing>,
     conn: Conn<ScriptLink, Nothing>,
     cause: Cause,
+    tail: Tail,
 )
     requires who { 0 < board.old.book.passes }
     requires row { row_of 0 board.old.book.history ≡ Some conn.name }
     requires fits { IsOf board.old.book.state conn }
-    requires shown { IsShown cause Direct conn }
+    requires shown { IsShown cause tail conn }
     ensures passes { board.new.book.passes ≡ board.old.book.passes }
     ensures free { row_of 0 board.new.book.history ≡ None }
 {
     let name = conn.name();
-    allow(rt, board, Event::Close(name, cause, Tail::Direct));
-    board.close(0, conn.end(cause, Tail::Direct));
+    allow(rt, board, Event::Close(name, cause, tail));
+    board.close(0, conn.end(cause, tail));
     assert!(rt; board.quiet());
 }
 
@@ -299,12 +327,13 @@ fn stops(rt: &impl Abort, board: &mut Board<ScriptLink, Nothing>)
     assert_eq!(rt; fault, BoardFault::Halted);
 }
 
-/// Child 0 is let go of. So many entries were made, and the one connection ended for the cause, with so many responses.
+/// Child 0 is let go of. So many entries were made, and the one connection ended for the cause, with that tail and so many
+/// responses.
 fn retires(
     rt: &impl Abort,
     board: &mut Board<ScriptLink, Nothing>,
     entries: usize,
-    cause: Cause,
+    end: (Cause, Tail),
     notes: usize,
 )
     requires who { 0 < board.old.book.passes }
@@ -317,7 +346,7 @@ fn retires(
     assert_eq!(rt; board.ended().len(), 1);
     for ended in board.ended() {
         assert_eq!(rt; ended.name, FIRST);
-        assert_eq!(rt; ended.cause, cause);
+        assert_eq!(rt; (ended.cause, ended.tail), end);
         assert_eq!(rt; ended.notes.len(), notes);
     }
 }

@@ -18,9 +18,9 @@ invariant_of-self-2 g c =
     let space : length ended + length conns ≤ room' = search rules in
     let slots = c.self.invariant.agrees.waiting.slots in
     rw (c.in-Ok.ensures.ok.new_is, c.reserve.ensures.items)
-    (board_on _ inside.book conns conns ended room room' c.args.who (event.Accept slot) c.self.invariant (λ s. refl)
-    (accept-there inside.book.state slot conns (length ended) room room' c.in_ok-slot.ensures.allowed
-    (there_of _ inside.book conns ended room c.self.invariant) (omega (arith, space, slots))) c.self.invariant.clients.conns)
+    (board_on _ inside.book conns conns ended inside.queues inside.queues room room' c.args.who (event.Accept slot) c.self.invariant (λ s. refl)
+    (accept-there inside.book.state slot conns inside.queues (length ended) room room' c.in_ok-slot.ensures.allowed
+    (there_of _ inside.book conns ended inside.queues room c.self.invariant) (omega (arith, space, slots))) c.self.invariant.clients.conns)
 
 pub returns-clause-entries : goal.returns-clause-entries
 returns-clause-entries g c = adds_inside c.args.who _ c.args.self.now _ c.self.view_is c.record.ensures.entries
@@ -28,13 +28,13 @@ returns-clause-entries g c = adds_inside c.args.who _ c.args.self.now _ c.self.v
 pub invariant_of-self : goal.invariant_of-self
 invariant_of-self g c =
     let more : vec_capacity c.self.inside.ended ≤ vec_capacity c.reserve.new.self = search rules in
-    board_roomier _ _ c.reserve.new.self.items (vec_capacity c.self.inside.ended) (vec_capacity c.reserve.new.self) c.reserve.ensures.items more c.self.invariant
+    board_roomier _ _ c.reserve.new.self.items _ (vec_capacity c.self.inside.ended) (vec_capacity c.reserve.new.self) c.reserve.ensures.items more c.self.invariant
 
 pub invariant_of-self-in-Err : goal.invariant_of-self-in-Err
 invariant_of-self-in-Err g c =
     let more : vec_capacity c.self.inside.ended ≤ vec_capacity c.reserve.new.self = search rules in
     rw (c.in-Err.ensures.err)
-    (board_roomier _ _ c.reserve.new.self.items (vec_capacity c.self.inside.ended) (vec_capacity c.reserve.new.self) c.reserve.ensures.items more c.self.invariant)
+    (board_roomier _ _ c.reserve.new.self.items _ (vec_capacity c.self.inside.ended) (vec_capacity c.reserve.new.self) c.reserve.ensures.items more c.self.invariant)
 
 pub returns-in-Err-clause-why : goal.returns-in-Err-clause-why
 returns-in-Err-clause-why g c =

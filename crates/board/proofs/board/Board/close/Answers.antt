@@ -18,8 +18,8 @@ unreachable-requires g c =
     let e = c.args.ended in
     let may = may_inside _ c.args.self.now (event.Close e.name e.cause e.tail) c.self.view_is c.requires.allowed in
     let room : length ended < vec_capacity inside.ended =
-    close-room inside.book.state e.name e.cause e.tail inside.conns.items (length ended) (vec_capacity inside.ended) may
-    (there_of _ inside.book inside.conns.items ended (vec_capacity inside.ended) c.self.invariant) in
+    close-room inside.book.state e.name e.cause e.tail inside.conns.items inside.queues (length ended) (vec_capacity inside.ended) may
+    (there_of _ inside.book inside.conns.items ended inside.queues (vec_capacity inside.ended) c.self.invariant) in
     search rules
 
 pub invariant_of-self : goal.invariant_of-self
@@ -34,11 +34,11 @@ invariant_of-self g c =
     subst (λ (v : SeenBoard). IsClosing v.book.state e.name e.cause e.tail e) (sym c.self.view_is) c.requires.fits in
     let more : c.push.new.self.items ≡ ended ++ e ∷ [] = search rules in
     rw (c.record_sure.ensures.is, more)
-    (subst (λ (v : SeenEnded). IsBoard _ (record { book = book_with_entry c.args.who (event.Close v.name v.cause v.tail) inside.book; conns = conns; ended = ended ++ e ∷ [] }) (vec_capacity c.push.new.self))
+    (subst (λ (v : SeenEnded). IsBoard _ (record { book = book_with_entry c.args.who (event.Close v.name v.cause v.tail) inside.book; conns = conns; ended = ended ++ e ∷ [] }) inside.queues (vec_capacity c.push.new.self))
     (sym c.ended.view_is)
-    (board_closed _ inside.book conns ended e room (vec_capacity c.push.new.self) c.args.who c.self.invariant c.show.ensures.state closing c.requires.answered c.requires.client
-    (close-there inside.book.state e.name e.cause e.tail conns (length ended) room (vec_capacity c.push.new.self) may
-    (there_of _ inside.book conns ended room c.self.invariant) c.push.ensures.capacity)))
+    (board_closed _ inside.book conns ended e inside.queues room (vec_capacity c.push.new.self) c.args.who c.self.invariant c.show.ensures.state closing c.requires.answered c.requires.client
+    (close-there inside.book.state e.name e.cause e.tail conns inside.queues (length ended) room (vec_capacity c.push.new.self) may
+    (there_of _ inside.book conns ended inside.queues room c.self.invariant) c.push.ensures.capacity)))
 
 pub record_sure-requires-clause-role : goal.record_sure-requires-clause-role
 record_sure-requires-clause-role g c =

@@ -6,5 +6,5 @@ pub invariant_of-result : goal.invariant_of-result
 invariant_of-result g c =
     let n : c.loop.counter ≡ c.args.slots = omega arith in
     let conns : c.loop.conns.items ≡ replicate c.args.slots None = c.loop.invariant ∙ ap (λ (k : ℕ). replicate k None) n in
-    board_first _ c.in_ok-book.book c.loop.conns.items c.new.result.items c.args.slots (vec_capacity c.new.result)
-    (search rules) (search rules) conns (search rules)
+    board_first _ c.in_ok-book.book c.loop.conns.items c.new.result.items c.in_ok-queues.queues c.args.slots (vec_capacity c.new.result)
+    (search rules) (search rules) conns (search rules) (search rules)

@@ -1,14 +1,18 @@
-use Rattle.std.proofs.Common.{◌≡◌, true, Some, length, vec_capacity, subst, sym, refl, rules}
+use Rattle.std.proofs.Common.{◌≡◌, true, Some, Option, is_some, length, slice_set, vec_capacity, subst, sym, ap, refl, rules}
+use Rattle.mpm_base.specs.declared.conn.Cause.{Cause}
 use Rattle.mpm_base.specs.declared.conn.ConnName.{ConnName}
 use Rattle.conn_machine.specs.Rows.{live_row}
 use Rattle.conn_machine.specs.Runs.{has_row, row_of}
-use Rattle.conn_machine.specs.Table.{is_allowed}
+use Rattle.conn_machine.specs.Table.{is_allowed, next, parked_row}
 use Rattle.conn_machine.specs.declared.event.Event.TheVariants as event
+use Rattle.board.specs.Finds.{cause_of}
+use Rattle.board.specs.Fits.{IsSettled}
+use Rattle.board.specs.QueuesInside.{waits_in, waits_under}
 use Rattle.board.proofs.BoardLemmas.{may_while, there_of}
 use Rattle.board.proofs.ClientLemmas.{clients_put}
 use Rattle.board.proofs.ClosedLemmas.{board_on}
 use Rattle.board.proofs.EventLemmas.{park-there}
-use Rattle.board.proofs.HandLemmas.{live-below}
+use Rattle.board.proofs.HandLemmas.{cause-found, live-below, park-free, park-parked}
 use Rattle.board.proofs.PassLemmas.{adds_inside, has_inside}
 use Rattle.board.proofs.board.Board.park.Goals as goal
 
@@ -39,11 +43,37 @@ invariant_of-self g c =
     let may : is_allowed inside.book.state e ≡ true =
     subst (λ (n : ConnName). is_allowed inside.book.state (event.Park n c.args.kind) ≡ true) (sym c.name-name.ensures)
     (may_while _ c.args.self.now (event.Park c.args.conn.name c.args.kind) c.self.view_is c.requires.allowed ok.was_open.going) in
-    rw (ok.new_is, c.forget.ensures.same)
-    (board_on _ inside.book conns _ ended room room c.args.who e c.self.invariant (λ s. refl)
-    (park-there inside.book.state name c.args.kind conns c.args.conn c.requires.fits.row (length ended) room may
-    (there_of _ inside.book conns ended room c.self.invariant) found (sym c.name-name.ensures) c.requires.fits.fits c.requires.settled)
+    let cause_is : cause_of c.args.self.now.book.state c.args.conn.name ≡ c.requires.fits.row.cause =
+    cause-found c.args.self.now.book.state c.args.conn.name c.requires.fits.row c.requires.fits.found in
+    let settled = subst (λ (why : Option Cause). IsSettled c.args.kind why c.args.conn) cause_is c.requires.settled in
+    let parked = park-parked inside.book.state name c.args.kind c.requires.fits.row may found in
+    let queued : c.wait_in_queue.new.queues ≡ slice_set inside.queues name.slot (waits_in (parked_row inside.book.state c.args.kind c.requires.fits.row)) = search rules in
+    rw (ok.new_is, c.forget.ensures.same, queued)
+    (board_on _ inside.book conns _ ended inside.queues _ room room c.args.who e c.self.invariant (λ s. refl)
+    (park-there inside.book.state name c.args.kind conns inside.queues c.args.conn c.requires.fits.row (length ended) room may
+    (there_of _ inside.book conns ended inside.queues room c.self.invariant) found (sym c.name-name.ensures) c.requires.fits.fits settled)
     (clients_put _ conns name.slot c.args.conn c.show.ensures.client c.self.invariant.clients.conns))
+
+pub wait_in_queue-requires-clause-free : goal.wait_in_queue-requires-clause-free
+wait_in_queue-requires-clause-free g c =
+    let inside = c.self.inside in
+    let name = c.name-name.result in
+    let may : is_allowed inside.book.state (event.Park name c.args.kind) ≡ true =
+    subst (λ (n : ConnName). is_allowed inside.book.state (event.Park n c.args.kind) ≡ true) (sym c.name-name.ensures)
+    (may_while _ c.args.self.now (event.Park c.args.conn.name c.args.kind) c.self.view_is c.requires.allowed c.in-Ok.ensures.ok.was_open.going) in
+    park-free inside.book.state name c.args.kind inside.queues may c.self.invariant.queued
+
+pub wait_in_queue-requires-clause-waits : goal.wait_in_queue-requires-clause-waits
+wait_in_queue-requires-clause-waits g c =
+    let inside = c.self.inside in
+    let name = c.name-name.result in
+    let found : live_row inside.book.state.rows name ≡ Some c.requires.fits.row = search rules in
+    let may : is_allowed inside.book.state (event.Park name c.args.kind) ≡ true =
+    subst (λ (n : ConnName). is_allowed inside.book.state (event.Park n c.args.kind) ≡ true) (sym c.name-name.ensures)
+    (may_while _ c.args.self.now (event.Park c.args.conn.name c.args.kind) c.self.view_is c.requires.allowed c.in-Ok.ensures.ok.was_open.going) in
+    let parked = park-parked inside.book.state name c.args.kind c.requires.fits.row may found in
+    let some : is_some (waits_under (next inside.book.state (event.Park name c.args.kind)).rows name) ≡ true = ap is_some parked in
+    search (rules, some)
 
 pub record-requires-clause-role : goal.record-requires-clause-role
 record-requires-clause-role g c =

@@ -1,14 +1,13 @@
-use Rattle.std.proofs.Common.{◌≡◌, Some, length, vec_capacity, subst, sym, ap, ◌∙◌, refl}
+use Rattle.std.proofs.Common.{length, vec_capacity, subst, sym, ap, ◌∙◌, refl}
 use Rattle.conn_machine.specs.declared.event.Event.TheVariants as event
 use Rattle.conn_state.specs.Conn.{SeenConn}
 use Rattle.board.specs.Book.{SeenBook}
 use Rattle.board.specs.Fits.{IsTakenUp}
-use Rattle.board.specs.Board.{SeenBoard}
 use Rattle.board.proofs.BoardLemmas.{may_while, there_of}
 use Rattle.board.proofs.ClientLemmas.{clients_taken}
 use Rattle.board.proofs.ClosedLemmas.{board_on}
 use Rattle.board.proofs.EventLemmas.{queue-there}
-use Rattle.board.proofs.HandLemmas.{given_is, queue-given}
+use Rattle.board.proofs.HandLemmas.{given_is, queue-given, queue-open, queue-unparked}
 use Rattle.board.proofs.PassLemmas.{adds_inside}
 use Rattle.board.proofs.board.Board.queue.Goals as goal
 
@@ -26,9 +25,11 @@ invariant_of-self-2 g c =
     let ended = inside.ended.items in
     let room = vec_capacity inside.ended in
     let may = may_while _ c.args.self.now (event.Queue c.args.name) c.self.view_is c.requires.allowed c.in_ok-record.ensures.ok.was_open.going in
-    rw (c.in_ok-record.ensures.ok.new_is, c.take_out.ensures.emptied)
-    (board_on _ inside.book conns _ ended room room c.args.who (event.Queue c.args.name) c.self.invariant (λ s. refl)
-    (queue-there inside.book.state c.args.name conns (length ended) room may (there_of _ inside.book conns ended room c.self.invariant))
+    let unparked = queue-unparked inside.book.state c.args.name inside.queues c.unpark.new.self c.unpark.result may c.self.invariant.queued
+    c.unpark.ensures.found c.unpark.ensures.unparked in
+    rw (c.in_ok-record.ensures.ok.new_is, c.take_out.ensures.emptied, unparked)
+    (board_on _ inside.book conns _ ended inside.queues _ room room c.args.who (event.Queue c.args.name) c.self.invariant (λ s. refl)
+    (queue-there inside.book.state c.args.name conns inside.queues (length ended) room may (there_of _ inside.book conns ended inside.queues room c.self.invariant))
     (clients_taken _ conns c.args.name.slot c.self.invariant.clients.conns))
 
 pub returns-clause-name : goal.returns-clause-name
@@ -47,6 +48,12 @@ returns-clause-handed g c =
     let same = given_is _ _ inside.conns.items c.args.name c.take_out.result given c.take_out.ensures.conn in
     subst (λ (b : SeenBook). IsTakenUp b.state c.take_out.result) (sym c.in_ok-record.ensures.ok.new_is)
     (subst (IsTakenUp _) same given.handed)
+
+pub returns-clause-stays_open : goal.returns-clause-stays_open
+returns-clause-stays_open g c =
+    let inside = c.self.inside in
+    let may = may_while _ c.args.self.now (event.Queue c.args.name) c.self.view_is c.requires.allowed c.in_ok-record.ensures.ok.was_open.going in
+    queue-open inside.book.state c.args.name inside.conns.items c.take_out.result may c.self.invariant.agrees.waiting c.take_out.ensures.conn
 
 pub returns-clause-entries : goal.returns-clause-entries
 returns-clause-entries g c = adds_inside c.args.who _ c.args.self.now _ c.self.view_is c.record.ensures.entries

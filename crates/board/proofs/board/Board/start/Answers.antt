@@ -21,8 +21,8 @@ invariant_of-self g c =
     let ended = inside.ended.items in
     let room = vec_capacity inside.ended in
     rw (c.record_sure.ensures.is)
-    (board_on _ inside.book conns conns ended room room c.args.who (event.Start c.args.name) c.self.invariant (λ s. refl)
-    (start-there inside.book.state c.args.name conns (length ended) room may (there_of _ inside.book conns ended room c.self.invariant)) c.self.invariant.clients.conns)
+    (board_on _ inside.book conns conns ended inside.queues inside.queues room room c.args.who (event.Start c.args.name) c.self.invariant (λ s. refl)
+    (start-there inside.book.state c.args.name conns inside.queues (length ended) room may (there_of _ inside.book conns ended inside.queues room c.self.invariant)) c.self.invariant.clients.conns)
 
 pub returns-clause-handed : goal.returns-clause-handed
 returns-clause-handed g c x taken =

@@ -1,0 +1,78 @@
+use Rattle.std.proofs.Common.{◌≡◌, true, Some, is_some, length, slice_set, vec_capacity, subst, sym, ap, refl, rules}
+use Rattle.mpm_base.specs.declared.conn.ConnName.{ConnName}
+use Rattle.conn_machine.specs.Rows.{live_row}
+use Rattle.conn_machine.specs.Runs.{has_row, row_of}
+use Rattle.conn_machine.specs.Table.{is_allowed, next, lingering_row}
+use Rattle.conn_machine.specs.declared.event.Event.TheVariants as event
+use Rattle.conn_state.specs.Conn.{lingers}
+use Rattle.board.specs.Fits.{LingersFor}
+use Rattle.board.specs.QueuesInside.{waits_in, waits_under}
+use Rattle.board.proofs.BoardLemmas.{may_inside, there_of}
+use Rattle.board.proofs.ClientLemmas.{clients_put}
+use Rattle.board.proofs.ClosedLemmas.{board_on}
+use Rattle.board.proofs.EventLemmas.{linger-there}
+use Rattle.board.proofs.HandLemmas.{linger-free, linger-parked, live-below}
+use Rattle.board.proofs.PassLemmas.{adds_inside, has_inside}
+use Rattle.board.proofs.board.Board.linger.Goals as goal
+
+pub index_mut-requires : goal.index_mut-requires
+index_mut-requires g c =
+    let inside = c.self.inside in
+    let name = c.name-name.result in
+    let found : live_row inside.book.state.rows name ≡ Some c.requires.fits.row = search rules in
+    let below = live-below inside.book.state.rows inside.conns.items name c.requires.fits.row c.self.invariant.agrees.waiting found in
+    search (rules, below)
+
+pub record_sure-requires-clause-allowed : goal.record_sure-requires-clause-allowed
+record_sure-requires-clause-allowed g c =
+    subst (λ (n : ConnName). is_allowed c.self.inside.book.state (event.Linger n c.args.cause) ≡ true) (sym c.name-name.ensures)
+    (may_inside _ c.args.self.now (event.Linger c.args.conn.name c.args.cause) c.self.view_is c.requires.allowed)
+
+pub record_sure-requires-clause-role : goal.record_sure-requires-clause-role
+record_sure-requires-clause-role g c =
+    subst (λ (n : ConnName). has_row (row_of c.args.who c.self.inside.book.history) n ≡ true) (sym c.name-name.ensures)
+    (has_inside c.args.who _ c.args.self.now c.args.conn.name c.self.view_is c.requires.row)
+
+pub wait_in_queue-requires-clause-free : goal.wait_in_queue-requires-clause-free
+wait_in_queue-requires-clause-free g c =
+    let inside = c.self.inside in
+    let may : is_allowed inside.book.state (event.Linger c.name-name.result c.args.cause) ≡ true =
+    subst (λ (n : ConnName). is_allowed inside.book.state (event.Linger n c.args.cause) ≡ true) (sym c.name-name.ensures)
+    (may_inside _ c.args.self.now (event.Linger c.args.conn.name c.args.cause) c.self.view_is c.requires.allowed) in
+    linger-free inside.book.state c.name-name.result c.args.cause inside.queues may c.self.invariant.queued
+
+pub wait_in_queue-requires-clause-waits : goal.wait_in_queue-requires-clause-waits
+wait_in_queue-requires-clause-waits g c =
+    let inside = c.self.inside in
+    let name = c.name-name.result in
+    let found : live_row inside.book.state.rows name ≡ Some c.requires.fits.row = search rules in
+    let may : is_allowed inside.book.state (event.Linger name c.args.cause) ≡ true =
+    subst (λ (n : ConnName). is_allowed inside.book.state (event.Linger n c.args.cause) ≡ true) (sym c.name-name.ensures)
+    (may_inside _ c.args.self.now (event.Linger c.args.conn.name c.args.cause) c.self.view_is c.requires.allowed) in
+    let parked = linger-parked inside.book.state name c.args.cause c.requires.fits.row may found in
+    let some : is_some (waits_under (next inside.book.state (event.Linger name c.args.cause)).rows name) ≡ true = ap is_some parked in
+    search (rules, some)
+
+pub invariant_of-self : goal.invariant_of-self
+invariant_of-self g c =
+    let inside = c.self.inside in
+    let conns = inside.conns.items in
+    let ended = inside.ended.items in
+    let room = vec_capacity inside.ended in
+    let name = c.name-name.result in
+    let why = c.args.cause in
+    let found : live_row inside.book.state.rows name ≡ Some c.requires.fits.row = search rules in
+    let may : is_allowed inside.book.state (event.Linger name why) ≡ true =
+    subst (λ (n : ConnName). is_allowed inside.book.state (event.Linger n why) ≡ true) (sym c.name-name.ensures)
+    (may_inside _ c.args.self.now (event.Linger c.args.conn.name why) c.self.view_is c.requires.allowed) in
+    let waits : LingersFor why c.args.conn = record { half_closed = ap lingers c.requires.half_closed; shows = c.requires.shows } in
+    let parked = linger-parked inside.book.state name why c.requires.fits.row may found in
+    let queued : c.wait_in_queue.new.queues ≡ slice_set inside.queues name.slot (waits_in (lingering_row inside.book.state why c.requires.fits.row)) = search rules in
+    rw (c.record_sure.ensures.is, c.forget.ensures.same, queued)
+    (board_on _ inside.book conns _ ended inside.queues _ room room c.args.who (event.Linger name why) c.self.invariant (λ s. refl)
+    (linger-there inside.book.state name why conns inside.queues c.args.conn c.requires.fits.row (length ended) room may
+    (there_of _ inside.book conns ended inside.queues room c.self.invariant) found (sym c.name-name.ensures) c.requires.fits.fits waits c.show.ensures.conn)
+    (clients_put _ conns name.slot c.args.conn c.show.ensures.client c.self.invariant.clients.conns))
+
+pub returns-clause-entries : goal.returns-clause-entries
+returns-clause-entries g c = adds_inside c.args.who _ c.args.self.now _ c.self.view_is c.record_sure.ensures.entries
