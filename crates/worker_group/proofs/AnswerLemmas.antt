@@ -5,6 +5,7 @@ use Rattle.mpm_base.specs.Notes.{says_last}
 use Rattle.mpm_base.specs.declared.conn.Ask.{Ask}
 use Rattle.mpm_base.specs.declared.conn.ConnName.{ConnName}
 use Rattle.mpm_base.specs.declared.conn.Cause.TheVariants as cause
+use Rattle.mpm_base.specs.declared.conn.Tail.TheVariants as tail
 use Rattle.mpm_base.specs.declared.note.Note.{Note}
 use Rattle.conn_machine.specs.declared.row.Phase.{Phase}
 use Rattle.conn_machine.specs.declared.row.Place.{Place}
@@ -21,7 +22,7 @@ use Rattle.conn_machine.specs.Runs.{row_of}
 use Rattle.conn_machine.proofs.UpdateLemmas.{get_changed}
 use Rattle.conn_state.specs.declared.turn.LastTurn.{LastTurn}
 use Rattle.conn_state.specs.declared.turn.LastTurn.TheVariants as turn
-use Rattle.conn_state.specs.Conn.{SeenConn, TurnFits, IsConn}
+use Rattle.conn_state.specs.Conn.{SeenConn, TurnFits, IsConn, is_half_closed}
 use Rattle.conn_state.specs.Turns.{TakesNote}
 use Rattle.board.specs.Book.{SeenBook}
 use Rattle.board.specs.Events.{IsDecided}
@@ -29,7 +30,7 @@ use Rattle.worker_group.specs.Acts.{Acts}
 use Rattle.worker_group.specs.InHand.{IsServed, IsClosable, answers_left}
 use Rattle.worker_group.specs.Service.{answer_events}
 use Rattle.worker_group.proofs.ActsLemmas.{acts_as, acts_more, acts_same}
-use Rattle.worker_group.proofs.ServeLemmas.{alive, test-at, served-row, served-stays, row-open, working-in_hand}
+use Rattle.worker_group.proofs.ServeLemmas.{alive, test-at, served-row, served-stays, row-open, working-in_hand, ends-direct}
 
 -- the connection was asked for something, and its last response wasn't decided
 pub asked-open : (c : SeenConn) (ask : Ask) → IsConn c → c.turn ≡ turn.Asked ask → says_last c.notes ≡ false
@@ -119,26 +120,28 @@ served-answered s s' c c' name ask note served named decided is answers =
         rank = served.fits.rank;
       };
       usable = refl;
+      open_side = served.open_side;
     }))
 
 -- memory lacked for the response, and the connection may be closed for that
 pub closes-unanswered : (s s' : State) (c c' : SeenConn) (name : ConnName) (ask : Ask) (note : Note) → IsSound s → IsServed s c → name ≡ c.name
-    → IsDecided s name ask note → s' ≡ next s (event.Answer name ask) → c' ≡ record c { turn = turn.NoMemory } → IsClosable s' cause.NoMemory c'
+    → IsDecided s name ask note → s' ≡ next s (event.Answer name ask) → c' ≡ record c { turn = turn.NoMemory } → IsClosable s' cause.NoMemory tail.Direct c'
 closes-unanswered s s' c c' name ask note sound served named decided is left =
     let is' : s' ≡ next s (event.Answer c.name ask) = is ∙ ap (λ (n : ConnName). next s (event.Answer n ask)) named in
-    subst (λ (t : State). IsClosable t cause.NoMemory c') (sym is')
-    (subst (λ (x : SeenConn). IsClosable (next s (event.Answer c.name ask)) cause.NoMemory x) (sym left)
+    subst (λ (t : State). IsClosable t cause.NoMemory tail.Direct c') (sym is')
+    (subst (λ (x : SeenConn). IsClosable (next s (event.Answer c.name ask)) cause.NoMemory tail.Direct x) (sym left)
     (record {
       row = answered_row s ask served.row;
       found = answered-found s c ask served;
       in_hand = working-in_hand _ (in_phase-working _ served.row.place served.working);
-      serves = served-stays s c.name served.row sound served.found served.working;
-      cause_fits = refl;
+      end_fits =
+          ends-direct (next s (event.Answer c.name ask)) cause.NoMemory (answered_row s ask served.row)
+          (served-stays s c.name served.row sound served.found served.working) refl;
       child = served.fits.child;
       generation = served.fits.generation;
       notes = inr (note, answered-notes s c name ask note served named decided);
       rank = served.fits.rank;
-      shown = tt;
+      shown = record { shows = tt; left = ap is_half_closed served.open_side };
     }))
 
 -- one less is left of a number that isn't used up

@@ -1,6 +1,7 @@
 -- How a connection is left: the kind that it waits for, what lasts of a refusal, and what only the listener changes.
-use Rattle.std.proofs.Common.{◌≡◌, ◌==◌, ℕ, ◌+◌, ◌≤◌, not, ◌&&◌, true, false, List, [], ◌∷◌, ◌++◌, length, cond, count_by, refl, None, Result, Ok, Err, OnOk, IfErr, sym, ap, subst, ◌∙◌, inl, inr, arith}
-use Rattle.std.proofs.lemmas.List.{length_push}
+use Rattle.std.proofs.Common.{◌≡◌, ◌==◌, ℕ, ◌+◌, ◌<◌, ◌≤◌, not, ◌&&◌, true, false, List, [], ◌∷◌, ◌++◌, length, cond, count_by, refl, Option, None, Some, slice_set, Result, Ok, Err, OnOk, IfErr, sym, ap, subst, ◌∙◌, inl, inr, arith}
+use Rattle.std.proofs.lemmas.List.{get_or-set_same, length_push}
+use Rattle.std.proofs.lemmas.Option.{slice_get_within}
 use Rattle.std.proofs.lemmas.List.Sums.{sum_by-append}
 use Rattle.mpm_base.specs.declared.conn.ConnName.{ConnName}
 use Rattle.mpm_base.specs.declared.conn.Ask.{Ask}
@@ -8,10 +9,13 @@ use Rattle.mpm_base.specs.declared.conn.Cause.{Cause}
 use Rattle.mpm_base.specs.declared.conn.Cause.TheVariants as cause
 use Rattle.mpm_base.specs.declared.conn.Kind.{Kind}
 use Rattle.mpm_base.specs.declared.conn.Kind.TheVariants.{Reading, KeepAlive}
+use Rattle.mpm_base.specs.declared.conn.Tail.{Tail}
 use Rattle.mpm_base.specs.declared.conn.Tail.TheVariants.{Direct}
 use Rattle.conn_machine.specs.declared.event.Entry.{Entry}
 use Rattle.conn_machine.specs.declared.event.Event.{Event}
 use Rattle.conn_machine.specs.declared.event.Event.TheVariants as event
+use Rattle.conn_machine.specs.declared.row.Row.{Row}
+use Rattle.conn_machine.specs.Rows.{live_row}
 use Rattle.conn_machine.specs.States.{is_halted}
 use Rattle.conn_machine.specs.Runs.{asks_page, full_load, load}
 use Rattle.conn_state.specs.declared.turn.LastTurn.{LastTurn}
@@ -19,14 +23,17 @@ use Rattle.conn_state.specs.declared.turn.LastTurn.TheVariants as turn
 use Rattle.conn_state.specs.declared.turn.ReadTurn.{ReadTurn}
 use Rattle.conn_state.specs.declared.turn.WriteTurn.{WriteTurn}
 use Rattle.conn_state.specs.Conn.{SeenConn}
+use Rattle.conn_state.specs.Answered.{SeenEnded, IsEndOf}
 use Rattle.conn_state.specs.Turns.{ReadsOn, WritesOn, after_reading, after_writing}
 use Rattle.board.specs.declared.faults.BoardFault.{BoardFault}
 use Rattle.board.specs.declared.faults.BoardFault.TheVariants as fault
 use Rattle.board.specs.Book.{SeenBook, book_with_entry, entry_of, full_stop}
+use Rattle.board.specs.Board.{SeenBoard, Agrees, conn_at}
 use Rattle.worker_group.specs.declared.service.Exit.{Exit}
 use Rattle.worker_group.specs.declared.service.Exit.TheVariants as exit
 use Rattle.worker_group.specs.Acts.{Acts}
-use Rattle.worker_group.specs.Service.{ExitsAfter, Leaves, LeavesRest, RefusalLasts, given_up, kept_kind}
+use Rattle.worker_group.specs.Service.{ExitsAfter, IsGivenUp, IsLastEnded, IsThere, Leaves, LeavesRest, RefusalLasts, StandsThen, given_up, kept_kind}
+use Rattle.worker_group.proofs.ServeLemmas.{alive}
 
 -- ## What the connection waits for
 
@@ -45,8 +52,8 @@ pub gives-up : (c : SeenConn) (ask : Ask) (fault : BoardFault) → c.turn ≡ tu
 gives-up c ask fault asked = subst (λ (u : LastTurn). ExitsAfter u c (exit.GiveUp fault)) (sym asked) (fault, refl)
 
 -- one for whose response memory lacked is closed for that
-pub ends-unanswered : (c c' : SeenConn) → c' ≡ record c { turn = turn.NoMemory } → ExitsAfter c'.turn c' (exit.Close cause.NoMemory)
-ends-unanswered c c' is = subst (λ (x : SeenConn). ExitsAfter x.turn x (exit.Close cause.NoMemory)) (sym is) refl
+pub ends-unanswered : (c c' : SeenConn) → c' ≡ record c { turn = turn.NoMemory } → ExitsAfter c'.turn c' (exit.Close cause.NoMemory Direct)
+ends-unanswered c c' is = subst (λ (x : SeenConn). ExitsAfter x.turn x (exit.Close cause.NoMemory Direct)) (sym is) refl
 
 -- one that was to wait waits, or is given up
 pub park-leaves : {T : Type 0} (who : ℕ) (way : Exit) (kind : Kind) (name : ConnName) (a b : SeenBook) (r : Result T BoardFault) → way ≡ exit.Park kind
@@ -58,10 +65,16 @@ park-leaves who way kind name a b (Err fault) is ok err =
     (given_up fault name, subst (λ (w : Exit). Leaves w name (given_up fault name)) (sym is) (inr (fault, refl)), err)
 
 -- one that ends is closed
-pub close-leaves : (who : ℕ) (way : Exit) (reason : Cause) (name : ConnName) (a b : SeenBook) → way ≡ exit.Close reason
-    → Acts who (event.Close name reason Direct ∷ []) None a b → (events : List Event) × Leaves way name events × Acts who events None a b
-close-leaves who way reason name a b is acts =
-    (event.Close name reason Direct ∷ [], subst (λ (w : Exit). Leaves w name (event.Close name reason Direct ∷ [])) (sym is) refl, acts)
+pub close-leaves : (who : ℕ) (way : Exit) (reason : Cause) (how : Tail) (name : ConnName) (a b : SeenBook) → way ≡ exit.Close reason how
+    → Acts who (event.Close name reason how ∷ []) None a b → (events : List Event) × Leaves way name events × Acts who events None a b
+close-leaves who way reason how name a b is acts =
+    (event.Close name reason how ∷ [], subst (λ (w : Exit). Leaves w name (event.Close name reason how ∷ [])) (sym is) refl, acts)
+
+-- one that lingers does
+pub linger-leaves : (who : ℕ) (way : Exit) (reason : Cause) (name : ConnName) (a b : SeenBook) → way ≡ exit.Linger reason
+    → Acts who (event.Linger name reason ∷ []) None a b → (events : List Event) × Leaves way name events × Acts who events None a b
+linger-leaves who way reason name a b is acts =
+    (event.Linger name reason ∷ [], subst (λ (w : Exit). Leaves w name (event.Linger name reason ∷ [])) (sym is) refl, acts)
 
 -- one for which a call was refused is given up
 pub give_up-leaves : (who : ℕ) (way : Exit) (fault : BoardFault) (name : ConnName) (a b : SeenBook) → way ≡ exit.GiveUp fault
@@ -78,6 +91,31 @@ pub exits-read : (c c' : SeenConn) (answer : ReadTurn) (way : Exit) → ReadsOn 
     → ExitsAfter c'.turn c' way
 exits-read c c' answer way reads exits = subst (λ (u : LastTurn). ExitsAfter u c' way) (sym reads.turn) exits
 
+-- ## Where the connection is then
+
+-- a connection that was put into its slot is there
+pub put-there : (b b' : SeenBoard) (c : SeenConn) (row : Row) → Agrees b → live_row b.book.state.rows c.name ≡ Some row
+    → b'.conns ≡ slice_set b.conns c.name.slot (Some c) → IsThere c b'
+put-there b b' c row agrees found is =
+    let within = slice_get_within b.book.state.rows c.name.slot row (alive b.book.state.rows c.name row found).at in
+    let inside : c.name.slot < length b.conns = subst (λ (n : ℕ). c.name.slot < n) (sym agrees.waiting.slots) within in
+    ap (λ (conns : List (Option SeenConn)). conn_at conns c.name.slot) is ∙ get_or-set_same b.conns c.name.slot (Some c) None inside
+
+-- a connection that ended last is the last that ended
+pub ended-last : (c : SeenConn) (why : Cause) (how : Tail) (e : SeenEnded) (before ended : List SeenEnded) → ended ≡ before ++ e ∷ []
+    → IsEndOf c why how e → IsLastEnded c why how ended
+ended-last c why how e before ended is ends = record { before = before; last = e; ended_is = is; end_of = ends }
+
+-- the way by another spelling
+pub stands-as : (way way' : Exit) (c : SeenConn) (b : SeenBoard) → way ≡ way' → StandsThen way' c b → StandsThen way c b
+stands-as way way' c b is stands = subst (λ (w : Exit). StandsThen w c b) (sym is) stands
+
+-- one that was to wait waits, or was given up
+pub park-stands : {T : Type 0} (c : SeenConn) (kind : Kind) (b : SeenBoard) (r : Result T BoardFault) → OnOk r (IsThere c b)
+    → IfErr r (λ fault. IsGivenUp fault c b) → StandsThen (exit.Park kind) c b
+park-stands c kind b (Ok x) there ended = inl there
+park-stands c kind b (Err fault) there ended = inr (fault, ended)
+
 -- ## What lasts of a refusal
 
 -- a history weighs no less with one more entry
@@ -90,18 +128,18 @@ load-more history e =
     omega (arith, longer, pages)
 
 -- the server has stopped still, after a close
-pub halted-closed : (who : ℕ) (name : ConnName) (reason : Cause) (b b' : SeenBook) → is_halted b.state.going ≡ true
-    → b' ≡ book_with_entry who (event.Close name reason Direct) b → RefusalLasts fault.Halted b'
-halted-closed who name reason b b' halted is = ap (λ (v : SeenBook). is_halted v.state.going) is ∙ halted
+pub halted-closed : (who : ℕ) (name : ConnName) (reason : Cause) (how : Tail) (b b' : SeenBook) → is_halted b.state.going ≡ true
+    → b' ≡ book_with_entry who (event.Close name reason how) b → RefusalLasts fault.Halted b'
+halted-closed who name reason how b b' halted is = ap (λ (v : SeenBook). is_halted v.state.going) is ∙ halted
 
 -- a full history stopped the server, and is full still, after a close
-pub full-closed : (who : ℕ) (name : ConnName) (reason : Cause) (b b1 b2 : SeenBook) → full_load ≤ load b.history
-    → b1 ≡ book_with_entry who full_stop b → b2 ≡ book_with_entry who (event.Close name reason Direct) b1 → RefusalLasts fault.Full b2
-full-closed who name reason b b1 b2 heavy stopped closed =
+pub full-closed : (who : ℕ) (name : ConnName) (reason : Cause) (how : Tail) (b b1 b2 : SeenBook) → full_load ≤ load b.history
+    → b1 ≡ book_with_entry who full_stop b → b2 ≡ book_with_entry who (event.Close name reason how) b1 → RefusalLasts fault.Full b2
+full-closed who name reason how b b1 b2 heavy stopped closed =
     let stop_load = subst (λ (v : SeenBook). load b.history ≤ load v.history) (sym stopped) (load-more b.history (entry_of who full_stop b)) in
     let close_load =
     subst (λ (v : SeenBook). load b1.history ≤ load v.history) (sym closed)
-    (load-more b1.history (entry_of who (event.Close name reason Direct) b1)) in (
+    (load-more b1.history (entry_of who (event.Close name reason how) b1)) in (
       ap (λ (v : SeenBook). is_halted v.state.going) closed ∙ ap (λ (v : SeenBook). is_halted v.state.going) stopped,
       omega (arith, heavy, stop_load, close_load),
     )
@@ -118,9 +156,15 @@ rest_parked who name kind b b' is =
     subst (LeavesRest b) (sym is) (record { moment = refl; accepted = refl; up = λ up. up })
 
 -- after a close
-pub rest_closed : (who : ℕ) (name : ConnName) (reason : Cause) (b b' : SeenBook) → b' ≡ book_with_entry who (event.Close name reason Direct) b
+pub rest_closed : (who : ℕ) (name : ConnName) (reason : Cause) (how : Tail) (b b' : SeenBook)
+    → b' ≡ book_with_entry who (event.Close name reason how) b → LeavesRest b b'
+rest_closed who name reason how b b' is =
+    subst (LeavesRest b) (sym is) (record { moment = refl; accepted = refl; up = λ up. up })
+
+-- after the service ended, and the connection lingers
+pub rest_lingering : (who : ℕ) (name : ConnName) (reason : Cause) (b b' : SeenBook) → b' ≡ book_with_entry who (event.Linger name reason) b
     → LeavesRest b b'
-rest_closed who name reason b b' is =
+rest_lingering who name reason b b' is =
     subst (LeavesRest b) (sym is) (record { moment = refl; accepted = refl; up = λ up. up })
 
 -- after a stop because the history is full

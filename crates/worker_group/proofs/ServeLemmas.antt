@@ -1,8 +1,8 @@
 -- What a worker may do with the connection that it serves.
-use Rattle.std.proofs.Common.{◌≡◌, ◌⊎◌, ◌==◌, ℕ, ◌<◌, Bool, true, false, not, ◌&&◌, ◌||◌, cond, List, length, Option, None, Some, is_none, option_map, IfSome, slice_get, refl, sym, ap, subst, ◌∙◌, inl, inr, arith}
+use Rattle.std.proofs.Common.{◌≡◌, ◌⊎◌, ◌==◌, ℕ, ◌<◌, Bool, true, false, not, ◌&&◌, ◌||◌, cond, List, length, Option, None, Some, is_none, is_some, option_map, IfSome, slice_get, refl, sym, ap, subst, ◌∙◌, inl, inr, arith}
 use Rattle.std.proofs.lemmas.Bool.{and_parts}
 use Rattle.std.proofs.lemmas.Bool.Decides.{nat_tests}
-use Rattle.std.specs.Option.{option_map_or}
+use Rattle.std.specs.Option.{option_and_then, option_map_or}
 use Rattle.mpm_base.specs.Link.{LinkTold}
 use Rattle.mpm_base.specs.Count.{Rises}
 use Rattle.mpm_base.specs.Notes.{says_last}
@@ -20,7 +20,7 @@ use Rattle.conn_machine.specs.declared.event.Event.TheVariants as event
 use Rattle.conn_machine.specs.declared.state.State.{State}
 use Rattle.conn_machine.specs.Rows.{is_held, is_working, is_live, is_lingering, is_live_as, has_note, row_where, live_row, lives_and}
 use Rattle.conn_machine.specs.States.{is_halted}
-use Rattle.conn_machine.specs.Table.{is_allowed, may_wait, direct_cause_fits}
+use Rattle.conn_machine.specs.Table.{is_allowed, may_wait, direct_cause_fits, end_fits}
 use Rattle.conn_machine.specs.Sound.{IsSound}
 use Rattle.conn_machine.proofs.RowLemmas.{IsSoundRow, sound_row, served_by, in_service}
 use Rattle.conn_state.specs.declared.turn.LastTurn.{LastTurn}
@@ -29,12 +29,13 @@ use Rattle.conn_state.specs.declared.turn.WriteTurn.{WriteTurn}
 use Rattle.conn_state.specs.declared.turn.WriteTurn.TheVariants as write
 use Rattle.conn_state.specs.declared.turn.ReadTurn.{ReadTurn}
 use Rattle.conn_state.specs.declared.turn.ReadTurn.TheVariants as read
-use Rattle.conn_state.specs.Conn.{SeenConn, is_usable, TurnFits, IsConn}
-use Rattle.conn_state.specs.Answered.{IsShown}
+use Rattle.conn_state.specs.Conn.{SeenConn, is_half_closed, is_usable, TurnFits, IsConn}
+use Rattle.conn_state.specs.Answered.{ShowsAtOnce}
 use Rattle.conn_state.specs.Turns.{WritesOn, ReadsOn, after_writing, after_reading}
-use Rattle.board.specs.Fits.{Fits, WaitsAs, NotesEnd}
+use Rattle.board.specs.Finds.{cause_of}
+use Rattle.board.specs.Fits.{Fits, FoundNoMore, WaitsAs, NotesEnd}
 use Rattle.worker_group.specs.InHand.{IsInHand, IsServed, IsClosable}
-use Rattle.worker_group.specs.Service.{KeepsNoted}
+use Rattle.worker_group.specs.Service.{MayWaitFor}
 
 -- ## The row of a name
 
@@ -102,12 +103,13 @@ in-hand s c sound served = record {
   in_hand = working-in_hand served.row.place served.working;
   serves = served-stays s c.name served.row sound served.found served.working;
   fits = served.fits;
+  open_side = ap is_half_closed served.open_side;
 }
 
 -- ## Turns
 
 -- a change of what the link tells keeps its rank
-rank-map : (change : LinkTold → LinkTold) (told told' : Option LinkTold) (n : ℕ) → ((t : LinkTold) → (change t).rank ≡ t.rank)
+pub rank-map : (change : LinkTold → LinkTold) (told told' : Option LinkTold) (n : ℕ) → ((t : LinkTold) → (change t).rank ≡ t.rank)
     → told' ≡ option_map change told → IfSome told (λ t. t.rank ≡ n) → IfSome told' (λ t. t.rank ≡ n)
 rank-map change None told' n keeps is rank = subst (λ (o : Option LinkTold). IfSome o (λ t. t.rank ≡ n)) (sym is) tt
 rank-map change (Some t) told' n keeps is rank = subst (λ (o : Option LinkTold). IfSome o (λ u. u.rank ≡ n)) (sym is) (keeps t ∙ rank)
@@ -139,6 +141,7 @@ served-written s c c' answer served writes usable = record {
   working = served.working;
   fits = fits-written c c' answer served.row writes served.fits;
   usable = ap is_usable writes.turn ∙ usable;
+  open_side = writes.linger ∙ served.open_side;
 }
 
 -- so is the connection that was read on
@@ -150,73 +153,93 @@ served-read s c c' answer served reads usable = record {
   working = served.working;
   fits = fits-read c c' answer served.row reads served.fits;
   usable = ap is_usable reads.turn ∙ usable;
+  open_side = reads.linger ∙ served.open_side;
 }
 
 -- ## Closes
 
--- a connection with the notes of its row may be closed for a cause that is shown
-closable : (s : State) (why : Cause) (c : SeenConn) (row : Row) → IsSound s → live_row s.rows c.name ≡ Some row → is_working row.place ≡ true
-    → Fits c row → direct_cause_fits s why row ≡ true → NotesEnd why c.notes row.notes → IsShown why tail.Direct c → IsClosable s why c
-closable s why c row sound found working fits cause_fits notes shown = record {
-  row = row;
-  found = found;
-  in_hand = working-in_hand row.place working;
-  serves = served-stays s c.name row sound found working;
-  cause_fits = cause_fits;
-  child = fits.child;
-  generation = fits.generation;
+-- a row that doesn't linger is closed directly, for a cause that fits
+pub ends-direct : (s : State) (why : Cause) (row : Row) → is_lingering row ≡ false → direct_cause_fits s why row ≡ true
+    → end_fits s why tail.Direct row ≡ true
+ends-direct s why row stays cause_fits = rw (stays, cause_fits) refl
+
+-- a connection in hand with the notes of its row may be closed for a cause that it shows
+pub closable : (s : State) (why : Cause) (c : SeenConn) → (hand : IsInHand s c) → direct_cause_fits s why hand.row ≡ true → ShowsAtOnce why c
+    → NotesEnd why c.notes hand.row.notes → IsClosable s why tail.Direct c
+closable s why c hand cause_fits shows notes = record {
+  row = hand.row;
+  found = hand.found;
+  in_hand = hand.in_hand;
+  end_fits = ends-direct s why hand.row hand.serves cause_fits;
+  child = hand.fits.child;
+  generation = hand.fits.generation;
   notes = notes;
-  rank = fits.rank;
-  shown = shown;
+  rank = hand.fits.rank;
+  shown = record { shows = shows; left = hand.open_side };
 }
 
 -- a link that failed in a turn of writing shows it
-rises-some : (old new : ℕ) → Rises old new → 0 < new
+pub rises-some : (old new : ℕ) → Rises old new → 0 < new
 rises-some old new rises = grind (arith, rises.0, rises.1)
 
--- the direct close for a cause that only the link shows
-pub closes-failed_write : (s : State) (c c' : SeenConn) → IsSound s → IsServed s c → WritesOn c c' write.LinkFailed → IsClosable s cause.LinkFailed c'
-closes-failed_write s c c' sound served writes =
-    let found' = subst (λ (n : ConnName). live_row s.rows n ≡ Some served.row) (sym writes.name) served.found in
-    let fits' = fits-written c c' write.LinkFailed served.row writes served.fits in
-    closable s cause.LinkFailed c' served.row sound found' served.working fits' refl fits'.notes
-    (rises-some c.counts.faults c'.counts.faults writes.faults)
+-- the connection after a turn of writing, in hand still
+written-hand : (s : State) (c c' : SeenConn) (answer : WriteTurn) → IsSound s → (served : IsServed s c) → WritesOn c c' answer → IsInHand s c'
+written-hand s c c' answer sound served writes = record {
+  row = served.row;
+  found = subst (λ (n : ConnName). live_row s.rows n ≡ Some served.row) (sym writes.name) served.found;
+  in_hand = working-in_hand served.row.place served.working;
+  serves = served-stays s c.name served.row sound served.found served.working;
+  fits = fits-written c c' answer served.row writes served.fits;
+  open_side = ap is_half_closed (writes.linger ∙ served.open_side);
+}
 
--- a last response was sent whole
-pub closes-sent : (s : State) (c c' : SeenConn) → IsSound s → IsServed s c → WritesOn c c' write.Done → IsClosable s cause.NoMemory c'
-closes-sent s c c' sound served writes =
-    let found' = subst (λ (n : ConnName). live_row s.rows n ≡ Some served.row) (sym writes.name) served.found in
-    let fits' = fits-written c c' write.Done served.row writes served.fits in
-    closable s cause.NoMemory c' served.row sound found' served.working fits' refl (inl fits'.notes) tt
+-- and after a turn of reading
+abbrev read-hand : (s : State) (c c' : SeenConn) (answer : ReadTurn) → IsSound s → (served : IsServed s c) → ReadsOn c c' answer → IsInHand s c'
+read-hand s c c' answer sound served reads = record {
+  row = served.row;
+  found = subst (λ (n : ConnName). live_row s.rows n ≡ Some served.row) (sym reads.name) served.found;
+  in_hand = working-in_hand served.row.place served.working;
+  serves = served-stays s c.name served.row sound served.found served.working;
+  fits = fits-read c c' answer served.row reads served.fits;
+  open_side = ap is_half_closed (reads.linger ∙ served.open_side);
+}
+
+-- a link that failed in a turn of writing
+pub closes-failed_write : (s : State) (c c' : SeenConn) → IsSound s → IsServed s c → WritesOn c c' write.LinkFailed
+    → IsClosable s cause.LinkFailed tail.Direct c'
+closes-failed_write s c c' sound served writes =
+    let hand = written-hand s c c' write.LinkFailed sound served writes in
+    closable s cause.LinkFailed c' hand refl (rises-some c.counts.faults c'.counts.faults writes.faults) hand.fits.notes
 
 -- a link that failed in a turn of reading
-pub closes-failed_read : (s : State) (c c' : SeenConn) → IsSound s → IsServed s c → ReadsOn c c' read.LinkFailed → IsClosable s cause.LinkFailed c'
+pub closes-failed_read : (s : State) (c c' : SeenConn) → IsSound s → IsServed s c → ReadsOn c c' read.LinkFailed
+    → IsClosable s cause.LinkFailed tail.Direct c'
 closes-failed_read s c c' sound served reads =
-    let found' = subst (λ (n : ConnName). live_row s.rows n ≡ Some served.row) (sym reads.name) served.found in
-    let fits' = fits-read c c' read.LinkFailed served.row reads served.fits in
-    closable s cause.LinkFailed c' served.row sound found' served.working fits' refl fits'.notes
-    (rises-some c.counts.faults c'.counts.faults reads.faults)
+    let hand = read-hand s c c' read.LinkFailed sound served reads in
+    closable s cause.LinkFailed c' hand refl (rises-some c.counts.faults c'.counts.faults reads.faults) hand.fits.notes
 
 -- memory lacked for what was read
-pub closes-unread : (s : State) (c c' : SeenConn) → IsSound s → IsServed s c → ReadsOn c c' read.NoMemory → IsClosable s cause.NoMemory c'
+pub closes-unread : (s : State) (c c' : SeenConn) → IsSound s → IsServed s c → ReadsOn c c' read.NoMemory → IsClosable s cause.NoMemory tail.Direct c'
 closes-unread s c c' sound served reads =
-    let found' = subst (λ (n : ConnName). live_row s.rows n ≡ Some served.row) (sym reads.name) served.found in
-    let fits' = fits-read c c' read.NoMemory served.row reads served.fits in
-    closable s cause.NoMemory c' served.row sound found' served.working fits' refl (inl fits'.notes) tt
+    let hand = read-hand s c c' read.NoMemory sound served reads in
+    closable s cause.NoMemory c' hand refl tt (inl hand.fits.notes)
+
+-- the row of a connection whose last response wasn't decided, or was
+pub row-decided : (s : State) (c : SeenConn) (b : Bool) → IsSound s → (served : IsServed s c) → says_last c.notes ≡ b → served.row.last ≡ b
+row-decided s c b sound served says =
+    row-last s c.name served.row sound served.found ∙ ap says_last (sym served.fits.notes) ∙ says
 
 -- the row of a connection whose last response wasn't decided
 pub row-open : (s : State) (c : SeenConn) → IsSound s → (served : IsServed s c) → says_last c.notes ≡ false → served.row.last ≡ false
-row-open s c sound served goes_on =
-    row-last s c.name served.row sound served.found ∙ ap says_last (sym served.fits.notes) ∙ goes_on
+row-open s c sound served goes_on = row-decided s c false sound served goes_on
 
 -- the client sends no more
 pub closes-done : (s : State) (c c' : SeenConn) → IsSound s → IsServed s c → says_last c.notes ≡ false → ReadsOn c c' read.Gone
-    → IsClosable s cause.ClientDone c'
+    → IsClosable s cause.ClientDone tail.Direct c'
 closes-done s c c' sound served goes_on reads =
-    let found' = subst (λ (n : ConnName). live_row s.rows n ≡ Some served.row) (sym reads.name) served.found in
-    let fits' = fits-read c c' read.Gone served.row reads served.fits in
+    let hand = read-hand s c c' read.Gone sound served reads in
     let fits_cause : direct_cause_fits s cause.ClientDone served.row ≡ true = rw (served.working, row-open s c sound served goes_on) refl in
-    closable s cause.ClientDone c' served.row sound found' served.working fits' fits_cause fits'.notes reads.turn
+    closable s cause.ClientDone c' hand fits_cause reads.turn hand.fits.notes
 
 -- ## Parks
 
@@ -235,7 +258,7 @@ or-right false b at = at
 some-number : (n : ℕ) → 0 < n → not (n == 0) ≡ true
 some-number n some = grind (arith, nat_tests)
 
-may-wait : (s : State) (kind : Kind) (c : SeenConn) → IsSound s → IsConn c → (served : IsServed s c) → WaitsAs kind c → KeepsNoted kind c
+may-wait : (s : State) (kind : Kind) (c : SeenConn) → IsSound s → IsConn c → (served : IsServed s c) → WaitsAs kind c → MayWaitFor kind c
     → may_wait s.moment kind served.row ≡ true
 may-wait s Reading c sound is served waits noted =
     let goes_on = waits-on c is waits in
@@ -246,12 +269,27 @@ may-wait s KeepAlive c sound is served waits noted =
     let has : has_note served.row ≡ true = ap (λ (ns : List Note). not (length ns == 0)) (sym served.fits.notes) ∙ some-number (length c.notes) noted in
     rw (served.working, row-open s c sound served goes_on, has) refl
 may-wait s Writing c sound is served waits noted = served.working
-may-wait s Linger c sound is served waits noted = absurd waits
-may-wait s ShortLinger c sound is served waits noted = absurd waits
+may-wait s Linger c sound is served waits noted = absurd noted
+may-wait s ShortLinger c sound is served waits noted = absurd noted
 
 -- a connection that is served may wait so
-pub may-park : (s : State) (kind : Kind) (c : SeenConn) → IsSound s → IsConn c → IsServed s c → WaitsAs kind c → KeepsNoted kind c
+pub may-park : (s : State) (kind : Kind) (c : SeenConn) → IsSound s → IsConn c → IsServed s c → WaitsAs kind c → MayWaitFor kind c
     → is_halted s.going ≡ false → is_allowed s (event.Park c.name kind) ≡ true
 may-park s kind c sound is served waits noted going =
     let passes = test-at s.rows c.name served.row (may_wait s.moment kind) served.found ∙ may-wait s kind c sound is served waits noted in
     rw (going, passes) refl
+
+-- one whose row doesn't linger lingers for no cause
+pub cause-none : (s : State) (c : SeenConn) → IsInHand s c → cause_of s c.name ≡ None
+cause-none s c hand = ap (λ (o : Option Row). option_and_then (λ (r : Row). r.cause) o) hand.found ∙ none-some hand.row.cause hand.serves where
+  none-some : (o : Option Cause) → is_some o ≡ false → o ≡ None
+  none-some None none = refl
+  none-some (Some why) none = absurd (cc)
+
+-- a connection that is served waits as one that doesn't linger
+pub turned-open : (kind : Kind) (c : SeenConn) → MayWaitFor kind c → FoundNoMore kind c
+turned-open Reading c may = tt
+turned-open KeepAlive c may = tt
+turned-open Writing c may = tt
+turned-open Linger c may = absurd may
+turned-open ShortLinger c may = absurd may

@@ -3,6 +3,7 @@ use Rattle.std.proofs.Common.{◌≡◌, inl, inr, ℕ, Bool, true, not, ◌&&�
 use Rattle.std.proofs.lemmas.Bool.{and_parts}
 use Rattle.mpm_base.specs.declared.conn.Ask.{Ask}
 use Rattle.mpm_base.specs.declared.conn.ConnName.{ConnName}
+use Rattle.mpm_base.specs.declared.conn.Cause.{Cause}
 use Rattle.mpm_base.specs.declared.conn.Kind.{Kind}
 use Rattle.mpm_base.specs.declared.conn.Kind.TheVariants.{Reading, KeepAlive, Writing, Linger, ShortLinger}
 use Rattle.conn_machine.specs.declared.row.Row.{Row}
@@ -12,13 +13,15 @@ use Rattle.conn_machine.specs.declared.state.State.{State}
 use Rattle.conn_machine.specs.Rows.{is_queued, is_working, live_row, lives_and}
 use Rattle.conn_machine.specs.States.{is_halted, is_signalled}
 use Rattle.conn_machine.specs.Table.{is_allowed, next, may_be_queued, queued_row, served_row}
+use Rattle.conn_state.specs.declared.turn.LastLinger.TheVariants as linger
 use Rattle.conn_state.specs.Conn.{SeenConn, is_usable}
 use Rattle.board.specs.Fits.{WaitsAs, IsSettledFrom, IsTakenUp}
 use Rattle.board.specs.Book.{SeenBook}
+use Rattle.board.specs.Board.{SeenBoard}
 use Rattle.worker_group.specs.declared.service.Exit.{Exit}
 use Rattle.worker_group.specs.Acts.{Acts}
 use Rattle.worker_group.specs.InHand.{IsServed}
-use Rattle.worker_group.specs.Service.{ExitsAfter, HasServed, Leaves, answer_events}
+use Rattle.worker_group.specs.Service.{ExitsAfter, HasServed, Leaves, StandsThen, answer_events}
 use Rattle.worker_group.proofs.ActsLemmas.{acts_more}
 use Rattle.worker_group.proofs.ServeLemmas.{alive, test-at}
 use Rattle.worker_group.proofs.AnswerLemmas.{live_row-update}
@@ -73,18 +76,18 @@ waits-usable Reading c (inl new) = ap is_usable new
 waits-usable Reading c (inr more) = ap is_usable more
 waits-usable KeepAlive c waits = ap is_usable waits.turn
 waits-usable Writing c waits = ap is_usable waits
-waits-usable Linger c waits = absurd waits
-waits-usable ShortLinger c waits = absurd waits
+waits-usable Linger c waits = waits
+waits-usable ShortLinger c waits = waits
 
 -- and so may one that did until it was taken up
-settled-usable : (from : Option Kind) (c : SeenConn) → IsSettledFrom from c → is_usable c.turn ≡ true
-settled-usable None c settled = absurd settled
-settled-usable (Some kind) c settled = waits-usable kind c settled.waits
+settled-usable : (from : Option Kind) (why : Option Cause) (c : SeenConn) → IsSettledFrom from why c → is_usable c.turn ≡ true
+settled-usable None why c settled = absurd settled
+settled-usable (Some kind) why c settled = waits-usable kind c settled.waits
 
 -- the connection that was queued and started is served
 pub served-started : (s s1 s2 : State) (c : SeenConn) (name : ConnName) → is_allowed s (event.Queue name) ≡ true → s1 ≡ next s (event.Queue name)
-    → s2 ≡ next s1 (event.Start name) → c.name ≡ name → IsTakenUp s2 c → IsServed s2 c
-served-started s s1 s2 c name may queued started named handed =
+    → s2 ≡ next s1 (event.Start name) → c.name ≡ name → IsTakenUp s2 c → c.linger ≡ linger.Open → IsServed s2 c
+served-started s s1 s2 c name may queued started named handed stays_open =
     let live = (may-queue s name may).lives in
     let found1 : live_row s1.rows name ≡ Some (queued_row live.row) = rw queued (queued-found s name live.row live.found) in
     let is = alive s1.rows name (queued_row live.row) found1 in
@@ -97,18 +100,20 @@ served-started s s1 s2 c name may queued started named handed =
       found = handed.found;
       working = ap (λ (r : Row). is_working r.place) same;
       fits = handed.fits;
-      usable = settled-usable handed.row.from c handed.settled;
+      usable = settled-usable handed.row.from handed.row.cause c handed.settled;
+      open_side = stays_open;
     }
 
 -- ## All of the service
 
 -- a connection that was queued, started, answered and left was served
-pub has-served : (who : ℕ) (name : ConnName) (a b c d e : SeenBook) (taken served : SeenConn) (way : Exit) → taken.name ≡ name
-    → Acts who (event.Queue name ∷ []) (Some name) a b → Acts who (event.Start name ∷ []) (Some name) b c
+pub has-served : (who : ℕ) (name : ConnName) (a : SeenBoard) (b c d : SeenBook) (e : SeenBoard) (taken served : SeenConn) (way : Exit)
+    → taken.name ≡ name
+    → Acts who (event.Queue name ∷ []) (Some name) a.book b → Acts who (event.Start name ∷ []) (Some name) b c
     → served.name ≡ taken.name → (asks : List Ask) × Acts who (answer_events taken.name asks) (Some taken.name) c d
-    → ExitsAfter served.turn served way → (events : List Event) × Leaves way served.name events × Acts who events None d e
-    → HasServed who name a e
-has-served who name a b c d e taken served way is_taken queued started kept answered exits left =
+    → ExitsAfter served.turn served way → (events : List Event) × Leaves way served.name events × Acts who events None d e.book
+    → StandsThen way served e → HasServed who name a e
+has-served who name a b c d e taken served way is_taken queued started kept answered exits left stands =
     let asked : Acts who (answer_events name answered.0) (Some name) c d =
     subst (λ (n : ConnName). Acts who (answer_events n answered.0) (Some n) c d) is_taken answered.1 in
     record {
@@ -118,9 +123,10 @@ has-served who name a b c d e taken served way is_taken queued started kept answ
       way = way;
       named = kept ∙ is_taken;
       exits = exits;
+      stands = stands;
       leaves = subst (λ (n : ConnName). Leaves way n left.0) (kept ∙ is_taken) left.1;
       acts =
-          acts_more who (event.Queue name ∷ []) (event.Start name ∷ answer_events name answered.0 ++ left.0) (Some name) None a b e queued
-          (acts_more who (event.Start name ∷ []) (answer_events name answered.0 ++ left.0) (Some name) None b c e started
-          (acts_more who (answer_events name answered.0) left.0 (Some name) None c d e asked left.2));
+          acts_more who (event.Queue name ∷ []) (event.Start name ∷ answer_events name answered.0 ++ left.0) (Some name) None a.book b e.book queued
+          (acts_more who (event.Start name ∷ []) (answer_events name answered.0 ++ left.0) (Some name) None b c e.book started
+          (acts_more who (answer_events name answered.0) left.0 (Some name) None c d e.book asked left.2));
     }

@@ -1,11 +1,13 @@
 -- What a worker does with one connection: which events it adds, and how it leaves the connection.
-use Rattle.std.specs.Prelude.{◌≡◌, ◌⊎◌, ◌==◌, ◌&&◌, not, ℕ, ◌<◌, ◌≤◌, true, false, List, [], ◌∷◌, ◌++◌, length, map, if◌then◌else◌, None, ⊤}
+use Rattle.std.specs.Prelude.{◌≡◌, ◌⊎◌, ◌==◌, ◌&&◌, not, ℕ, ◌<◌, ◌≤◌, true, false, List, [], ◌∷◌, ◌++◌, length, map, if◌then◌else◌, None, Some, ⊤}
 use Rattle.mpm_base.specs.Notes.{says_last}
 use Rattle.mpm_base.specs.declared.conn.Ask.{Ask}
 use Rattle.mpm_base.specs.declared.conn.Kind.{Kind}
 use Rattle.mpm_base.specs.declared.conn.Kind.TheVariants.{Reading, KeepAlive, Writing, Linger, ShortLinger}
 use Rattle.mpm_base.specs.declared.conn.ConnName.{ConnName}
+use Rattle.mpm_base.specs.declared.conn.Cause.{Cause}
 use Rattle.mpm_base.specs.declared.conn.Cause.TheVariants as cause
+use Rattle.mpm_base.specs.declared.conn.Tail.{Tail}
 use Rattle.mpm_base.specs.declared.conn.Tail.TheVariants.{Direct}
 use Rattle.conn_machine.specs.declared.event.Commanded.TheVariants.{Stop}
 use Rattle.conn_machine.specs.declared.event.Event.{Event}
@@ -17,16 +19,21 @@ use Rattle.conn_machine.specs.States.{is_halted}
 use Rattle.conn_machine.specs.Runs.{full_load, load}
 use Rattle.conn_state.specs.declared.turn.LastTurn.{LastTurn}
 use Rattle.conn_state.specs.declared.turn.LastTurn.TheVariants as turn
-use Rattle.conn_state.specs.Conn.{SeenConn}
+use Rattle.conn_state.specs.declared.turn.LastLinger.{LastLinger}
+use Rattle.conn_state.specs.declared.turn.LastLinger.TheVariants as linger
+use Rattle.conn_state.specs.Conn.{SeenConn, is_half_closed}
+use Rattle.conn_state.specs.Turns.{ShutsOn}
+use Rattle.conn_state.specs.Answered.{SeenEnded, IsEndOf}
 use Rattle.board.specs.declared.faults.BoardFault.{BoardFault}
 use Rattle.board.specs.declared.faults.BoardFault.TheVariants as fault
 use Rattle.board.specs.Book.{SeenBook}
+use Rattle.board.specs.Board.{SeenBoard, conn_at}
 use Rattle.board.specs.Faults.{IsRefusedFor}
 use Rattle.board.specs.Fits.{WaitsAs}
 use Rattle.worker_group.specs.declared.service.Exit.{Exit}
 use Rattle.worker_group.specs.declared.service.Exit.TheVariants as exit
 use Rattle.worker_group.specs.Acts.{Acts}
-use Rattle.worker_group.specs.InHand.{IsClosable, IsServed}
+use Rattle.worker_group.specs.InHand.{IsClosable, IsLingerable, IsServed}
 
 -- ## How a connection is left
 
@@ -34,37 +41,89 @@ use Rattle.worker_group.specs.InHand.{IsClosable, IsServed}
 abbrev pub kept_kind : SeenConn → Kind
 kept_kind c = if not (length c.notes == 0) && (length c.rest == 0) then KeepAlive else Reading
 
--- how a worker leaves a connection after its last turn; one whose last response was sent ends for want of memory, until
--- lingering closes are built
+-- how a connection is left that has to linger for the cause: it lingers where its half-close was made, and else ends
+abbrev pub EndsOut : Cause → LastLinger → Exit → Type 0
+EndsOut why linger.Open e = ⊥
+EndsOut why linger.ShutFailed e = e ≡ exit.Close cause.LinkFailed Direct
+EndsOut why linger.Shut e = e ≡ exit.Linger why
+EndsOut why linger.Drained e = ⊥
+EndsOut why linger.Sated e = ⊥
+EndsOut why linger.NotReady e = ⊥
+EndsOut why linger.LinkFailed e = ⊥
+
+-- the same, of the way alone
+abbrev pub IsWayOut : Cause → Exit → Type 0
+IsWayOut why e = (e ≡ exit.Linger why) ⊎ (e ≡ exit.Close cause.LinkFailed Direct)
+
+-- how a worker leaves a connection after its last turn of reading or writing
 abbrev pub ExitsAfter : LastTurn → SeenConn → Exit → Type 0
 ExitsAfter turn.New c e = ⊥
 ExitsAfter (turn.Asked ask) c e = (fault : BoardFault) × (e ≡ exit.GiveUp fault)
 ExitsAfter turn.Answered c e = ⊥
 ExitsAfter turn.More c e = e ≡ exit.Park (kept_kind c)
-ExitsAfter turn.Gone c e = e ≡ exit.Close cause.ClientDone
-ExitsAfter turn.Done c e = (e ≡ exit.Close cause.NoMemory) × (says_last c.notes ≡ true)
+ExitsAfter turn.Gone c e = e ≡ exit.Close cause.ClientDone Direct
+ExitsAfter turn.Done c e = EndsOut cause.LastSent c.linger e × (says_last c.notes ≡ true)
 ExitsAfter turn.NotReady c e = e ≡ exit.Park Writing
-ExitsAfter turn.LinkFailed c e = e ≡ exit.Close cause.LinkFailed
-ExitsAfter turn.NoMemory c e = e ≡ exit.Close cause.NoMemory
+ExitsAfter turn.LinkFailed c e = e ≡ exit.Close cause.LinkFailed Direct
+ExitsAfter turn.NoMemory c e = e ≡ exit.Close cause.NoMemory Direct
 
--- a connection that is kept alive has a response
-abbrev pub KeepsNoted : Kind → SeenConn → Type 0
-KeepsNoted Reading c = ⊤
-KeepsNoted KeepAlive c = 0 < length c.notes
-KeepsNoted Writing c = ⊤
-KeepsNoted Linger c = ⊤
-KeepsNoted ShortLinger c = ⊤
+-- a connection that is served may wait for this: it doesn't linger, and one that is kept alive has a response
+abbrev pub MayWaitFor : Kind → SeenConn → Type 0
+MayWaitFor Reading c = ⊤
+MayWaitFor KeepAlive c = 0 < length c.notes
+MayWaitFor Writing c = ⊤
+MayWaitFor Linger c = ⊥
+MayWaitFor ShortLinger c = ⊥
 
 -- the worker may leave the connection so
 abbrev pub MayLeave : SeenBook → SeenConn → Exit → Type 0
-MayLeave b c (exit.Park kind) = IsServed b.state c × WaitsAs kind c × KeepsNoted kind c
-MayLeave b c (exit.Close cause) = IsClosable b.state cause c
+MayLeave b c (exit.Park kind) = IsServed b.state c × WaitsAs kind c × MayWaitFor kind c
+MayLeave b c (exit.Linger why) = IsLingerable b.state why c
+MayLeave b c (exit.Close why how) = IsClosable b.state why how c
 MayLeave b c (exit.GiveUp fault) = IsServed b.state c × IsRefusedFor fault b
+
+-- ## Where the connection is then
+
+-- the board has the connection, in its slot
+abbrev pub IsThere : SeenConn → SeenBoard → Type 0
+IsThere c b = conn_at b.conns c.name.slot ≡ Some c
+
+-- the last of those that ended is the connection, which ended so
+pub record IsLastEnded (c : SeenConn) (why : Cause) (how : Tail) (ended : List SeenEnded) : Type 0 where
+  pub before : List SeenEnded
+  pub last : SeenEnded
+  pub ended_is : ended ≡ before ++ last ∷ []
+  pub end_of : IsEndOf c why how last
+
+-- why a connection ends that is given up for the fault
+abbrev pub given_up_cause : BoardFault → Cause
+given_up_cause fault.Halted = cause.Stopped
+given_up_cause fault.Full = cause.Stopped
+given_up_cause fault.NoMemory = cause.NoMemory
+
+-- the connection was given up, and is the last of those that ended
+abbrev pub IsGivenUp : BoardFault → SeenConn → SeenBoard → Type 0
+IsGivenUp fault c b = IsLastEnded c (given_up_cause fault) Direct b.ended
+
+-- where the connection is that was left so: it waits there, or is the last of those that ended
+abbrev pub StandsThen : Exit → SeenConn → SeenBoard → Type 0
+StandsThen (exit.Park kind) c b = IsThere c b ⊎ (fault : BoardFault) × IsGivenUp fault c b
+StandsThen (exit.Linger why) c b = IsThere c b
+StandsThen (exit.Close why how) c b = IsLastEnded c why how b.ended
+StandsThen (exit.GiveUp fault) c b = IsGivenUp fault c b
+
+-- a connection that had to linger for the cause was half-closed, or that failed, and it was left as it is by that
+pub record IsLetLinger (why : Cause) (c : SeenConn) (b : SeenBoard) : Type 0 where
+  pub shut : SeenConn
+  pub way : Exit
+  pub shuts : ShutsOn c shut (is_half_closed shut.linger)
+  pub ends : EndsOut why shut.linger way
+  pub stands : StandsThen way shut b
 
 -- ## What lasts of a refusal, and of the rest
 
--- what a refusal for the fault says, and what stays so whatever the passes do then: the server has stopped, or the history is
--- full
+-- what a refusal for the fault says, and what stays so whatever the passes record then: the server has stopped, or the history
+-- is full
 abbrev pub RefusalLasts : BoardFault → SeenBook → Type 0
 RefusalLasts fault.Halted b = is_halted b.state.going ≡ true
 RefusalLasts fault.Full b = (is_halted b.state.going ≡ true) × (full_load ≤ load b.history)
@@ -89,11 +148,19 @@ given_up fault.Halted name = event.Close name cause.Stopped Direct ∷ []
 given_up fault.Full name = event.Command (Stop why.Full) ∷ event.Close name cause.Stopped Direct ∷ []
 given_up fault.NoMemory name = event.Close name cause.NoMemory Direct ∷ []
 
+-- the events by which a connection in hand is left
+abbrev pub left_events : Exit → ConnName → List Event
+left_events (exit.Park kind) name = event.Park name kind ∷ []
+left_events (exit.Linger why) name = event.Linger name why ∷ []
+left_events (exit.Close why how) name = event.Close name why how ∷ []
+left_events (exit.GiveUp fault) name = given_up fault name
+
 -- these events leave a connection so; one whose park is refused is given up
 abbrev pub Leaves : Exit → ConnName → List Event → Type 0
 Leaves (exit.Park kind) name events =
     (events ≡ event.Park name kind ∷ []) ⊎ (fault : BoardFault) × (events ≡ given_up fault name)
-Leaves (exit.Close cause) name events = events ≡ event.Close name cause Direct ∷ []
+Leaves (exit.Linger why) name events = events ≡ event.Linger name why ∷ []
+Leaves (exit.Close why how) name events = events ≡ event.Close name why how ∷ []
 Leaves (exit.GiveUp fault) name events = events ≡ given_up fault name
 
 -- the events by which responses are decided for what was asked
@@ -101,8 +168,8 @@ abbrev pub answer_events : ConnName → List Ask → List Event
 answer_events name asks = map (event.Answer name) asks
 
 -- the connection of that name was served: it was queued and started, its responses were decided, and it was left as its last
--- turn asks
-pub record HasServed (who : ℕ) (name : ConnName) (old new : SeenBook) : Type 0 where
+-- turn asks, so that it waits there or ended
+pub record HasServed (who : ℕ) (name : ConnName) (old new : SeenBoard) : Type 0 where
   pub asks : List Ask
   pub left : List Event
   pub served : SeenConn
@@ -110,4 +177,5 @@ pub record HasServed (who : ℕ) (name : ConnName) (old new : SeenBook) : Type 0
   pub named : served.name ≡ name
   pub exits : ExitsAfter served.turn served way
   pub leaves : Leaves way name left
-  pub acts : Acts who (event.Queue name ∷ event.Start name ∷ answer_events name asks ++ left) None old new
+  pub stands : StandsThen way served new
+  pub acts : Acts who (event.Queue name ∷ event.Start name ∷ answer_events name asks ++ left) None old.book new.book

@@ -1,19 +1,22 @@
-//! The service of a connection by a worker, from its queue to a park or a close.
+//! The service of a connection by a worker, from its queue until it waits, lingers or is closed.
 ghost use Rattle.std.specs.Prelude.{◌≡◌, ◌<◌, ℕ, List, [], ◌∷◌, true, false, None, Some, IfSome, IfNone, IfErr, OnOk, OnErr};
 ghost use Rattle.mpm_base.specs.declared.conn.Ask.{Ask};
-ghost use Rattle.mpm_base.specs.declared.conn.Tail.TheVariants.{Direct};
 ghost use Rattle.conn_machine.specs.Runs.{row_of};
 ghost use Rattle.conn_machine.specs.States.{is_halted};
 ghost use Rattle.conn_machine.specs.Table.{is_allowed};
 ghost use Rattle.conn_machine.specs.declared.event.Event.{Event};
 ghost use Rattle.conn_machine.specs.declared.event.Event.TheVariants as event;
 ghost use Rattle.conn_state.specs.declared.turn.LastTurn.TheVariants as turn;
+ghost use Rattle.conn_state.specs.declared.turn.LastLinger.TheVariants as linger;
+ghost use Rattle.conn_state.specs.Answered.{MayLinger};
+ghost use Rattle.conn_state.specs.Conn.{is_half_closed};
+ghost use Rattle.conn_state.specs.Turns.{ShutsOn};
 ghost use Rattle.board.specs.Book.{book_with_entry};
 ghost use Rattle.board.specs.Faults.{IsRefusedFor};
-ghost use Rattle.board.specs.Fits.{IsSettled};
+ghost use Rattle.board.specs.Fits.{FoundNoMore, IsSettled};
 ghost use Rattle.worker_group.specs.Acts.{Acts};
 ghost use Rattle.worker_group.specs.InHand.{IsClosable, IsInHand, IsServed, answers_left};
-ghost use Rattle.worker_group.specs.Service.{ExitsAfter, HasServed, Leaves, LeavesRest, MayLeave, RefusalLasts, answer_events, given_up};
+ghost use Rattle.worker_group.specs.Service.{EndsOut, ExitsAfter, HasServed, IsGivenUp, IsLastEnded, IsLetLinger, IsThere, IsWayOut, Leaves, LeavesRest, MayLeave, RefusalLasts, StandsThen, answer_events, given_up, left_events};
 
 use board::{Board, BoardFault};
 use conn_machine::Why;
@@ -25,8 +28,10 @@ use mpm_base::{Ask, Cause, ConnName, Kind, Link, NoMemory, Tail};
 pub enum Exit {
     /// It waits for this.
     Park(Kind),
-    /// It ends for this cause.
-    Close(Cause),
+    /// It was half-closed, and lingers for this cause.
+    Linger(Cause),
+    /// It ends for this cause, and its link is left so.
+    Close(Cause, Tail),
     /// A call of the board was refused.
     GiveUp(BoardFault),
 }
@@ -40,7 +45,7 @@ pub fn serve<L: Link, N: Known>(
     requires who { who < board.old.book.passes }
     requires free { row_of who board.old.book.history ≡ None }
     requires allowed { is_halted board.old.book.state.going ≡ false → is_allowed board.old.book.state (event.Queue name) ≡ true }
-    ensures served { OnOk result (HasServed who name board.old.book board.new.book) }
+    ensures served { OnOk result (HasServed who name board.old board.new) }
     ensures why { IfErr result (λ fault. IsRefusedFor fault board.old.book) }
     ensures err { OnErr result (board.new ≡ board.old) }
 {
@@ -68,10 +73,8 @@ fn converse<L: Link, N: Known>(board: &mut Board<L, N>, who: u32, conn: &mut Con
     }
 }
 
-/// Sends what is pending; where all was sent, reads on, and answers. None where the response is to be sent.
-///
-/// Lingering closes are not built yet: once a last response was sent the connection ends for want of memory, the one
-/// cause that needs no other.
+/// Sends what is pending; where all was sent, reads on, and answers. None where the response is to be sent. Once the last
+/// response was sent the connection is half-closed.
 fn serve_turn<L: Link, N: Known>(
     board: &mut Board<L, N>,
     who: u32,
@@ -91,18 +94,18 @@ fn serve_turn<L: Link, N: Known>(
     match conn.write_turn() {
         WriteTurn::Done => (),
         WriteTurn::NotReady => return Some(Exit::Park(Kind::Writing)),
-        WriteTurn::LinkFailed => return Some(Exit::Close(Cause::LinkFailed)),
+        WriteTurn::LinkFailed => return Some(Exit::Close(Cause::LinkFailed, Tail::Direct)),
     }
     if conn.last() {
-        return Some(Exit::Close(Cause::NoMemory));
+        return Some(half_close(conn, Cause::LastSent));
     }
     match conn.read_turn() {
         ReadTurn::Asked(ask) => answer(board, who, conn, ask),
         ReadTurn::More if conn.noted() && conn.rest_empty() => Some(Exit::Park(Kind::KeepAlive)),
         ReadTurn::More => Some(Exit::Park(Kind::Reading)),
-        ReadTurn::Gone => Some(Exit::Close(Cause::ClientDone)),
-        ReadTurn::LinkFailed => Some(Exit::Close(Cause::LinkFailed)),
-        ReadTurn::NoMemory => Some(Exit::Close(Cause::NoMemory)),
+        ReadTurn::Gone => Some(Exit::Close(Cause::ClientDone, Tail::Direct)),
+        ReadTurn::LinkFailed => Some(Exit::Close(Cause::LinkFailed, Tail::Direct)),
+        ReadTurn::NoMemory => Some(Exit::Close(Cause::NoMemory, Tail::Direct)),
     }
 }
 
@@ -129,18 +132,32 @@ fn answer<L: Link, N: Known>(
     match board.answer(who, conn.name(), ask) {
         Ok(note) => match conn.answer(note) {
             Ok(()) => None,
-            Err(NoMemory) => Some(Exit::Close(Cause::NoMemory)),
+            Err(NoMemory) => Some(Exit::Close(Cause::NoMemory, Tail::Direct)),
         },
         Err(fault) => Some(Exit::GiveUp(fault)),
     }
 }
 
-/// Parks, closes or gives up the connection.
+/// Half-closes the connection, which has to linger for the cause: how it is left then. Where the half-close fails it ends.
+fn half_close<L: Link, N: Known>(conn: &mut Conn<L, N>, cause: Cause) -> Exit
+    requires open { conn.old.linger ≡ linger.Open }
+    ensures shuts { ShutsOn conn.old conn.new (is_half_closed conn.new.linger) }
+    ensures way { EndsOut cause conn.new.linger result }
+{
+    if conn.shut() {
+        Exit::Linger(cause)
+    } else {
+        Exit::Close(Cause::LinkFailed, Tail::Direct)
+    }
+}
+
+/// Parks the connection, lets it linger, closes it, or gives it up.
 fn leave<L: Link, N: Known>(board: &mut Board<L, N>, who: u32, conn: Conn<L, N>, exit: Exit)
     requires who { who < board.old.book.passes }
     requires row { row_of who board.old.book.history ≡ Some conn.name }
     requires may { MayLeave board.old.book conn exit }
     ensures left { (events : List Event) × Leaves exit conn.name events × Acts who events None board.old.book board.new.book }
+    ensures stands { StandsThen exit conn board.new }
 {
     board.show();
     conn.show();
@@ -148,7 +165,8 @@ fn leave<L: Link, N: Known>(board: &mut Board<L, N>, who: u32, conn: Conn<L, N>,
         Exit::Park(kind) => {
             let _ = park(board, who, conn, kind);
         }
-        Exit::Close(cause) => close(board, who, conn, cause),
+        Exit::Linger(cause) => board.linger(who, cause, conn),
+        Exit::Close(cause, tail) => close(board, who, conn, cause, tail),
         Exit::GiveUp(fault) => give_up(board, who, conn, fault),
     }
 }
@@ -164,18 +182,48 @@ pub fn park<L: Link, N: Known>(
     requires row { row_of who board.old.book.history ≡ Some conn.name }
     requires allowed { is_halted board.old.book.state.going ≡ false → is_allowed board.old.book.state (event.Park conn.name kind) ≡ true }
     requires hand { IsInHand board.old.book.state conn }
-    requires settled { IsSettled kind conn }
+    requires settled { IsSettled kind None conn }
+    requires turned { FoundNoMore kind conn }
     ensures parked { OnOk result (Acts who (event.Park conn.name kind ∷ []) None board.old.book board.new.book) }
     ensures given_up { IfErr result (λ fault. Acts who (given_up fault conn.name) None board.old.book board.new.book) }
+    ensures there { OnOk result (IsThere conn board.new) }
+    ensures ended { IfErr result (λ fault. IsGivenUp fault conn board.new) }
     ensures lasts { IfErr result (λ fault. RefusalLasts fault board.new.book) }
     ensures rest { who ≡ 0 → LeavesRest board.old.book board.new.book }
 {
+    board.show();
     match board.park(who, kind, conn) {
         Ok(()) => Ok(()),
         Err((fault, conn)) => {
             give_up(board, who, conn, fault);
             Err(fault)
         }
+    }
+}
+
+/// Half-closes a connection, which lingers then for the cause; where the half-close fails it is closed. Takes no memory.
+pub fn let_linger<L: Link, N: Known>(
+    board: &mut Board<L, N>,
+    who: u32,
+    conn: Conn<L, N>,
+    cause: Cause,
+)
+    requires who { who < board.old.book.passes }
+    requires row { row_of who board.old.book.history ≡ Some conn.name }
+    requires hand { IsInHand board.old.book.state conn }
+    requires open { conn.linger ≡ linger.Open }
+    requires allowed { is_allowed board.old.book.state (event.Linger conn.name cause) ≡ true }
+    requires shows { MayLinger cause conn }
+    ensures left { (way : Exit) × IsWayOut cause way × Acts who (left_events way conn.name) None board.old.book board.new.book }
+    ensures out { IsLetLinger cause conn board.new }
+    ensures rest { who ≡ 0 → LeavesRest board.old.book board.new.book }
+{
+    board.show();
+    let mut conn = conn;
+    if conn.shut() {
+        board.linger(who, cause, conn);
+    } else {
+        close(board, who, conn, Cause::LinkFailed, Tail::Direct);
     }
 }
 
@@ -192,26 +240,34 @@ pub fn give_up<L: Link, N: Known>(
     requires hand { IsInHand board.old.book.state conn }
     requires why { IsRefusedFor fault board.old.book }
     ensures acts { Acts who (given_up fault conn.name) None board.old.book board.new.book }
+    ensures ended { IsGivenUp fault conn board.new }
     ensures lasts { RefusalLasts fault board.new.book }
     ensures rest { who ≡ 0 → LeavesRest board.old.book board.new.book }
 {
     match fault {
-        BoardFault::Halted => close(board, who, conn, Cause::Stopped),
+        BoardFault::Halted => close(board, who, conn, Cause::Stopped, Tail::Direct),
         BoardFault::Full => {
             board.halt(who, Why::Full);
-            close(board, who, conn, Cause::Stopped);
+            close(board, who, conn, Cause::Stopped, Tail::Direct);
         }
-        BoardFault::NoMemory => close(board, who, conn, Cause::NoMemory),
+        BoardFault::NoMemory => close(board, who, conn, Cause::NoMemory, Tail::Direct),
     }
 }
 
-/// Closes the connection. Takes no memory.
-pub fn close<L: Link, N: Known>(board: &mut Board<L, N>, who: u32, conn: Conn<L, N>, cause: Cause)
+/// Closes the connection for the cause, with its link left so. Takes no memory.
+pub fn close<L: Link, N: Known>(
+    board: &mut Board<L, N>,
+    who: u32,
+    conn: Conn<L, N>,
+    cause: Cause,
+    tail: Tail,
+)
     requires who { who < board.old.book.passes }
     requires row { row_of who board.old.book.history ≡ Some conn.name }
-    requires may { IsClosable board.old.book.state cause conn }
-    ensures closed { board.new.book ≡ book_with_entry who (event.Close conn.name cause Direct) board.old.book }
-    ensures acts { Acts who (event.Close conn.name cause Direct ∷ []) None board.old.book board.new.book }
+    requires may { IsClosable board.old.book.state cause tail conn }
+    ensures closed { board.new.book ≡ book_with_entry who (event.Close conn.name cause tail) board.old.book }
+    ensures acts { Acts who (event.Close conn.name cause tail ∷ []) None board.old.book board.new.book }
+    ensures last { IsLastEnded conn cause tail board.new.ended }
 {
-    board.close(who, conn.end(cause, Tail::Direct));
+    board.close(who, conn.end(cause, tail));
 }

@@ -1,9 +1,9 @@
 use Rattle.std.proofs.Common.{None, Some, ap, sym, ◌∙◌}
 use Rattle.mpm_base.specs.declared.conn.ConnName.{ConnName}
-use Rattle.mpm_base.specs.declared.conn.Tail.TheVariants.{Direct}
 use Rattle.conn_machine.specs.declared.event.Event.TheVariants as event
 use Rattle.board.specs.Board.{SeenBoard}
 use Rattle.worker_group.proofs.ActsLemmas.{acts_one}
+use Rattle.worker_group.proofs.ExitLemmas.{ended-last}
 use Rattle.worker_group.proofs.service.close.Goals as goal
 
 pub close-requires-clause-row : goal.close-requires-clause-row
@@ -15,5 +15,10 @@ returns-clause-closed g c =
 
 pub returns-clause-acts : goal.returns-clause-acts
 returns-clause-acts g c =
-    acts_one c.args.who (event.Close c.args.conn.name c.args.cause Direct) None c.args.board.now.book c.close.new.self.book
+    acts_one c.args.who (event.Close c.args.conn.name c.args.cause c.args.tail) None c.args.board.now.book c.close.new.self.book
     (returns-clause-closed g c) c.close.ensures.entries c.close.ensures.row
+
+pub returns-clause-last : goal.returns-clause-last
+returns-clause-last g c =
+    ended-last c.args.conn c.args.cause c.args.tail c.end.result c.args.board.now.ended c.close.new.self.ended
+    (ap (λ (b : SeenBoard). b.ended) c.close.ensures.is) c.end.ensures.ends

@@ -6,13 +6,14 @@ use Rattle.mpm_base.specs.declared.conn.Tail.TheVariants.{Direct}
 use Rattle.conn_machine.specs.Runs.{full_load, load}
 use Rattle.conn_machine.specs.declared.event.Event.TheVariants as event
 use Rattle.conn_machine.specs.States.{is_halted}
+use Rattle.conn_state.specs.Conn.{SeenConn}
 use Rattle.board.specs.declared.faults.BoardFault.{BoardFault}
 use Rattle.board.specs.declared.faults.BoardFault.TheVariants as fault
 use Rattle.board.specs.Faults.{IsFull, IsRefusedFor}
 use Rattle.board.specs.Book.{SeenBook, full_stop}
 use Rattle.board.specs.Board.{SeenBoard}
 use Rattle.worker_group.specs.Acts.{Acts}
-use Rattle.worker_group.specs.Service.{RefusalLasts, given_up}
+use Rattle.worker_group.specs.Service.{IsGivenUp, RefusalLasts, given_up}
 use Rattle.worker_group.proofs.ActsLemmas.{acts_more, acts_recorded}
 use Rattle.worker_group.proofs.ExitLemmas.{full-closed, halted-closed, rest_closed, rest_more, rest_stopped}
 use Rattle.worker_group.proofs.service.give_up.Goals as goal
@@ -31,6 +32,22 @@ acts-for who name f g a b is acts = subst (λ (x : BoardFault). Acts who (given_
 lasts-for : (f g : BoardFault) (b : SeenBook) → f ≡ g → RefusalLasts g b → RefusalLasts f b
 lasts-for f g b is lasts = subst (λ (x : BoardFault). RefusalLasts x b) (sym is) lasts
 
+-- and the connection that ended for it
+ended-for : (c : SeenConn) (f g : BoardFault) (b : SeenBoard) → f ≡ g → IsGivenUp g c b → IsGivenUp f c b
+ended-for c f g b is ended = subst (λ (x : BoardFault). IsGivenUp x c b) (sym is) ended
+
+pub returns-in-Halted-clause-ended : goal.returns-in-Halted-clause-ended
+returns-in-Halted-clause-ended g c =
+    ended-for c.args.conn c.args.fault fault.Halted c.close.new.board c.in-Halted.is c.close.ensures.last
+
+pub returns-in-Full-clause-ended : goal.returns-in-Full-clause-ended
+returns-in-Full-clause-ended g c =
+    ended-for c.args.conn c.args.fault fault.Full c.close-in-Full.new.board c.in-Full.is c.close-in-Full.ensures.last
+
+pub returns-in-NoMemory-clause-ended : goal.returns-in-NoMemory-clause-ended
+returns-in-NoMemory-clause-ended g c =
+    ended-for c.args.conn c.args.fault fault.NoMemory c.close-in-NoMemory.new.board c.in-NoMemory.is c.close-in-NoMemory.ensures.last
+
 pub returns-in-Halted-clause-acts : goal.returns-in-Halted-clause-acts
 returns-in-Halted-clause-acts g c =
     acts-for c.args.who c.args.conn.name c.args.fault fault.Halted c.args.board.now.book c.close.new.board.book c.in-Halted.is
@@ -41,11 +58,11 @@ returns-in-Halted-clause-lasts g c =
     let halted : is_halted c.args.board.now.book.state.going ≡ true =
     subst (λ (f : BoardFault). IsRefusedFor f c.args.board.now.book) c.in-Halted.is c.requires.why in
     lasts-for c.args.fault fault.Halted c.close.new.board.book c.in-Halted.is
-    (halted-closed c.args.who c.args.conn.name cause.Stopped c.args.board.now.book c.close.new.board.book halted c.close.ensures.closed)
+    (halted-closed c.args.who c.args.conn.name cause.Stopped Direct c.args.board.now.book c.close.new.board.book halted c.close.ensures.closed)
 
 pub returns-in-Halted-clause-rest : goal.returns-in-Halted-clause-rest
 returns-in-Halted-clause-rest g c listener =
-    rest_closed c.args.who c.args.conn.name cause.Stopped c.args.board.now.book c.close.new.board.book c.close.ensures.closed
+    rest_closed c.args.who c.args.conn.name cause.Stopped Direct c.args.board.now.book c.close.new.board.book c.close.ensures.closed
 
 pub returns-in-Full-clause-acts : goal.returns-in-Full-clause-acts
 returns-in-Full-clause-acts g c =
@@ -60,14 +77,14 @@ pub returns-in-Full-clause-lasts : goal.returns-in-Full-clause-lasts
 returns-in-Full-clause-lasts g c =
     let why : IsFull c.args.board.now.book = subst (λ (f : BoardFault). IsRefusedFor f c.args.board.now.book) c.in-Full.is c.requires.why in
     lasts-for c.args.fault fault.Full c.close-in-Full.new.board.book c.in-Full.is
-    (full-closed c.args.who c.args.conn.name cause.Stopped c.args.board.now.book c.halt.new.self.book c.close-in-Full.new.board.book why.heavy
+    (full-closed c.args.who c.args.conn.name cause.Stopped Direct c.args.board.now.book c.halt.new.self.book c.close-in-Full.new.board.book why.heavy
     (ap (λ (b : SeenBoard). b.book) c.halt.ensures.is) c.close-in-Full.ensures.closed)
 
 pub returns-in-Full-clause-rest : goal.returns-in-Full-clause-rest
 returns-in-Full-clause-rest g c listener =
     rest_more c.args.board.now.book c.halt.new.self.book c.close-in-Full.new.board.book
     (rest_stopped c.args.who c.args.board.now.book c.halt.new.self.book (ap (λ (b : SeenBoard). b.book) c.halt.ensures.is))
-    (rest_closed c.args.who c.args.conn.name cause.Stopped c.halt.new.self.book c.close-in-Full.new.board.book c.close-in-Full.ensures.closed)
+    (rest_closed c.args.who c.args.conn.name cause.Stopped Direct c.halt.new.self.book c.close-in-Full.new.board.book c.close-in-Full.ensures.closed)
 
 pub returns-in-NoMemory-clause-acts : goal.returns-in-NoMemory-clause-acts
 returns-in-NoMemory-clause-acts g c =
@@ -79,4 +96,4 @@ returns-in-NoMemory-clause-lasts g c = lasts-for c.args.fault fault.NoMemory c.c
 
 pub returns-in-NoMemory-clause-rest : goal.returns-in-NoMemory-clause-rest
 returns-in-NoMemory-clause-rest g c listener =
-    rest_closed c.args.who c.args.conn.name cause.NoMemory c.args.board.now.book c.close-in-NoMemory.new.board.book c.close-in-NoMemory.ensures.closed
+    rest_closed c.args.who c.args.conn.name cause.NoMemory Direct c.args.board.now.book c.close-in-NoMemory.new.board.book c.close-in-NoMemory.ensures.closed

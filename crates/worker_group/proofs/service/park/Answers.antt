@@ -1,18 +1,34 @@
-use Rattle.std.proofs.Common.{None, Some, ap, subst, sym, ◌∙◌}
+use Rattle.std.proofs.Common.{Option, None, Some, ap, subst, sym, ◌∙◌}
+use Rattle.mpm_base.specs.declared.conn.Cause.{Cause}
 use Rattle.conn_machine.specs.Runs.{row_of}
 use Rattle.conn_machine.specs.declared.event.Event.TheVariants as event
 use Rattle.conn_state.specs.Conn.{SeenConn}
 use Rattle.board.specs.Board.{SeenBoard}
+use Rattle.board.specs.Fits.{IsSettled}
 use Rattle.worker_group.specs.Acts.{Acts}
-use Rattle.worker_group.specs.Service.{LeavesRest, given_up}
+use Rattle.worker_group.specs.Service.{IsGivenUp, LeavesRest, given_up}
 use Rattle.worker_group.proofs.ActsLemmas.{acts_one}
-use Rattle.worker_group.proofs.ExitLemmas.{rest_parked}
+use Rattle.worker_group.proofs.ServeLemmas.{cause-none}
+use Rattle.worker_group.proofs.ExitLemmas.{put-there, rest_parked}
 use Rattle.worker_group.proofs.service.park.Goals as goal
 
 pub give_up-requires-clause-row : goal.give_up-requires-clause-row
 give_up-requires-clause-row g c =
     ap (λ (b : SeenBoard). row_of c.args.who b.book.history) c.in-Err.ensures.err ∙ c.requires.row
     ∙ ap (λ (x : SeenConn). Some x.name) (sym c.in-Err.ensures.back)
+
+pub park-requires-clause-settled : goal.park-requires-clause-settled
+park-requires-clause-settled g c =
+    subst (λ (o : Option Cause). IsSettled c.args.kind o c.args.conn) (sym (cause-none c.args.board.now.book.state c.args.conn c.requires.hand))
+    c.requires.settled
+
+pub returns-in-Ok-clause-there : goal.returns-in-Ok-clause-there
+returns-in-Ok-clause-there g c =
+    put-there c.args.board.now c.park.new.self c.args.conn c.requires.hand.row c.show.ensures.agrees c.requires.hand.found c.in-Ok.ensures.parked
+
+pub returns-in-Err-clause-ended : goal.returns-in-Err-clause-ended
+returns-in-Err-clause-ended g c =
+    subst (λ (x : SeenConn). IsGivenUp c.in-Err.fault x c.give_up.new.board) c.in-Err.ensures.back c.give_up.ensures.ended
 
 pub returns-in-Ok-clause-parked : goal.returns-in-Ok-clause-parked
 returns-in-Ok-clause-parked g c =

@@ -17,7 +17,7 @@ converse-exit-requires-clause-served g c =
     served-started c.args.board.now.book.state c.queue.new.self.book.state _ c.in_ok-conn.conn c.args.name
     (c.requires.allowed c.in_ok-conn.ensures.ok.was_open.going)
     (ap (λ (b : SeenBoard). b.book.state) c.in_ok-conn.ensures.ok.new_is) (ap (λ (b : SeenBoard). b.book.state) c.start.ensures.is)
-    c.in_ok-conn.ensures.name (c.start.ensures.handed c.in_ok-conn.conn c.in_ok-conn.ensures.handed)
+    c.in_ok-conn.ensures.name (c.start.ensures.handed c.in_ok-conn.conn c.in_ok-conn.ensures.handed) c.in_ok-conn.ensures.stays_open
 
 pub converse-exit-requires-clause-row : goal.converse-exit-requires-clause-row
 converse-exit-requires-clause-row g c = c.start.ensures.row ∙ ap (λ (n : ConnName). Some n) (sym c.in_ok-conn.ensures.name)
@@ -41,6 +41,6 @@ returns-clause-served g c =
     let started : Acts who (event.Start c.args.name ∷ []) (Some c.args.name) c.queue.new.self.book c.start.new.self.book =
     acts_recorded who (event.Start c.args.name) (Some c.args.name) c.queue.new.self c.start.new.self c.start.ensures.is c.start.ensures.entries
     c.start.ensures.row in
-    has-served who c.args.name c.args.board.now.book c.queue.new.self.book c.start.new.self.book c.converse-exit.new.board.book
-    c.leave.new.board.book c.in_ok-conn.conn c.converse-exit.new.conn c.converse-exit.result c.in_ok-conn.ensures.name queued started
-    c.converse-exit.ensures.name c.converse-exit.ensures.acts c.converse-exit.ensures.exits c.leave.ensures.left
+    has-served who c.args.name c.args.board.now c.queue.new.self.book c.start.new.self.book c.converse-exit.new.board.book
+    c.leave.new.board c.in_ok-conn.conn c.converse-exit.new.conn c.converse-exit.result c.in_ok-conn.ensures.name queued started
+    c.converse-exit.ensures.name c.converse-exit.ensures.acts c.converse-exit.ensures.exits c.leave.ensures.left c.leave.ensures.stands

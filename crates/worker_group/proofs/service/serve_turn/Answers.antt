@@ -2,10 +2,12 @@ use Rattle.std.proofs.Common.{length, refl, ap, ◌∙◌, sym, arith}
 use Rattle.std.proofs.lemmas.List.{nil_from_length}
 use Rattle.std.proofs.lemmas.Bool.{eqb-true}
 use Rattle.std.proofs.lemmas.Bool.Decides.{nat_tests}
+use Rattle.mpm_base.specs.declared.conn.Cause.TheVariants as cause
 use Rattle.conn_state.specs.declared.turn.WriteTurn.TheVariants as write
 use Rattle.conn_state.specs.declared.turn.ReadTurn.TheVariants as read
 use Rattle.worker_group.specs.declared.service.Exit.TheVariants as exit
-use Rattle.worker_group.proofs.ServeLemmas.{served-written, served-read, closes-failed_write, closes-sent, closes-done, closes-failed_read, closes-unread}
+use Rattle.worker_group.proofs.LingerLemmas.{exits-out, last-lingers, last-shows, leaves-out}
+use Rattle.worker_group.proofs.ServeLemmas.{in-hand, served-written, served-read, closes-failed_write, closes-done, closes-failed_read, closes-unread}
 use Rattle.worker_group.proofs.AnswerLemmas.{answers_none}
 use Rattle.worker_group.proofs.ExitLemmas.{exits-written, exits-read, keeps-alive}
 use Rattle.worker_group.proofs.service.serve_turn.Goals as goal
@@ -16,7 +18,13 @@ returns-in-LinkFailed-clause-may g c =
 
 pub returns-then-last-clause-may : goal.returns-then-last-clause-may
 returns-then-last-clause-may g c =
-    closes-sent c.args.board.now.book.state c.args.conn.now _ c.show.ensures.sound c.requires.served c.in-Done.ensures
+    let served = served-written c.args.board.now.book.state c.args.conn.now c.write_turn.new.self write.Done c.requires.served c.in-Done.ensures refl in
+    let last = sym c.last.ensures ∙ c.if-last.true in
+    leaves-out c.args.board.now.book cause.LastSent c.write_turn.new.self c.half_close.new.conn c.half_close.new.conn.linger c.half_close.result
+    (in-hand c.args.board.now.book.state c.write_turn.new.self c.show.ensures.sound served)
+    (last-lingers c.args.board.now.book.state c.write_turn.new.self c.show.ensures.sound served last)
+    (last-shows c.args.board.now.book.state c.write_turn.new.self served c.in-Done.ensures.leaves last) c.half_close.ensures.shuts
+    c.half_close.ensures.way
 
 pub returns-in-Gone-clause-may : goal.returns-in-Gone-clause-may
 returns-in-Gone-clause-may g c =
@@ -46,14 +54,18 @@ returns-then-last-clause-acts g c =
 
 pub returns-then-last-clause-exits : goal.returns-then-last-clause-exits
 returns-then-last-clause-exits g c =
-    exits-written c.args.conn.now c.write_turn.new.self write.Done _ c.in-Done.ensures (refl, sym c.last.ensures ∙ c.if-last.true)
+    exits-out c.write_turn.new.self c.half_close.new.conn c.half_close.result c.in-Done.ensures.turn (sym c.last.ensures ∙ c.if-last.true)
+    c.half_close.ensures.shuts c.half_close.ensures.way
 
 pub returns-in-More-clause-may : goal.returns-in-More-clause-may
 returns-in-More-clause-may g c =
     let served = served-written c.args.board.now.book.state c.args.conn.now c.write_turn.new.self write.Done c.requires.served c.in-Done.ensures refl in
     let empty = eqb-true (length c.read_turn.new.self.rest) 0 (sym c.rest_empty.ensures ∙ c.if-rest_empty.true) in (
       served-read c.args.board.now.book.state c.write_turn.new.self c.read_turn.new.self read.More served c.in-More.ensures.reads refl,
-      record { turn = c.in-More.ensures.reads.turn; rest = nil_from_length c.read_turn.new.self.rest empty },
+      record {
+        turn = c.in-More.ensures.reads.turn;
+        rest = nil_from_length c.read_turn.new.self.rest empty;
+      },
       grind (arith, nat_tests, c.noted.ensures, c.if-noted.true),
     )
 
