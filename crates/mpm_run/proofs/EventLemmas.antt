@@ -1,9 +1,7 @@
 -- What the events of the listener tick and signal.
-use Rattle.std.proofs.Common.{◌≡◌, ℕ, List, [], ◌∷◌, ◌++◌, map, None, refl, ap, ◌∙◌, append-nil}
+use Rattle.std.proofs.Common.{◌≡◌, ℕ, List, [], ◌∷◌, ◌++◌, map, None, refl, ap, ◌∙◌, append-nil, append_assoc}
 use Rattle.std.proofs.lemmas.Grind.{flat_map-append}
 use Rattle.std.specs.List.{flat_map}
-use Rattle.mpm_base.specs.declared.conn.Cause.{Cause}
-use Rattle.mpm_base.specs.declared.conn.Cause.TheVariants as cause
 use Rattle.mpm_base.specs.declared.conn.ConnName.{ConnName}
 use Rattle.conn_machine.specs.declared.event.Event.{Event}
 use Rattle.conn_machine.specs.declared.event.Event.TheVariants as event
@@ -13,7 +11,9 @@ use Rattle.board.specs.Book.{SeenBook}
 use Rattle.worker_group.specs.declared.service.Exit.{Exit}
 use Rattle.worker_group.specs.declared.service.Exit.TheVariants as exit
 use Rattle.worker_group.specs.Acts.{Acts, events_of}
-use Rattle.mpm_run.specs.RoundInside.{Round, Taking, closed_events, left_events, round_events, stop_events, taking_events, time_events}
+use Rattle.worker_group.specs.Service.{left_events}
+use Rattle.mpm_run.specs.ClosingInside.{LettingGo, RefusedWait, letting_events, lingering_given_up, refused_events}
+use Rattle.mpm_run.specs.RoundInside.{Lettings, Round, Taking, gone_events, lettings_events, round_events, stop_events, taking_events, time_events}
 use Rattle.mpm_run.specs.Times.{signals_in, signals_of, ticks_in, ticks_of}
 
 -- ## Lists of events
@@ -38,13 +38,6 @@ silent-both es fs first second = record {
 pub silent-none : AreSilent []
 silent-none = record { ticks = refl; signals = refl }
 
-pub silent-closed : (why : Cause) (names : List ConnName) → AreSilent (closed_events why names)
-silent-closed why [] = silent-none
-silent-closed why (name ∷ names) = record {
-  ticks = (silent-closed why names).ticks;
-  signals = (silent-closed why names).signals;
-}
-
 pub silent-starts : (children : List ℕ) → AreSilent (map event.StartChild children)
 silent-starts [] = silent-none
 silent-starts (k ∷ children) = record { ticks = (silent-starts children).ticks; signals = (silent-starts children).signals }
@@ -60,10 +53,34 @@ silent-stops fault.NoMemory = record { ticks = refl; signals = refl }
 
 silent-left : (way : Exit) (name : ConnName) → AreSilent (left_events way name)
 silent-left (exit.Park kind) name = record { ticks = refl; signals = refl }
-silent-left (exit.Close why) name = record { ticks = refl; signals = refl }
+silent-left (exit.Linger why) name = record { ticks = refl; signals = refl }
+silent-left (exit.Close why how) name = record { ticks = refl; signals = refl }
 silent-left (exit.GiveUp fault.Halted) name = record { ticks = refl; signals = refl }
 silent-left (exit.GiveUp fault.Full) name = record { ticks = refl; signals = refl }
 silent-left (exit.GiveUp fault.NoMemory) name = record { ticks = refl; signals = refl }
+
+silent-letting : (l : LettingGo) → AreSilent (letting_events l)
+silent-letting l = record { ticks = (silent-left l.way l.name).ticks; signals = (silent-left l.way l.name).signals }
+
+pub silent-gone : (gone : List LettingGo) → AreSilent (gone_events gone)
+silent-gone [] = silent-none
+silent-gone (l ∷ gone) = silent-both (letting_events l) (gone_events gone) (silent-letting l) (silent-gone gone)
+
+silent-given_up : (w : RefusedWait) (fault : BoardFault) → AreSilent (event.Hold w.name ∷ lingering_given_up fault w.ending w.name)
+silent-given_up w fault.Halted = record { ticks = refl; signals = refl }
+silent-given_up w fault.Full = record { ticks = refl; signals = refl }
+silent-given_up w fault.NoMemory = record { ticks = refl; signals = refl }
+
+silent-refused : (refused : List RefusedWait) → AreSilent (flat_map refused_events refused)
+silent-refused [] = silent-none
+silent-refused (w ∷ refused) = silent-both (refused_events w) (flat_map refused_events refused) (silent-given_up w w.refused) (silent-refused refused)
+
+silent-lettings : (l : Lettings) (refused : List RefusedWait) → AreSilent (lettings_events l refused)
+silent-lettings l refused =
+    silent-both (gone_events l.retiring ++ gone_events l.cut ++ gone_events l.drained) (flat_map refused_events refused)
+    (silent-both (gone_events l.retiring ++ gone_events l.cut) (gone_events l.drained)
+    (silent-both (gone_events l.retiring) (gone_events l.cut) (silent-gone l.retiring) (silent-gone l.cut)) (silent-gone l.drained))
+    (silent-refused refused)
 
 silent-taken : (t : Taking) → AreSilent (taking_events t)
 silent-taken t = record { ticks = (silent-left t.way t.name).ticks; signals = (silent-left t.way t.name).signals }
@@ -97,23 +114,48 @@ in-first : (find : Event → List ℕ) (es fs : List Event) (xs : List ℕ) → 
     → flat_map find (es ++ fs) ≡ xs
 in-first find es fs xs first none = in-both find es fs xs [] first none ∙ append-nil xs
 
+-- what a round did behind its signals neither ticks nor signals
+abbrev rest_of : Round → List Event
+rest_of r =
+    lettings_events r.lettings r.refused ++ map event.Retire r.retired ++ map event.StartChild r.starts ++ flat_map taking_events r.takes
+
+silent-rest : (r : Round) → AreSilent (rest_of r)
+silent-rest r =
+    let retired = silent-both (lettings_events r.lettings r.refused) (map event.Retire r.retired) (silent-lettings r.lettings r.refused) (silent-retires r.retired) in
+    let started =
+    silent-both (lettings_events r.lettings r.refused ++ map event.Retire r.retired) (map event.StartChild r.starts) retired (silent-starts r.starts) in
+    silent-both (lettings_events r.lettings r.refused ++ map event.Retire r.retired ++ map event.StartChild r.starts)
+    (flat_map taking_events r.takes) started (silent-takes r.takes)
+
+-- it stands behind them
+rest-behind : (r : Round) → round_events r ≡ (time_events r.early r.ticks r.late ++ map event.Ready r.signals) ++ rest_of r
+rest-behind r =
+    let front = time_events r.early r.ticks r.late ++ map event.Ready r.signals in
+    let lets = lettings_events r.lettings r.refused in
+    let retired = map event.Retire r.retired in
+    let started = map event.StartChild r.starts in
+    let taken = flat_map taking_events r.takes in
+    ap (λ (es : List Event). es ++ taken)
+    (ap (λ (es : List Event). es ++ started) (append_assoc front lets retired) ∙ append_assoc front (lets ++ retired) started)
+    ∙ append_assoc front (lets ++ retired ++ started) taken
+
 -- the ticks of a round are those to which time passed in it
 pub ticks-round : (r : Round) → flat_map ticks_in (round_events r) ≡ r.ticks
 ticks-round r =
-    let early = in-both ticks_in (closed_events cause.NoMemory r.early) (map event.Tick r.ticks) [] r.ticks (silent-closed cause.NoMemory r.early).ticks (ticks-of_ticks r.ticks) in
-    let time = in-first ticks_in (closed_events cause.NoMemory r.early ++ map event.Tick r.ticks) (closed_events cause.NoMemory r.late) r.ticks early (silent-closed cause.NoMemory r.late).ticks in
+    let early = in-both ticks_in (gone_events r.early) (map event.Tick r.ticks) [] r.ticks (silent-gone r.early).ticks (ticks-of_ticks r.ticks) in
+    let time = in-first ticks_in (gone_events r.early ++ map event.Tick r.ticks) (gone_events r.late) r.ticks early (silent-gone r.late).ticks in
     let signals = in-first ticks_in (time_events r.early r.ticks r.late) (map event.Ready r.signals) r.ticks time (ticks-of_signals r.signals) in
-    let starts = in-first ticks_in (time_events r.early r.ticks r.late ++ map event.Ready r.signals) (map event.StartChild r.starts) r.ticks signals (silent-starts r.starts).ticks in
-    in-first ticks_in (time_events r.early r.ticks r.late ++ map event.Ready r.signals ++ map event.StartChild r.starts) (flat_map taking_events r.takes) r.ticks starts (silent-takes r.takes).ticks
+    ap (flat_map ticks_in) (rest-behind r)
+    ∙ in-first ticks_in (time_events r.early r.ticks r.late ++ map event.Ready r.signals) (rest_of r) r.ticks signals (silent-rest r).ticks
 
 -- its signals are those of its slots
 pub signals-round : (r : Round) → flat_map signals_in (round_events r) ≡ r.signals
 signals-round r =
-    let early = in-both signals_in (closed_events cause.NoMemory r.early) (map event.Tick r.ticks) [] [] (silent-closed cause.NoMemory r.early).signals (signals-of_ticks r.ticks) in
-    let time = in-first signals_in (closed_events cause.NoMemory r.early ++ map event.Tick r.ticks) (closed_events cause.NoMemory r.late) [] early (silent-closed cause.NoMemory r.late).signals in
+    let early = in-both signals_in (gone_events r.early) (map event.Tick r.ticks) [] [] (silent-gone r.early).signals (signals-of_ticks r.ticks) in
+    let time = in-first signals_in (gone_events r.early ++ map event.Tick r.ticks) (gone_events r.late) [] early (silent-gone r.late).signals in
     let signals = in-both signals_in (time_events r.early r.ticks r.late) (map event.Ready r.signals) [] r.signals time (signals-of_signals r.signals) in
-    let starts = in-first signals_in (time_events r.early r.ticks r.late ++ map event.Ready r.signals) (map event.StartChild r.starts) r.signals signals (silent-starts r.starts).signals in
-    in-first signals_in (time_events r.early r.ticks r.late ++ map event.Ready r.signals ++ map event.StartChild r.starts) (flat_map taking_events r.takes) r.signals starts (silent-takes r.takes).signals
+    ap (flat_map signals_in) (rest-behind r)
+    ∙ in-first signals_in (time_events r.early r.ticks r.late ++ map event.Ready r.signals) (rest_of r) r.signals signals (silent-rest r).signals
 
 -- ## Histories
 

@@ -20,7 +20,8 @@ told_grows bytes from count (Some w) p q first more =
 -- one more piece was taken from the bytes that are left
 pub told_puts : (bytes : List ℕ) (from count : ℕ) (o p q : Option (List ℕ)) (faults faults' : ℕ) (answer : Put)
     → p ≡ option_map (λ written. written ++ take from bytes) o
-    → Puts p q faults faults' answer (take (length bytes - from) (drop from bytes)) → answer ≡ put.Put count
+    → Puts (record { told = p; faults = faults }) (record { told = q; faults = faults' }) answer (take (length bytes - from) (drop from bytes))
+    → answer ≡ put.Put count
     → q ≡ option_map (λ written. written ++ take (from + count) bytes) o
 told_puts bytes from count o p q faults faults' answer first puts put_is =
     let left : take (length bytes - from) (drop from bytes) ≡ drop from bytes =

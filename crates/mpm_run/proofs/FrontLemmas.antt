@@ -1,21 +1,22 @@
 -- What the calls of a front leave of it, and whether the table is in step with it.
-use Rattle.std.proofs.Common.{◌≡◌, ◌⊎◌, inl, inr, ℕ, Bool, true, false, List, [], ◌∷◌, ◌++◌, map, Option, None, Some, option_map, IfSome, refl, sym, ap, subst, ◌∙◌, arith}
+use Rattle.std.proofs.Common.{◌≡◌, ◌⊎◌, inl, inr, ℕ, Bool, true, false, not, List, [], ◌∷◌, ◌++◌, map, Option, None, Some, option_map, IfSome, refl, sym, ap, subst, ◌∙◌, arith}
 use Rattle.mpm_base.specs.Count.{next_count, NeverFalls, Rises, RisesWhere, RisesExactlyWhere}
-use Rattle.mpm_base.specs.Front.{FrontTold, FrontCounts, TellsOn, GoesForward, Waits, HasAllTaken, IsHandedOut, Accepts, WaitTold, after_accept, after_watch, is_ended, is_handed, moments_in, moments_of, wait_failed}
+use Rattle.mpm_base.specs.Front.{FrontTold, FrontSeen, BoundTold, TellsOn, GoesForward, Waits, Binds, HasAllTaken, IsHandedOut, Accepts, WaitTold, after_accept, after_bind, after_hush, after_watch, front_after_watch, hushed_front, is_ended, moments_in, moments_of, wait_failed}
 use Rattle.mpm_base.specs.Clock.{asked_at}
+use Rattle.mpm_base.specs.declared.addr.Addr.{Addr}
 use Rattle.mpm_base.specs.declared.conn.ConnName.{ConnName}
 use Rattle.std.proofs.lemmas.Grind.{flat_map-append}
 use Rattle.std.proofs.lemmas.List.{append-nil, map-append}
-use Rattle.mpm_base.specs.Link.{LinkTold, LinkCounts}
+use Rattle.mpm_base.specs.Link.{LinkTold, LinkSeen}
 use Rattle.mpm_base.specs.declared.front.Arrival.{Arrival}
 use Rattle.mpm_base.specs.declared.front.Arrival.TheVariants as arrival
 use Rattle.mpm_base.specs.declared.front.Woke.{Woke}
 use Rattle.mpm_base.specs.declared.front.Woke.TheVariants as woke
-use Rattle.mpm_base.specs.declared.script_line.ScriptLine.{ScriptLine}
 use Rattle.conn_machine.specs.declared.state.State.{State}
 use Rattle.conn_state.specs.Conn.{IsFresh}
 use Rattle.conn_state.specs.Known.{IsOfClient, KnownOutside, TellsFrom}
-use Rattle.mpm_run.specs.ListenInside.{AsksFor, Follows, HasClients, IsArrival, IsInStep, IsInTime, IsNamed, SeenOutside, outside, waits_of}
+use Rattle.mpm_run.specs.Watched.{IsHushed}
+use Rattle.mpm_run.specs.ListenInside.{AsksFor, Follows, HasClients, HasGivenAll, IsArrival, IsInStep, IsInTime, IsNamed, KeepsStep, OnlyTakes, bound_of, waits_of}
 
 -- ## Counts
 
@@ -34,7 +35,7 @@ rises-after a b c first second = (omega (arith, first, second.0), λ less. grind
 
 -- ## The front is still the one that it was
 
-pub follows-trans : (a b c : SeenOutside) → Follows a b → Follows b c → Follows a c
+pub follows-trans : (a b c : FrontSeen) → Follows a b → Follows b c → Follows a c
 follows-trans a b c first second = record {
   script = second.script ∙ first.script;
   clients = λ clients has. second.clients clients (first.clients clients has);
@@ -42,7 +43,7 @@ follows-trans a b c first second = record {
   ends = omega (arith, first.ends, second.ends);
 }
 
-pub follows-same : (a : SeenOutside) → Follows a a
+pub follows-same : (a : FrontSeen) → Follows a a
 follows-same a = record { script = refl; clients = λ clients has. has; faults = omega arith; ends = omega arith }
 
 -- its clients stay in a change that keeps them
@@ -51,70 +52,132 @@ clients-mapped : (clients : List (List ℕ)) (told told' : Option FrontTold) (ch
 clients-mapped clients told told' change keeps is has = (change has.0, is ∙ ap (option_map change) has.1, keeps has.0 ∙ has.2)
 
 -- and in a wait
-waits-clients : (answer : Woke) (ready : List ℕ) (told told' : Option FrontTold) (clients : List (List ℕ)) → TellsOn (GoesForward answer ready) told told'
-    → HasClients clients told → HasClients clients told'
-waits-clients answer ready None told' clients tells has = let at = has.1 in absurd (cc at)
-waits-clients answer ready (Some t) told' clients tells has =
+waits-clients : (until : Option ℕ) (quiet : Bool) (answer : Woke) (ready : List ℕ) (told told' : Option FrontTold) (clients : List (List ℕ))
+    → TellsOn (GoesForward until quiet answer ready) told told' → HasClients clients told → HasClients clients told'
+waits-clients until quiet answer ready None told' clients tells has = let at = has.1 in absurd (cc at)
+waits-clients until quiet answer ready (Some t) told' clients tells has =
     let at = has.1 in
     let same : t ≡ has.0 = cc at in
     (tells.0, tells.1, tells.2.clients ∙ ap (λ (u : FrontTold). u.clients) same ∙ has.2)
 
 -- after a wait
-pub follows-wait : (script script' : Option (List ScriptLine)) (told told' : Option FrontTold) (counts counts' : FrontCounts) (answer : Woke) (ready : List ℕ)
-    → script' ≡ script → Waits told told' counts counts' answer ready → Follows (outside script told counts) (outside script' told' counts')
-follows-wait script script' told told' counts counts' answer ready same waits = record {
-  script = same;
-  clients = λ clients has. waits-clients answer ready told told' clients waits.tells has;
-  faults = rises-where (wait_failed answer) counts.faults counts'.faults waits.faults;
-  ends = rises-exactly (is_ended answer) counts.ends counts'.ends waits.ends;
+pub follows-wait : (old new : FrontSeen) (until : Option ℕ) (quiet : Bool) (answer : Woke) (ready : List ℕ) → Waits old new until quiet answer ready
+    → Follows old new
+follows-wait old new until quiet answer ready waits = record {
+  script = waits.script;
+  clients = λ clients has. waits-clients until quiet answer ready old.told new.told clients waits.tells has;
+  faults = rises-where (wait_failed answer) old.counts.faults new.counts.faults waits.faults;
+  ends = rises-exactly (is_ended answer) old.counts.ends new.counts.ends waits.ends;
 }
 
-after_accept-clients : (handed : Bool) (t : FrontTold) → (after_accept handed t).clients ≡ t.clients
-after_accept-clients true t = refl
-after_accept-clients false t = refl
+after_accept-clients : {L : Type 0} (answer : Arrival L) (t : FrontTold) → (after_accept answer t).clients ≡ t.clients
+after_accept-clients (arrival.Some link) t = refl
+after_accept-clients arrival.None t = refl
+after_accept-clients arrival.Failed t = refl
 
 -- after an accept
-pub follows-accept : {L : Type 0} (link_told : L → Option LinkTold) (link_counts : L → LinkCounts) (script script' : Option (List ScriptLine))
-    (told told' : Option FrontTold) (counts counts' : FrontCounts) (answer : Arrival L) → script' ≡ script
-    → Accepts link_told link_counts told told' counts counts' answer → Follows (outside script told counts) (outside script' told' counts')
-follows-accept link_told link_counts script script' told told' counts counts' answer same accepts = record {
-  script = same;
-  clients = λ clients has. clients-mapped clients told told' (after_accept (is_handed answer)) (after_accept-clients (is_handed answer)) accepts.told_is has;
+pub follows-accept : {L : Type 0} (link_seen : L → LinkSeen) (old new : FrontSeen) (answer : Arrival L) → Accepts link_seen old new answer → Follows old new
+follows-accept link_seen old new answer accepts = record {
+  script = accepts.script;
+  clients = λ clients has. clients-mapped clients old.told new.told (after_accept answer) (after_accept-clients answer) accepts.told_is has;
   faults = omega (arith, accepts.faults);
   ends = omega (arith, accepts.ends);
 }
 
+-- ## Links that are taken
+
+only-trans : (a b c : FrontTold) → OnlyTakes a b → OnlyTakes b c → OnlyTakes a c
+only-trans a b c first second = record {
+  rest = second.rest ∙ ap (λ (x : FrontTold). record x { accepted = c.accepted; watches = c.watches; failed = c.failed }) first.rest;
+}
+
+-- nothing happened
+pub takes-same : (told : Option FrontTold) → TellsOn OnlyTakes told told
+takes-same None = refl
+takes-same (Some t) = (t, refl, record { rest = refl })
+
+pub takes-trans : (a b c : Option FrontTold) → TellsOn OnlyTakes a b → TellsOn OnlyTakes b c → TellsOn OnlyTakes a c
+takes-trans None b c first second = subst (λ (o : Option FrontTold). TellsOn OnlyTakes o c) first second
+takes-trans (Some t) b c first second =
+    let later = subst (λ (o : Option FrontTold). TellsOn OnlyTakes o c) first.1 second in
+    (later.0, later.1, only-trans t first.0 later.0 first.2 later.2)
+
+takes-mapped : (told told' : Option FrontTold) (change : FrontTold → FrontTold) → ((t : FrontTold) → OnlyTakes t (change t)) → told' ≡ option_map change told
+    → TellsOn OnlyTakes told told'
+takes-mapped None told' change only is = is
+takes-mapped (Some t) told' change only is = (change t, is, only t)
+
+after_accept-only : {L : Type 0} (answer : Arrival L) (t : FrontTold) → OnlyTakes t (after_accept answer t)
+after_accept-only (arrival.Some link) t = record { rest = refl }
+after_accept-only arrival.None t = record { rest = refl }
+after_accept-only arrival.Failed t = record { rest = refl }
+
+-- an accept was made
+pub takes-accept : {L : Type 0} (answer : Arrival L) (told told' : Option FrontTold) → told' ≡ option_map (after_accept answer) told
+    → TellsOn OnlyTakes told told'
+takes-accept answer told told' is = takes-mapped told told' (after_accept answer) (after_accept-only answer) is
+
+after_watch-only : (name : ConnName) (link : Option LinkTold) (t : FrontTold) → OnlyTakes t (after_watch name link t)
+after_watch-only name None t = record { rest = refl }
+after_watch-only name (Some l) t = record { rest = refl }
+
+-- a link was watched
+pub takes-watch : (name : ConnName) (link : Option LinkTold) (told told' : Option FrontTold) → told' ≡ option_map (after_watch name link) told
+    → TellsOn OnlyTakes told told'
+takes-watch name link told told' is = takes-mapped told told' (after_watch name link) (after_watch-only name link) is
+
+-- a part that stays then
+kept-part : {X : Type 0} (part : FrontTold → X) (told told' : Option FrontTold) → ((t t' : FrontTold) → OnlyTakes t t' → part t' ≡ part t)
+    → TellsOn OnlyTakes told told' → option_map part told' ≡ option_map part told
+kept-part part None told' keeps takes = ap (option_map part) takes
+kept-part part (Some t) told' keeps takes = ap (option_map part) takes.1 ∙ ap (λ (x : _). Some x) (keeps t takes.0 takes.2)
+
+pub waits-kept : (told told' : Option FrontTold) → TellsOn OnlyTakes told told' → waits_of told' ≡ waits_of told
+waits-kept told told' takes = kept-part (λ (t : FrontTold). t.waits) told told' (λ t t' only. ap (λ (x : FrontTold). x.waits) only.rest) takes
+
+pub bound-kept : (told told' : Option FrontTold) → TellsOn OnlyTakes told told' → bound_of told' ≡ bound_of told
+bound-kept told told' takes = kept-part (λ (t : FrontTold). t.bound) told told' (λ t t' only. ap (λ (x : FrontTold). x.bound) only.rest) takes
+
+-- it stays in a wait too
+pub bound-wait : (until : Option ℕ) (quiet : Bool) (answer : Woke) (ready : List ℕ) (told told' : Option FrontTold)
+    → TellsOn (GoesForward until quiet answer ready) told told' → bound_of told' ≡ bound_of told
+bound-wait until quiet answer ready None told' tells = ap bound_of tells
+bound-wait until quiet answer ready (Some t) told' tells = ap bound_of tells.1 ∙ ap (λ (bound : List BoundTold). Some bound) tells.2.bound
+
 -- ## Its waits, and the clock
 
--- a change that keeps them
-waits-mapped : (told told' : Option FrontTold) (change : FrontTold → FrontTold) → ((t : FrontTold) → (change t).waits ≡ t.waits)
-    → told' ≡ option_map change told → waits_of told' ≡ waits_of told
-waits-mapped None told' change keeps is = ap waits_of is
-waits-mapped (Some t) told' change keeps is = ap waits_of is ∙ ap (λ (waits : List WaitTold). Some waits) (keeps t)
+-- one more wait, which gave these slots and answered this
+pub record HasOneMore (ready : List ℕ) (answer : Woke) (waits : List WaitTold) (waits' : Option (List WaitTold)) : Type 0 where
+  pub wait : WaitTold
+  pub is : waits' ≡ Some (waits ++ wait ∷ [])
+  pub slots : wait.slots ≡ ready
+  pub answers : wait.answer ≡ answer
 
-after_accept-waits : (handed : Bool) (t : FrontTold) → (after_accept handed t).waits ≡ t.waits
-after_accept-waits true t = refl
-after_accept-waits false t = refl
+-- the same of a front that tells
+abbrev pub WaitsMore : List ℕ → Woke → Option (List WaitTold) → Option (List WaitTold) → Type 0
+WaitsMore ready answer None waits' = waits' ≡ None
+WaitsMore ready answer (Some waits) waits' = HasOneMore ready answer waits waits'
 
-pub waits-accept : (handed : Bool) (told told' : Option FrontTold) → told' ≡ option_map (after_accept handed) told → waits_of told' ≡ waits_of told
-waits-accept handed told told' is = waits-mapped told told' (after_accept handed) (after_accept-waits handed) is
+-- so it is after a wait
+pub waits-after : (until : Option ℕ) (quiet : Bool) (answer : Woke) (ready : List ℕ) (told told' : Option FrontTold)
+    → TellsOn (GoesForward until quiet answer ready) told told' → WaitsMore ready answer (waits_of told) (waits_of told')
+waits-after until quiet answer ready None told' tells = ap waits_of tells
+waits-after until quiet answer ready (Some t) told' tells = record {
+  wait = record { until = until; quiet = quiet; slots = ready; answer = answer; passed = tells.2.passed };
+  is = ap waits_of tells.1 ∙ ap (λ (waits : List WaitTold). Some waits) tells.2.waits;
+  slots = refl;
+  answers = refl;
+}
 
-after_watch-waits : (name : ConnName) (link : Option LinkTold) (t : FrontTold) → (after_watch name link t).waits ≡ t.waits
-after_watch-waits name None t = refl
-after_watch-waits name (Some l) t = refl
+moments-more : (w : WaitTold) (waits : List WaitTold) → moments_of (waits ++ w ∷ []) ≡ moments_of waits ++ moments_in w.answer
+moments-more w waits =
+    flat_map-append (λ (x : WaitTold). moments_in x.answer) waits (w ∷ [])
+    ∙ ap (λ (ms : List ℕ). moments_of waits ++ ms) (append-nil (moments_in w.answer))
 
-pub waits-watch : (name : ConnName) (link : Option LinkTold) (told told' : Option FrontTold) → told' ≡ option_map (after_watch name link) told
-    → waits_of told' ≡ waits_of told
-waits-watch name link told told' is = waits-mapped told told' (after_watch name link) (after_watch-waits name link) is
-
--- the waits with one more
-abbrev more_waits : List ℕ → Woke → List WaitTold → List WaitTold
-more_waits ready answer waits = waits ++ record { slots = ready; answer = answer } ∷ []
-
-moments-more : (ready : List ℕ) (answer : Woke) (waits : List WaitTold) → moments_of (more_waits ready answer waits) ≡ moments_of waits ++ moments_in answer
-moments-more ready answer waits =
-    flat_map-append (λ (w : WaitTold). moments_in w.answer) waits (record { slots = ready; answer = answer } ∷ [])
-    ∙ ap (λ (ms : List ℕ). moments_of waits ++ ms) (append-nil (moments_in answer))
+-- one that answered this
+moments-answered : (w : WaitTold) (answer : Woke) (waits : List WaitTold) → w.answer ≡ answer
+    → moments_of (waits ++ w ∷ []) ≡ moments_of waits ++ moments_in answer
+moments-answered w answer waits is = moments-more w waits ∙ ap (λ (a : Woke). moments_of waits ++ moments_in a) is
 
 -- the calls are these
 in-time-at : (waits : List WaitTold) (calls calls' : Option (List (ℕ × ℕ))) → calls' ≡ calls → IsInTime (Some waits) calls → IsInTime (Some waits) calls'
@@ -126,34 +189,31 @@ none-asked woke.Ended present moment calls' asks = asks.0
 none-asked woke.Failed present moment calls' asks = asks.0
 
 -- a wait that gives no moment
-time-none : (ready : List ℕ) (answer : Woke) (waits : List WaitTold) (calls : List (ℕ × ℕ)) → moments_in answer ≡ [] → map asked_at calls ≡ moments_of waits
-    → map asked_at calls ≡ moments_of (more_waits ready answer waits)
-time-none ready answer waits calls none time =
-    time ∙ sym (append-nil (moments_of waits)) ∙ ap (λ (ms : List ℕ). moments_of waits ++ ms) (sym none) ∙ sym (moments-more ready answer waits)
+time-none : (w : WaitTold) (answer : Woke) (waits : List WaitTold) (calls : List (ℕ × ℕ)) → w.answer ≡ answer → moments_in answer ≡ []
+    → map asked_at calls ≡ moments_of waits → map asked_at calls ≡ moments_of (waits ++ w ∷ [])
+time-none w answer waits calls is none time =
+    time ∙ sym (append-nil (moments_of waits)) ∙ ap (λ (ms : List ℕ). moments_of waits ++ ms) (sym none) ∙ sym (moments-answered w answer waits is)
 
 -- the clock is in time with the waits where one was made more, and it was told its moment
-time-more : (answer : Woke) (ready : List ℕ) (waits : List WaitTold) (present moment : ℕ) (calls calls' : Option (List (ℕ × ℕ)))
-    → AsksFor answer present calls calls' moment → IsInTime (Some waits) calls → IsInTime (Some (more_waits ready answer waits)) calls'
-time-more answer ready waits present moment None calls' asks time =
-    in-time-at (more_waits ready answer waits) None calls' (none-asked answer present moment calls' asks) tt
-time-more (woke.Woke m) ready waits present moment (Some calls) calls' asks time =
-    in-time-at (more_waits ready (woke.Woke m) waits) (Some (calls ++ (m, moment) ∷ [])) calls' asks
-    (map-append asked_at calls ((m, moment) ∷ []) ∙ ap (λ (ms : List ℕ). ms ++ m ∷ []) time ∙ sym (moments-more ready (woke.Woke m) waits))
-time-more woke.Ended ready waits present moment (Some calls) calls' asks time =
-    in-time-at (more_waits ready woke.Ended waits) (Some calls) calls' asks.0 (time-none ready woke.Ended waits calls refl time)
-time-more woke.Failed ready waits present moment (Some calls) calls' asks time =
-    in-time-at (more_waits ready woke.Failed waits) (Some calls) calls' asks.0 (time-none ready woke.Failed waits calls refl time)
+time-more : (answer : Woke) (w : WaitTold) (waits : List WaitTold) (present moment : ℕ) (calls calls' : Option (List (ℕ × ℕ))) → w.answer ≡ answer
+    → AsksFor answer present calls calls' moment → IsInTime (Some waits) calls → IsInTime (Some (waits ++ w ∷ [])) calls'
+time-more answer w waits present moment None calls' is asks time =
+    in-time-at (waits ++ w ∷ []) None calls' (none-asked answer present moment calls' asks) tt
+time-more (woke.Woke m) w waits present moment (Some calls) calls' is asks time =
+    in-time-at (waits ++ w ∷ []) (Some (calls ++ (m, moment) ∷ [])) calls' asks
+    (map-append asked_at calls ((m, moment) ∷ []) ∙ ap (λ (ms : List ℕ). ms ++ m ∷ []) time ∙ sym (moments-answered w (woke.Woke m) waits is))
+time-more woke.Ended w waits present moment (Some calls) calls' is asks time =
+    in-time-at (waits ++ w ∷ []) (Some calls) calls' asks.0 (time-none w woke.Ended waits calls is refl time)
+time-more woke.Failed w waits present moment (Some calls) calls' is asks time =
+    in-time-at (waits ++ w ∷ []) (Some calls) calls' asks.0 (time-none w woke.Failed waits calls is refl time)
 
 -- after a wait
-pub time-wait : (answer : Woke) (ready : List ℕ) (told told' : Option FrontTold) (present moment : ℕ) (calls calls' : Option (List (ℕ × ℕ)))
-    → TellsOn (GoesForward answer ready) told told' → AsksFor answer present calls calls' moment → IsInTime (waits_of told) calls
-    → IsInTime (waits_of told') calls'
-time-wait answer ready None told' present moment calls calls' tells asks time =
-    subst (λ (o : Option FrontTold). IsInTime (waits_of o) calls') (sym tells) tt
-time-wait answer ready (Some t) told' present moment calls calls' tells asks time =
-    subst (λ (o : Option FrontTold). IsInTime (waits_of o) calls') (sym tells.1)
-    (subst (λ (waits : List WaitTold). IsInTime (Some waits) calls') (sym tells.2.waits)
-    (time-more answer ready t.waits present moment calls calls' asks time))
+pub time-wait : (answer : Woke) (ready : List ℕ) (waits waits' : Option (List WaitTold)) (present moment : ℕ) (calls calls' : Option (List (ℕ × ℕ)))
+    → WaitsMore ready answer waits waits' → AsksFor answer present calls calls' moment → IsInTime waits calls → IsInTime waits' calls'
+time-wait answer ready None waits' present moment calls calls' more asks time = subst (λ (o : Option (List WaitTold)). IsInTime o calls') (sym more) tt
+time-wait answer ready (Some waits) waits' present moment calls calls' more asks time =
+    subst (λ (o : Option (List WaitTold)). IsInTime o calls') (sym more.is)
+    (time-more answer more.wait waits present moment calls calls' more.answers asks time)
 
 asks-none : (answer : Woke) (calls : Option (List (ℕ × ℕ))) → moments_in answer ≡ [] → AsksFor answer 0 calls calls 0
 asks-none (woke.Woke m) calls none = absurd (cc none)
@@ -161,10 +221,10 @@ asks-none woke.Ended calls none = (refl, refl)
 asks-none woke.Failed calls none = (refl, refl)
 
 -- after one that gives no moment
-pub time-unasked : (answer : Woke) (ready : List ℕ) (told told' : Option FrontTold) (calls : Option (List (ℕ × ℕ)))
-    → TellsOn (GoesForward answer ready) told told' → moments_in answer ≡ [] → IsInTime (waits_of told) calls → IsInTime (waits_of told') calls
-time-unasked answer ready told told' calls tells none time =
-    time-wait answer ready told told' 0 0 calls calls tells (asks-none answer calls none) time
+pub time-unasked : (answer : Woke) (ready : List ℕ) (waits waits' : Option (List WaitTold)) (calls : Option (List (ℕ × ℕ)))
+    → WaitsMore ready answer waits waits' → moments_in answer ≡ [] → IsInTime waits calls → IsInTime waits' calls
+time-unasked answer ready waits waits' calls more none time =
+    time-wait answer ready waits waits' 0 0 calls calls more (asks-none answer calls none) time
 
 -- after calls that make no wait
 pub time-kept : (waits waits' : Option (List WaitTold)) (calls : Option (List (ℕ × ℕ))) → waits' ≡ waits → IsInTime waits calls → IsInTime waits' calls
@@ -174,41 +234,57 @@ time-kept waits waits' calls same time = subst (λ (o : Option (List WaitTold)).
 
 -- where it took no connection
 pub step-kept : (told : Option FrontTold) (s s' : State) → s'.accepted ≡ s.accepted → IsInStep told s → IsInStep told s'
-step-kept told s s' same step = subst (λ (n : ℕ). IfSome told (λ t. t.accepted ≡ n)) (sym same) step
+step-kept None s s' same step = tt
+step-kept (Some t) s s' same step = record { listens = step.listens; accepted = step.accepted ∙ sym same }
 
 -- after a wait
-pub step-wait : (answer : Woke) (ready : List ℕ) (told told' : Option FrontTold) (s : State) → TellsOn (GoesForward answer ready) told told'
-    → IsInStep told s → IsInStep told' s
-step-wait answer ready None told' s tells step = subst (λ (o : Option FrontTold). IsInStep o s) (sym tells) tt
-step-wait answer ready (Some t) told' s tells step = subst (λ (o : Option FrontTold). IsInStep o s) (sym tells.1) (tells.2.accepted ∙ step)
+pub step-wait : (until : Option ℕ) (quiet : Bool) (answer : Woke) (ready : List ℕ) (told told' : Option FrontTold) (s : State)
+    → TellsOn (GoesForward until quiet answer ready) told told' → IsInStep told s → IsInStep told' s
+step-wait until quiet answer ready None told' s tells step = subst (λ (o : Option FrontTold). IsInStep o s) (sym tells) tt
+step-wait until quiet answer ready (Some t) told' s tells step =
+    subst (λ (o : Option FrontTold). IsInStep o s) (sym tells.1)
+    (record { listens = tells.2.hushed ∙ step.listens; accepted = tells.2.accepted ∙ step.accepted })
 
 -- after an accept that handed a link out, whose connection the table took
-pub step-taken : (told told' : Option FrontTold) (s s' : State) → told' ≡ option_map (after_accept true) told → s'.accepted ≡ next_count s.accepted
-    → IsInStep told s → IsInStep told' s'
-step-taken None told' s s' is taken step = subst (λ (o : Option FrontTold). IsInStep o s') (sym is) tt
-step-taken (Some t) told' s s' is taken step = subst (λ (o : Option FrontTold). IsInStep o s') (sym is) (ap next_count step ∙ sym taken)
+pub step-taken : {L : Type 0} (link : L) (told told' : Option FrontTold) (s s' : State) → told' ≡ option_map (after_accept (arrival.Some link)) told
+    → s'.accepted ≡ next_count s.accepted → IsInStep told s → IsInStep told' s'
+step-taken link None told' s s' is taken step = subst (λ (o : Option FrontTold). IsInStep o s') (sym is) tt
+step-taken link (Some t) told' s s' is taken step =
+    subst (λ (o : Option FrontTold). IsInStep o s') (sym is)
+    (record { listens = step.listens; accepted = ap next_count step.accepted ∙ sym taken })
 
 -- after one that handed none out
-step-same : (told told' : Option FrontTold) (s : State) → told' ≡ option_map (after_accept false) told → IsInStep told s → IsInStep told' s
-step-same None told' s is step = subst (λ (o : Option FrontTold). IsInStep o s) (sym is) tt
-step-same (Some t) told' s is step = subst (λ (o : Option FrontTold). IsInStep o s) (sym is) step
-
-none-handed : {L : Type 0} (answer : Arrival L) → (answer ≡ arrival.None) ⊎ (answer ≡ arrival.Failed) → is_handed answer ≡ false
-none-handed answer (inl none) = ap is_handed none
-none-handed answer (inr failed) = ap is_handed failed
+step-unhanded : {L : Type 0} (answer : Arrival L) (t : FrontTold) (s : State) → (answer ≡ arrival.None) ⊎ (answer ≡ arrival.Failed) → KeepsStep s t
+    → KeepsStep s (after_accept answer t)
+step-unhanded (arrival.Some link) t s (inl none) step = absurd (cc none)
+step-unhanded (arrival.Some link) t s (inr failed) step = absurd (cc failed)
+step-unhanded arrival.None t s none step = step
+step-unhanded arrival.Failed t s none step = record { listens = step.listens; accepted = step.accepted }
 
 pub step-none : {L : Type 0} (told told' : Option FrontTold) (answer : Arrival L) (s : State) → (answer ≡ arrival.None) ⊎ (answer ≡ arrival.Failed)
-    → told' ≡ option_map (after_accept (is_handed answer)) told → IsInStep told s → IsInStep told' s
-step-none told told' answer s none is step =
-    step-same told told' s (is ∙ ap (λ (handed : Bool). option_map (after_accept handed) told) (none-handed answer none)) step
+    → told' ≡ option_map (after_accept answer) told → IsInStep told s → IsInStep told' s
+step-none None told' answer s none is step = subst (λ (o : Option FrontTold). IsInStep o s) (sym is) tt
+step-none (Some t) told' answer s none is step = subst (λ (o : Option FrontTold). IsInStep o s) (sym is) (step-unhanded answer t s none step)
+
+-- where listening goes on each connection was handed out
+given-all : (s : State) (t : FrontTold) → HasAllTaken t → KeepsStep s t → HasGivenAll s t
+given-all s t all step = record {
+  left = all.left;
+  read = all.read;
+  given = elim all.accepted [
+    | inl given ↦ given.1
+    | inr hushed ↦ let listens = step.listens in absurd (cc (hushed, listens))
+  ];
+  taken = step.accepted;
+}
 
 -- after a wait that answered Ended all was taken
-pub all-taken : (ready : List ℕ) (told told' : Option FrontTold) (s : State) → TellsOn (GoesForward woke.Ended ready) told told'
-    → IsInStep told s → IfSome told' (λ t. HasAllTaken t × (t.accepted ≡ s.accepted))
-all-taken ready None told' s tells step =
-    subst (λ (o : Option FrontTold). IfSome o (λ t. HasAllTaken t × (t.accepted ≡ s.accepted))) (sym tells) tt
-all-taken ready (Some t) told' s tells step =
-    subst (λ (o : Option FrontTold). IfSome o (λ u. HasAllTaken u × (u.accepted ≡ s.accepted))) (sym tells.1) (tells.2.answers, tells.2.accepted ∙ step)
+pub all-taken : (until : Option ℕ) (quiet : Bool) (ready : List ℕ) (told told' : Option FrontTold) (s : State)
+    → TellsOn (GoesForward until quiet woke.Ended ready) told told' → IsInStep told s → IfSome told' (HasGivenAll s)
+all-taken until quiet ready None told' s tells step = subst (λ (o : Option FrontTold). IfSome o (HasGivenAll s)) (sym tells) tt
+all-taken until quiet ready (Some t) told' s tells step =
+    subst (λ (o : Option FrontTold). IfSome o (HasGivenAll s)) (sym tells.1)
+    (given-all s tells.0 tells.2.answers (record { listens = tells.2.hushed ∙ step.listens; accepted = tells.2.accepted ∙ step.accepted }))
 
 -- ## The link that is handed out
 
@@ -217,10 +293,10 @@ pub arrives-next : (told : Option FrontTold) (link : Option LinkTold) (s : State
 arrives-next told None s handed step = tt
 arrives-next told (Some l) s handed step =
     let next = handed.2 in
-    let here : handed.0.accepted ≡ s.accepted = subst (λ (o : Option FrontTold). IsInStep o s) handed.1 step in
+    let step_there : KeepsStep s handed.0 = subst (λ (o : Option FrontTold). IsInStep o s) handed.1 step in
     record {
       fresh = subst IsFresh (sym next.fresh) refl;
-      rank = ap (λ (t : LinkTold). t.rank) next.fresh ∙ here;
+      rank = ap (λ (t : LinkTold). t.rank) next.fresh ∙ step_there.accepted;
     }
 
 -- it tells from one of the clients
@@ -242,18 +318,18 @@ tells-next clients told link l has is handed =
     tells-known clients told link l has is (subst (λ (o : Option LinkTold). IsHandedOut told o) is handed)
 
 -- so it is of a known client
-pub handed-known : {L : Type 0} (known : Option KnownOutside) (link_told : L → Option LinkTold) (told : Option FrontTold) (link : L)
-    → IsNamed known link_told told → IsHandedOut told (link_told link) → IsOfClient known (link_told link)
-handed-known None link_told told link named handed = tt
-handed-known (Some k) link_told told link named handed =
+pub handed-known : {L : Type 0} (known : Option KnownOutside) (link_seen : L → LinkSeen) (told : Option FrontTold) (link : L)
+    → IsNamed known link_seen told → IsHandedOut told (link_seen link).told → IsOfClient known (link_seen link).told
+handed-known None link_seen told link named handed = tt
+handed-known (Some k) link_seen told link named handed =
     let tells = (named.links refl).each link in
-    tells-next k.clients told (link_told link) tells.0 named.front tells.1 handed
+    tells-next k.clients told (link_seen link).told tells.0 named.front tells.1 handed
 
 -- what is known stays so while the front is the one that it was
-pub named-follows : {L : Type 0} (known : Option KnownOutside) (link_told : L → Option LinkTold) (old new : SeenOutside) → Follows old new
-    → IsNamed known link_told old.told → IsNamed known link_told new.told
-named-follows None link_told old new follows named = record { front = tt; links = named.links }
-named-follows (Some k) link_told old new follows named = record { front = follows.clients k.clients named.front; links = named.links }
+pub named-follows : {L : Type 0} (known : Option KnownOutside) (link_seen : L → LinkSeen) (old new : FrontSeen) → Follows old new
+    → IsNamed known link_seen old.told → IsNamed known link_seen new.told
+named-follows None link_seen old new follows named = record { front = tt; links = named.links }
+named-follows (Some k) link_seen old new follows named = record { front = follows.clients k.clients named.front; links = named.links }
 
 -- ## A watch
 
@@ -261,24 +337,76 @@ after_watch-clients : (name : ConnName) (link : Option LinkTold) (t : FrontTold)
 after_watch-clients name None t = refl
 after_watch-clients name (Some l) t = refl
 
-after_watch-accepted : (name : ConnName) (link : Option LinkTold) (t : FrontTold) → (after_watch name link t).accepted ≡ t.accepted
-after_watch-accepted name None t = refl
-after_watch-accepted name (Some l) t = refl
+after_watch-step : (name : ConnName) (link : Option LinkTold) (t : FrontTold) (s : State) → KeepsStep s t → KeepsStep s (after_watch name link t)
+after_watch-step name None t s step = step
+after_watch-step name (Some l) t s step = record { listens = step.listens; accepted = step.accepted }
 
 -- after it the front is still the one that it was
-pub follows-watch : (script script' : Option (List ScriptLine)) (told told' : Option FrontTold) (counts counts' : FrontCounts) (name : ConnName)
-    (link : Option LinkTold) → script' ≡ script → told' ≡ option_map (after_watch name link) told → counts' ≡ counts
-    → Follows (outside script told counts) (outside script' told' counts')
-follows-watch script script' told told' counts counts' name link same is counts_are = record {
-  script = same;
-  clients = λ clients has. clients-mapped clients told told' (after_watch name link) (after_watch-clients name link) is has;
-  faults = omega (arith, ap (λ (c : FrontCounts). c.faults) counts_are);
-  ends = omega (arith, ap (λ (c : FrontCounts). c.ends) counts_are);
+pub follows-watch : (old new : FrontSeen) (name : ConnName) (link : Option LinkTold) → new ≡ front_after_watch name link old → Follows old new
+follows-watch old new name link is = record {
+  script = ap (λ (f : FrontSeen). f.script) is;
+  clients =
+      λ clients has. clients-mapped clients old.told new.told (after_watch name link) (after_watch-clients name link)
+      (ap (λ (f : FrontSeen). f.told) is) has;
+  faults = omega (arith, ap (λ (f : FrontSeen). f.counts.faults) is);
+  ends = omega (arith, ap (λ (f : FrontSeen). f.counts.ends) is);
 }
 
 -- and the table in step with it
 pub step-watch : (told told' : Option FrontTold) (name : ConnName) (link : Option LinkTold) (s : State) → told' ≡ option_map (after_watch name link) told
     → IsInStep told s → IsInStep told' s
 step-watch None told' name link s is step = subst (λ (o : Option FrontTold). IsInStep o s) (sym is) tt
-step-watch (Some t) told' name link s is step =
-    subst (λ (o : Option FrontTold). IsInStep o s) (sym is) (after_watch-accepted name link t ∙ step)
+step-watch (Some t) told' name link s is step = subst (λ (o : Option FrontTold). IsInStep o s) (sym is) (after_watch-step name link t s step)
+
+-- ## The end of listening
+
+-- the front is still the one that it was
+pub follows-hushed : (old new : FrontSeen) → new ≡ after_hush old → Follows old new
+follows-hushed old new is = record {
+  script = ap (λ (f : FrontSeen). f.script) is;
+  clients = λ clients has. clients-mapped clients old.told new.told hushed_front (λ t. refl) (ap (λ (f : FrontSeen). f.told) is) has;
+  faults = omega (arith, ap (λ (f : FrontSeen). f.counts.faults) is);
+  ends = omega (arith, ap (λ (f : FrontSeen). f.counts.ends) is);
+}
+
+hushed-part : {X : Type 0} (part : FrontTold → X) (told told' : Option FrontTold) → ((t : FrontTold) → part (hushed_front t) ≡ part t)
+    → told' ≡ option_map hushed_front told → option_map part told' ≡ option_map part told
+hushed-part part None told' keeps is = ap (option_map part) is
+hushed-part part (Some t) told' keeps is = ap (option_map part) is ∙ ap (λ (x : _). Some x) (keeps t)
+
+-- its waits are as they were
+pub waits-hushed : (old new : FrontSeen) → new ≡ after_hush old → waits_of new.told ≡ waits_of old.told
+waits-hushed old new is = hushed-part (λ (t : FrontTold). t.waits) old.told new.told (λ t. refl) (ap (λ (f : FrontSeen). f.told) is)
+
+-- and what it was bound to
+pub bound-hushed : (old new : FrontSeen) → new ≡ after_hush old → bound_of new.told ≡ bound_of old.told
+bound-hushed old new is = hushed-part (λ (t : FrontTold). t.bound) old.told new.told (λ t. refl) (ap (λ (f : FrontSeen). f.told) is)
+
+-- it takes no further connection
+pub is-hushed : (told told' : Option FrontTold) → told' ≡ option_map hushed_front told → IfSome told' IsHushed
+is-hushed None told' is = subst (λ (o : Option FrontTold). IfSome o IsHushed) (sym is) tt
+is-hushed (Some t) told' is = subst (λ (o : Option FrontTold). IfSome o IsHushed) (sym is) refl
+
+-- and had given all that it has, as the table took it
+pub given-hushed : (s s' : State) (told told' : Option FrontTold) → told' ≡ option_map hushed_front told → s'.accepted ≡ s.accepted
+    → IfSome told (HasGivenAll s) → IfSome told' (HasGivenAll s')
+given-hushed s s' None told' is same given = subst (λ (o : Option FrontTold). IfSome o (HasGivenAll s')) (sym is) tt
+given-hushed s s' (Some t) told' is same given =
+    subst (λ (o : Option FrontTold). IfSome o (HasGivenAll s')) (sym is)
+    (record { left = given.left; read = given.read; given = given.given; taken = given.taken ∙ sym same })
+
+-- ## A bind
+
+after_bind-clients : (answer : Bool) (listen : Addr) (control : Option ℕ) (t : FrontTold) → (after_bind answer listen control t).clients ≡ t.clients
+after_bind-clients true listen control t = refl
+after_bind-clients false listen control t = refl
+
+-- after it the front is still the one that it was
+pub follows-bind : (old new : FrontSeen) (listen : Addr) (control : Option ℕ) (answer : Bool) → Binds old new listen control answer → Follows old new
+follows-bind old new listen control answer binds = record {
+  script = binds.script;
+  clients =
+      λ clients has. clients-mapped clients old.told new.told (after_bind answer listen control) (after_bind-clients answer listen control) binds.told_is has;
+  faults = rises-where (not answer) old.counts.faults new.counts.faults binds.faults;
+  ends = omega (arith, binds.ends);
+}

@@ -1,20 +1,21 @@
 -- That the ticks of a history are those of the clock's answers, and its signals those of the waits, round by round.
-use Rattle.std.proofs.Common.{◌≡◌, inl, inr, ℕ, Bool, true, false, if◌then◌else◌, List, [], ◌∷◌, ◌++◌, length, max, min, nat_lt, Option, None, Some, option_map, IfSome, refl, sym, ap, subst, ◌∙◌, append-nil, append_assoc, arith}
+use Rattle.std.proofs.Common.{◌≡◌, inl, inr, ℕ, Bool, true, false, if◌then◌else◌, List, [], ◌∷◌, ◌++◌, length, max, min, nat_lt, Option, None, Some, IfSome, refl, sym, ap, subst, ◌∙◌, append-nil, append_assoc, arith}
 use Rattle.std.proofs.lemmas.Bool.Decides.{nat_tests}
 use Rattle.std.proofs.lemmas.Grind.{flat_map-append}
 use Rattle.std.proofs.lemmas.List.{map-append}
 use Rattle.std.specs.List.{flat_map}
 use Rattle.mpm_base.specs.Moment.{greatest_moment}
-use Rattle.mpm_base.specs.Front.{FrontTold, WaitTold, TellsOn, GoesForward}
+use Rattle.mpm_base.specs.Front.{WaitTold}
 use Rattle.mpm_base.specs.declared.front.Woke.{Woke}
 use Rattle.mpm_base.specs.declared.front.Woke.TheVariants as woke
 use Rattle.conn_machine.specs.declared.event.Event.{Event}
 use Rattle.conn_state.specs.Conn.{IsFrontOf}
 use Rattle.board.specs.Book.{SeenBook}
 use Rattle.worker_group.specs.Acts.{Acts, events_of}
-use Rattle.mpm_run.specs.ListenInside.{AsksFor, waits_of}
+use Rattle.mpm_run.specs.ListenInside.{AsksFor}
 use Rattle.mpm_run.specs.RoundInside.{BreaksOff, GoesRound}
 use Rattle.mpm_run.specs.Times.{IsInformed, IsInformedSoFar, LacksOne, SignalsAre, SignalsBegin, TicksAre, TicksBegin, answers_of, given_slots, known_slots, latest, moment_for, rises, signals_in, signals_of, ticks_in, ticks_of, ticks_to}
+use Rattle.mpm_run.proofs.FrontLemmas.{WaitsMore}
 use Rattle.mpm_run.proofs.EventLemmas.{AreSilent, ticks-acts, signals-acts, ticks-kept, signals-kept, ticks-round, signals-round}
 
 -- ## One answer more
@@ -86,21 +87,16 @@ untold woke.Failed present moment calls' asks = asks.0
 
 -- ## One wait more
 
--- the waits with one more
-abbrev pub waits_more : List ℕ → Woke → List WaitTold → List WaitTold
-waits_more ready answer waits = waits ++ record { slots = ready; answer = answer } ∷ []
+given-more : (rows : ℕ) (w : WaitTold) (waits : List WaitTold)
+    → given_slots rows (waits ++ w ∷ []) ≡ given_slots rows waits ++ known_slots rows w.slots
+given-more rows w waits =
+    flat_map-append (λ (x : WaitTold). known_slots rows x.slots) waits (w ∷ [])
+    ∙ ap (λ (xs : List ℕ). given_slots rows waits ++ xs) (append-nil (known_slots rows w.slots))
 
--- those that a front tells
-pub waits-after : (answer : Woke) (ready : List ℕ) (told told' : Option FrontTold) → TellsOn (GoesForward answer ready) told told'
-    → waits_of told' ≡ option_map (waits_more ready answer) (waits_of told)
-waits-after answer ready None told' tells = ap waits_of tells
-waits-after answer ready (Some t) told' tells = ap waits_of tells.1 ∙ ap (λ (waits : List WaitTold). Some waits) tells.2.waits
-
-given-more : (rows : ℕ) (ready : List ℕ) (answer : Woke) (waits : List WaitTold)
-    → given_slots rows (waits_more ready answer waits) ≡ given_slots rows waits ++ known_slots rows ready
-given-more rows ready answer waits =
-    flat_map-append (λ (w : WaitTold). known_slots rows w.slots) waits (record { slots = ready; answer = answer } ∷ [])
-    ∙ ap (λ (xs : List ℕ). given_slots rows waits ++ xs) (append-nil (known_slots rows ready))
+-- one that gave these slots
+given-slots : (rows : ℕ) (w : WaitTold) (ready : List ℕ) (waits : List WaitTold) → w.slots ≡ ready
+    → given_slots rows (waits ++ w ∷ []) ≡ given_slots rows waits ++ known_slots rows ready
+given-slots rows w ready waits is = given-more rows w waits ∙ ap (λ (slots : List ℕ). given_slots rows waits ++ known_slots rows slots) is
 
 -- ## Books that agree in what is told
 
@@ -239,32 +235,33 @@ clock-broken answer moment (Some calls) calls' ticks signals a b asks grows fron
     ticks-begun moment calls calls' ticks signals a b (are-asked answer a.state.moment moment calls calls' asks are.moment) grows front are
 
 -- the signals of the slots that a wait gave
-front-round : (answer : Woke) (ready ticks : List ℕ) (waits waits' : Option (List WaitTold)) (a b : SeenBook) → waits' ≡ option_map (waits_more ready answer) waits
+front-round : (answer : Woke) (ready ticks : List ℕ) (waits waits' : Option (List WaitTold)) (a b : SeenBook) → WaitsMore ready answer waits waits'
     → GrowsBy ticks (known_slots (length a.base.rows) ready) a b → IfSome waits (λ ws. SignalsAre ws a) → IfSome waits' (λ ws. SignalsAre ws b)
-front-round answer ready ticks None waits' a b is grows are = subst (λ (o : Option (List WaitTold)). IfSome o (λ ws. SignalsAre ws b)) (sym is) tt
-front-round answer ready ticks (Some waits) waits' a b is grows are =
-    subst (λ (o : Option (List WaitTold)). IfSome o (λ ws. SignalsAre ws b)) (sym is)
+front-round answer ready ticks None waits' a b more grows are = subst (λ (o : Option (List WaitTold)). IfSome o (λ ws. SignalsAre ws b)) (sym more) tt
+front-round answer ready ticks (Some waits) waits' a b more grows are =
+    subst (λ (o : Option (List WaitTold)). IfSome o (λ ws. SignalsAre ws b)) (sym more.is)
     (grows.signals_are
     ∙ ap (λ (xs : List ℕ). xs ++ known_slots (length a.base.rows) ready) are
-    ∙ sym (given-more (length a.base.rows) ready answer waits)
-    ∙ ap (λ (s : _). given_slots (length s.rows) (waits_more ready answer waits)) (sym grows.base))
+    ∙ sym (given-slots (length a.base.rows) more.wait ready waits more.slots)
+    ∙ ap (λ (s : _). given_slots (length s.rows) (waits ++ more.wait ∷ [])) (sym grows.base))
 
 -- the first of them
 front-broken : (answer : Woke) (ready ticks signals : List ℕ) (waits waits' : Option (List WaitTold)) (a b : SeenBook)
-    → waits' ≡ option_map (waits_more ready answer) waits → GrowsBy ticks signals a b → IsFrontOf (known_slots (length a.base.rows) ready) signals
+    → WaitsMore ready answer waits waits' → GrowsBy ticks signals a b → IsFrontOf (known_slots (length a.base.rows) ready) signals
     → IfSome waits (λ ws. SignalsAre ws a) → IfSome waits' (λ ws. SignalsBegin ws b)
-front-broken answer ready ticks signals None waits' a b is grows front are =
-    subst (λ (o : Option (List WaitTold)). IfSome o (λ ws. SignalsBegin ws b)) (sym is) tt
-front-broken answer ready ticks signals (Some waits) waits' a b is grows front are =
-    subst (λ (o : Option (List WaitTold)). IfSome o (λ ws. SignalsBegin ws b)) (sym is)
-    (subst (IsFrontOf (given_slots (length b.base.rows) (waits_more ready answer waits))) (sym grows.signals_are)
-    (front-more (signals_of a.history) (given_slots (length b.base.rows) (waits_more ready answer waits)) signals (given_slots (length a.base.rows) waits)
+front-broken answer ready ticks signals None waits' a b more grows front are =
+    subst (λ (o : Option (List WaitTold)). IfSome o (λ ws. SignalsBegin ws b)) (sym more) tt
+front-broken answer ready ticks signals (Some waits) waits' a b more grows front are =
+    subst (λ (o : Option (List WaitTold)). IfSome o (λ ws. SignalsBegin ws b)) (sym more.is)
+    (subst (IsFrontOf (given_slots (length b.base.rows) (waits ++ more.wait ∷ []))) (sym grows.signals_are)
+    (front-more (signals_of a.history) (given_slots (length b.base.rows) (waits ++ more.wait ∷ [])) signals (given_slots (length a.base.rows) waits)
     (known_slots (length a.base.rows) ready) are
-    (ap (λ (s : _). given_slots (length s.rows) (waits_more ready answer waits)) grows.base ∙ given-more (length a.base.rows) ready answer waits) front))
+    (ap (λ (s : _). given_slots (length s.rows) (waits ++ more.wait ∷ [])) grows.base
+    ∙ given-slots (length a.base.rows) more.wait ready waits more.slots) front))
 
 -- a round informs
 pub informed-round : (answer : Woke) (moment : ℕ) (ready : List ℕ) (waits waits' : Option (List WaitTold)) (calls calls' : Option (List (ℕ × ℕ)))
-    (a b : SeenBook) → IsInformed waits calls a → waits' ≡ option_map (waits_more ready answer) waits → AsksFor answer a.state.moment calls calls' moment
+    (a b : SeenBook) → IsInformed waits calls a → WaitsMore ready answer waits waits' → AsksFor answer a.state.moment calls calls' moment
     → GoesRound (moment_for moment) ready a b → b.state.moment ≡ max a.state.moment (moment_for moment) → IsInformed waits' calls' b
 informed-round answer moment ready waits waits' calls calls' a b informed is asks round later =
     let grows : GrowsBy (ticks_to a.state.moment (moment_for moment)) (known_slots (length a.base.rows) ready) a b =
@@ -280,7 +277,7 @@ informed-round answer moment ready waits waits' calls calls' a b informed is ask
 
 -- so does one that was broken off, so far
 pub informed-broken : (answer : Woke) (moment : ℕ) (ready : List ℕ) (waits waits' : Option (List WaitTold)) (calls calls' : Option (List (ℕ × ℕ)))
-    (a b : SeenBook) → IsInformed waits calls a → waits' ≡ option_map (waits_more ready answer) waits → AsksFor answer a.state.moment calls calls' moment
+    (a b : SeenBook) → IsInformed waits calls a → WaitsMore ready answer waits waits' → AsksFor answer a.state.moment calls calls' moment
     → BreaksOff (moment_for moment) ready a b → IsInformedSoFar waits' calls' b
 informed-broken answer moment ready waits waits' calls calls' a b informed is asks round =
     let grows : GrowsBy round.round.ticks round.round.signals a b =
@@ -296,7 +293,7 @@ informed-broken answer moment ready waits waits' calls calls' a b informed is as
 
 -- a wait that gave no slot, after which nothing was done
 pub informed-idle : (answer : Woke) (ready : List ℕ) (waits waits' : Option (List WaitTold)) (calls : Option (List (ℕ × ℕ))) (b : SeenBook) → ready ≡ []
-    → IsInformed waits calls b → waits' ≡ option_map (waits_more ready answer) waits → IsInformed waits' calls b
+    → IsInformed waits calls b → WaitsMore ready answer waits waits' → IsInformed waits' calls b
 informed-idle answer ready waits waits' calls b none informed is =
     let slots : known_slots (length b.base.rows) ready ≡ [] = ap (known_slots (length b.base.rows)) none in
     let grows : GrowsBy [] (known_slots (length b.base.rows) ready) b b =

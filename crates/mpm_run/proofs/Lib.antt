@@ -1,11 +1,18 @@
+pub mod AddedLemmas
 pub mod CauseLemmas
+pub mod ClosingLemmas
 pub mod EndLemmas
 pub mod EventLemmas
 pub mod ExitStatusLemmas
 pub mod FrontLemmas
+pub mod HeldLemmas
 pub mod InformLemmas
+pub mod LeavingLemmas
 pub mod ListenLemmas
+pub mod MeasureLemmas
+pub mod PaceLemmas
 pub mod PassLemmas
+pub mod PatientLemmas
 pub mod ReportLemmas
 pub mod RoundLemmas
 pub mod RunLemmas
@@ -14,3 +21,5 @@ pub mod StopLemmas
 pub mod TakeLemmas
 pub mod TimeLemmas
 pub mod TurnLemmas
+pub mod UnsignalledLemmas
+pub mod WatchLemmas

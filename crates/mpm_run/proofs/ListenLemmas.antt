@@ -1,14 +1,11 @@
 -- What the listener's calls leave of the server.
-use Rattle.std.proofs.Common.{◌≡◌, ◌==◌, ℕ, zero, suc, ◌<◌, ◌≤◌, Bool, true, false, not, ◌&&◌, ◌||◌, cond, List, [], ◌∷◌, length, count_by, nat_lt, nat_le, Option, None, Some, slice_get, unwrap_or, is_some, refl, sym, ap, subst, ◌∙◌, arith}
+use Rattle.std.proofs.Common.{◌≡◌, ◌==◌, ℕ, zero, suc, ◌<◌, Bool, true, false, not, ◌&&◌, ◌||◌, cond, List, [], ◌∷◌, length, count_by, nat_lt, nat_le, Option, None, Some, slice_get, unwrap_or, is_some, refl, sym, ap, subst, ◌∙◌, arith}
 use Rattle.std.proofs.lemmas.Bool.{and_parts}
 use Rattle.std.proofs.lemmas.Bool.Decides.{nat_tests}
 use Rattle.std.proofs.lemmas.Option.{unwrap_or-slice_get}
 use Rattle.std.specs.Option.{option_map_or}
 use Rattle.std.specs.List.{list_any, find, range_with_len}
 use Rattle.mpm_base.specs.declared.conn.ConnName.{ConnName}
-use Rattle.mpm_base.specs.declared.conn.Kind.{Kind}
-use Rattle.mpm_base.specs.declared.conn.Kind.TheVariants.{Reading, KeepAlive, Writing, Linger, ShortLinger}
-use Rattle.mpm_base.specs.declared.conn.Cause.TheVariants as cause
 use Rattle.mpm_base.specs.declared.shape.Shape.{Shape}
 use Rattle.conn_machine.specs.declared.child.Child.{Child}
 use Rattle.conn_machine.specs.declared.child.ChildPhase.{ChildPhase}
@@ -20,21 +17,16 @@ use Rattle.conn_machine.specs.declared.event.Event.TheVariants as event
 use Rattle.conn_machine.specs.declared.state.Going.{Going}
 use Rattle.conn_machine.specs.declared.state.Going.TheVariants.{Serving, Ending, Halted}
 use Rattle.conn_machine.specs.declared.state.State.{State}
-use Rattle.conn_machine.specs.Rows.{is_unused, is_held, is_parked, is_queued, is_working, is_live, is_live_in, is_lingering, live_row}
+use Rattle.conn_machine.specs.Rows.{is_unused, is_held, is_parked, is_queued, is_working, is_live, is_live_in}
 use Rattle.conn_machine.specs.Children.{no_child, child_at, is_empty, is_running, is_stopping, running_count, is_in_bounds, is_between, started_child, retired_child}
 use Rattle.conn_machine.specs.States.{is_halted, is_serving, is_signalled}
 use Rattle.conn_machine.specs.Lists.{update}
-use Rattle.conn_machine.specs.Table.{closed_row, greatest_life, is_allowed, next, next_close, child_passes, may_retire, may_be_held, held_row}
-use Rattle.conn_machine.specs.Sound.{IsSound, is_from_linger}
-use Rattle.conn_machine.proofs.RowLemmas.{held_kind}
-use Rattle.conn_machine.proofs.UpdateLemmas.{count_cons, count_update_kept}
-use Rattle.conn_state.specs.Conn.{SeenConn}
-use Rattle.board.specs.Fits.{IsSettledFrom, IsTakenUp}
+use Rattle.conn_machine.specs.Table.{is_allowed, next, child_passes, may_retire, may_be_held}
+use Rattle.conn_machine.specs.Sound.{IsSound}
+use Rattle.conn_machine.proofs.UpdateLemmas.{count_cons}
 use Rattle.board.specs.Finds.{startable, FindsRow, FindsRetirable, is_waiting, is_in_hand, is_quiet}
-use Rattle.worker_group.specs.InHand.{IsClosable}
 use Rattle.mpm_run.specs.Listen.{HasNoLive, AllEmpty}
-use Rattle.worker_group.proofs.ServeLemmas.{alive, test-at, served-row}
-use Rattle.worker_group.proofs.AnswerLemmas.{live_row-update}
+use Rattle.worker_group.proofs.ServeLemmas.{alive, test-at}
 use Rattle.worker_group.proofs.StartLemmas.{Lives, lives}
 
 -- ## Counts
@@ -130,80 +122,6 @@ may-hold s name found halted =
     let live = waits s name found in
     let passes = test-at s.rows name live.row (may_be_held s (is_signalled s name.slot)) live.found in
     passes ∙ rw (live.passes, halted) (or-true _)
-
--- how many connections wait
-abbrev pub parked_count : State → ℕ
-parked_count s = count_by (λ (r : Row). is_parked r.place) s.rows
-
--- one connection less waits
-pub fewer-parked : (s s' : State) (name : ConnName) → FindsRow is_waiting s (Some name) → s' ≡ next s (event.Hold name) → parked_count s' < parked_count s
-fewer-parked s s' name found is =
-    let live = waits s name found in
-    let lives = alive s.rows name live.row live.found in
-    subst (λ (t : State). parked_count t < parked_count s) (sym is)
-    (count-less (λ (r : Row). is_parked r.place) s.rows name.slot live.row held_row lives.at live.passes refl)
-
--- a row that was closed doesn't wait
-closed-not_parked : (r : Row) (spent : Bool) → (r.life == greatest_life) ≡ spent → is_parked (closed_row r).place ≡ false
-closed-not_parked r true at = rw at refl
-closed-not_parked r false at = rw at refl
-
--- no more connections wait after a close
-parked-closed : (s : State) (name : ConnName) (row : Row) → live_row s.rows name ≡ Some row → parked_count (next_close s name) ≤ parked_count s
-parked-closed s name row found =
-    let lives = alive s.rows name row found in
-    let not_parked = closed-not_parked row (row.life == greatest_life) refl in
-    count_update_kept (λ (r : Row). is_parked r.place) s.rows name.slot row closed_row lives.at (λ passes. absurd (cc))
-
--- the same of the state after the close
-pub parked-after_close : (s s' : State) (name named : ConnName) (row : Row) → live_row s.rows name ≡ Some row → named ≡ name
-    → s' ≡ next_close s named → parked_count s' ≤ parked_count s
-parked-after_close s s' name named row found same is =
-    subst (λ (t : State). parked_count t ≤ parked_count s) (sym (is ∙ ap (next_close s) same)) (parked-closed s name row found)
-
--- a connection that settled didn't linger
-settled-from : (r : Row) (from : Option Kind) (c : SeenConn) → r.from ≡ from → IsSettledFrom from c → is_from_linger r ≡ false
-settled-from r None c is settled = absurd settled
-settled-from r (Some Reading) c is settled = rw is refl
-settled-from r (Some KeepAlive) c is settled = rw is refl
-settled-from r (Some Writing) c is settled = rw is refl
-settled-from r (Some Linger) c is settled = absurd settled.waits
-settled-from r (Some ShortLinger) c is settled = absurd settled.waits
-
--- a row that is held, and doesn't linger
-pub record StaysHeld (r : Row) : Type 0 where
-  pub held : is_held r.place ≡ true
-  pub serves : is_lingering r ≡ false
-
--- so is that of a connection that waited for service until it was held
-pub held-row : (s s' : State) (name : ConnName) (c : SeenConn) → FindsRow is_waiting s (Some name) → s' ≡ next s (event.Hold name) → c.name ≡ name
-    → IsSound s' → (handed : IsTakenUp s' c) → StaysHeld handed.row
-held-row s s' name c found is named sound handed =
-    let live = waits s name found in
-    let here = alive s.rows name live.row live.found in
-    let held : live_row s'.rows name ≡ Some (held_row live.row) = rw is (live_row-update s.rows name live.row held_row here.at (rw here.life refl)) in
-    let same : handed.row ≡ held_row live.row = cc (subst (λ (n : ConnName). live_row s'.rows n ≡ Some handed.row) named handed.found, held) in
-    let at : is_held handed.row.place ≡ true = ap (λ (r : Row). is_held r.place) same in
-    let lingers = held_kind s' handed.row at (served-row s' c.name handed.row sound handed.found) in
-    record { held = at; serves = sym lingers ∙ settled-from handed.row handed.row.from c refl handed.settled }
-
--- a connection that is held may be closed where the server has stopped
-pub closes-held : (s s' : State) (name : ConnName) (c : SeenConn) → FindsRow is_waiting s (Some name) → is_halted s.going ≡ true
-    → s' ≡ next s (event.Hold name) → c.name ≡ name → IsSound s' → IsTakenUp s' c → IsClosable s' cause.Stopped c
-closes-held s s' name c found halted is named sound handed =
-    let row = held-row s s' name c found is named sound handed in
-    record {
-      row = handed.row;
-      found = handed.found;
-      in_hand = rw row.held refl;
-      serves = row.serves;
-      cause_fits = ap (λ (t : State). is_halted t.going) is ∙ halted;
-      child = handed.fits.child;
-      generation = handed.fits.generation;
-      notes = handed.fits.notes;
-      rank = handed.fits.rank;
-      shown = tt;
-    }
 
 -- ## Letting go of children
 

@@ -19,6 +19,10 @@ use Rattle.board.specs.Book.{SeenBook}
 use Rattle.worker_group.specs.Acts.{Acts, events_of}
 use Rattle.worker_group.specs.Service.{IsUp}
 use Rattle.mpm_run.specs.Listen.{HasNoLive}
+use Rattle.board.specs.Finds.{FindsRow, is_due}
+use Rattle.worker_group.proofs.ServeLemmas.{alive}
+use Rattle.worker_group.proofs.StartLemmas.{lives}
+use Rattle.mpm_run.specs.Patient.{NoneDue}
 use Rattle.mpm_run.specs.ListenInside.{NoneParked}
 
 -- ## What the other passes leave
@@ -40,6 +44,15 @@ pub still-up : (s s' : State) → OnlyServes s s' → is_halted s.going ≡ fals
 still-up s s' leaves going =
     elim leaves.server [
       | inl same ↦ inl (ap is_halted same.going ∙ going)
+      | inr full ↦ inr full.going
+    ]
+
+-- or as it was before
+pub up-served : (s s' : State) → OnlyServes s s' → IsUp s.going → IsUp s'.going
+up-served s s' leaves (inl going) = still-up s s' leaves going
+up-served s s' leaves (inr stopped) =
+    elim leaves.server [
+      | inl same ↦ inr (same.going ∙ stopped)
       | inr full ↦ inr full.going
     ]
 
@@ -92,3 +105,13 @@ idle-each (r ∷ rows) hand parked =
 -- none is where no pass has one and none waits
 pub none-left : (s : State) → HasNoneInHand s → NoneParked s → HasNoLive s
 none-left s hand parked = idle-each s.rows hand.each parked
+
+-- ## What is due
+
+-- a connection that is due was found only where one is
+pub due-none : (s : State) (name : ConnName) → FindsRow (is_due s) s (Some name) → NoneDue s → ⊥
+due-none s name found none =
+    let live = lives (is_due s name.slot) s.rows name found in
+    let due = live.passes in
+    let not_due = none name.slot live.row (alive s.rows name live.row live.found).at in
+    absurd (cc (due, not_due))

@@ -1,31 +1,28 @@
 -- The parts of the listener's round, one behind the other.
-use Rattle.std.proofs.Common.{◌≡◌, ℕ, ◌<◌, ◌≤◌, Bool, Result, Ok, Err, IfErr, OnOk, OnErr, arith, true, false, ◌==◌, cond, nat_lt, List, [], ◌∷◌, ◌++◌, length, map, Option, None, Some, refl, sym, ap, subst, ◌∙◌, append-nil, eq-eqb, eqb-true}
+use Rattle.std.proofs.Common.{◌≡◌, inl, inr, ℕ, ◌<◌, ◌≤◌, Bool, Result, Ok, Err, IfErr, OnOk, OnErr, arith, true, false, ◌==◌, cond, nat_lt, List, [], ◌∷◌, ◌++◌, length, map, None, Some, refl, sym, ap, subst, ◌∙◌, append-nil, append_assoc, eq-eqb, eqb-true}
 use Rattle.std.proofs.lemmas.Bool.{false≢true}
 use Rattle.std.proofs.lemmas.Bool.Decides.{nat_tests}
 use Rattle.std.proofs.lemmas.Grind.{flat_map-append}
-use Rattle.std.proofs.lemmas.List.{map-append}
+use Rattle.std.proofs.lemmas.List.{append_cancel_left, map-append}
 use Rattle.std.proofs.lemmas.List.Elements.{filter-append}
 use Rattle.std.specs.List.{flat_map}
-use Rattle.mpm_base.specs.declared.conn.Cause.{Cause}
-use Rattle.mpm_base.specs.declared.conn.Cause.TheVariants as cause
 use Rattle.mpm_base.specs.declared.conn.ConnName.{ConnName}
-use Rattle.mpm_base.specs.declared.conn.Tail.TheVariants.{Direct}
 use Rattle.conn_machine.specs.declared.event.Event.{Event}
 use Rattle.conn_machine.specs.declared.event.Event.TheVariants as event
-use Rattle.conn_machine.specs.Runs.{Adds, row_of}
-use Rattle.conn_state.specs.Conn.{SeenConn}
+use Rattle.conn_machine.specs.Runs.{row_of}
 use Rattle.board.specs.declared.faults.BoardFault.{BoardFault}
 use Rattle.board.specs.declared.faults.BoardFault.TheVariants as fault
 use Rattle.board.specs.Book.{SeenBook, book_with_entry}
 use Rattle.board.specs.Board.{SeenBoard}
 use Rattle.board.specs.Events.{with_recorded}
 use Rattle.worker_group.specs.declared.service.Exit.TheVariants as exit
-use Rattle.worker_group.specs.Acts.{Acts}
-use Rattle.worker_group.proofs.ActsLemmas.{acts_as, acts_more, acts_none, acts_one, acts-row_other}
-use Rattle.worker_group.proofs.ExitLemmas.{rest_closed, rest_more, rest_none}
-use Rattle.worker_group.specs.Service.{LeavesRest, RefusalLasts}
+use Rattle.worker_group.specs.Acts.{Acts, events_of}
+use Rattle.worker_group.proofs.ActsLemmas.{acts_as, acts_more, acts_none, acts-row_other}
+use Rattle.worker_group.proofs.ExitLemmas.{rest_none}
+use Rattle.worker_group.specs.Service.{LeavesRest, RefusalLasts, left_events}
 use Rattle.mpm_run.specs.ListenInside.{MustStop}
-use Rattle.mpm_run.specs.RoundInside.{AllLeft, BreaksOff, ClosesSome, GivesUp, GoesRound, IsLeft, NoneHas, PassesTime, RetiresSome, SignalsFirst, StartsSome, Taking, TakesSome, TakesUntil, closed_events, left_events, round_events, signal_events, taking_events, time_events}
+use Rattle.mpm_run.specs.ClosingInside.{DrainsUntil, IsDrainedWay, IsLateWay, IsRetiringWay, LetsGo, LettingGo, RefusedWait, letting_events, refused_events}
+use Rattle.mpm_run.specs.RoundInside.{AllLeft, BreaksOff, GivesUp, GoesRound, IsLeft, LetsGoOfConns, LetsGoUntil, NoneEarly, NoneHas, PassesTime, RetiresSome, Round, SignalsFirst, StartsSome, Taking, TakesSome, TakesUntil, gone_events, round_events, signal_events, taking_events, time_events}
 use Rattle.mpm_run.specs.Times.{known_slots, ticks_to}
 
 -- ## No pass has a connection
@@ -39,42 +36,7 @@ none-by who p es a b false own none acts =
 pub none-has : (who : ℕ) (es : List Event) (a b : SeenBook) → NoneHas a → Acts who es None a b → NoneHas b
 none-has who es a b none acts p = none-by who p es a b (p == who) refl none acts
 
--- ## Closes, starts and ends of children
-
-pub closes-none : (why : Cause) (b : SeenBook) → row_of 0 b.history ≡ None → ClosesSome why b b
-closes-none why b row = record { names = []; acts = acts_none 0 None b row }
-
--- one more was held and closed
-pub closes-more : (why : Cause) (name : ConnName) (a b c d : SeenBook) → ClosesSome why a b → Acts 0 (event.Hold name ∷ []) (Some name) b c
-    → Acts 0 (event.Close name why Direct ∷ []) None c d → ClosesSome why a d
-closes-more why name a b c d closes held closed = record {
-  names = closes.names ++ name ∷ [];
-  acts =
-      acts_as 0 _ (closed_events why (closes.names ++ name ∷ [])) None None a d
-      (acts_more 0 _ _ None None a b d closes.acts (acts_more 0 _ _ (Some name) None b c d held closed))
-      (sym (flat_map-append (λ (n : ConnName). event.Hold n ∷ event.Close n why Direct ∷ []) closes.names (name ∷ []))) refl;
-}
-
--- a hold leaves alone what the listener decides
-rest_held : (name : ConnName) (conns : List (Option SeenConn)) (b b' : SeenBoard)
-    → b' ≡ record (with_recorded 0 (event.Hold name) b) { conns = conns } → LeavesRest b.book b'.book
-rest_held name conns b b' is = subst (λ (v : SeenBoard). LeavesRest b.book v.book) (sym is) (record { moment = refl; accepted = refl; up = λ up. up })
-
--- one more connection was held and closed by the board
-pub held-closed : (why : Cause) (name named : ConnName) (conns : List (Option SeenConn)) (a : SeenBook) (b b' : SeenBoard) (d : SeenBook) → ClosesSome why a b.book
-    → b' ≡ record (with_recorded 0 (event.Hold name) b) { conns = conns } → Adds 0 b.book.base b.book.history b'.book.history
-    → row_of 0 b'.book.history ≡ Some name → named ≡ name → Acts 0 (event.Close named why Direct ∷ []) None b'.book d → ClosesSome why a d
-held-closed why name named conns a b b' d closes is adds row same closed =
-    closes-more why name a b.book b'.book d closes
-    (acts_one 0 (event.Hold name) (Some name) b.book b'.book (ap (λ (v : SeenBoard). v.book) is) adds row)
-    (acts_as 0 (event.Close named why Direct ∷ []) (event.Close name why Direct ∷ []) None None b'.book d closed
-    (ap (λ (n : ConnName). event.Close n why Direct ∷ []) same) refl)
-
--- and what the listener decides was left alone
-pub held-closed_rest : (why : Cause) (name named : ConnName) (conns : List (Option SeenConn)) (a : SeenBook) (b b' : SeenBoard) (d : SeenBook) → LeavesRest a b.book
-    → b' ≡ record (with_recorded 0 (event.Hold name) b) { conns = conns } → d ≡ book_with_entry 0 (event.Close named why Direct) b'.book → LeavesRest a d
-held-closed_rest why name named conns a b b' d rest is closed =
-    rest_more a b.book d rest (rest_more b.book b'.book d (rest_held name conns b b' is) (rest_closed 0 named why b'.book d closed))
+-- ## Starts and ends of children
 
 pub starts-none : (b : SeenBook) → row_of 0 b.history ≡ None → StartsSome b b
 starts-none b row = record { children = []; acts = acts_none 0 None b row }
@@ -150,27 +112,45 @@ takes-given_up fault name a b c taken given = record {
 
 -- ## A round
 
+-- nothing was let go of where nothing changed
+gone-nothing : (gone : List LettingGo) → flat_map letting_events gone ≡ [] → gone ≡ []
+gone-nothing [] none = refl
+gone-nothing (l ∷ gone) none = absurd (cc none)
+
+pub gone-none : (a b : SeenBook) (went : LetsGo IsLateWay a b) → b ≡ a → went.gone ≡ []
+gone-none a b went same =
+    gone-nothing went.gone
+    (append_cancel_left (events_of 0 a.history) (flat_map letting_events went.gone) []
+    (sym went.acts.made ∙ ap (λ (x : SeenBook). events_of 0 x.history) same ∙ sym (append-nil (events_of 0 a.history))))
+
 -- time passed to a moment that is later
-pub passes-later : (to : ℕ) (a b c d : SeenBook) → ticks_to a.state.moment to ≡ to ∷ [] → ClosesSome cause.NoMemory a b
-    → Acts 0 (event.Tick to ∷ []) None b c → ClosesSome cause.NoMemory c d → PassesTime to a d
-passes-later to a b c d later early tick late = record {
-  early = early.names;
-  late = late.names;
+pub passes-later : (to : ℕ) (a b c d : SeenBook) → ticks_to a.state.moment to ≡ to ∷ [] → (early : LetsGo IsLateWay a b) → NoneEarly a early.gone
+    → Acts 0 (event.Tick to ∷ []) None b c → LetsGo IsLateWay c d → PassesTime to a d
+passes-later to a b c d later early soon tick late = record {
+  early = early.gone;
+  soon = soon;
+  late = late.gone;
+  early_ways = early.ways;
+  late_ways = late.ways;
   acts =
-      acts_as 0 _ (time_events early.names (ticks_to a.state.moment to) late.names) None None a d
+      acts_as 0 _ (time_events early.gone (ticks_to a.state.moment to) late.gone) None None a d
       (acts_more 0 _ _ None None a c d (acts_more 0 _ _ None None a b c early.acts tick) late.acts)
-      (ap (λ (ticks : List ℕ). time_events early.names ticks late.names) (sym later)) refl;
+      (ap (λ (ticks : List ℕ). time_events early.gone ticks late.gone) (sym later)) refl;
 }
 
 -- it didn't pass to one that isn't
-pub passes-none : (to : ℕ) (a b : SeenBook) → ticks_to a.state.moment to ≡ [] → ClosesSome cause.NoMemory a b → PassesTime to a b
-passes-none to a b none early = record {
-  early = early.names;
+pub passes-none : (to : ℕ) (a b : SeenBook) → ticks_to a.state.moment to ≡ [] → (early : LetsGo IsLateWay a b) → NoneEarly a early.gone
+    → PassesTime to a b
+passes-none to a b none early soon = record {
+  early = early.gone;
+  soon = soon;
   late = [];
+  early_ways = early.ways;
+  late_ways = tt;
   acts =
-      acts_as 0 _ (time_events early.names (ticks_to a.state.moment to) []) None None a b early.acts
-      (sym (append-nil (closed_events cause.NoMemory early.names)) ∙ sym (append-nil (closed_events cause.NoMemory early.names ++ []))
-      ∙ ap (λ (ticks : List ℕ). time_events early.names ticks []) (sym none)) refl;
+      acts_as 0 _ (time_events early.gone (ticks_to a.state.moment to) []) None None a b early.acts
+      (sym (append-nil (gone_events early.gone)) ∙ sym (append-nil (gone_events early.gone ++ []))
+      ∙ ap (λ (ticks : List ℕ). time_events early.gone ticks []) (sym none)) refl;
 }
 
 -- all the slots are the first of them
@@ -181,58 +161,118 @@ signals-all slots a b acts =
 pub signals-none : (slots : List ℕ) (b : SeenBook) → row_of 0 b.history ≡ None → SignalsFirst slots b b
 signals-none slots b row = record { first = []; front = (known_slots (length b.base.rows) slots, refl); acts = acts_none 0 None b row }
 
+-- connections that retire, that were late at once, and that linger were let go of
+pub lets-go-conns : (a b c d : SeenBook) → LetsGo IsRetiringWay a b → LetsGo IsLateWay b c → LetsGo IsDrainedWay c d → LetsGoOfConns [] a d
+lets-go-conns a b c d retiring cut drained = record {
+  lettings = record { retiring = retiring.gone; cut = cut.gone; drained = drained.gone };
+  ways = record { retiring = retiring.ways; cut = cut.ways; drained = drained.ways };
+  acts =
+      acts_as 0 _ _ None None a d
+      (acts_more 0 _ _ None None a c d (acts_more 0 _ _ None None a b c retiring.acts cut.acts) drained.acts)
+      (sym (append-nil (gone_events retiring.gone ++ gone_events cut.gone ++ gone_events drained.gone))) refl;
+}
+
+-- until one could not wait on
+pub lets-go-until : (a b c d : SeenBook) → LetsGo IsRetiringWay a b → LetsGo IsLateWay b c → DrainsUntil c d → LetsGoUntil a d
+lets-go-until a b c d retiring cut until = (
+  until.last,
+  record {
+    lettings = record { retiring = retiring.gone; cut = cut.gone; drained = until.gone };
+    ways = record { retiring = retiring.ways; cut = cut.ways; drained = until.ways };
+    acts =
+        acts_as 0 _ _ None None a d
+        (acts_more 0 _ _ None None a c d (acts_more 0 _ _ None None a b c retiring.acts cut.acts) until.acts)
+        (sym (append_assoc (gone_events retiring.gone ++ gone_events cut.gone) (gone_events until.gone) (refused_events until.last))
+        ∙ ap (λ (es : List Event). gone_events retiring.gone ++ gone_events cut.gone ++ gone_events until.gone ++ es)
+        (sym (append-nil (refused_events until.last)))) refl;
+  },
+)
+
+-- nothing was let go of
+pub lets-go-none : (b : SeenBook) → row_of 0 b.history ≡ None → LetsGoOfConns [] b b
+lets-go-none b row = record {
+  lettings = record { retiring = []; cut = []; drained = [] };
+  ways = record { retiring = tt; cut = tt; drained = tt };
+  acts = acts_none 0 None b row;
+}
+
 -- the parts of a round
-pub goes-round : (to : ℕ) (slots : List ℕ) (a b c d e : SeenBook) → PassesTime to a b → Acts 0 (signal_events b slots) None b c → StartsSome c d
-    → TakesSome d e → GoesRound to slots a e
-goes-round to slots a b c d e time signals starts takes = record {
+pub goes-round : (to : ℕ) (slots : List ℕ) (a b c d e f h : SeenBook) → PassesTime to a b → Acts 0 (signal_events b slots) None b c
+    → LetsGoOfConns [] c d → RetiresSome d e → StartsSome e f → TakesSome f h → GoesRound to slots a h
+goes-round to slots a b c d e f h time signals lets retires starts takes = record {
   round =
       record {
         early = time.early;
         ticks = ticks_to a.state.moment to;
         late = time.late;
         signals = known_slots (length b.base.rows) slots;
+        lettings = lets.lettings;
+        refused = [];
+        retired = retires.children;
         starts = starts.children;
         takes = takes.takes;
       };
+  soon = time.soon;
   ticks = refl;
   signals = ap (λ (s : _). known_slots (length s.rows) slots) time.acts.base;
+  ways = record { early = time.early_ways; late = time.late_ways; lettings = lets.ways };
+  none_refused = refl;
   left = takes.left;
   acts =
-      acts_more 0 _ _ None None a d e
-      (acts_more 0 _ _ None None a c d (acts_more 0 _ _ None None a b c time.acts signals) starts.acts) takes.acts;
+      acts_more 0 _ _ None None a f h
+      (acts_more 0 _ _ None None a e f
+      (acts_more 0 _ _ None None a d e
+      (acts_more 0 _ _ None None a c d (acts_more 0 _ _ None None a b c time.acts signals) lets.acts) retires.acts) starts.acts) takes.acts;
 }
 
 -- and of one that was broken off behind the time
-pub breaks-behind : (to : ℕ) (slots : List ℕ) (a b c d e : SeenBook) → PassesTime to a b → SignalsFirst slots b c → StartsSome c d → TakesUntil d e
-    → BreaksOff to slots a e
-breaks-behind to slots a b c d e time signals starts takes = record {
+pub breaks-behind : (to : ℕ) (slots : List ℕ) (refused : List RefusedWait) (a b c d e f h : SeenBook) → PassesTime to a b → SignalsFirst slots b c
+    → LetsGoOfConns refused c d → RetiresSome d e → StartsSome e f → TakesUntil f h → BreaksOff to slots a h
+breaks-behind to slots refused a b c d e f h time signals lets retires starts takes = record {
   round =
       record {
         early = time.early;
         ticks = ticks_to a.state.moment to;
         late = time.late;
         signals = signals.first;
+        lettings = lets.lettings;
+        refused = refused;
+        retired = retires.children;
         starts = starts.children;
         takes = takes.takes;
       };
+  soon = inr time.soon;
   ticks = ([], sym (append-nil (ticks_to a.state.moment to)));
   signals = (signals.front.0, ap (λ (s : _). known_slots (length s.rows) slots) (sym time.acts.base) ∙ signals.front.1);
+  ways = record { early = time.early_ways; late = time.late_ways; lettings = lets.ways };
   acts =
-      acts_more 0 _ _ None None a d e
-      (acts_more 0 _ _ None None a c d (acts_more 0 _ _ None None a b c time.acts signals.acts) starts.acts) takes.acts;
+      acts_more 0 _ _ None None a f h
+      (acts_more 0 _ _ None None a e f
+      (acts_more 0 _ _ None None a d e
+      (acts_more 0 _ _ None None a c d (acts_more 0 _ _ None None a b c time.acts signals.acts) lets.acts) retires.acts) starts.acts) takes.acts;
 }
 
 -- or before time passed
-pub breaks-early : (to : ℕ) (slots : List ℕ) (a b : SeenBook) → ClosesSome cause.NoMemory a b → BreaksOff to slots a b
+pub breaks-early : (to : ℕ) (slots : List ℕ) (a b : SeenBook) → LetsGo IsLateWay a b → BreaksOff to slots a b
 breaks-early to slots a b early =
-    let closed = closed_events cause.NoMemory early.names in
+    let only : Round = record {
+      early = early.gone;
+      ticks = [];
+      late = [];
+      signals = [];
+      lettings = record { retiring = []; cut = []; drained = [] };
+      refused = [];
+      retired = [];
+      starts = [];
+      takes = [];
+    } in
     record {
-      round = record { early = early.names; ticks = []; late = []; signals = []; starts = []; takes = [] };
+      round = only;
+      soon = inl refl;
       ticks = (ticks_to a.state.moment to, refl);
       signals = (known_slots (length a.base.rows) slots, refl);
-      acts =
-          acts_as 0 _ (round_events (record { early = early.names; ticks = []; late = []; signals = []; starts = []; takes = [] })) None None a b early.acts
-          (simp append-nil) refl;
+      ways = record { early = early.ways; late = tt; lettings = record { retiring = tt; cut = tt; drained = tt } };
+      acts = acts_as 0 _ (round_events only) None None a b early.acts (simp append-nil) refl;
     }
 
 -- ## What the listener alone changes

@@ -13,7 +13,7 @@ use Rattle.conn_machine.specs.declared.state.State.{State}
 use Rattle.conn_machine.specs.Rows.{is_live}
 use Rattle.conn_machine.specs.Table.{next}
 use Rattle.conn_machine.specs.Runs.{Run, after, IsHistory}
-use Rattle.conn_machine.specs.Made.{AreMade}
+use Rattle.conn_machine.specs.Made.{AreMade, AreOfPasses}
 use Rattle.conn_machine.specs.Sound.{IsSound}
 use Rattle.conn_machine.specs.Events.{count_events, is_accept, is_close}
 use Rattle.conn_machine.specs.Laws.{StaysSound}
@@ -29,14 +29,15 @@ use Rattle.mpm_run.specs.Listen.{HasClosedAll, HasNoLive, IsClosedDown, IsRunFro
 -- ## The history
 
 -- the history of a board that opened so is a run from there, each state of which is sound
-pub run-from : (n : RunNumbers) (b : SeenBoard) → b.book.base ≡ opened_by n
+pub run-from : (n : RunNumbers) (b : SeenBoard) → b.book.base ≡ opened_by n → AreOfPasses n.passes b.book.history
     → ((s : State) (history : List Entry) → IsSound s → Run s history → StaysSound s history)
     → IsHistory b.book.base b.book.history → AreMade b.book.base b.book.history → after b.book.base b.book.history ≡ b.book.state
     → IsSound b.book.base → StopsWhereFull b.book.history → TellsFullStop b.book.state.going b.book.history → Agrees b → IsRunFrom n b
-run-from n b opened law is_history made state sound stops full agrees = record {
+run-from n b opened few law is_history made state sound stops full agrees = record {
   opened = opened;
   is_history = subst (λ (s : State). IsHistory s b.book.history) opened is_history;
   made = subst (λ (s : State). AreMade s b.book.history) opened made;
+  few = few;
   state = subst (λ (s : State). after s b.book.history ≡ b.book.state) opened state;
   stays_sound = subst (λ (s : State). StaysSound s b.book.history) opened (law b.book.base b.book.history sound is_history.run);
   stops = stops;
@@ -113,7 +114,7 @@ receives clients e tells ended =
       told_is = tells.told_is;
       known = tells.known;
       front = (tells.t.coming, sym tells.offered);
-      whole = λ done. all-came (client_at clients tells.t.rank) tells.t tells.offered (answered.received done);
+      whole = λ done. all-came (client_at clients tells.t.rank) tells.t tells.offered (answered.answers.received done);
     }
 
 -- so did each

@@ -1,13 +1,17 @@
 -- A server that has just opened.
-use Rattle.std.proofs.Common.{◌≡◌, ℕ, List, [], map, Option, None, Some, IfSome, refl, sym, ap, subst}
+use Rattle.std.proofs.Common.{◌≡◌, inl, inr, ℕ, true, List, [], ◌∷◌, ◌++◌, map, Option, None, Some, option_map, IfSome, refl, sym, ap, subst, ◌∙◌}
 use Rattle.mpm_base.specs.Clock.{asked_at}
-use Rattle.mpm_base.specs.Front.{FrontTold, WaitTold, moments_of}
-use Rattle.conn_machine.specs.Made.{IsOpened}
+use Rattle.mpm_base.specs.Front.{Binds, BoundTold, FrontSeen, FrontTold, WaitTold, after_bind, moments_of}
+use Rattle.mpm_base.specs.declared.addr.Addr.{Addr}
+use Rattle.conn_machine.specs.Made.{AreOfPasses, IsOpened}
+use Rattle.conn_machine.specs.declared.state.State.{State}
 use Rattle.board.specs.Book.{SeenBook}
 use Rattle.mpm_run.specs.FirstNumbers.{AreNumbers, opened_book}
-use Rattle.mpm_run.specs.ListenInside.{IsInTime, IsStarting, waits_of}
+use Rattle.mpm_run.specs.ListenInside.{Follows, HasStopped, IsAtStart, IsIdle, IsInStep, IsInTime, IsStarting, IsUnasked, WatchesAll, bound_of, waits_of}
 use Rattle.mpm_run.specs.Times.{IsInformed, SignalsAre, TicksAre}
+use Rattle.mpm_run.specs.Watched.{AreWatched, IsBoundOnce, IsHushed, IsOpenedAndHushed}
 use Rattle.mpm_run.specs.declared.run_numbers.RunNumbers.{RunNumbers}
+use Rattle.mpm_run.proofs.FrontLemmas.{rises-after}
 
 -- a board that opens by the numbers opens as a server does
 pub opens : (n : RunNumbers) (b : SeenBook) → AreNumbers n → b ≡ opened_book n → IsOpened b.base
@@ -22,20 +26,125 @@ ticks-opened n (Some calls) none =
     subst (λ (calls : List (ℕ × ℕ)). TicksAre calls (opened_book n)) (sym none) (record { ticks = refl; moment = refl })
 
 -- a front that didn't wait, and a history without signals
-signals-opened : (n : RunNumbers) (told : Option FrontTold) → IfSome told (λ t. t.waits ≡ []) → IfSome (waits_of told) (λ waits. SignalsAre waits (opened_book n))
+signals-opened : (n : RunNumbers) (told : Option FrontTold) → IfSome told IsUnasked → IfSome (waits_of told) (λ waits. SignalsAre waits (opened_book n))
 signals-opened n None none = tt
-signals-opened n (Some t) none = subst (λ (waits : List WaitTold). SignalsAre waits (opened_book n)) (sym none) refl
+signals-opened n (Some t) none = subst (λ (waits : List WaitTold). SignalsAre waits (opened_book n)) (sym none.waits) refl
 
 -- so nothing was told and nothing done
-pub informed-opened : (n : RunNumbers) (told : Option FrontTold) (calls : Option (List (ℕ × ℕ))) (b : SeenBook) → b ≡ opened_book n → IsStarting told calls
+pub informed-opened : (n : RunNumbers) (told : Option FrontTold) (calls : Option (List (ℕ × ℕ))) (b : SeenBook) → b ≡ opened_book n → IsIdle told calls
     → IsInformed (waits_of told) calls b
 informed-opened n told calls b opened starting =
     subst (IsInformed (waits_of told) calls) (sym opened)
-    (record { ticks = ticks-opened n calls starting.calls_are; signals = signals-opened n told starting.waits })
+    (record { ticks = ticks-opened n calls starting.calls_are; signals = signals-opened n told starting.front })
 
 -- the clock is in time with the front
-pub time-opened : (told : Option FrontTold) (calls : Option (List (ℕ × ℕ))) → IsStarting told calls → IsInTime (waits_of told) calls
+pub time-opened : (told : Option FrontTold) (calls : Option (List (ℕ × ℕ))) → IsIdle told calls → IsInTime (waits_of told) calls
 time-opened None calls starting = tt
 time-opened (Some t) None starting = tt
 time-opened (Some t) (Some calls) starting =
-    subst (λ (waits : List WaitTold). map asked_at calls ≡ moments_of waits) (sym starting.waits) (ap (map asked_at) starting.calls_are)
+    subst (λ (waits : List WaitTold). map asked_at calls ≡ moments_of waits) (sym starting.front.waits) (ap (map asked_at) starting.calls_are)
+
+-- and the table in step with it
+pub step-opened : (n : RunNumbers) (told : Option FrontTold) (calls : Option (List (ℕ × ℕ))) (b : SeenBook) → b ≡ opened_book n → IsIdle told calls
+    → IsInStep told b.state
+step-opened n None calls b opened starting = tt
+step-opened n (Some t) calls b opened starting = record {
+  listens = starting.front.hushed;
+  accepted = starting.front.accepted ∙ sym (ap (λ (x : SeenBook). x.state.accepted) opened);
+}
+
+-- ## A front that was bound
+
+unasked-bound : (listen : Addr) (control : Option ℕ) (told told' : Option FrontTold) → told' ≡ option_map (after_bind true listen control) told
+    → IfSome told IsUnasked → IfSome told' IsUnasked
+unasked-bound listen control None told' is unasked = subst (λ (o : Option FrontTold). IfSome o IsUnasked) (sym is) tt
+unasked-bound listen control (Some t) told' is unasked =
+    subst (λ (o : Option FrontTold). IfSome o IsUnasked) (sym is)
+    (record { accepted = unasked.accepted; arrived = unasked.arrived; moment = unasked.moment; hushed = unasked.hushed; watches = unasked.watches; waits = unasked.waits })
+
+-- nothing else was asked of it
+pub idle-bound : (n : RunNumbers) (old new : FrontSeen) (calls : Option (List (ℕ × ℕ))) → Binds old new n.listen n.control true
+    → IsStarting old.told calls → IsIdle new.told calls
+idle-bound n old new calls binds starting = record {
+  front = unasked-bound n.listen n.control old.told new.told binds.told_is starting.idle.front;
+  calls_are = starting.idle.calls_are;
+}
+
+bound-to : (n : RunNumbers) (told told' : Option FrontTold) → told' ≡ option_map (after_bind true n.listen n.control) told → IfSome told (λ t. t.bound ≡ [])
+    → IfSome told' (IsBoundOnce n)
+bound-to n None told' is unbound = subst (λ (o : Option FrontTold). IfSome o (IsBoundOnce n)) (sym is) tt
+bound-to n (Some t) told' is unbound =
+    subst (λ (o : Option FrontTold). IfSome o (IsBoundOnce n)) (sym is)
+    (ap (λ (bound : List BoundTold). bound ++ record { listen = n.listen; control = n.control } ∷ []) unbound)
+
+still-bound : (n : RunNumbers) (told told' : Option FrontTold) → bound_of told' ≡ bound_of told → IfSome told (IsBoundOnce n) → IfSome told' IsHushed
+    → IfSome told' (IsOpenedAndHushed n)
+still-bound n told None same bound hushed = tt
+still-bound n None (Some t') same bound hushed = absurd (cc same)
+still-bound n (Some t) (Some t') same bound hushed =
+    let bounds : t'.bound ≡ t.bound = cc same in
+    record { bound = bounds ∙ bound; hushed = hushed }
+
+-- it was bound once, and then takes no further connection
+pub opened-hushed : (n : RunNumbers) (old bound new : FrontSeen) (calls : Option (List (ℕ × ℕ))) → Binds old bound n.listen n.control true
+    → IsStarting old.told calls → bound_of new.told ≡ bound_of bound.told → IfSome new.told IsHushed → IfSome new.told (IsOpenedAndHushed n)
+opened-hushed n old bound new calls binds starting same hushed =
+    still-bound n bound.told new.told same (bound-to n old.told bound.told binds.told_is starting.unbound) hushed
+
+-- why the server stopped, as it was before the front was bound
+pub stopped-before : (old bound new : FrontSeen) (s : State) → Follows old bound → HasStopped bound new s → HasStopped old new s
+stopped-before old bound new s follows stopped = record {
+  down = stopped.down;
+  cause =
+      elim stopped.cause [
+        | inl ended ↦ inl (record {
+          going = ended.going;
+          all =
+              record {
+                answered = rises-after old.counts.ends bound.counts.ends new.counts.ends follows.ends ended.all.answered;
+                taken = ended.all.taken;
+              };
+        })
+        | inr (inl failed) ↦ inr (inl (record {
+          going = failed.going;
+          failed = rises-after old.counts.faults bound.counts.faults new.counts.faults follows.faults failed.failed;
+        }))
+        | inr (inr broken) ↦ inr (inr broken)
+      ];
+}
+
+-- ## The watches of a server that opens
+
+-- it watches none
+pub watching-opened : (n : RunNumbers) (told : Option FrontTold) (calls : Option (List (ℕ × ℕ))) (b : SeenBook) → b ≡ opened_book n → IsIdle told calls
+    → IfSome told (WatchesAll b)
+watching-opened n None calls b opened idle = tt
+watching-opened n (Some t) calls b opened idle =
+    subst (λ (x : SeenBook). WatchesAll x t) (sym opened) (record { watches = idle.front.watches; count = refl })
+
+-- and in the end each link that the table took
+pub are-watched : (told : Option FrontTold) (b : SeenBook) → IfSome told (WatchesAll b) → IfSome told (AreWatched b.history)
+are-watched None b all = tt
+are-watched (Some t) b all = all.watches
+
+-- ## Patience
+
+-- nothing has come, and no time has passed
+pub starts-opened : (n : RunNumbers) (told : Option FrontTold) (calls : Option (List (ℕ × ℕ))) (b : SeenBook) → b ≡ opened_book n → IsIdle told calls
+    → IsAtStart told b
+starts-opened n None calls b opened idle = record {
+  none = tt;
+  first = tt;
+  moment = ap (λ (x : SeenBook). x.state.moment) opened;
+  history = ap (λ (x : SeenBook). x.history) opened;
+}
+starts-opened n (Some t) calls b opened idle = record {
+  none = idle.front.accepted ∙ sym idle.front.arrived;
+  first = idle.front.moment;
+  moment = ap (λ (x : SeenBook). x.state.moment) opened;
+  history = ap (λ (x : SeenBook). x.history) opened;
+}
+
+-- no pass made an entry
+pub few-opened : (n : RunNumbers) (passes : ℕ) (b : SeenBook) → b ≡ opened_book n → AreOfPasses passes b.history
+few-opened n passes b opened = subst (λ (x : SeenBook). AreOfPasses passes x.history) (sym opened) (λ p above. refl)

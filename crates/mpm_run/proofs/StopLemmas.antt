@@ -1,21 +1,32 @@
 -- How the listener stops: what it adds then neither ticks nor signals.
-use Rattle.std.proofs.Common.{◌≡◌, ℕ, Bool, true, false, List, [], ◌∷◌, Option, None, refl, sym, subst, ◌∙◌}
-use Rattle.mpm_base.specs.Front.{WaitTold}
-use Rattle.mpm_base.specs.declared.conn.Cause.{Cause}
+use Rattle.std.proofs.Common.{◌≡◌, inl, inr, ℕ, Bool, true, false, if◌then◌else◌, List, [], ◌∷◌, Option, None, Result, Ok, Err, OnOk, OnErr, refl, sym, ap, subst, ◌∙◌}
+use Rattle.mpm_base.specs.Count.{Rises}
+use Rattle.mpm_base.specs.Front.{FrontSeen, WaitTold, after_hush}
 use Rattle.conn_machine.specs.declared.event.Commanded.TheVariants.{Stop}
 use Rattle.conn_machine.specs.declared.event.Event.TheVariants as event
 use Rattle.conn_machine.specs.declared.event.Why.{Why}
+use Rattle.conn_machine.specs.declared.state.Going.{Going}
+use Rattle.conn_machine.specs.declared.state.Going.TheVariants.{Halted}
+use Rattle.conn_machine.specs.declared.state.State.{State}
 use Rattle.conn_machine.specs.Runs.{Adds, row_of}
+use Rattle.conn_machine.specs.Table.{may_command}
+use Rattle.board.specs.Board.{SeenBoard}
+use Rattle.board.specs.Events.{with_recorded}
+use Rattle.worker_group.proofs.ActsLemmas.{acts_as, acts_recorded, acts_same}
 use Rattle.conn_machine.specs.States.{is_halted}
 use Rattle.board.specs.declared.faults.BoardFault.{BoardFault}
 use Rattle.board.specs.Book.{SeenBook}
-use Rattle.board.specs.Board.{SeenBoard}
-use Rattle.board.specs.Events.{with_recorded}
 use Rattle.worker_group.specs.Acts.{Acts}
-use Rattle.worker_group.proofs.ActsLemmas.{acts_recorded}
-use Rattle.mpm_run.specs.RoundInside.{ClosesSome, NoneHas, RetiresSome, stop_events}
-use Rattle.mpm_run.specs.Times.{IsInformed, IsInformedSoFar}
-use Rattle.mpm_run.proofs.EventLemmas.{AreSilent, silent-closed, silent-retires, silent-stops}
+use Rattle.worker_group.specs.Service.{LeavesRest}
+use Rattle.mpm_run.specs.declared.listen.End.{End}
+use Rattle.mpm_run.specs.declared.listen.End.TheVariants as end
+use Rattle.mpm_run.specs.Listen.{IsClosedDown}
+use Rattle.mpm_run.specs.ListenInside.{HaltsAs, HasStopped, MustHalt, TurnsEnd, why_of}
+use Rattle.mpm_run.specs.ClosingInside.{IsHaltedWay, LetsGo}
+use Rattle.mpm_run.specs.RoundInside.{NoneHas, RetiresSome, end_events, halt_events, stop_events}
+use Rattle.mpm_run.specs.Times.{IsInformed, IsInformedSoFar, WasInformed}
+use Rattle.mpm_run.proofs.EventLemmas.{AreSilent, silent-gone, silent-none, silent-retires, silent-stops}
+use Rattle.mpm_run.proofs.FrontLemmas.{given-hushed}
 use Rattle.mpm_run.proofs.InformLemmas.{TellsAs, informed-as, so_far-as, tells-silent}
 use Rattle.mpm_run.proofs.RoundLemmas.{none-has}
 
@@ -27,29 +38,39 @@ pub record IsQuietStep (old new : SeenBook) : Type 0 where
 quiet-acts : (a b : SeenBook) (es : List _) → NoneHas a → Acts 0 es None a b → AreSilent es → IsQuietStep a b
 quiet-acts a b es free acts silent = record { free = none-has 0 es a b free acts; alike = tells-silent es a b acts silent }
 
--- the command that stops the server
-pub quiet-halted : (why : Why) (b b' : SeenBoard) → NoneHas b.book → b' ≡ with_recorded 0 (event.Command (Stop why)) b
-    → Adds 0 b.book.base b.book.history b'.book.history → row_of 0 b'.book.history ≡ row_of 0 b.book.history → IsQuietStep b.book b'.book
-quiet-halted why b b' free is adds row =
-    quiet-acts b.book b'.book (event.Command (Stop why) ∷ []) free
-    (acts_recorded 0 (event.Command (Stop why)) None b b' is adds (row ∙ free 0)) (record { ticks = refl; signals = refl })
+silent-ends : (turns : Result End BoardFault) → AreSilent (end_events turns)
+silent-ends (Ok end) = record { ticks = refl; signals = refl }
+silent-ends (Err f) = silent-stops f
+
+pub silent-halts : (halted : Bool) (turns : Result End BoardFault) → AreSilent (if halted then [] else end_events turns)
+silent-halts true turns = silent-none
+silent-halts false turns = silent-ends turns
+
+-- the server was stopped
+pub quiet-halted : (turns : Result End BoardFault) (a b : SeenBook) → NoneHas a → Acts 0 (halt_events a.state.going turns) None a b → IsQuietStep a b
+quiet-halted turns a b free acts = quiet-acts a b _ free acts (silent-halts (is_halted a.state.going) turns)
 
 -- closes
-pub quiet-closed : (why : Cause) (a b : SeenBook) → NoneHas a → ClosesSome why a b → IsQuietStep a b
-quiet-closed why a b free closes = quiet-acts a b _ free closes.acts (silent-closed why closes.names)
+pub quiet-closed : (a b : SeenBook) → NoneHas a → LetsGo IsHaltedWay a b → IsQuietStep a b
+quiet-closed a b free closes = quiet-acts a b _ free closes.acts (silent-gone closes.gone)
 
 -- ends of children
 pub quiet-retired : (a b : SeenBook) → NoneHas a → RetiresSome a b → IsQuietStep a b
 quiet-retired a b free retires = quiet-acts a b _ free retires.acts (silent-retires retires.children)
 
--- a stop for a fault, unless the server was stopped
-pub quiet-stopped : (f : BoardFault) (halted : Bool) (a b : SeenBoard) → is_halted a.book.state.going ≡ halted → NoneHas a.book
-    → (is_halted a.book.state.going ≡ false → Acts 0 (stop_events f) None a.book b.book) → (is_halted a.book.state.going ≡ true → b ≡ a)
-    → IsQuietStep a.book b.book
-quiet-stopped f true a b is free stops stays =
-    subst (λ (v : SeenBoard). IsQuietStep a.book v.book) (sym (stays is))
-    (record { free = free; alike = record { base = refl; ticks = refl; signals = refl } })
-quiet-stopped f false a b is free stops stays = quiet-acts a.book b.book (stop_events f) free (stops is) (silent-stops f)
+-- the server was stopped, each connection that waited closed, and each child let go of
+pub record GoesDown (turns : Result End BoardFault) (a b c d : SeenBook) : Type 0 where
+  pub free : NoneHas a
+  pub halts : Acts 0 (halt_events a.state.going turns) None a b
+  pub closes : LetsGo IsHaltedWay b c
+  pub retires : RetiresSome c d
+  pub halt_moment : b.state.moment ≡ a.state.moment
+  pub close_rest : LeavesRest b c
+  pub retire_rest : LeavesRest c d
+
+-- then no pass has a connection
+pub free-halted : (turns : Result End BoardFault) (a b : SeenBook) → NoneHas a → Acts 0 (halt_events a.state.going turns) None a b → NoneHas b
+free-halted turns a b free acts = none-has 0 _ a b free acts
 
 -- the history is informed still
 pub informed-quiet : (waits : Option (List WaitTold)) (calls : Option (List (ℕ × ℕ))) (a b : SeenBook) → IsQuietStep a b
@@ -60,3 +81,106 @@ informed-quiet waits calls a b step moment informed = informed-as waits calls a 
 pub so_far-quiet : (waits : Option (List WaitTold)) (calls : Option (List (ℕ × ℕ))) (a b : SeenBook) → IsQuietStep a b → IsInformedSoFar waits calls a
     → IsInformedSoFar waits calls b
 so_far-quiet waits calls a b step informed = so_far-as waits calls a b step.alike informed
+
+informed-down : (turns : Result End BoardFault) (waits : Option (List WaitTold)) (calls : Option (List (ℕ × ℕ))) (a b c d : SeenBook)
+    → GoesDown turns a b c d → IsQuietStep a b → IsQuietStep b c → IsQuietStep c d → HaltsAs turns d.state.going → OnOk turns (IsInformed waits calls a)
+    → OnErr turns (IsInformedSoFar waits calls a) → WasInformed waits calls d
+informed-down (Ok end) waits calls a b c d down halted closed retired halts informed begun =
+    inl (informed-quiet waits calls c d retired down.retire_rest.moment
+    (informed-quiet waits calls b c closed down.close_rest.moment (informed-quiet waits calls a b halted down.halt_moment informed)))
+informed-down (Err f) waits calls a b c d down halted closed retired halts informed begun =
+    inr (halts, so_far-quiet waits calls c d retired (so_far-quiet waits calls b c closed (so_far-quiet waits calls a b halted begun)))
+
+-- and what the turns left of it stays
+pub was-informed : (turns : Result End BoardFault) (waits : Option (List WaitTold)) (calls : Option (List (ℕ × ℕ))) (a b c d : SeenBook)
+    → GoesDown turns a b c d → HaltsAs turns d.state.going → OnOk turns (IsInformed waits calls a) → OnErr turns (IsInformedSoFar waits calls a)
+    → WasInformed waits calls d
+was-informed turns waits calls a b c d down halts informed begun =
+    let halted = quiet-halted turns a b down.free down.halts in
+    let closed = quiet-closed b c halted.free down.closes in
+    let retired = quiet-retired c d closed.free down.retires in
+    informed-down turns waits calls a b c d down halted closed retired halts informed begun
+
+-- why the server stopped
+pub has-stopped : (turns : Result End BoardFault) (first now front' : FrontSeen) (b : SeenBook) (s : State) → TurnsEnd turns first now b
+    → HaltsAs turns s.going → s.accepted ≡ b.state.accepted → front' ≡ after_hush now → IsClosedDown s → HasStopped first front' s
+has-stopped (Ok end.Ended) first now front' b s ends halts same is down = record {
+  down = down;
+  cause =
+      inl (record {
+        going = halts;
+        all =
+            record {
+              answered = subst (Rises first.counts.ends) (sym (ap (λ (f : FrontSeen). f.counts.ends) is)) ends.all.answered;
+              taken = given-hushed b.state s now.told front'.told (ap (λ (f : FrontSeen). f.told) is) same ends.all.taken;
+            };
+      });
+}
+has-stopped (Ok end.Failed) first now front' b s ends halts same is down = record {
+  down = down;
+  cause =
+      inr (inl (record {
+        going = halts;
+        failed = subst (Rises first.counts.faults) (sym (ap (λ (f : FrontSeen). f.counts.faults) is)) ends.1;
+      }));
+}
+has-stopped (Err f) first now front' b s ends halts same is down = record { down = down; cause = inr (inr halts) }
+
+-- the server may be stopped for what ended the turns
+pub must-halt : (turns : Result End BoardFault) (first now : FrontSeen) (b : SeenBook) → TurnsEnd turns first now b → MustHalt turns b
+must-halt (Ok end.Ended) first now b ends = (ends.going, ends.live)
+must-halt (Ok end.Failed) first now b ends = ends.0
+must-halt (Err f) first now b ends = ends
+
+may-stop : (e : End) (b : SeenBook) → MustHalt (Ok e) b → may_command b.state (Stop (why_of e)) ≡ true
+may-stop end.Ended b must = rw (must.0, must.1) refl
+may-stop end.Failed b must = rw must refl
+
+goes-on : (e : End) (b : SeenBook) → MustHalt (Ok e) b → is_halted b.state.going ≡ false
+goes-on end.Ended b must = must.0
+goes-on end.Failed b must = must
+
+-- so the command may be made
+pub may-halt : (turns : Result End BoardFault) (e : End) (reason : Why) (b : SeenBook) → turns ≡ Ok e → reason ≡ why_of e → MustHalt turns b
+    → may_command b.state (Stop reason) ≡ true
+may-halt turns e reason b is reason_is must =
+    subst (λ (w : Why). may_command b.state (Stop w) ≡ true) (sym reason_is)
+    (may-stop e b (subst (λ (t : Result End BoardFault). MustHalt t b) is must))
+
+-- and the server stops by it
+pub acts-stopped : (turns : Result End BoardFault) (e : End) (reason : Why) (b b' : SeenBoard) → turns ≡ Ok e → reason ≡ why_of e → MustHalt turns b.book
+    → row_of 0 b.book.history ≡ None → b' ≡ with_recorded 0 (event.Command (Stop reason)) b → Adds 0 b.book.base b.book.history b'.book.history
+    → row_of 0 b'.book.history ≡ row_of 0 b.book.history → Acts 0 (halt_events b.book.state.going turns) None b.book b'.book
+acts-stopped turns e reason b b' is reason_is must free new_is adds row =
+    let going = goes-on e b.book (subst (λ (t : Result End BoardFault). MustHalt t b.book) is must) in
+    let events : event.Command (Stop reason) ∷ [] ≡ halt_events b.book.state.going turns =
+    ap (λ (w : Why). event.Command (Stop w) ∷ []) reason_is ∙ ap end_events (sym is)
+    ∙ ap (λ (halted : Bool). if halted then [] else end_events turns) (sym going) in
+    acts_as 0 (event.Command (Stop reason) ∷ []) (halt_events b.book.state.going turns) None None b.book b'.book
+    (acts_recorded 0 (event.Command (Stop reason)) None b b' new_is adds (row ∙ free)) events refl
+
+pub halts-as : (turns : Result End BoardFault) (e : End) (reason : Why) (going : Going) → turns ≡ Ok e → reason ≡ why_of e → going ≡ Halted reason
+    → HaltsAs turns going
+halts-as turns e reason going is reason_is halted =
+    subst (λ (t : Result End BoardFault). HaltsAs t going) (sym is) (halted ∙ ap Halted reason_is)
+
+-- a stop for a fault, unless the server was stopped
+pub acts-fault : (turns : Result End BoardFault) (f : BoardFault) (halted : Bool) (a b : SeenBoard) → turns ≡ Err f → is_halted a.book.state.going ≡ halted
+    → row_of 0 a.book.history ≡ None → (is_halted a.book.state.going ≡ false → Acts 0 (stop_events f) None a.book b.book)
+    → (is_halted a.book.state.going ≡ true → b ≡ a) → Acts 0 (halt_events a.book.state.going turns) None a.book b.book
+acts-fault turns f true a b turns_is is free stops stays =
+    acts_as 0 [] (halt_events a.book.state.going turns) None None a.book b.book
+    (acts_same 0 None a.book b.book (ap (λ (v : SeenBoard). v.book) (stays is)) free)
+    (ap (λ (h : Bool). if h then [] else end_events turns) (sym is)) refl
+acts-fault turns f false a b turns_is is free stops stays =
+    acts_as 0 (stop_events f) (halt_events a.book.state.going turns) None None a.book b.book (stops is)
+    (ap end_events (sym turns_is) ∙ ap (λ (h : Bool). if h then [] else end_events turns) (sym is)) refl
+
+-- a server that stopped so has stopped
+pub has-halted : (turns : Result End BoardFault) (going : Going) → HaltsAs turns going → is_halted going ≡ true
+has-halted (Ok end) going halts = ap is_halted halts
+has-halted (Err fault) going halts =
+    elim halts [
+      | inl full ↦ ap is_halted full
+      | inr lacks ↦ ap is_halted lacks
+    ]

@@ -3,9 +3,8 @@ use Rattle.std.proofs.Common.{◌≡◌, ◌⊎◌, inl, inr, ℕ, option_map, I
 use Rattle.std.proofs.lemmas.Bool.{and_parts}
 use Rattle.std.specs.Option.{option_map_or}
 use Rattle.std.specs.List.{list_any}
-use Rattle.mpm_base.specs.Count.{NeverFalls, RisesWhere}
-use Rattle.mpm_base.specs.Front.{FrontTold, FrontCounts, Hands, Accepts, after_accept, accept_failed, is_handed}
-use Rattle.mpm_base.specs.Link.{LinkTold, LinkCounts}
+use Rattle.mpm_base.specs.Front.{FrontTold, FrontSeen, HasNoneToTake, Hands, Accepts, after_accept}
+use Rattle.mpm_base.specs.Link.{LinkSeen}
 use Rattle.mpm_base.specs.declared.conn.ConnName.{ConnName}
 use Rattle.mpm_base.specs.declared.front.Arrival.{Arrival}
 use Rattle.mpm_base.specs.declared.front.Arrival.TheVariants as arrival
@@ -23,7 +22,6 @@ use Rattle.board.specs.Book.{SeenBook, book_with_entry}
 use Rattle.board.specs.Events.{IsTaken}
 use Rattle.board.specs.Finds.{acceptable}
 use Rattle.mpm_run.specs.ListenInside.{HasTaken, TookAll}
-use Rattle.mpm_run.proofs.FrontLemmas.{rises-after}
 use Rattle.worker_group.proofs.AnswerLemmas.{live_row-update}
 
 -- ## Where a connection is taken
@@ -114,19 +112,20 @@ has-taken s s' name child generation may is taken =
 -- ## No further one is taken
 
 -- an accept that hands nothing out leaves what the front tells
-tells-kept : (told told' : Option FrontTold) → told' ≡ option_map (after_accept false) told → IfSome told (λ t. t.accepted ≡ t.arrived)
-    → IfSome told' (λ t. t.accepted ≡ t.arrived)
-tells-kept None told' is none = subst (λ (o : Option FrontTold). IfSome o (λ t. t.accepted ≡ t.arrived)) (sym is) tt
-tells-kept (Some t) told' is none = subst (λ (o : Option FrontTold). IfSome o (λ t. t.accepted ≡ t.arrived)) (sym is) none
+tells-kept : (told told' : Option FrontTold) → told' ≡ option_map (λ (t : FrontTold). t) told → IfSome told HasNoneToTake → IfSome told' HasNoneToTake
+tells-kept None told' is none = subst (λ (o : Option FrontTold). IfSome o HasNoneToTake) (sym is) tt
+tells-kept (Some t) told' is none = subst (λ (o : Option FrontTold). IfSome o HasNoneToTake) (sym is) none
+
+-- one that failed says so
+tells-failed : (told told' : Option FrontTold) → told' ≡ option_map (λ (t : FrontTold). record t { failed = true }) told → IfSome told' (λ t. t.failed ≡ true)
+tells-failed None told' is = subst (λ (o : Option FrontTold). IfSome o (λ t. t.failed ≡ true)) (sym is) tt
+tells-failed (Some t) told' is = subst (λ (o : Option FrontTold). IfSome o (λ t. t.failed ≡ true)) (sym is) refl
 
 -- where none was handed out no further one is taken
-pub took-none : {L : Type 0} (link_told : L → Option LinkTold) (link_counts : L → LinkCounts) (told told' : Option FrontTold)
-    (first counts counts' : FrontCounts) (answer : Arrival L) (s : State) → (answer ≡ arrival.None) ⊎ (answer ≡ arrival.Failed)
-    → NeverFalls first.accept_faults counts.accept_faults → Accepts link_told link_counts told told' counts counts' answer
-    → TookAll told' first counts' s
-took-none link_told link_counts told told' first counts counts' answer s (inl none) never accepts =
-    inr (inl (tells-kept told told' (accepts.told_is ∙ ap (λ (a : Arrival _). option_map (after_accept (is_handed a)) told) none)
-    (subst (Hands link_told link_counts told) none accepts.hands)))
-took-none link_told link_counts told told' first counts counts' answer s (inr failed) never accepts =
-    inr (inr (rises-after first.accept_faults counts.accept_faults counts'.accept_faults never
-    (subst (λ (a : Arrival _). RisesWhere (accept_failed a) counts.accept_faults counts'.accept_faults) failed accepts.accept_faults)))
+pub took-none : {L : Type 0} (link_seen : L → LinkSeen) (old new : FrontSeen) (answer : Arrival L) (s : State)
+    → (answer ≡ arrival.None) ⊎ (answer ≡ arrival.Failed) → Accepts link_seen old new answer → TookAll new.told s
+took-none link_seen old new answer s (inl none) accepts =
+    inr (inl (tells-kept old.told new.told (accepts.told_is ∙ ap (λ (a : Arrival _). option_map (after_accept a) old.told) none)
+    (subst (Hands link_seen old.told) none accepts.hands)))
+took-none link_seen old new answer s (inr failed) accepts =
+    inr (inr (tells-failed old.told new.told (accepts.told_is ∙ ap (λ (a : Arrival _). option_map (after_accept a) old.told) failed)))

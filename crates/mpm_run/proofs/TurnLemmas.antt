@@ -1,53 +1,83 @@
 -- What holds of a listener between two turns, and how a turn keeps it.
-use Rattle.std.proofs.Common.{◌≡◌, ◌≢◌, ℕ, List, Option, None, max, ap, sym, subst, ◌∙◌}
-use Rattle.mpm_base.specs.Front.{WaitTold, TellsOn, GoesForward}
+use Rattle.std.proofs.Common.{◌≡◌, ◌≢◌, ◌<◌, inl, ℕ, false, List, [], Option, None, IfSome, max, ap, sym, subst, refl, ◌∙◌, arith}
+use Rattle.mpm_base.specs.Count.{RisesExactlyWhere}
+use Rattle.mpm_base.specs.Front.{GivesOnlyAwake, GoesForward, TellsOn, WaitTold, is_ended, moments_in}
 use Rattle.mpm_base.specs.declared.front.Woke.{Woke}
+use Rattle.mpm_base.specs.declared.front.Woke.TheVariants as woke
 use Rattle.conn_machine.specs.declared.event.Event.{Event}
+use Rattle.conn_machine.specs.Made.{AreOfPasses}
 use Rattle.conn_machine.specs.Passes.{OnlyServes}
+use Rattle.conn_machine.proofs.HistoryLemmas.{adds_few}
+use Rattle.conn_machine.specs.States.{is_halted}
 use Rattle.board.specs.Book.{SeenBook}
 use Rattle.board.specs.Board.{SeenBoard}
 use Rattle.worker_group.specs.Acts.{Acts}
+use Rattle.worker_group.specs.Service.{IsUp, LeavesRest}
 use Rattle.worker_group.proofs.ActsLemmas.{acts-events_other}
-use Rattle.mpm_run.specs.ListenInside.{AsksFor, Follows, IsInStep, IsInTime, SeenListener, waits_of}
-use Rattle.mpm_run.specs.RoundInside.{BreaksOff, GoesRound, NoneHas, StartsSome}
+use Rattle.mpm_run.specs.declared.listen.Pause.{Pause}
+use Rattle.mpm_run.specs.declared.listen.Rest.{Rest}
+use Rattle.mpm_run.specs.Listen.{HasNoLive}
+use Rattle.mpm_run.specs.ListenInside.{AsksFor, Follows, HasGivenAll, HasNothingToCome, IsInStep, IsInTime, OnlyTakes, SeenListener, WatchesAll, bound_of, waits_of}
+use Rattle.mpm_run.specs.RoundInside.{BreaksOff, GoesRound, HasWaited, NoneHas, StartsSome}
 use Rattle.mpm_run.specs.Times.{IsInformed, IsInformedSoFar, moment_for}
 use Rattle.mpm_run.proofs.EventLemmas.{silent-starts}
-use Rattle.mpm_run.proofs.FrontLemmas.{follows-same, follows-trans, step-kept, time-kept, time-wait}
-use Rattle.mpm_run.proofs.InformLemmas.{informed-as, informed-broken, informed-round, tells-same, tells-silent, waits-after}
+use Rattle.mpm_run.proofs.FrontLemmas.{WaitsMore, all-taken, bound-kept, bound-wait, follows-same, follows-trans, follows-wait, rises-after, step-kept, step-wait, time-kept, time-wait, waits-after, waits-kept}
+use Rattle.mpm_run.proofs.InformLemmas.{informed-as, informed-broken, informed-idle, informed-round, informed-so_far, tells-same, tells-silent}
+use Rattle.mpm_run.proofs.PassLemmas.{up-served}
 use Rattle.mpm_run.proofs.RoundLemmas.{none-has}
+use Rattle.mpm_run.proofs.WatchLemmas.{names-served, names-started, watched-as, watched-wait}
+
+-- the front watches each link that the table took, where this holds
+abbrev pub Watching : Type 0 → SeenListener → Type 0
+Watching tells l = tells → IfSome l.front.told (WatchesAll l.board.book)
+
+-- no pass but those of the first listener made an entry
+abbrev pub OfPasses : SeenListener → SeenListener → Type 0
+OfPasses first now = AreOfPasses first.board.book.passes now.board.book.history
+
+-- so it is after what one of them did
+pub few-acts : (passes who : ℕ) (es : List Event) (has : _) (a b : SeenBook) → who < passes → Acts who es has a b → AreOfPasses passes a.history
+    → AreOfPasses passes b.history
+few-acts passes who es has a b less acts few = adds_few passes who a.base a.history b.history less few acts.entries
 
 -- what holds of a listener that began as the first
-pub record IsBetween (first now : SeenListener) : Type 0 where
+pub record IsBetween (tells : Type 0) (first now : SeenListener) : Type 0 where
+  pub some : 1 < first.board.book.passes
+  pub few : OfPasses first first → OfPasses first now
   pub base : now.board.book.base ≡ first.board.book.base
   pub passes : now.board.book.passes ≡ first.board.book.passes
   pub free : NoneHas now.board.book
+  pub up : IsUp now.board.book.state.going
   pub step : IsInStep now.front.told now.board.book.state
   pub follows : Follows first.front now.front
+  pub bound : bound_of now.front.told ≡ bound_of first.front.told
+  pub watched : Watching tells first → Watching tells now
   pub time : IsInTime (waits_of first.front.told) first.calls → IsInTime (waits_of now.front.told) now.calls
   pub informed : IsInformed (waits_of now.front.told) now.calls now.board.book
 
--- a wait, and the clock that it had asked
-pub record HasWaited (answer : Woke) (moment : ℕ) (old new : SeenListener) : Type 0 where
-  pub board : new.board ≡ old.board
-  pub tells : TellsOn (GoesForward answer new.ready) old.front.told new.front.told
-  pub asks : AsksFor answer old.board.book.state.moment old.calls new.calls moment
-  pub follows : Follows old.front new.front
-
 -- at the start, once children were started
-pub between-started : (l : SeenListener) (b : SeenBoard) → NoneHas l.board.book → IsInStep l.front.told l.board.book.state
-    → IsInformed (waits_of l.front.told) l.calls l.board.book → StartsSome l.board.book b.book → b.book.state.moment ≡ l.board.book.state.moment
-    → b.book.state.accepted ≡ l.board.book.state.accepted → IsBetween l (record l { board = b })
-between-started l b free step informed starts moment accepted = record {
-  base = starts.acts.base;
-  passes = starts.acts.passes;
-  free = none-has 0 _ l.board.book b.book free starts.acts;
-  step = step-kept l.front.told l.board.book.state b.book.state accepted step;
-  follows = follows-same l.front;
-  time = λ time. time;
-  informed =
-      informed-as (waits_of l.front.told) l.calls l.board.book b.book
-      (tells-silent _ l.board.book b.book starts.acts (silent-starts starts.children)) moment informed;
-}
+pub between-started : (tells : Type 0) (l m : SeenListener) → 1 < l.board.book.passes → NoneHas l.board.book → is_halted l.board.book.state.going ≡ false → IsInStep l.front.told l.board.book.state
+    → IsInformed (waits_of l.front.told) l.calls l.board.book → m ≡ record l { board = m.board } → StartsSome l.board.book m.board.book
+    → m.board.book.state.going ≡ l.board.book.state.going → LeavesRest l.board.book m.board.book → IsBetween tells l m
+between-started tells l m some free going step informed is starts same rest =
+    subst (IsBetween tells l) (sym is)
+    (record {
+      some = some;
+      few = few-acts l.board.book.passes 0 _ None l.board.book m.board.book (omega (arith, some)) starts.acts;
+      base = starts.acts.base;
+      passes = starts.acts.passes;
+      free = none-has 0 _ l.board.book m.board.book free starts.acts;
+      up = inl (ap is_halted same ∙ going);
+      step = step-kept l.front.told l.board.book.state m.board.book.state rest.accepted step;
+      follows = follows-same l.front;
+      bound = refl;
+      watched =
+          λ before holds. watched-as l.front.told l.board.book m.board.book (names-started l.board.book m.board.book starts) rest.accepted (before holds);
+      time = λ time. time;
+      informed =
+          informed-as (waits_of l.front.told) l.calls l.board.book m.board.book
+          (tells-silent _ l.board.book m.board.book starts.acts (silent-starts starts.children)) rest.moment informed;
+    })
 
 informed-still : (waits waits' : Option (List WaitTold)) (calls calls' : Option (List (ℕ × ℕ))) (b : SeenBook) → waits' ≡ waits → calls' ≡ calls
     → IsInformed waits calls b → IsInformed waits' calls' b
@@ -61,70 +91,236 @@ so_far-still waits waits' calls calls' b same_waits same_calls informed =
     subst (λ (o : Option (List WaitTold)). IsInformedSoFar o calls' b) (sym same_waits)
     (subst (λ (o : Option (List (ℕ × ℕ))). IsInformedSoFar waits o b) (sym same_calls) informed)
 
--- time and the waits are in step still, after a turn
-pub time-turned : (answer : Woke) (moment : ℕ) (first a w b : SeenListener) → IsBetween first a → HasWaited answer moment a w
-    → waits_of b.front.told ≡ waits_of w.front.told → b.calls ≡ w.calls → IsInTime (waits_of first.front.told) first.calls
-    → IsInTime (waits_of b.front.told) b.calls
-time-turned answer moment first a w b before waited waits calls time =
-    subst (λ (o : Option (List (ℕ × ℕ))). IsInTime (waits_of b.front.told) o) (sym calls)
-    (time-kept (waits_of w.front.told) (waits_of b.front.told) w.calls waits
-    (time-wait answer w.ready a.front.told w.front.told a.board.book.state.moment moment a.calls w.calls waited.tells waited.asks (before.time time)))
+module _ (tells : Type 0) (rest : Rest) (pause : Pause) (first a w : SeenListener) where
+  -- the book before and after a wait is one
+  waited-book : HasWaited rest pause a w → w.board.book ≡ a.board.book
+  waited-book waited = ap (λ (b : SeenBoard). b.book) waited.board
 
--- after a round
-pub between-round : (answer : Woke) (moment : ℕ) (first a w b : SeenListener) → IsBetween first a → HasWaited answer moment a w
-    → GoesRound (moment_for moment) w.ready w.board.book b.board.book
-    → b.board.book.state.moment ≡ max w.board.book.state.moment (moment_for moment) → IsInStep b.front.told b.board.book.state
-    → Follows w.front b.front → waits_of b.front.told ≡ waits_of w.front.told → b.calls ≡ w.calls → IsBetween first b
-between-round answer moment first a w b before waited round later step follows waits calls =
-    let here : GoesRound (moment_for moment) w.ready a.board.book b.board.book =
-    subst (λ (v : SeenBoard). GoesRound (moment_for moment) w.ready v.book b.board.book) waited.board round in
-    record {
-      base = here.acts.base ∙ before.base;
-      passes = here.acts.passes ∙ before.passes;
-      free = none-has 0 _ a.board.book b.board.book before.free here.acts;
-      step = step;
-      follows = follows-trans _ _ _ before.follows (follows-trans _ _ _ waited.follows follows);
-      time = time-turned answer moment first a w b before waited waits calls;
-      informed =
-          informed-still (waits_of w.front.told) (waits_of b.front.told) w.calls b.calls b.board.book waits calls
-          (informed-round answer moment w.ready (waits_of a.front.told) (waits_of w.front.told) a.calls w.calls a.board.book b.board.book before.informed
-          (waits-after answer w.ready a.front.told w.front.told waited.tells) waited.asks here
-          (later ∙ ap (λ (v : SeenBoard). max v.book.state.moment (moment_for moment)) waited.board));
-    }
+  waited-follows : IsBetween tells first a → HasWaited rest pause a w → Follows first.front w.front
+  waited-follows before waited =
+      follows-trans _ _ _ before.follows (follows-wait a.front w.front rest.until rest.quiet pause.woke w.ready waited.waits)
 
--- after one that was broken off no pass has a connection
-pub free-broken : (answer : Woke) (moment : ℕ) (first a w b : SeenListener) → IsBetween first a → HasWaited answer moment a w
-    → BreaksOff (moment_for moment) w.ready w.board.book b.board.book → NoneHas b.board.book
-free-broken answer moment first a w b before waited round =
-    none-has 0 _ a.board.book b.board.book before.free
-    (subst (λ (v : SeenBoard). BreaksOff (moment_for moment) w.ready v.book b.board.book) waited.board round).acts
+  waited-bound : IsBetween tells first a → HasWaited rest pause a w → bound_of w.front.told ≡ bound_of first.front.told
+  waited-bound before waited = bound-wait _ _ _ _ a.front.told w.front.told waited.waits.tells ∙ before.bound
 
--- and the first of what was given was done
-pub so_far-broken : (answer : Woke) (moment : ℕ) (first a w b : SeenListener) → IsBetween first a → HasWaited answer moment a w
-    → BreaksOff (moment_for moment) w.ready w.board.book b.board.book → waits_of b.front.told ≡ waits_of w.front.told → b.calls ≡ w.calls
-    → IsInformedSoFar (waits_of b.front.told) b.calls b.board.book
-so_far-broken answer moment first a w b before waited round waits calls =
-    let here : BreaksOff (moment_for moment) w.ready a.board.book b.board.book =
-    subst (λ (v : SeenBoard). BreaksOff (moment_for moment) w.ready v.book b.board.book) waited.board round in
-    so_far-still (waits_of w.front.told) (waits_of b.front.told) w.calls b.calls b.board.book waits calls
-    (informed-broken answer moment w.ready (waits_of a.front.told) (waits_of w.front.told) a.calls w.calls a.board.book b.board.book before.informed
-    (waits-after answer w.ready a.front.told w.front.told waited.tells) waited.asks here)
+  waited-step : IsBetween tells first a → HasWaited rest pause a w → IsInStep w.front.told w.board.book.state
+  waited-step before waited =
+      subst (λ (b : SeenBook). IsInStep w.front.told b.state) (sym (waited-book waited))
+      (step-wait _ _ _ _ a.front.told w.front.told a.board.book.state waited.waits.tells before.step)
+
+  waited-more : HasWaited rest pause a w → WaitsMore w.ready pause.woke (waits_of a.front.told) (waits_of w.front.told)
+  waited-more waited = waits-after _ _ _ _ a.front.told w.front.told waited.waits.tells
+
+  -- the clock is in time with the waits
+  waited-time : IsBetween tells first a → HasWaited rest pause a w → IsInTime (waits_of first.front.told) first.calls → IsInTime (waits_of w.front.told) w.calls
+  waited-time before waited time =
+      time-wait pause.woke w.ready (waits_of a.front.told) (waits_of w.front.told) a.board.book.state.moment pause.moment a.calls w.calls
+      (waited-more waited) waited.asks (before.time time)
+
+  -- the front watches what it watched
+  waited-watched : IsBetween tells first a → HasWaited rest pause a w → Watching tells first → Watching tells w
+  waited-watched before waited began holds =
+      subst (λ (b : SeenBook). IfSome w.front.told (WatchesAll b)) (sym (waited-book waited))
+      (watched-wait _ _ _ _ a.front.told w.front.told a.board.book waited.waits.tells (before.watched began holds))
+
+  -- so it is between two turns after a wait that gave no moment
+  pub between-waited : IsBetween tells first a → HasWaited rest pause a w → moments_in pause.woke ≡ [] → w.ready ≡ [] → w.calls ≡ a.calls → IsBetween tells first w
+  between-waited before waited none empty calls =
+      let book = waited-book waited in
+      record {
+        some = before.some;
+        few = λ began. subst (λ (b : SeenBook). AreOfPasses first.board.book.passes b.history) (sym book) (before.few began);
+        base = ap (λ (b : SeenBook). b.base) book ∙ before.base;
+        passes = ap (λ (b : SeenBook). b.passes) book ∙ before.passes;
+        free = subst NoneHas (sym book) before.free;
+        up = subst (λ (b : SeenBook). IsUp b.state.going) (sym book) before.up;
+        step = waited-step before waited;
+        follows = waited-follows before waited;
+        bound = waited-bound before waited;
+        watched = waited-watched before waited;
+        time = waited-time before waited;
+        informed =
+            subst (λ (o : Option (List (ℕ × ℕ))). IsInformed (waits_of w.front.told) o w.board.book) (sym calls)
+            (subst (IsInformed (waits_of w.front.told) a.calls) (sym book)
+            (informed-idle pause.woke w.ready (waits_of a.front.told) (waits_of w.front.told) a.calls a.board.book empty before.informed (waited-more waited)));
+      }
+
+  -- after a round
+  pub between-round : (b : SeenListener) → IsBetween tells first a → HasWaited rest pause a w → GoesRound (moment_for pause.moment) w.ready w.board.book b.board.book
+      → b.board.book.state.moment ≡ max w.board.book.state.moment (moment_for pause.moment) → IsInStep b.front.told b.board.book.state
+      → IsUp b.board.book.state.going → Follows w.front b.front → TellsOn OnlyTakes w.front.told b.front.told → (Watching tells w → Watching tells b) → b.calls ≡ w.calls
+      → IsBetween tells first b
+  between-round b before waited round later step up follows takes watched calls =
+      let here : GoesRound (moment_for pause.moment) w.ready a.board.book b.board.book =
+      subst (λ (v : SeenBook). GoesRound (moment_for pause.moment) w.ready v b.board.book) (waited-book waited) round in
+      let waits = waits-kept w.front.told b.front.told takes in
+      record {
+        some = before.some;
+        few =
+            λ began. few-acts first.board.book.passes 0 _ None a.board.book b.board.book (omega (arith, before.some)) here.acts (before.few began);
+        base = here.acts.base ∙ before.base;
+        passes = here.acts.passes ∙ before.passes;
+        free = none-has 0 _ a.board.book b.board.book before.free here.acts;
+        up = up;
+        step = step;
+        follows = follows-trans _ _ _ (waited-follows before waited) follows;
+        bound = bound-kept w.front.told b.front.told takes ∙ waited-bound before waited;
+        watched = λ began. watched (waited-watched before waited began);
+        time =
+            λ time. subst (λ (o : Option (List (ℕ × ℕ))). IsInTime (waits_of b.front.told) o) (sym calls)
+            (time-kept (waits_of w.front.told) (waits_of b.front.told) w.calls waits (waited-time before waited time));
+        informed =
+            informed-still (waits_of w.front.told) (waits_of b.front.told) w.calls b.calls b.board.book waits calls
+            (informed-round pause.woke pause.moment w.ready (waits_of a.front.told) (waits_of w.front.told) a.calls w.calls a.board.book b.board.book
+            before.informed (waited-more waited) waited.asks here
+            (later ∙ ap (λ (v : SeenBook). max v.state.moment (moment_for pause.moment)) (waited-book waited)));
+      }
 
 -- the listener is another pass than the first that serves
 pub another : ◌≢◌ {A = ℕ} 0 1
 another same = cc
 
--- after the service by another pass
-pub between-served : (who : ℕ) (es : List Event) (first a : SeenListener) (b : SeenBoard) → 0 ≢ who → IsBetween first a
-    → Acts who es None a.board.book b.book → OnlyServes a.board.book.state b.book.state → IsBetween first (record a { board = b })
-between-served who es first a b other before acts serves = record {
-  base = acts.base ∙ before.base;
-  passes = acts.passes ∙ before.passes;
-  free = none-has who es a.board.book b.book before.free acts;
-  step = step-kept a.front.told a.board.book.state b.book.state serves.accepted before.step;
-  follows = before.follows;
-  time = before.time;
-  informed =
-      informed-as (waits_of a.front.told) a.calls a.board.book b.book
-      (tells-same a.board.book b.book acts.base (acts-events_other who 0 es None a.board.book b.book acts other)) serves.moment before.informed;
+-- after a wait that answered Ended
+pub between-ended : (tells : Type 0) (rest : Rest) (pause : Pause) (first a w : SeenListener) → IsBetween tells first a → HasWaited rest pause a w → pause.woke ≡ woke.Ended
+    → IsBetween tells first w
+between-ended tells rest pause first a w before waited is =
+    let asks = subst (λ (x : Woke). AsksFor x a.board.book.state.moment a.calls w.calls pause.moment) is waited.asks in
+    let empty = subst (λ (x : Woke). GivesOnlyAwake x w.ready) is waited.waits.awake in
+    between-waited tells rest pause first a w before waited (ap moments_in is) empty asks.0
+
+-- then nothing more can come, where no connection is live
+pub ends-ended : (tells : Type 0) (rest : Rest) (pause : Pause) (first a w : SeenListener) → IsBetween tells first a → HasWaited rest pause a w → pause.woke ≡ woke.Ended
+    → is_halted a.board.book.state.going ≡ false → HasNoLive w.board.book.state → HasNothingToCome first.front w.front w.board.book.state
+ends-ended tells rest pause first a w before waited is going live =
+    let forward = subst (λ (x : Woke). TellsOn (GoesForward rest.until rest.quiet x w.ready) a.front.told w.front.told) is waited.waits.tells in
+    record {
+      going = ap (λ (b : SeenBoard). is_halted b.book.state.going) waited.board ∙ going;
+      live = live;
+      all =
+          record {
+            answered =
+                rises-after first.front.counts.ends a.front.counts.ends w.front.counts.ends before.follows.ends
+                (subst (λ (x : Woke). RisesExactlyWhere (is_ended x) a.front.counts.ends w.front.counts.ends) is waited.waits.ends);
+            taken =
+                subst (λ (b : SeenBoard). IfSome w.front.told (HasGivenAll b.book.state)) (sym waited.board)
+                (all-taken rest.until rest.quiet w.ready a.front.told w.front.told a.board.book.state forward before.step);
+          };
+    }
+
+-- after one that failed
+pub between-failed : (tells : Type 0) (rest : Rest) (pause : Pause) (first a w : SeenListener) → IsBetween tells first a → HasWaited rest pause a w → pause.woke ≡ woke.Failed
+    → IsBetween tells first w
+between-failed tells rest pause first a w before waited is =
+    let asks = subst (λ (x : Woke). AsksFor x a.board.book.state.moment a.calls w.calls pause.moment) is waited.asks in
+    let empty = subst (λ (x : Woke). GivesOnlyAwake x w.ready) is waited.waits.awake in
+    between-waited tells rest pause first a w before waited (ap moments_in is) empty asks.0
+
+-- what holds of a listener whose turns were broken off
+pub record HasBroken (tells : Type 0) (first now : SeenListener) : Type 0 where
+  pub few : OfPasses first first → OfPasses first now
+  pub base : now.board.book.base ≡ first.board.book.base
+  pub passes : now.board.book.passes ≡ first.board.book.passes
+  pub free : NoneHas now.board.book
+  pub up : IsUp now.board.book.state.going
+  pub follows : Follows first.front now.front
+  pub bound : bound_of now.front.told ≡ bound_of first.front.told
+  pub watched : Watching tells first → Watching tells now
+  pub time : IsInTime (waits_of first.front.told) first.calls → IsInTime (waits_of now.front.told) now.calls
+  pub so_far : IsInformedSoFar (waits_of now.front.told) now.calls now.board.book
+
+-- between two turns
+pub broken-between : (tells : Type 0) (l m : SeenListener) → IsBetween tells l m → HasBroken tells l m
+broken-between tells l m between = record {
+  few = between.few;
+  base = between.base;
+  passes = between.passes;
+  free = between.free;
+  up = between.up;
+  follows = between.follows;
+  bound = between.bound;
+  watched = between.watched;
+  time = between.time;
+  so_far = informed-so_far _ _ _ between.informed;
 }
+
+-- in a round
+pub broken-round : (tells : Type 0) (rest : Rest) (pause : Pause) (first a w b : SeenListener) → IsBetween tells first a → HasWaited rest pause a w
+    → BreaksOff (moment_for pause.moment) w.ready w.board.book b.board.book → IsUp b.board.book.state.going → Follows w.front b.front
+    → TellsOn OnlyTakes w.front.told b.front.told → (Watching tells w → Watching tells b) → b.calls ≡ w.calls → HasBroken tells first b
+broken-round tells rest pause first a w b before waited round up follows takes watched calls =
+    let here : BreaksOff (moment_for pause.moment) w.ready a.board.book b.board.book =
+    subst (λ (v : SeenBook). BreaksOff (moment_for pause.moment) w.ready v b.board.book) (waited-book tells rest pause first a w waited) round in
+    let waits = waits-kept w.front.told b.front.told takes in
+    record {
+      few =
+          λ began. few-acts first.board.book.passes 0 _ None a.board.book b.board.book (omega (arith, before.some)) here.acts (before.few began);
+      base = here.acts.base ∙ before.base;
+      passes = here.acts.passes ∙ before.passes;
+      free = none-has 0 _ a.board.book b.board.book before.free here.acts;
+      up = up;
+      follows = follows-trans _ _ _ (waited-follows tells rest pause first a w before waited) follows;
+      bound = bound-kept w.front.told b.front.told takes ∙ waited-bound tells rest pause first a w before waited;
+      watched = λ began. watched (waited-watched tells rest pause first a w before waited began);
+      time =
+          λ time. subst (λ (o : Option (List (ℕ × ℕ))). IsInTime (waits_of b.front.told) o) (sym calls)
+          (time-kept (waits_of w.front.told) (waits_of b.front.told) w.calls waits (waited-time tells rest pause first a w before waited time));
+      so_far =
+          so_far-still (waits_of w.front.told) (waits_of b.front.told) w.calls b.calls b.board.book waits calls
+          (informed-broken pause.woke pause.moment w.ready (waits_of a.front.told) (waits_of w.front.told) a.calls w.calls a.board.book b.board.book
+          before.informed (waited-more tells rest pause first a w waited) waited.asks here);
+    }
+
+-- the service by another pass
+pub record HasServed (a b : SeenListener) : Type 0 where
+  pub events : List Event
+  pub acts : Acts 1 events None a.board.book b.board.book
+  pub serves : OnlyServes a.board.book.state b.board.book.state
+  pub others : b ≡ record a { board = b.board }
+
+served-informed : (tells : Type 0) (first a b : SeenListener) → IsBetween tells first a → HasServed a b → IsInformed (waits_of a.front.told) a.calls b.board.book
+served-informed tells first a b before served =
+    informed-as (waits_of a.front.told) a.calls a.board.book b.board.book
+    (tells-same a.board.book b.board.book served.acts.base
+    (acts-events_other 1 0 served.events None a.board.book b.board.book served.acts another)) served.serves.moment before.informed
+
+served-watched : (tells : Type 0) (first a b : SeenListener) → IsBetween tells first a → HasServed a b → Watching tells first → tells
+    → IfSome a.front.told (WatchesAll b.board.book)
+served-watched tells first a b before served began holds =
+    watched-as a.front.told a.board.book b.board.book (names-served 1 served.events None a.board.book b.board.book (λ (same : 1 ≡ 0). cc) served.acts)
+    served.serves.accepted (before.watched began holds)
+
+-- after it
+pub between-served : (tells : Type 0) (first a b : SeenListener) → IsBetween tells first a → HasServed a b → IsBetween tells first b
+between-served tells first a b before served =
+    subst (IsBetween tells first) (sym served.others)
+    (record {
+      some = before.some;
+      few = λ began. few-acts first.board.book.passes 1 served.events None a.board.book b.board.book before.some served.acts (before.few began);
+      base = served.acts.base ∙ before.base;
+      passes = served.acts.passes ∙ before.passes;
+      free = none-has 1 served.events a.board.book b.board.book before.free served.acts;
+      up = up-served a.board.book.state b.board.book.state served.serves before.up;
+      step = step-kept a.front.told a.board.book.state b.board.book.state served.serves.accepted before.step;
+      follows = before.follows;
+      bound = before.bound;
+      watched = served-watched tells first a b before served;
+      time = before.time;
+      informed = served-informed tells first a b before served;
+    })
+
+-- where it was broken off
+pub broken-served : (tells : Type 0) (first a b : SeenListener) → IsBetween tells first a → HasServed a b → HasBroken tells first b
+broken-served tells first a b before served =
+    subst (HasBroken tells first) (sym served.others)
+    (record {
+      few = λ began. few-acts first.board.book.passes 1 served.events None a.board.book b.board.book before.some served.acts (before.few began);
+      base = served.acts.base ∙ before.base;
+      passes = served.acts.passes ∙ before.passes;
+      free = none-has 1 served.events a.board.book b.board.book before.free served.acts;
+      up = up-served a.board.book.state b.board.book.state served.serves before.up;
+      follows = before.follows;
+      bound = before.bound;
+      watched = served-watched tells first a b before served;
+      time = before.time;
+      so_far = informed-so_far _ _ _ (served-informed tells first a b before served);
+    })

@@ -1,27 +1,25 @@
 -- Why a run ends with its exit status, and what it leaves of the output.
-use Rattle.std.specs.Prelude.{◌≡◌, ℕ, ◌<◌, ◌≤◌, Bool, true, false, ◌⊎◌, List, ◌++◌, length, map, Option, Some, None, option_map, IfSome, Ok, Err}
-use Rattle.std.specs.List.{list_any}
+use Rattle.std.specs.Prelude.{◌≡◌, ℕ, ◌<◌, ◌≤◌, ◌⊎◌, List, ◌++◌, length, map, Option, Some, None, option_map, IfSome, Ok, Err}
 use Rattle.mpm_base.specs.Count.{NeverFalls, Rises}
 use Rattle.mpm_script.specs.Clients.{clients_of, names_of}
 use Rattle.mpm_script.specs.Script.{ScriptIs}
 use Rattle.script_front.specs.ScriptClock.{echo}
-use Rattle.script_front.specs.ScriptFront.{SeenFront}
+use Rattle.script_front.specs.ScriptFront.{SeenFront, comings_of}
 use Rattle.mpm_base.specs.Front.{moments_of}
-use Rattle.mpm_base.specs.Store.{StoreCounts, StoreTold, bytes_of}
-use Rattle.mpm_base.specs.declared.conn.Cause.{Cause}
-use Rattle.mpm_base.specs.declared.conn.Cause.TheVariants as cause
+use Rattle.mpm_base.specs.Sink.{SinkSeen}
+use Rattle.mpm_base.specs.Store.{StoreSeen, bytes_of}
 use Rattle.mpm_script.specs.declared.script.ScriptFault.{ScriptFault}
 use Rattle.mpm_script.specs.declared.script.ScriptFault.TheVariants as script
 use Rattle.conn_machine.specs.declared.event.Why.TheVariants as why
 use Rattle.conn_machine.specs.declared.state.Going.{Going}
 use Rattle.conn_machine.specs.declared.state.Going.TheVariants.{Halted}
 use Rattle.conn_machine.specs.Runs.{full_load, load}
-use Rattle.conn_state.specs.Answered.{SeenEnded}
 use Rattle.board.specs.Book.{HasFullStop}
 use Rattle.board.specs.Board.{SeenBoard}
 use Rattle.mpm_run.specs.Invocations.{IsNoInvocation, script_words}
 use Rattle.mpm_run.specs.FirstNumbers.{first_numbers}
 use Rattle.mpm_run.specs.Listen.{HasClosedAll, IsRunFrom}
+use Rattle.mpm_run.specs.Patient.{ArePatient}
 use Rattle.mpm_run.specs.Report.{report_of}
 use Rattle.mpm_run.specs.Tells.{AllReceive}
 use Rattle.mpm_run.specs.Texts.{script_refused, store_fault, usage}
@@ -31,34 +29,16 @@ use Rattle.mpm_run.specs.declared.texts.ScriptRefusal.TheVariants.{BadLine, Mome
 
 -- ## A call
 
--- what an output tells, and its count of faults
-pub record SinkSeen : Type 0 where
-  pub told : Option (List ℕ)
-  pub faults : ℕ
-
--- what is seen of an output, of its parts
-abbrev pub sink_seen : Option (List ℕ) → ℕ → SinkSeen
-sink_seen told faults = record { told = told; faults = faults }
-
 -- the text was written whole, unless a write failed; then nothing is said of how much of it was
 pub record WritesText (old new : SinkSeen) (text : List ℕ) : Type 0 where
   pub faults : NeverFalls old.faults new.faults
   pub whole : (new.told ≡ option_map (λ written. written ++ text) old.told) ⊎ Rises old.faults new.faults
 
--- what a store tells, and its counts
-pub record StoreSeen : Type 0 where
-  pub told : Option StoreTold
-  pub counts : StoreCounts
-
--- what is seen of a store, of its parts
-abbrev pub store_seen : Option StoreTold → StoreCounts → StoreSeen
-store_seen told counts = record { told = told; counts = counts }
-
 -- the greatest size of a script, in bytes
 abbrev pub most_script : ℕ
 most_script = 67108864
 
--- a call of `run`: its words, what the store and the output tell and count before it and after it, and the number it shows
+-- a call of `run`: its words, what is seen of the store and of the output before it and after it, and the number it shows
 pub record Call : Type 0 where
   pub words : List (List ℕ)
   pub store : StoreSeen
@@ -68,22 +48,15 @@ pub record Call : Type 0 where
   pub shown : Option ℕ
 
 -- a call of `run`, of its parts
-abbrev pub seen_call : List (List ℕ) → Option StoreTold → StoreCounts → Option StoreTold → StoreCounts → Option (List ℕ) → ℕ → Option (List ℕ) → ℕ → Option ℕ → Call
-seen_call words told counts told' counts' written faults written' faults' shown =
-    record {
-      words = words;
-      store = store_seen told counts;
-      store' = store_seen told' counts';
-      sink = sink_seen written faults;
-      sink' = sink_seen written' faults';
-      shown = shown;
-    }
+abbrev pub seen_call : List (List ℕ) → StoreSeen → StoreSeen → SinkSeen → SinkSeen → Option ℕ → Call
+seen_call words store store' sink sink' shown =
+    record { words = words; store = store; store' = store'; sink = sink; sink' = sink'; shown = shown }
 
 -- the files that the store tells are as they were
 abbrev pub KeepsFiles : Call → Type 0
 KeepsFiles call = call.store'.told ≡ call.store.told
 
--- the bytes are those of the script of that name, where the store tells its files, and they are not too many
+-- the files of the store are as they were, where it tells them, and one of that name has these bytes, which are not too many
 pub record HasScript (call : Call) (name bytes : List ℕ) : Type 0 where
   pub kept : KeepsFiles call
   pub few : length bytes ≤ most_script
@@ -189,39 +162,32 @@ pub record KeepsTime (b : SeenBoard) (f : SeenFront) (calls : List (ℕ × ℕ))
   pub asked : calls ≡ map echo (moments_of f.told.waits)
   pub informed : WasInformed (Some f.told.waits) (Some calls) b.book
 
--- how a run that stopped so may end: with 6 wherever memory lacked for its report, and where a connection was cut short
+-- time passed only where nothing was left to be done, as a wait of the front let it: to the moment of an `at` line, or to the
+-- least deadline
+abbrev pub IsPatient : SeenBoard → SeenFront → Type 0
+IsPatient b f = ArePatient (comings_of f.script) f.told.waits b.book.base b.book.history
+
+-- how a run that stopped so may end: with 6 besides wherever memory lacked for its report
 abbrev pub EndsFor : Going → ℕ → Type 0
 EndsFor (Halted why.FrontEnded) status = (status ≡ 0) ⊎ (status ≡ 5) ⊎ (status ≡ 6)
 EndsFor (Halted why.Full) status = (status ≡ 7) ⊎ (status ≡ 6)
 EndsFor (Halted why.NoMemory) status = status ≡ 6
 EndsFor other status = ⊥
 
--- the service of a connection that ended for this was cut short by something else than want of memory
-abbrev pub is_cut_by : Cause → Bool
-is_cut_by cause.ClientDone = false
-is_cut_by cause.NoMemory = false
-is_cut_by other = true
-
--- the connection ended for such a cause
-abbrev pub is_cut : SeenEnded → Bool
-is_cut e = is_cut_by e.cause
-
--- the script was played to its end: all lines have happened, and each connection of the script was taken
+-- the script was played to its end: a wait answered Ended, all lines have happened, and each connection of the script was taken
 pub record HasEnd (b : SeenBoard) (f : SeenFront) : Type 0 where
+  pub answered : 0 < f.ends
   pub happened : f.happened ≡ length f.script
   pub taken : b.book.state.accepted ≡ length (names_of f.script)
 
--- with exit status 0: the server stopped because nothing more could come, no connection was cut short by anything but want of
--- memory, and the report was written
+-- with exit status 0: the server stopped because nothing more could come, and the report was written
 pub record EndsWell (sink sink' : SinkSeen) (b : SeenBoard) : Type 0 where
   pub going : b.book.state.going ≡ Halted why.FrontEnded
-  pub none_cut : list_any is_cut b.ended ≡ false
   pub report : Reports sink sink' b
 
 -- with exit status 5: the same, but a write of the report failed
 pub record EndsUnwritten (sink sink' : SinkSeen) (b : SeenBoard) : Type 0 where
   pub going : b.book.state.going ≡ Halted why.FrontEnded
-  pub none_cut : list_any is_cut b.ended ≡ false
   pub failed : Rises sink.faults sink'.faults
 
 -- with exit status 7: the history has a stop because it is full, at a load that is at its limit

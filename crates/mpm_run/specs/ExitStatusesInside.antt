@@ -1,11 +1,12 @@
 -- What the parts of the top call say of the exit status and of what was written.
 use Rattle.std.specs.Prelude.{◌≡◌, ℕ, Bool, true, false, ◌⊎◌, List, ◌++◌, Option, Some, option_map}
 use Rattle.mpm_base.specs.Count.{Rises}
+use Rattle.mpm_base.specs.Sink.{SinkSeen}
 use Rattle.mpm_script.specs.declared.script.ScriptFault.{ScriptFault}
 use Rattle.conn_machine.specs.declared.event.Why.TheVariants as why
 use Rattle.conn_machine.specs.declared.state.Going.{Going}
 use Rattle.conn_machine.specs.declared.state.Going.TheVariants.{Halted}
-use Rattle.mpm_run.specs.ExitStatuses.{SinkSeen, WritesText, fault_at}
+use Rattle.mpm_run.specs.ExitStatuses.{WritesText, fault_at}
 use Rattle.mpm_run.specs.Texts.{script_refused}
 use Rattle.mpm_run.specs.declared.texts.ScriptRefusal.{ScriptRefusal}
 
@@ -13,7 +14,7 @@ use Rattle.mpm_run.specs.declared.texts.ScriptRefusal.{ScriptRefusal}
 
 -- the exit status of a run that stopped so, unless its report is not written
 abbrev pub IsExitStatusOf : Going → ℕ → Type 0
-IsExitStatusOf (Halted why.FrontEnded) status = (status ≡ 0) ⊎ (status ≡ 6)
+IsExitStatusOf (Halted why.FrontEnded) status = status ≡ 0
 IsExitStatusOf (Halted why.Full) status = status ≡ 7
 IsExitStatusOf (Halted why.NoMemory) status = status ≡ 6
 IsExitStatusOf other status = ⊥

@@ -1,5 +1,6 @@
 -- The numbers that a run works by.
-use Rattle.std.specs.Prelude.{◌≡◌, ◌≤◌, true, []}
+use Rattle.std.specs.Prelude.{◌≡◌, ◌≤◌, true, [], ◌∷◌, None}
+use Rattle.mpm_base.specs.declared.addr.Addr.{Addr}
 use Rattle.mpm_base.specs.declared.shape.Shape.{Shape}
 use Rattle.mpm_config.specs.Shape.{default_shape}
 use Rattle.conn_machine.specs.Children.{is_in_bounds}
@@ -12,9 +13,15 @@ use Rattle.mpm_run.specs.declared.run_numbers.RunNumbers.{RunNumbers}
 abbrev pub first_shape : Shape
 first_shape = record default_shape { target = 1; children = 1 }
 
--- the numbers of the first runs: 64 slots, one child, and two passes, of which one listens and one serves
+-- where an empty configuration listens
+abbrev pub first_listen : Addr
+first_listen = record { host = 127 ∷ 0 ∷ 0 ∷ 1 ∷ []; port = 8080 }
+
+-- the numbers of the first runs: 64 slots, one child, and two passes, of which one listens and one serves; and no port for command
+-- lines
 abbrev pub first_numbers : RunNumbers
-first_numbers = record { slots = 64; children = 1; passes = 2; shape = first_shape }
+first_numbers =
+    record { slots = 64; children = 1; passes = 2; shape = first_shape; listen = first_listen; control = None }
 
 -- the numbers are ones that a table may have, and one pass serves at least
 pub record AreNumbers (n : RunNumbers) : Type 0 where

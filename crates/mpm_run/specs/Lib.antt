@@ -1,11 +1,14 @@
+pub mod ClosingInside
 pub mod ExitStatuses
 pub mod ExitStatusesInside
 pub mod FirstNumbers
 pub mod Invocations
 pub mod Listen
 pub mod ListenInside
+pub mod Patient
 pub mod Report
 pub mod RoundInside
 pub mod Tells
 pub mod Texts
 pub mod Times
+pub mod Watched

@@ -1,4 +1,4 @@
--- What the listener keeps, and how a run ends.
+-- How a run ends, and what its history and its connections are.
 use Rattle.std.specs.Prelude.{◌≡◌, ℕ, true, false, length}
 use Rattle.std.specs.List.{list_any}
 use Rattle.conn_machine.specs.declared.state.State.{State}
@@ -6,7 +6,7 @@ use Rattle.conn_machine.specs.Rows.{is_live}
 use Rattle.conn_machine.specs.Children.{child_at, is_empty}
 use Rattle.conn_machine.specs.Events.{count_events, is_accept}
 use Rattle.conn_machine.specs.Runs.{after, IsHistory}
-use Rattle.conn_machine.specs.Made.{AreMade}
+use Rattle.conn_machine.specs.Made.{AreMade, AreOfPasses}
 use Rattle.conn_machine.specs.Laws.{StaysSound}
 use Rattle.board.specs.Book.{StopsWhereFull, TellsFullStop}
 use Rattle.board.specs.Board.{SeenBoard, Agrees}
@@ -31,12 +31,13 @@ pub record IsClosedDown (s : State) : Type 0 where
 -- ## A run
 
 -- the history that is kept is one of the machine, from the opening state of these numbers on, in the order of its passes, and
--- each entry is one that its pass may make where it stands; each state on its way is sound; a stop because the history is full
+-- each entry is one that its pass, one of so many, may make where it stands; each state on its way is sound; a stop because the history is full
 -- stands only where it is, and is told by the state; and the connections agree with the history
 pub record IsRunFrom (n : RunNumbers) (b : SeenBoard) : Type 0 where
   pub opened : b.book.base ≡ opened_by n
   pub is_history : IsHistory (opened_by n) b.book.history
   pub made : AreMade (opened_by n) b.book.history
+  pub few : AreOfPasses n.passes b.book.history
   pub state : after (opened_by n) b.book.history ≡ b.book.state
   pub stays_sound : StaysSound (opened_by n) b.book.history
   pub stops : StopsWhereFull b.book.history

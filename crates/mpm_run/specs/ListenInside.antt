@@ -1,22 +1,21 @@
--- What the listener keeps of the waits of its front and of the calls of its clock.
-use Rattle.std.specs.Prelude.{◌≡◌, ℕ, List, map, Option, IfSome, option_map, is_some, ◌⊎◌, ◌↔◌, ◌≤◌, Bool, true, false, [], None, Some, slice_get, ⊤}
+-- What the listener keeps on its way, of its front, its clock and its table, and how its turns end.
+use Rattle.std.specs.Prelude.{◌≡◌, ℕ, List, map, Option, IfSome, option_map, is_some, ◌⊎◌, ◌↔◌, ◌≤◌, Bool, true, false, [], ◌∷◌, None, Some, slice_get, length, Result, Ok, Err, ⊤}
 use Rattle.mpm_base.specs.Clock.{Answers, asked_at}
-use Rattle.mpm_base.specs.Front.{FrontTold, WaitTold, moments_of, FrontCounts, HasAllTaken}
+use Rattle.mpm_base.specs.Front.{FrontTold, FrontSeen, BoundTold, WaitTold, moments_of, HasNoneToTake}
 use Rattle.mpm_base.specs.declared.front.Woke.{Woke}
 use Rattle.mpm_base.specs.declared.front.Woke.TheVariants as woke
 use Rattle.std.specs.List.{list_any}
-use Rattle.mpm_base.specs.Count.{NeverFalls, Rises}
-use Rattle.mpm_base.specs.Link.{LinkTold}
-use Rattle.mpm_base.specs.declared.script_line.ScriptLine.{ScriptLine}
+use Rattle.mpm_base.specs.Count.{NeverFalls, Rises, next_count}
+use Rattle.mpm_base.specs.Link.{LinkTold, LinkSeen}
 use Rattle.mpm_base.specs.declared.conn.ConnName.{ConnName}
 use Rattle.conn_machine.specs.declared.row.Row.{Row}
+use Rattle.conn_machine.specs.declared.event.Why.{Why}
 use Rattle.conn_machine.specs.declared.event.Why.TheVariants as why
 use Rattle.conn_machine.specs.declared.state.Going.{Going}
 use Rattle.conn_machine.specs.declared.state.Going.TheVariants.{Halted}
 use Rattle.conn_machine.specs.declared.state.State.{State}
 use Rattle.conn_machine.specs.Rows.{is_held, is_lingering, is_parked, live_row}
 use Rattle.conn_machine.specs.States.{is_halted, is_overdue}
-use Rattle.conn_machine.specs.Table.{may_retire}
 use Rattle.conn_machine.specs.Runs.{full_load, load}
 use Rattle.conn_state.specs.Conn.{IsFresh}
 use Rattle.conn_state.specs.Known.{KnownOutside}
@@ -24,14 +23,24 @@ use Rattle.board.specs.declared.faults.BoardFault.{BoardFault}
 use Rattle.board.specs.declared.faults.BoardFault.TheVariants as fault
 use Rattle.board.specs.Book.{SeenBook}
 use Rattle.board.specs.Board.{SeenBoard}
-use Rattle.board.specs.Finds.{acceptable, is_due, is_quiet, startable}
+use Rattle.board.specs.Finds.{acceptable}
 use Rattle.mpm_run.specs.declared.listen.End.{End}
 use Rattle.mpm_run.specs.declared.listen.End.TheVariants as end
 use Rattle.mpm_run.specs.Listen.{HasNoLive, IsClosedDown}
+use Rattle.mpm_run.specs.Patient.{IsAtRest}
+use Rattle.mpm_run.specs.Watched.{AreWatched, accepted_names}
 
 -- the waits of a front, where it tells
 abbrev pub waits_of : Option FrontTold → Option (List WaitTold)
 waits_of told = option_map (λ t. t.waits) told
+
+-- what a front was bound to, where it tells
+abbrev pub bound_of : Option FrontTold → Option (List BoundTold)
+bound_of told = option_map (λ t. t.bound) told
+
+-- links were handed out and watched, or an accept failed, and nothing else happened to the front
+pub record OnlyTakes (t t' : FrontTold) : Type 0 where
+  pub rest : t' ≡ record t { accepted = t'.accepted; watches = t'.watches; failed = t'.failed }
 
 -- a clock that tells was told the moments that the waits of a front that tells gave, in order, and no others
 abbrev pub IsInTime : Option (List WaitTold) → Option (List (ℕ × ℕ)) → Type 0
@@ -44,52 +53,81 @@ AsksFor (woke.Woke m) present calls calls' moment = Answers calls calls' m momen
 AsksFor woke.Ended present calls calls' moment = (calls' ≡ calls) × (moment ≡ present)
 AsksFor woke.Failed present calls calls' moment = (calls' ≡ calls) × (moment ≡ present)
 
--- what is seen of a front: the script that it was made of, what it tells, and its counts
-pub record SeenOutside : Type 0 where
-  pub script : Option (List ScriptLine)
-  pub told : Option FrontTold
-  pub counts : FrontCounts
-
--- the same, of its parts
-abbrev pub outside : Option (List ScriptLine) → Option FrontTold → FrontCounts → SeenOutside
-outside script told counts = record { script = script; told = told; counts = counts }
-
 -- the front tells, and its clients are these
 abbrev pub HasClients : List (List ℕ) → Option FrontTold → Type 0
 HasClients clients told = (t : FrontTold) × (told ≡ Some t) × (t.clients ≡ clients)
 
 -- each link of the type tells
-pub record LinksTell {L : Type 0} (told : L → Option LinkTold) : Type 0 where
-  pub each : (link : L) → (t : LinkTold) × (told link ≡ Some t)
+pub record LinksTell {L : Type 0} (link_seen : L → LinkSeen) : Type 0 where
+  pub each : (link : L) → (t : LinkTold) × ((link_seen link).told ≡ Some t)
 
 -- what is seen of a listener: its board, its front, the calls of its clock, and the slots that the last wait gave
 pub record SeenListener : Type 0 where
   pub board : SeenBoard
-  pub front : SeenOutside
+  pub front : FrontSeen
   pub calls : Option (List (ℕ × ℕ))
   pub ready : List ℕ
 
 -- what is known of the outside is what the front tells, and then each link of the type tells
-pub record IsNamed {L : Type 0} (known : Option KnownOutside) (link_told : L → Option LinkTold) (told : Option FrontTold) : Type 0 where
+pub record IsNamed {L : Type 0} (known : Option KnownOutside) (link_seen : L → LinkSeen) (told : Option FrontTold) : Type 0 where
   pub front : IfSome known (λ k. HasClients k.clients told)
-  pub links : is_some known ≡ true → LinksTell link_told
+  pub links : is_some known ≡ true → LinksTell link_seen
 
--- nothing was asked yet of a front and of a clock that tell
-pub record IsStarting (told : Option FrontTold) (calls : Option (List (ℕ × ℕ))) : Type 0 where
-  pub accepted : IfSome told (λ t. t.accepted ≡ 0)
-  pub waits : IfSome told (λ t. t.waits ≡ [])
+-- nothing was asked of the front, and nothing has come
+pub record IsUnasked (t : FrontTold) : Type 0 where
+  pub accepted : t.accepted ≡ 0
+  pub arrived : t.arrived ≡ 0
+  pub moment : t.moment ≡ 0
+  pub hushed : t.hushed ≡ false
+  pub watches : t.watches ≡ []
+  pub waits : t.waits ≡ []
+
+-- the same of a front and of a clock that tell
+pub record IsIdle (told : Option FrontTold) (calls : Option (List (ℕ × ℕ))) : Type 0 where
+  pub front : IfSome told IsUnasked
   pub calls_are : IfSome calls (λ calls. calls ≡ [])
 
+-- and the front wasn't bound
+pub record IsStarting (told : Option FrontTold) (calls : Option (List (ℕ × ℕ))) : Type 0 where
+  pub idle : IsIdle told calls
+  pub unbound : IfSome told (λ t. t.bound ≡ [])
+
 -- the front is still the one that it was
-pub record Follows (old new : SeenOutside) : Type 0 where
+pub record Follows (old new : FrontSeen) : Type 0 where
   pub script : new.script ≡ old.script
   pub clients : (clients : List (List ℕ)) → HasClients clients old.told → HasClients clients new.told
   pub faults : NeverFalls old.counts.faults new.counts.faults
   pub ends : NeverFalls old.counts.ends new.counts.ends
 
--- the front, where it tells, handed out as many links as the table took connections
+-- the front listens, and handed out as many links as the table took connections
+pub record KeepsStep (s : State) (t : FrontTold) : Type 0 where
+  pub listens : t.hushed ≡ false
+  pub accepted : t.accepted ≡ s.accepted
+
+-- the same of a front that tells
 abbrev pub IsInStep : Option FrontTold → State → Type 0
-IsInStep told s = IfSome told (λ t. t.accepted ≡ s.accepted)
+IsInStep told s = IfSome told (KeepsStep s)
+
+-- the number at which a count from this one stands behind the names
+abbrev pub number_after : ℕ → List ConnName → ℕ
+number_after number [] = number
+number_after number (name ∷ names) = number_after (next_count number) names
+
+-- the front watches each link that the table took, and the table counted them
+pub record WatchesAll (b : SeenBook) (t : FrontTold) : Type 0 where
+  pub watches : AreWatched b.history t
+  pub count : b.state.accepted ≡ number_after 0 (accepted_names b.history)
+
+-- the same of a front that tells, whose links tell
+abbrev pub IsWatching : {L : Type 0} → (L → LinkSeen) → Option FrontTold → SeenBook → Type 0
+IsWatching link_seen told b = LinksTell link_seen → IfSome told (WatchesAll b)
+
+-- nothing has come of a front that tells, and of the table nothing was asked: no time has passed
+pub record IsAtStart (told : Option FrontTold) (b : SeenBook) : Type 0 where
+  pub none : IfSome told (λ t. t.accepted ≡ t.arrived)
+  pub first : IfSome told (λ t. t.moment ≡ 0)
+  pub moment : b.state.moment ≡ 0
+  pub history : b.history ≡ []
 
 -- the server has to be stopped for the fault, or was; whatever the passes do, this stays so
 abbrev pub MustStop : BoardFault → SeenBook → Type 0
@@ -118,31 +156,55 @@ pub record HasTaken (s : State) (name : ConnName) (child generation arrival : �
   pub arrival_is : row.arrival ≡ arrival
   pub notes : row.notes ≡ []
 
+-- all has happened, each command line was read, and each connection was handed out, which the table took
+pub record HasGivenAll (s : State) (t : FrontTold) : Type 0 where
+  pub left : t.left ≡ 0
+  pub read : t.read ≡ length t.lines
+  pub given : t.accepted ≡ length t.clients
+  pub taken : t.accepted ≡ s.accepted
+
 -- a wait of the front answered Ended, so that one which tells has handed all out, and the table took them
-pub record HasTakenAll (old new : SeenOutside) (s : State) : Type 0 where
+pub record HasTakenAll (old new : FrontSeen) (s : State) : Type 0 where
   pub answered : Rises old.counts.ends new.counts.ends
-  pub taken : IfSome new.told (λ t. HasAllTaken t × (t.accepted ≡ s.accepted))
+  pub taken : IfSome new.told (HasGivenAll s)
 
 -- nothing more can come, and no connection is live
-pub record HasNothingToCome (old new : SeenOutside) (s : State) : Type 0 where
+pub record HasNothingToCome (old new : FrontSeen) (s : State) : Type 0 where
   pub going : is_halted s.going ≡ false
   pub live : HasNoLive s
   pub all : HasTakenAll old new s
 
 -- the server stopped because nothing more could come
-pub record HasEnded (old new : SeenOutside) (s : State) : Type 0 where
+pub record HasEnded (old new : FrontSeen) (s : State) : Type 0 where
   pub going : s.going ≡ Halted why.FrontEnded
   pub all : HasTakenAll old new s
 
 -- the server stopped because a wait of the front failed
-pub record HasFailed (old new : SeenOutside) (s : State) : Type 0 where
+pub record HasFailed (old new : FrontSeen) (s : State) : Type 0 where
   pub going : s.going ≡ Halted why.FrontFailed
   pub failed : Rises old.counts.faults new.counts.faults
 
--- how the listener's turns end
-abbrev pub TurnsEnd : End → SeenOutside → SeenOutside → State → Type 0
-TurnsEnd end.Ended old new s = HasNothingToCome old new s
-TurnsEnd end.Failed old new s = (is_halted s.going ≡ false) × Rises old.counts.faults new.counts.faults
+-- how the listener's turns end: nothing more can come, or a wait failed, or the server has to stop
+abbrev pub TurnsEnd : Result End BoardFault → FrontSeen → FrontSeen → SeenBook → Type 0
+TurnsEnd (Ok end.Ended) old new b = HasNothingToCome old new b.state
+TurnsEnd (Ok end.Failed) old new b = (is_halted b.state.going ≡ false) × Rises old.counts.faults new.counts.faults
+TurnsEnd (Err fault) old new b = MustStop fault b
+
+-- the server goes on, and no connection is live where nothing more can come; or it has to stop for the fault, or did
+abbrev pub MustHalt : Result End BoardFault → SeenBook → Type 0
+MustHalt (Ok end.Ended) b = (is_halted b.state.going ≡ false) × HasNoLive b.state
+MustHalt (Ok end.Failed) b = is_halted b.state.going ≡ false
+MustHalt (Err fault) b = MustStop fault b
+
+-- why the server stops at the end of the turns
+abbrev pub why_of : End → Why
+why_of end.Ended = why.FrontEnded
+why_of end.Failed = why.FrontFailed
+
+-- how the server stops behind them
+abbrev pub HaltsAs : Result End BoardFault → Going → Type 0
+HaltsAs (Ok end) going = going ≡ Halted (why_of end)
+HaltsAs (Err fault) going = (going ≡ Halted why.Full) ⊎ (going ≡ Halted why.NoMemory)
 
 -- no connection is late
 abbrev pub NoneOverdue : State → Type 0
@@ -152,22 +214,11 @@ NoneOverdue s = list_any (is_overdue s.moment) s.rows ≡ false
 abbrev pub NoneParked : State → Type 0
 NoneParked s = (slot : ℕ) (r : Row) → slice_get s.rows slot ≡ Some r → is_parked r.place ≡ false
 
--- no connection has to be served, for which a worker is free
-abbrev pub NoneDue : State → Type 0
-NoneDue s = (slot : ℕ) (r : Row) → slice_get s.rows slot ≡ Some r → is_due s slot r ≡ false
+-- no further connection is taken: none could be, or a front that tells has none to take, or an accept of it failed
+abbrev pub TookAll : Option FrontTold → State → Type 0
+TookAll told s = (acceptable s ≡ None) ⊎ IfSome told HasNoneToTake ⊎ IfSome told (λ t. t.failed ≡ true)
 
--- no further connection is taken: none could be, none of a front that tells has arrived, or an accept of it failed
-abbrev pub TookAll : Option FrontTold → FrontCounts → FrontCounts → State → Type 0
-TookAll told counts counts' s =
-    (acceptable s ≡ None) ⊎ IfSome told (λ t. t.accepted ≡ t.arrived) ⊎ Rises counts.accept_faults counts'.accept_faults
-
--- the next wait may let time pass: no connection is in hand or has to be served, and no child waits to be started or let go of
-pub record IsAtRest (s : State) : Type 0 where
-  pub quiet : is_quiet s ≡ true
-  pub served : NoneDue s
-  pub kept : (k : ℕ) → may_retire s k ≡ false
-  pub started : startable s ≡ None
-
+-- the next wait may let time pass exactly where nothing is left to be done
 abbrev pub IsRestful : Bool → State → Type 0
 IsRestful quiet s = (quiet ≡ true) ↔ IsAtRest s
 
@@ -176,11 +227,11 @@ abbrev pub IsEnd : Going → Type 0
 IsEnd going = (going ≡ Halted why.FrontEnded) ⊎ (going ≡ Halted why.Full) ⊎ (going ≡ Halted why.NoMemory)
 
 -- why it stopped: nothing more could come, a wait failed, the history was full, or memory lacked
-abbrev pub StoppedFor : SeenOutside → SeenOutside → State → Type 0
+abbrev pub StoppedFor : FrontSeen → FrontSeen → State → Type 0
 StoppedFor old new s =
     HasEnded old new s ⊎ HasFailed old new s ⊎ (s.going ≡ Halted why.Full) ⊎ (s.going ≡ Halted why.NoMemory)
 
 -- it stopped for one of these, and closed down
-pub record HasStopped (old new : SeenOutside) (s : State) : Type 0 where
+pub record HasStopped (old new : FrontSeen) (s : State) : Type 0 where
   pub down : IsClosedDown s
   pub cause : StoppedFor old new s

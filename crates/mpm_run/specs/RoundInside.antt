@@ -1,10 +1,9 @@
 -- The events that the listener adds, by the parts of its round.
-use Rattle.std.specs.Prelude.{◌≡◌, ℕ, Bool, true, false, List, [], ◌∷◌, ◌++◌, length, map, Option, None, option_map, ⊤}
+use Rattle.std.specs.Prelude.{◌≡◌, ◌⊎◌, ℕ, Bool, true, false, List, [], ◌∷◌, ◌++◌, length, map, if◌then◌else◌, Option, None, option_map, Result, Ok, Err, ⊤}
 use Rattle.std.specs.List.{flat_map}
-use Rattle.mpm_base.specs.Front.{after_watch}
+use Rattle.mpm_base.specs.Front.{Waits, after_watch}
 use Rattle.mpm_base.specs.Link.{LinkTold}
 use Rattle.mpm_base.specs.declared.conn.ConnName.{ConnName}
-use Rattle.mpm_base.specs.declared.conn.Cause.{Cause}
 use Rattle.mpm_base.specs.declared.conn.Cause.TheVariants as cause
 use Rattle.mpm_base.specs.declared.conn.Kind.TheVariants.{Reading}
 use Rattle.mpm_base.specs.declared.conn.Tail.TheVariants.{Direct}
@@ -12,30 +11,31 @@ use Rattle.conn_machine.specs.declared.event.Commanded.TheVariants.{Stop}
 use Rattle.conn_machine.specs.declared.event.Event.{Event}
 use Rattle.conn_machine.specs.declared.event.Event.TheVariants as event
 use Rattle.conn_machine.specs.declared.event.Why.TheVariants as why
-use Rattle.conn_machine.specs.Runs.{row_of}
+use Rattle.conn_machine.specs.Runs.{after, row_of}
 use Rattle.conn_state.specs.Conn.{IsFrontOf}
 use Rattle.board.specs.declared.faults.BoardFault.{BoardFault}
 use Rattle.board.specs.declared.faults.BoardFault.TheVariants as fault
+use Rattle.board.specs.Board.{SeenBoard}
 use Rattle.board.specs.Book.{SeenBook}
+use Rattle.board.specs.Finds.{next_deadline_of}
 use Rattle.worker_group.specs.declared.service.Exit.{Exit}
 use Rattle.worker_group.specs.declared.service.Exit.TheVariants as exit
 use Rattle.worker_group.specs.Acts.{Acts}
-use Rattle.worker_group.specs.Service.{given_up}
-use Rattle.mpm_run.specs.ListenInside.{SeenListener}
+use Rattle.worker_group.specs.Service.{given_up, left_events}
+use Rattle.mpm_run.specs.ClosingInside.{AllLeftBy, IsDrainedWay, IsLateWay, IsRetiringWay, LettingGo, RefusedWait, letting_events, refused_events}
+use Rattle.mpm_run.specs.ListenInside.{AsksFor, NoneOverdue, SeenListener, why_of}
+use Rattle.mpm_run.specs.Patient.{IsAtRest}
+use Rattle.mpm_run.specs.declared.listen.End.{End}
+use Rattle.mpm_run.specs.declared.listen.Pause.{Pause}
+use Rattle.mpm_run.specs.declared.listen.Rest.{Rest}
+use Rattle.conn_machine.specs.declared.state.Going.{Going}
+use Rattle.conn_machine.specs.Sound.{IsSound}
+use Rattle.conn_machine.specs.States.{is_halted}
 use Rattle.mpm_run.specs.Times.{known_slots, ticks_to}
 
 -- no pass has a connection
 abbrev pub NoneHas : SeenBook → Type 0
 NoneHas b = (who : ℕ) → row_of who b.history ≡ None
-
--- the events by which connections that wait are held and closed for the cause
-abbrev pub closed_events : Cause → List ConnName → List Event
-closed_events why names = flat_map (λ name. event.Hold name ∷ event.Close name why Direct ∷ []) names
-
--- connections that waited were held and closed for the cause, and nothing else was done
-pub record ClosesSome (why : Cause) (old new : SeenBook) : Type 0 where
-  pub names : List ConnName
-  pub acts : Acts 0 (closed_events why names) None old new
 
 -- children were started, and nothing else was done
 pub record StartsSome (old new : SeenBook) : Type 0 where
@@ -54,12 +54,6 @@ pub record Taking : Type 0 where
   pub name : ConnName
   pub way : Exit
 
--- the events by which a connection in hand is left
-abbrev pub left_events : Exit → ConnName → List Event
-left_events (exit.Park kind) name = event.Park name kind ∷ []
-left_events (exit.Close why) name = event.Close name why Direct ∷ []
-left_events (exit.GiveUp fault) name = given_up fault name
-
 -- the events by which it was taken and left
 abbrev pub taking_events : Taking → List Event
 taking_events t = event.Accept t.name.slot ∷ left_events t.way t.name
@@ -67,7 +61,7 @@ taking_events t = event.Accept t.name.slot ∷ left_events t.way t.name
 -- a connection that the front watches waits for its first request, and another one is closed
 abbrev pub way_of : Bool → Exit
 way_of true = exit.Park Reading
-way_of false = exit.Close cause.LinkFailed
+way_of false = exit.Close cause.LinkFailed Direct
 
 -- the connection was left so, as the front watches it or doesn't
 pub record IsLeft (way : Exit) : Type 0 where
@@ -101,34 +95,99 @@ pub record TakesUntil (old new : SeenBook) : Type 0 where
   pub takes : List Taking
   pub acts : Acts 0 (flat_map taking_events takes) None old new
 
+-- ## A wait
+
+-- the wait was told this and answered that, the moment is the clock's behind the answer, and nothing else happened; the state
+-- is that after the history, and sound
+pub record HasWaited (rest : Rest) (pause : Pause) (old new : SeenListener) : Type 0 where
+  pub board : new.board ≡ old.board
+  pub state : after old.board.book.base old.board.book.history ≡ old.board.book.state
+  pub sound : IsSound old.board.book.state
+  pub waits : Waits old.front new.front rest.until rest.quiet pause.woke new.ready
+  pub asks : AsksFor pause.woke old.board.book.state.moment old.calls new.calls pause.moment
+
+-- where the next wait may let time pass nothing was done, and nothing is left to be done
+pub record IsSettledBy (rest : Rest) (old new : SeenBoard) : Type 0 where
+  pub same : new ≡ old
+  pub until : rest.until ≡ next_deadline_of old.book.state
+  pub at_rest : IsAtRest old.book.state
+
 -- ## A round
 
--- what a round did: the late connections that it closed before and after time passed, the moment to which it passed, the slots
--- that it signalled, the children that it started, and the connections that it took
+-- the connections that were let go of behind the signals: those that were kept alive by a child that stops, those that were late at
+-- once then, and those that were drained
+pub record Lettings : Type 0 where
+  pub retiring : List LettingGo
+  pub cut : List LettingGo
+  pub drained : List LettingGo
+
+-- what a round did: the late connections that it let go of before and after time passed, the moment to which it passed, the slots
+-- that it signalled, the connections that it let go of then, the one whose further wait was refused, if any, the children that it
+-- let go of, those that it started, and the connections that it took
 pub record Round : Type 0 where
-  pub early : List ConnName
+  pub early : List LettingGo
   pub ticks : List ℕ
-  pub late : List ConnName
+  pub late : List LettingGo
   pub signals : List ℕ
+  pub lettings : Lettings
+  pub refused : List RefusedWait
+  pub retired : List ℕ
   pub starts : List ℕ
   pub takes : List Taking
 
+-- the events by which connections were let go of
+abbrev pub gone_events : List LettingGo → List Event
+gone_events gone = flat_map letting_events gone
+
 -- the events by which time passes
-abbrev pub time_events : List ConnName → List ℕ → List ConnName → List Event
-time_events early ticks late =
-    closed_events cause.NoMemory early ++ map event.Tick ticks ++ closed_events cause.NoMemory late
+abbrev pub time_events : List LettingGo → List ℕ → List LettingGo → List Event
+time_events early ticks late = gone_events early ++ map event.Tick ticks ++ gone_events late
+
+-- the events by which connections are let go of that retire, or linger
+abbrev pub lettings_events : Lettings → List RefusedWait → List Event
+lettings_events l refused =
+    gone_events l.retiring ++ gone_events l.cut ++ gone_events l.drained ++ flat_map refused_events refused
 
 -- the events of a round, in order
 abbrev pub round_events : Round → List Event
 round_events r =
-    time_events r.early r.ticks r.late ++ map event.Ready r.signals ++ map event.StartChild r.starts
-    ++ flat_map taking_events r.takes
+    time_events r.early r.ticks r.late ++ map event.Ready r.signals ++ lettings_events r.lettings r.refused
+    ++ map event.Retire r.retired ++ map event.StartChild r.starts ++ flat_map taking_events r.takes
 
--- time passed to that moment, where it is later than the one before; late connections were closed before and after
+-- each of the connections was left in a way that its part allows
+pub record AreLetGo (l : Lettings) : Type 0 where
+  pub retiring : AllLeftBy IsRetiringWay l.retiring
+  pub cut : AllLeftBy IsLateWay l.cut
+  pub drained : AllLeftBy IsDrainedWay l.drained
+
+-- the same of a round
+pub record AreWays (r : Round) : Type 0 where
+  pub early : AllLeftBy IsLateWay r.early
+  pub late : AllLeftBy IsLateWay r.late
+  pub lettings : AreLetGo r.lettings
+
+-- where none is late none was let go of before
+abbrev pub NoneEarly : SeenBook → List LettingGo → Type 0
+NoneEarly old early = NoneOverdue old.state → early ≡ []
+
+-- time passed to that moment, where it is later than the one before; late connections were let go of before and after
 pub record PassesTime (to : ℕ) (old new : SeenBook) : Type 0 where
-  pub early : List ConnName
-  pub late : List ConnName
+  pub early : List LettingGo
+  pub soon : NoneEarly old early
+  pub late : List LettingGo
+  pub early_ways : AllLeftBy IsLateWay early
+  pub late_ways : AllLeftBy IsLateWay late
   pub acts : Acts 0 (time_events early (ticks_to old.state.moment to) late) None old new
+
+-- connections that retire were let go of, and lingering ones drained; the further waits of these were refused
+pub record LetsGoOfConns (refused : List RefusedWait) (old new : SeenBook) : Type 0 where
+  pub lettings : Lettings
+  pub ways : AreLetGo lettings
+  pub acts : Acts 0 (lettings_events lettings refused) None old new
+
+-- the same, until the further wait of one was refused
+abbrev pub LetsGoUntil : SeenBook → SeenBook → Type 0
+LetsGoUntil old new = (refused : RefusedWait) × LetsGoOfConns (refused ∷ []) old new
 
 -- the events by which those of the slots that the table has are signalled, once and in order
 abbrev pub signal_events : SeenBook → List ℕ → List Event
@@ -140,19 +199,25 @@ pub record SignalsFirst (slots : List ℕ) (old new : SeenBook) : Type 0 where
   pub front : IsFrontOf (known_slots (length old.base.rows) slots) first
   pub acts : Acts 0 (map event.Ready first) None old new
 
--- a round let time pass to the given moment, signalled each of the given slots that the table has, and took connections
+-- a round let time pass to the given moment, signalled each of the given slots that the table has, let go of connections and
+-- children, and took connections
 pub record GoesRound (to : ℕ) (slots : List ℕ) (old new : SeenBook) : Type 0 where
   pub round : Round
+  pub soon : NoneEarly old round.early
   pub ticks : round.ticks ≡ ticks_to old.state.moment to
   pub signals : round.signals ≡ known_slots (length old.base.rows) slots
+  pub ways : AreWays round
+  pub none_refused : round.refused ≡ []
   pub left : AllLeft round.takes
   pub acts : Acts 0 (round_events round) None old new
 
 -- a round began with that, and was broken off
 pub record BreaksOff (to : ℕ) (slots : List ℕ) (old new : SeenBook) : Type 0 where
   pub round : Round
+  pub soon : (round.ticks ≡ []) ⊎ NoneEarly old round.early
   pub ticks : IsFrontOf (ticks_to old.state.moment to) round.ticks
   pub signals : IsFrontOf (known_slots (length old.base.rows) slots) round.signals
+  pub ways : AreWays round
   pub acts : Acts 0 (round_events round) None old new
 
 -- ## The end
@@ -162,3 +227,12 @@ abbrev pub stop_events : BoardFault → List Event
 stop_events fault.Halted = []
 stop_events fault.Full = event.Command (Stop why.Full) ∷ []
 stop_events fault.NoMemory = event.Command (Stop why.NoMemory) ∷ []
+
+-- the events by which the turns' end stops the server
+abbrev pub end_events : Result End BoardFault → List Event
+end_events (Ok end) = event.Command (Stop (why_of end)) ∷ []
+end_events (Err fault) = stop_events fault
+
+-- the same, unless it was stopped
+abbrev pub halt_events : Going → Result End BoardFault → List Event
+halt_events going turns = if is_halted going then [] else end_events turns

@@ -110,7 +110,7 @@ SignalsBegin waits b = IsFrontOf (given_slots (length b.base.rows) waits) (signa
 
 -- ## Both
 
--- the server stopped before the listener had done what a wait asked: for a full history, or for want of memory
+-- the server stopped for a full history or for want of memory, so that the listener may not have done all that a wait asked
 abbrev pub IsBrokenOff : Going → Type 0
 IsBrokenOff going = (going ≡ Halted why.Full) ⊎ (going ≡ Halted why.NoMemory)
 

@@ -3,15 +3,18 @@
 //! Each part of a round says which events it adds under the listener's pass, in order (`specs/RoundInside.antt`). Of the
 //! state it says no more than where it stands in the end, and what the listener alone changes: the moment, and how many
 //! connections were taken.
-ghost use Rattle.std.specs.Prelude.{◌≡◌, ◌<◌, ◌+◌, ℕ, List, [], ◌∷◌, map, None, Some, true, false, is_some, max, IfOk, IfErr, OnErr, OnOk};
+ghost use Rattle.std.specs.Prelude.{◌≡◌, ◌<◌, ◌+◌, ℕ, List, [], ◌∷◌, map, None, Some, true, false, is_some, max, IfOk, IfErr, IfSome, OnErr, OnOk};
 ghost use Rattle.std.specs.List.{list_any};
 ghost use Rattle.mpm_base.specs.Count.{next_count};
+ghost use Rattle.mpm_base.specs.Front.{TellsOn};
 ghost use Rattle.mpm_base.specs.declared.conn.Cause.TheVariants as cause;
 ghost use Rattle.mpm_base.specs.declared.conn.Kind.TheVariants.{Reading};
-ghost use Rattle.conn_machine.specs.Made.{IsOpened};
+ghost use Rattle.mpm_base.specs.declared.conn.Tail.TheVariants.{Direct};
+ghost use Rattle.conn_machine.specs.Made.{AreOfPasses, IsOpened};
 ghost use Rattle.conn_machine.specs.Passes.{OnlyServes};
 ghost use Rattle.conn_machine.specs.Rows.{is_live};
 ghost use Rattle.conn_machine.specs.Runs.{after, row_of};
+ghost use Rattle.conn_machine.specs.Sound.{IsSound};
 ghost use Rattle.conn_machine.specs.States.{is_halted};
 ghost use Rattle.conn_machine.specs.Table.{is_allowed};
 ghost use Rattle.conn_machine.specs.declared.event.Event.{Event};
@@ -21,24 +24,30 @@ ghost use Rattle.board.specs.Fits.{IsSettled};
 ghost use Rattle.board.specs.Finds.{acceptable, next_deadline_of, startable};
 ghost use Rattle.worker_group.specs.Acts.{Acts};
 ghost use Rattle.worker_group.specs.InHand.{IsClosable, IsInHand};
-ghost use Rattle.worker_group.specs.Service.{IsUp, LeavesRest};
+ghost use Rattle.worker_group.specs.Service.{IsUp, LeavesRest, left_events};
+ghost use Rattle.mpm_run.specs.ClosingInside.{IsLateWay, LetsGo};
 ghost use Rattle.mpm_run.specs.Listen.{HasNoLive, IsClosedDown};
-ghost use Rattle.mpm_run.specs.ListenInside.{AsksFor, Follows, HasStopped, HasTaken, IsArrival, IsInStep, IsInTime, IsRestful, MustStop, NoneDue, NoneOverdue, NoneParked, TookAll, TurnsEnd, waits_of};
-ghost use Rattle.mpm_run.specs.RoundInside.{BreaksOff, ClosesSome, GivesUp, GoesRound, IsTaking, NoneHas, PassesTime, RetiresSome, SignalsFirst, StartsSome, TakesSome, TakesUntil, left_events, signal_events, stop_events, way_of};
+ghost use Rattle.mpm_run.specs.ListenInside.{AsksFor, Follows, HaltsAs, HasStopped, HasTaken, IsArrival, IsAtStart, IsInStep, IsInTime, IsRestful, IsWatching, MustHalt, MustStop, NoneOverdue, NoneParked, OnlyTakes, TookAll, TurnsEnd, bound_of, waits_of, why_of};
+ghost use Rattle.mpm_run.specs.Patient.{IsPatientRun, NoneDue};
+ghost use Rattle.mpm_run.specs.RoundInside.{BreaksOff, GivesUp, GoesRound, HasWaited, IsSettledBy, IsTaking, LetsGoOfConns, LetsGoUntil, NoneHas, PassesTime, RetiresSome, SignalsFirst, StartsSome, TakesSome, TakesUntil, halt_events, signal_events, stop_events, way_of};
 ghost use Rattle.mpm_run.specs.Times.{IsBrokenOff, IsInformed, IsInformedSoFar, WasInformed, moment_for};
+ghost use Rattle.mpm_run.specs.Watched.{IsHushed};
 
+use crate::closing::{close_all, drain_all, let_go_late, let_go_retiring};
 use board::{AcceptFault, Board, BoardFault, Taken};
 use conn_machine::Why;
 use conn_machine::laws::{each_pass_has_its_own_connection, passes_leave_the_rest_to_the_listener};
 use conn_state::{Conn, Known};
-use mpm_base::{Arrival, Cause, Clock, Front, GREATEST_MOMENT, Kind, Link, Moment, Ready, Woke};
+use mpm_base::{
+    Arrival, Cause, Clock, Front, GREATEST_MOMENT, Kind, Link, Moment, Ready, Tail, Woke,
+};
 use std::alloc::Global;
 use std::marker::Model;
 use std::sync::Wait;
 use worker_group::{close, park, serve};
 
 /// The pass of the listener.
-const LISTENER: u32 = 0;
+pub(crate) const LISTENER: u32 = 0;
 
 /// The pass that serves.
 const SERVER: u32 = 1;
@@ -52,6 +61,18 @@ pub enum End {
     Failed,
 }
 
+impl End {
+    /// Why the server stops then.
+    fn why(self) -> Why
+        ensures { result ≡ why_of self }
+    {
+        match self {
+            End::Ended => Why::FrontEnded,
+            End::Failed => Why::FrontFailed,
+        }
+    }
+}
+
 /// What the next wait of the front is told.
 #[derive(Clone, Copy, Debug, PartialEq, Eq)]
 pub struct Rest {
@@ -59,6 +80,15 @@ pub struct Rest {
     pub until: Option<Moment>,
     /// Whether no connection is in hand or waits for service, so that time may pass.
     pub quiet: bool,
+}
+
+/// What a wait of the front answered, and the moment behind it.
+#[derive(Clone, Copy, Debug, PartialEq, Eq)]
+pub struct Pause {
+    /// What the wait answered.
+    pub woke: Woke,
+    /// What the clock says where the wait gave a moment, and else the present one.
+    pub moment: Moment,
 }
 
 /// What the listener works on.
@@ -77,25 +107,25 @@ pub struct Listener<L: Link + Send, F: Front<L = L>, C: Clock, N: Known> {
 }
 
 impl<L: Link + Send, F: Front<L = L>, C: Clock, N: Known> Model for Listener<L, F, C, N> {
-    ghost use Rattle.mpm_run.specs.ListenInside.{SeenListener, IsNamed, outside};
+    ghost use Rattle.mpm_run.specs.ListenInside.{SeenListener, IsNamed};
 
     ghost Value = { SeenListener };
 
     ghost view = { λ l. record {
       board = l.board;
-      front = outside (F.script l.front) (F.told l.front) (F.counts l.front);
+      front = F.seen l.front;
       calls = C.told l.clock;
       ready = l.ready;
     } };
 
-    ghost invariant = { λ l. IsNamed N.known L.told (F.told l.front) };
+    ghost invariant = { λ l. IsNamed N.known L.seen (F.seen l.front).told };
 }
 
 impl<L: Link + Send, F: Front<L = L>, C: Clock, N: Known> Listener<L, F, C, N> {
     /// Takes the connections that come, has them served, and stops when nothing more can come. The server stops before that
     /// for a wait that failed, for a full history, and for want of memory where a call that the listener must make was refused
-    /// for that; then each connection that waits is closed. However it stops, no connection is live then, and each child is
-    /// gone. How it ended is read off the board.
+    /// for that. However it stops, no further connection is taken then, each one that waits is closed, and each child is let
+    /// go of. How it ended is read off the board.
     pub fn listen<R: Wait>(&mut self, rt: &R)
         requires passes { 1 < self.old.board.book.passes }
         requires opened { IsOpened self.old.board.book.base }
@@ -104,32 +134,25 @@ impl<L: Link + Send, F: Front<L = L>, C: Clock, N: Known> Listener<L, F, C, N> {
         requires step { IsInStep self.old.front.told self.old.board.book.state }
         requires informed { IsInformed (waits_of self.old.front.told) self.old.calls self.old.board.book }
         ensures base { self.new.board.book.base ≡ self.old.board.book.base }
+        ensures few { AreOfPasses self.old.board.book.passes self.old.board.book.history → AreOfPasses self.old.board.book.passes self.new.board.book.history }
         ensures stopped { HasStopped self.old.front self.new.front self.new.board.book.state }
         ensures follows { Follows self.old.front self.new.front }
+        ensures bound { bound_of self.new.front.told ≡ bound_of self.old.front.told }
+        ensures hushed { IfSome self.new.front.told IsHushed }
+        ensures watched { IsWatching L.seen self.old.front.told self.old.board.book → IsWatching L.seen self.new.front.told self.new.board.book }
         ensures time { IsInTime (waits_of self.old.front.told) self.old.calls → IsInTime (waits_of self.new.front.told) self.new.calls }
+        ensures patient { IsAtStart self.old.front.told self.old.board.book → IsPatientRun self.new.front.told self.new.calls self.new.board.book }
         ensures informed { WasInformed (waits_of self.new.front.told) self.new.calls self.new.board.book }
     {
-        match self.take_turns(rt) {
-            Ok(End::Ended) => {
-                self.board.halt(LISTENER, Why::FrontEnded);
-                retire_all(&mut self.board);
-            }
-            Ok(End::Failed) => {
-                self.board.halt(LISTENER, Why::FrontFailed);
-                close_all(&mut self.board);
-                retire_all(&mut self.board);
-            }
-            Err(fault) => {
-                stop(&mut self.board, fault);
-                close_all(&mut self.board);
-                retire_all(&mut self.board);
-            }
-        }
+        let turns = self.take_turns(rt);
+        halt(&mut self.board, turns);
+        self.front.hush();
+        close_all(&mut self.board);
+        retire_all(&mut self.board);
     }
 
     /// Starts the children, and takes turns with the front until nothing more can come, each followed by the service of what
-    /// is signalled. What the next wait is told is found before that service, as a worker's service goes on by itself. Err
-    /// where the server has to stop before.
+    /// is signalled. Err where the server has to stop before.
     fn take_turns<R: Wait>(&mut self, rt: &R) -> Result<End, BoardFault>
         requires passes { 1 < self.old.board.book.passes }
         requires free { NoneHas self.old.board.book }
@@ -137,40 +160,91 @@ impl<L: Link + Send, F: Front<L = L>, C: Clock, N: Known> Listener<L, F, C, N> {
         requires step { IsInStep self.old.front.told self.old.board.book.state }
         requires informed { IsInformed (waits_of self.old.front.told) self.old.calls self.old.board.book }
         ensures base { self.new.board.book.base ≡ self.old.board.book.base }
+        ensures few { AreOfPasses self.old.board.book.passes self.old.board.book.history → AreOfPasses self.old.board.book.passes self.new.board.book.history }
         ensures passes { self.new.board.book.passes ≡ self.old.board.book.passes }
         ensures free { NoneHas self.new.board.book }
         ensures up { IsUp self.new.board.book.state.going }
         ensures follows { Follows self.old.front self.new.front }
+        ensures bound { bound_of self.new.front.told ≡ bound_of self.old.front.told }
+        ensures watched { IsWatching L.seen self.old.front.told self.old.board.book → IsWatching L.seen self.new.front.told self.new.board.book }
         ensures time { IsInTime (waits_of self.old.front.told) self.old.calls → IsInTime (waits_of self.new.front.told) self.new.calls }
-        ensures ok { IfOk result (λ end. TurnsEnd end self.old.front self.new.front self.new.board.book.state) }
+        ensures patient { IsAtStart self.old.front.told self.old.board.book → IsPatientRun self.new.front.told self.new.calls self.new.board.book }
+        ensures ends { TurnsEnd result self.old.front self.new.front self.new.board.book }
         ensures informed { OnOk result (IsInformed (waits_of self.new.front.told) self.new.calls self.new.board.book) }
-        ensures err { IfErr result (λ fault. MustStop fault self.new.board.book) }
         ensures begun { OnErr result (IsInformedSoFar (waits_of self.new.front.told) self.new.calls self.new.board.book) }
     {
-        start_children(&mut self.board)?;
-        let mut rest = Rest {
-            until: None,
-            quiet: true,
-        };
+        let first = self.start()?;
+        let mut rest = first;
         for _ in rt.forever() {
-            let woke = self.front.wait(rt, rest.until, rest.quiet, &mut self.ready);
-            match woke {
-                Woke::Ended if !has_live(&self.board) => return Ok(End::Ended),
+            let pause = self.pause(rt, rest);
+            match pause.woke {
+                Woke::Ended if !self.has_live() => return Ok(End::Ended),
                 Woke::Failed => return Ok(End::Failed),
                 _ => (),
             }
-            let moment = moment_of(&self.board, &mut self.clock, woke);
-            self.take_in(rt, moment)?;
-            rest = find_rest(&self.board);
-            serve_all(&mut self.board)?;
-            if self.board.going().is_halted() {
-                return Err(BoardFault::Halted);
-            }
+            self.take_in(rt, pause.moment)?;
+            rest = self.serve()?;
         }
         unreachable!()
     }
 
-    /// Lets time pass to the moment, signals what something came for, and takes what has arrived.
+    /// Starts the children, and finds what the first wait is told.
+    fn start(&mut self) -> Result<Rest, BoardFault>
+        requires passes { 0 < self.old.board.book.passes }
+        requires free { row_of 0 self.old.board.book.history ≡ None }
+        ensures starts { StartsSome self.old.board.book self.new.board.book }
+        ensures going { self.new.board.book.state.going ≡ self.old.board.book.state.going }
+        ensures rest { LeavesRest self.old.board.book self.new.board.book }
+        ensures others { self.new ≡ record self.old { board = self.new.board } }
+        ensures until { IfOk result (λ rest. rest.until ≡ next_deadline_of self.new.board.book.state) }
+        ensures quiet { IfOk result (λ rest. IsRestful rest.quiet self.new.board.book.state) }
+        ensures err { IfErr result (λ fault. MustStop fault self.new.board.book) }
+    {
+        start_children(&mut self.board)?;
+        Ok(find_rest(&self.board))
+    }
+
+    /// Waits for the front, and asks the clock for the moment that the wait gave.
+    fn pause<R: Wait>(&mut self, rt: &R, rest: Rest) -> Pause
+        ensures { HasWaited rest result self.old self.new }
+    {
+        show_state(&self.board);
+        let woke = self.front.wait(rt, rest.until, rest.quiet, &mut self.ready);
+        Pause {
+            woke,
+            moment: moment_of(&self.board, &mut self.clock, woke),
+        }
+    }
+
+    /// Whether a connection is live: one in hand, or one that waits.
+    fn has_live(&self) -> bool
+        ensures { result ≡ list_any is_live self.now.board.book.state.rows }
+    {
+        has_live(&self.board)
+    }
+
+    /// Serves what is signalled, and finds what the next wait is told. That is found before the service, as a worker's service
+    /// goes on by itself. Err where the server has stopped.
+    fn serve(&mut self) -> Result<Rest, BoardFault>
+        requires passes { 1 < self.old.board.book.passes }
+        requires free { row_of 1 self.old.board.book.history ≡ None }
+        ensures acts { (events : List Event) × Acts 1 events None self.old.board.book self.new.board.book }
+        ensures serves { OnlyServes self.old.board.book.state self.new.board.book.state }
+        ensures going { OnOk result (is_halted self.new.board.book.state.going ≡ false) }
+        ensures settled { IfOk result (λ rest. rest.quiet ≡ true → IsSettledBy rest self.old.board self.new.board) }
+        ensures others { self.new ≡ record self.old { board = self.new.board } }
+        ensures err { IfErr result (λ fault. MustStop fault self.new.board.book) }
+    {
+        let rest = find_rest(&self.board);
+        serve_all(&mut self.board)?;
+        if self.board.going().is_halted() {
+            return Err(BoardFault::Halted);
+        }
+        Ok(rest)
+    }
+
+    /// Lets time pass to the moment, signals what something came for, lets go of what retires, lingers or has drained, starts
+    /// children, and takes what has arrived.
     fn take_in<R: Wait>(&mut self, rt: &R, moment: Moment) -> Result<(), BoardFault>
         requires passes { 0 < self.old.board.book.passes }
         requires free { row_of 0 self.old.board.book.history ≡ None }
@@ -181,14 +255,17 @@ impl<L: Link + Send, F: Front<L = L>, C: Clock, N: Known> Listener<L, F, C, N> {
         ensures up { IsUp self.new.board.book.state.going }
         ensures moment { OnOk result (self.new.board.book.state.moment ≡ max self.old.board.book.state.moment (moment_for moment)) }
         ensures step { OnOk result (IsInStep self.new.front.told self.new.board.book.state) }
-        ensures taken { OnOk result (TookAll self.new.front.told self.old.front.counts self.new.front.counts self.new.board.book.state) }
+        ensures taken { OnOk result (TookAll self.new.front.told self.new.board.book.state) }
         ensures follows { Follows self.old.front self.new.front }
-        ensures waits { waits_of self.new.front.told ≡ waits_of self.old.front.told }
+        ensures front { TellsOn OnlyTakes self.old.front.told self.new.front.told }
+        ensures watched { IsWatching L.seen self.old.front.told self.old.board.book → IsWatching L.seen self.new.front.told self.new.board.book }
         ensures calls { self.new.calls ≡ self.old.calls }
         ensures err { IfErr result (λ fault. MustStop fault self.new.board.book) }
     {
         pass_time(&mut self.board, moment)?;
         signal_all(&mut self.board, self.ready.slots())?;
+        let_go_of_conns(&mut self.board)?;
+        retire_all(&mut self.board);
         start_children(&mut self.board)?;
         self.take_all(rt)
     }
@@ -204,9 +281,10 @@ impl<L: Link + Send, F: Front<L = L>, C: Clock, N: Known> Listener<L, F, C, N> {
         ensures up { IsUp self.new.board.book.state.going }
         ensures moment { self.new.board.book.state.moment ≡ self.old.board.book.state.moment }
         ensures step { OnOk result (IsInStep self.new.front.told self.new.board.book.state) }
-        ensures taken { OnOk result (TookAll self.new.front.told self.old.front.counts self.new.front.counts self.new.board.book.state) }
+        ensures taken { OnOk result (TookAll self.new.front.told self.new.board.book.state) }
         ensures follows { Follows self.old.front self.new.front }
-        ensures waits { waits_of self.new.front.told ≡ waits_of self.old.front.told }
+        ensures front { TellsOn OnlyTakes self.old.front.told self.new.front.told }
+        ensures watched { IsWatching L.seen self.old.front.told self.old.board.book → IsWatching L.seen self.new.front.told self.new.board.book }
         ensures calls { self.new.calls ≡ self.old.calls }
         ensures ready { self.new.ready ≡ self.old.ready }
         ensures err { IfErr result (λ fault. MustStop fault self.new.board.book) }
@@ -230,18 +308,18 @@ impl<L: Link + Send, F: Front<L = L>, C: Clock, N: Known> Listener<L, F, C, N> {
         requires free { row_of 0 self.old.board.book.history ≡ None }
         requires acceptable { is_some (acceptable self.old.board.book.state) ≡ true }
         requires up { IsUp self.old.board.book.state.going }
-        requires arrival { IsArrival self.old.board.book.state.accepted (L.told link) }
-        requires client { IsOfClient N.known (L.told link) }
-        requires healthy { (L.counts link).faults ≡ 0 }
-        ensures takes { OnOk result (IsTaking (L.told link) self.old self.new) }
+        requires arrival { IsArrival self.old.board.book.state.accepted (L.seen link).told }
+        requires client { IsOfClient N.known (L.seen link).told }
+        requires healthy { (L.seen link).counts.faults ≡ 0 }
+        ensures takes { OnOk result (IsTaking (L.seen link).told self.old self.new) }
         ensures until { OnErr result (TakesUntil self.old.board.book self.new.board.book) }
         ensures up { IsUp self.new.board.book.state.going }
         ensures moment { self.new.board.book.state.moment ≡ self.old.board.book.state.moment }
         ensures taken { OnOk result (self.new.board.book.state.accepted ≡ next_count self.old.board.book.state.accepted) }
         ensures step { IsInStep self.old.front.told self.new.board.book.state → IsInStep self.new.front.told self.new.board.book.state }
         ensures follows { Follows self.old.front self.new.front }
-        ensures waits { waits_of self.new.front.told ≡ waits_of self.old.front.told }
-        ensures counts { self.new.front.counts ≡ self.old.front.counts }
+        ensures front { TellsOn OnlyTakes self.old.front.told self.new.front.told }
+        ensures watched { IsWatching L.seen self.old.front.told self.old.board.book → IsWatching L.seen self.new.front.told self.new.board.book }
         ensures calls { self.new.calls ≡ self.old.calls }
         ensures ready { self.new.ready ≡ self.old.ready }
         ensures err { IfErr result (λ fault. MustStop fault self.new.board.book) }
@@ -271,8 +349,8 @@ fn settle<L: Link, N: Known>(
     requires row { row_of 0 board.old.book.history ≡ Some conn.name }
     requires hand { IsInHand board.old.book.state conn }
     requires allowed { is_halted board.old.book.state.going ≡ false → is_allowed board.old.book.state (event.Park conn.name Reading) ≡ true }
-    requires settled { watched ≡ true → IsSettled Reading conn }
-    requires closable { watched ≡ false → IsClosable board.old.book.state cause.LinkFailed conn }
+    requires settled { watched ≡ true → IsSettled Reading None conn }
+    requires closable { watched ≡ false → IsClosable board.old.book.state cause.LinkFailed Direct conn }
     ensures left { OnOk result (Acts 0 (left_events (way_of watched) conn.name) None board.old.book board.new.book) }
     ensures given_up { IfErr result (λ fault. GivesUp fault conn.name board.old.book board.new.book) }
     ensures rest { LeavesRest board.old.book board.new.book }
@@ -281,7 +359,7 @@ fn settle<L: Link, N: Known>(
     if watched {
         park(board, LISTENER, conn, Kind::Reading)
     } else {
-        close(board, LISTENER, conn, Cause::LinkFailed);
+        close(board, LISTENER, conn, Cause::LinkFailed, Tail::Direct);
         Ok(())
     }
 }
@@ -323,7 +401,7 @@ fn moment_of<L: Link, N: Known, C: Clock>(board: &Board<L, N>, clock: &mut C, wo
     }
 }
 
-/// What the next wait is told: until when it may take, and whether nobody serves or has to.
+/// What the next wait is told: until when it may take, and whether nothing is left to do.
 fn find_rest<L: Link, N: Known>(board: &Board<L, N>) -> Rest
     ensures until { result.until ≡ next_deadline_of board.now.book.state }
     ensures quiet { IsRestful result.quiet board.now.book.state }
@@ -332,6 +410,8 @@ fn find_rest<L: Link, N: Known>(board: &Board<L, N>) -> Rest
         until: board.next_deadline(),
         quiet: board.quiet()
             && board.signalled().is_none()
+            && board.signalled_linger().is_none()
+            && board.retiring().is_none()
             && board.can_retire().is_none()
             && board.can_start().is_none(),
     }
@@ -344,43 +424,27 @@ fn has_live<L: Link, N: Known>(board: &Board<L, N>) -> bool
     !board.quiet() || board.parked().is_some()
 }
 
-/// Lets time pass to the moment, where it is later than the present one. A connection that is late is closed before and after.
+/// Lets time pass to the moment, where it is later than the present one. Connections that are late are let go of before and after.
 fn pass_time<L: Link, N: Known>(board: &mut Board<L, N>, moment: Moment) -> Result<(), BoardFault>
     requires passes { 0 < board.old.book.passes }
     requires free { row_of 0 board.old.book.history ≡ None }
     requires up { IsUp board.old.book.state.going }
     ensures passes { OnOk result (PassesTime (moment_for moment) board.old.book board.new.book) }
-    ensures refused { OnErr result (ClosesSome cause.NoMemory board.old.book board.new.book) }
+    ensures refused { OnErr result (LetsGo IsLateWay board.old.book board.new.book) }
     ensures none { OnOk result (NoneOverdue board.new.book.state) }
     ensures up { IsUp board.new.book.state.going }
     ensures moment { OnOk result (board.new.book.state.moment ≡ max board.old.book.state.moment (moment_for moment)) }
     ensures taken { board.new.book.state.accepted ≡ board.old.book.state.accepted }
     ensures err { IfErr result (λ fault. MustStop fault board.new.book) }
 {
-    close_overdue(board);
+    let_go_late(board);
     let moment = moment.min(GREATEST_MOMENT);
     if moment > board.moment() {
         board.show();
         board.tick(LISTENER, moment)?;
-        close_overdue(board);
+        let_go_late(board);
     }
     Ok(())
-}
-
-/// Closes each connection that is late. Lingering closes are not built yet: such a connection ends for want of memory, the one
-/// cause that needs no other. Takes no memory.
-fn close_overdue<L: Link, N: Known>(board: &mut Board<L, N>)
-    requires passes { 0 < board.old.book.passes }
-    requires free { row_of 0 board.old.book.history ≡ None }
-    ensures closes { ClosesSome cause.NoMemory board.old.book board.new.book }
-    ensures none { NoneOverdue board.new.book.state }
-    ensures rest { LeavesRest board.old.book board.new.book }
-{
-    while let Some(name) = board.overdue() {
-        let conn = board.hold(LISTENER, name);
-        board.show();
-        close(board, LISTENER, conn, Cause::NoMemory);
-    }
 }
 
 /// Signals each of the slots that the table has.
@@ -414,6 +478,21 @@ fn signal<L: Link, N: Known>(board: &mut Board<L, N>, slot: u32) -> Result<(), B
     board.ready(LISTENER, slot)
 }
 
+/// Lets go of each connection that is kept alive by a child that stops, and drains those that linger. One that begins to linger is
+/// late at once where moments end.
+fn let_go_of_conns<L: Link, N: Known>(board: &mut Board<L, N>) -> Result<(), BoardFault>
+    requires passes { 0 < board.old.book.passes }
+    requires free { row_of 0 board.old.book.history ≡ None }
+    ensures gone { OnOk result (LetsGoOfConns [] board.old.book board.new.book) }
+    ensures until { OnErr result (LetsGoUntil board.old.book board.new.book) }
+    ensures rest { LeavesRest board.old.book board.new.book }
+    ensures err { IfErr result (λ fault. MustStop fault board.new.book) }
+{
+    let_go_retiring(board);
+    let_go_late(board);
+    drain_all(board)
+}
+
 /// Starts children, while fewer run than should.
 fn start_children<L: Link, N: Known>(board: &mut Board<L, N>) -> Result<(), BoardFault>
     requires passes { 0 < board.old.book.passes }
@@ -438,6 +517,7 @@ fn serve_all<L: Link, N: Known>(board: &mut Board<L, N>) -> Result<(), BoardFaul
     ensures acts { (events : List Event) × Acts 1 events None board.old.book board.new.book }
     ensures serves { OnlyServes board.old.book.state board.new.book.state }
     ensures served { OnOk result (NoneDue board.new.book.state) }
+    ensures still { NoneDue board.old.book.state → board.new ≡ board.old }
     ensures err { IfErr result (λ fault. MustStop fault board.new.book) }
 {
     passes_leave_the_rest_to_the_listener();
@@ -449,6 +529,23 @@ fn serve_all<L: Link, N: Known>(board: &mut Board<L, N>) -> Result<(), BoardFaul
     Ok(())
 }
 
+/// Stops the server for what ended the listener's turns, unless it was stopped. Takes no memory.
+fn halt<L: Link, N: Known>(board: &mut Board<L, N>, turns: Result<End, BoardFault>)
+    requires passes { 0 < board.old.book.passes }
+    requires free { row_of 0 board.old.book.history ≡ None }
+    requires must { MustHalt turns board.old.book }
+    requires up { IsUp board.old.book.state.going }
+    ensures acts { Acts 0 (halt_events board.old.book.state.going turns) None board.old.book board.new.book }
+    ensures stopped { HaltsAs turns board.new.book.state.going }
+    ensures moment { board.new.book.state.moment ≡ board.old.book.state.moment }
+    ensures taken { board.new.book.state.accepted ≡ board.old.book.state.accepted }
+{
+    match turns {
+        Ok(end) => board.halt(LISTENER, end.why()),
+        Err(fault) => stop(board, fault),
+    }
+}
+
 /// Stops the server for the fault, unless it was stopped. Takes no memory.
 fn stop<L: Link, N: Known>(board: &mut Board<L, N>, fault: BoardFault)
     requires passes { 0 < board.old.book.passes }
@@ -458,6 +555,8 @@ fn stop<L: Link, N: Known>(board: &mut Board<L, N>, fault: BoardFault)
     ensures stops { is_halted board.old.book.state.going ≡ false → Acts 0 (stop_events fault) None board.old.book board.new.book }
     ensures stays { is_halted board.old.book.state.going ≡ true → board.new ≡ board.old }
     ensures stopped { IsBrokenOff board.new.book.state.going }
+    ensures moment { board.new.book.state.moment ≡ board.old.book.state.moment }
+    ensures taken { board.new.book.state.accepted ≡ board.old.book.state.accepted }
 {
     if board.going().is_halted() {
         return;
@@ -469,28 +568,8 @@ fn stop<L: Link, N: Known>(board: &mut Board<L, N>, fault: BoardFault)
     }
 }
 
-/// Closes each connection that waits; none is live then where no pass had one. Takes no memory.
-fn close_all<L: Link, N: Known>(board: &mut Board<L, N>)
-    requires passes { 0 < board.old.book.passes }
-    requires opened { IsOpened board.old.book.base }
-    requires free { row_of 0 board.old.book.history ≡ None }
-    requires halted { is_halted board.old.book.state.going ≡ true }
-    ensures closes { ClosesSome cause.Stopped board.old.book board.new.book }
-    ensures none { NoneParked board.new.book.state }
-    ensures live { NoneHas board.old.book → HasNoLive board.new.book.state }
-    ensures going { board.new.book.state.going ≡ board.old.book.state.going }
-    ensures rest { LeavesRest board.old.book board.new.book }
-{
-    while let Some(name) = board.parked() {
-        let conn = board.hold(LISTENER, name);
-        board.show();
-        close(board, LISTENER, conn, Cause::Stopped);
-    }
-    show_none_live(board);
-}
-
 /// Shows that no connection is live where no pass has one and none waits. Does nothing.
-fn show_none_live<L: Link, N: Known>(board: &Board<L, N>)
+pub(crate) fn show_none_live<L: Link, N: Known>(board: &Board<L, N>)
     requires { IsOpened board.now.book.base }
     ensures { NoneHas board.now.book → NoneParked board.now.book.state → HasNoLive board.now.book.state }
 {
@@ -498,20 +577,20 @@ fn show_none_live<L: Link, N: Known>(board: &Board<L, N>)
     board.show();
 }
 
-/// Shows that the state is that after the history. Does nothing.
+/// Shows that the state is that after the history, and sound. Does nothing.
 fn show_state<L: Link, N: Known>(board: &Board<L, N>)
-    ensures { after board.now.book.base board.now.book.history ≡ board.now.book.state }
+    ensures after { after board.now.book.base board.now.book.history ≡ board.now.book.state }
+    ensures sound { IsSound board.now.book.state }
 {
     board.show();
 }
 
-/// Lets go of each child that may be let go of: of each one where no connection is live. Takes no memory.
+/// Lets go of each child that may be let go of: of each one that stops, and where no connection is live. Takes no memory.
 fn retire_all<L: Link, N: Known>(board: &mut Board<L, N>)
     requires passes { 0 < board.old.book.passes }
     requires free { row_of 0 board.old.book.history ≡ None }
-    requires halted { is_halted board.old.book.state.going ≡ true }
     ensures retires { RetiresSome board.old.book board.new.book }
-    ensures down { HasNoLive board.old.book.state → IsClosedDown board.new.book.state }
+    ensures down { is_halted board.old.book.state.going ≡ true → HasNoLive board.old.book.state → IsClosedDown board.new.book.state }
     ensures going { board.new.book.state.going ≡ board.old.book.state.going }
     ensures rest { LeavesRest board.old.book board.new.book }
 {

@@ -2,7 +2,7 @@
 ghost use Rattle.std.specs.Prelude.{◌≡◌};
 ghost use Rattle.mpm_run.specs.FirstNumbers as spec;
 
-use mpm_base::Shape;
+use mpm_base::{Addr, Shape};
 use mpm_config::default_shape;
 
 /// The numbers of a run.
@@ -16,6 +16,10 @@ pub struct RunNumbers {
     pub passes: u32,
     /// What the children are started with.
     pub shape: Shape,
+    /// Where connections are taken.
+    pub listen: Addr,
+    /// The port of the command lines on 127.0.0.1, where there is one.
+    pub control: Option<u16>,
 }
 
 /// The numbers of a run by an empty configuration, but for one child.
@@ -31,5 +35,10 @@ pub fn first_numbers() -> RunNumbers
             children: 1,
             ..default_shape()
         },
+        listen: Addr {
+            host: [127, 0, 0, 1],
+            port: 8_080,
+        },
+        control: None,
     }
 }

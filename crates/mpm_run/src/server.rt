@@ -1,10 +1,15 @@
 //! The run of a server over a front and a clock, whichever they are.
-ghost use Rattle.std.specs.Prelude.{◌≡◌, IfOk, IfSome};
+ghost use Rattle.std.specs.Prelude.{◌≡◌, true, Err, None, IfOk, IfSome};
+ghost use Rattle.mpm_base.specs.Front.{Binds};
+ghost use Rattle.conn_machine.specs.Made.{AreOfPasses};
 ghost use Rattle.board.specs.Board.{AreOfClients};
 ghost use Rattle.mpm_run.specs.FirstNumbers.{AreNumbers, opened_book, opened_by};
 ghost use Rattle.mpm_run.specs.Listen.{HasClosedAll, IsClosedDown, IsRunFrom};
-ghost use Rattle.mpm_run.specs.ListenInside.{Follows, HasStopped, IsInTime, IsNamed, IsStarting, outside, waits_of};
+ghost use Rattle.mpm_run.specs.ListenInside.{Follows, HasStopped, IsInTime, IsNamed, IsStarting, LinksTell, waits_of};
+ghost use Rattle.mpm_run.specs.Patient.{IsPatientRun};
 ghost use Rattle.mpm_run.specs.Times.{WasInformed};
+ghost use Rattle.mpm_run.specs.Watched.{AreWatched, CantBind, IsOpenedAndHushed};
+ghost use Rattle.mpm_run.specs.declared.server.OpenFault.TheVariants.{Bind};
 
 use crate::listen::Listener;
 use crate::run_numbers::RunNumbers;
@@ -26,7 +31,16 @@ pub struct Served<L: Link, F, C> {
     pub clock: C,
 }
 
-/// Runs a server by the numbers, over the front and the clock, to its end. None where memory lacks for the table.
+/// Why a server did not open.
+#[derive(Clone, Copy, Debug, PartialEq, Eq)]
+pub enum OpenFault {
+    /// The front could not be bound.
+    Bind,
+    /// Memory lacks for the table.
+    NoMemory,
+}
+
+/// Runs a server by the numbers, over the front and the clock, to its end. The front is bound before.
 ///
 /// The name says what the front tells of its clients, so that what connections received of them is a fact of the board's type.
 pub fn run_server<R: Wait, L: Link + Send, F: Front<L = L> + Drop, C: Clock + Drop, N: Known>(
@@ -35,23 +49,30 @@ pub fn run_server<R: Wait, L: Link + Send, F: Front<L = L> + Drop, C: Clock + Dr
     numbers: RunNumbers,
     front: F,
     clock: C,
-) -> Option<Served<L, F, C>>
+) -> Result<Served<L, F, C>, OpenFault>
     requires numbers { AreNumbers numbers }
-    requires named { IsNamed N.known L.told (F.told front) }
-    requires starting { IsStarting (F.told front) (C.told clock) }
-    ensures run { IfSome result (λ s. IsRunFrom numbers s.board) }
-    ensures closed { IfSome result (λ s. HasClosedAll s.board) }
-    ensures clients { IfSome result (λ s. AreOfClients N.known s.board) }
-    ensures stopped { IfSome result (λ s. HasStopped (outside (F.script front) (F.told front) (F.counts front)) (outside (F.script s.front) (F.told s.front) (F.counts s.front)) s.board.book.state) }
-    ensures follows { IfSome result (λ s. Follows (outside (F.script front) (F.told front) (F.counts front)) (outside (F.script s.front) (F.told s.front) (F.counts s.front))) }
-    ensures time { IfSome result (λ s. IsInTime (waits_of (F.told s.front)) (C.told s.clock)) }
-    ensures informed { IfSome result (λ s. WasInformed (waits_of (F.told s.front)) (C.told s.clock) s.board.book) }
+    requires named { IsNamed N.known L.seen (F.seen front).told }
+    requires starting { IsStarting (F.seen front).told (C.told clock) }
+    ensures run { IfOk result (λ s. IsRunFrom numbers s.board) }
+    ensures closed { IfOk result (λ s. HasClosedAll s.board) }
+    ensures clients { IfOk result (λ s. AreOfClients N.known s.board) }
+    ensures stopped { IfOk result (λ s. HasStopped (F.seen front) (F.seen s.front) s.board.book.state) }
+    ensures follows { IfOk result (λ s. Follows (F.seen front) (F.seen s.front)) }
+    ensures front { IfOk result (λ s. IfSome (F.seen s.front).told (IsOpenedAndHushed numbers)) }
+    ensures watched { LinksTell L.seen → IfOk result (λ s. IfSome (F.seen s.front).told (AreWatched s.board.book.history)) }
+    ensures time { IfOk result (λ s. IsInTime (waits_of (F.seen s.front).told) (C.told s.clock)) }
+    ensures informed { IfOk result (λ s. WasInformed (waits_of (F.seen s.front).told) (C.told s.clock) s.board.book) }
+    ensures patient { IfOk result (λ s. IsPatientRun (F.seen s.front).told (C.told s.clock) s.board.book) }
+    ensures bind { result ≡ Err Bind → CantBind F.seen front }
 {
+    let Some(front) = bind_front(front, numbers) else {
+        return Err(OpenFault::Bind);
+    };
     let Ok(board) = open_board::<L, N>(alloc, numbers) else {
-        return None;
+        return Err(OpenFault::NoMemory);
     };
     let Ok(ready) = Ready::make(alloc) else {
-        return None;
+        return Err(OpenFault::NoMemory);
     };
     board.show();
     let mut listener = Listener {
@@ -70,11 +91,24 @@ pub fn run_server<R: Wait, L: Link + Send, F: Front<L = L> + Drop, C: Clock + Dr
         ready: _,
     } = listener;
     show_run(&board, numbers);
-    Some(Served {
+    Ok(Served {
         board: board.forget(),
         front,
         clock,
     })
+}
+
+/// The front, bound by the numbers. None where it could not be.
+fn bind_front<F: Front + Drop>(front: F, numbers: RunNumbers) -> Option<F>
+    ensures bound { IfSome result (λ bound. Binds (F.seen front) (F.seen bound) numbers.listen numbers.control true) }
+    ensures fault { result ≡ None → CantBind F.seen front }
+{
+    let mut front = front;
+    if front.bind(numbers.listen, numbers.control) {
+        Some(front)
+    } else {
+        None
+    }
 }
 
 /// A board by the numbers.
@@ -97,7 +131,8 @@ fn open_board<L: Link, N: Known>(
 /// What a board shows of its run: each state on the way was sound, and where no connection is live each one that was taken
 /// ended. Does nothing.
 fn show_run<L: Link, N: Known>(board: &Board<L, N>, numbers: RunNumbers)
-    requires { board.now.book.base ≡ opened_by numbers }
+    requires base { board.now.book.base ≡ opened_by numbers }
+    requires few { AreOfPasses numbers.passes board.now.book.history }
     ensures run { IsRunFrom numbers board.now }
     ensures closed { IsClosedDown board.now.book.state → HasClosedAll board.now }
     ensures clients { AreOfClients N.known board.now }

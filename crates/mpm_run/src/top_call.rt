@@ -1,14 +1,16 @@
 //! The top call: from the words of the command line to the report.
 ghost use Rattle.std.specs.Prelude.{◌≡◌, ◌⊎◌, ◌<◌, ◌≤◌, ℕ, false, List, Some, None, [], IfOk, IfSome, IfNone, IsSomeAnd, IsNone, is_some, length, take, option_map};
-ghost use Rattle.std.specs.List.{list_any};
 ghost use Rattle.mpm_base.specs.Count.{NeverFalls, Rises};
 ghost use Rattle.conn_machine.specs.declared.state.Going.{Going};
 ghost use Rattle.mpm_script.specs.Clients.{clients_of};
 ghost use Rattle.conn_machine.specs.declared.event.Why.TheVariants as why;
 ghost use Rattle.conn_machine.specs.declared.state.Going.TheVariants.{Halted};
+ghost use Rattle.script_front.specs.ScriptClock.{AreEchoes};
+ghost use Rattle.script_front.specs.ScriptFront.{IsOfScript};
+ghost use Rattle.mpm_run.specs.FirstNumbers as opening;
 ghost use Rattle.mpm_run.specs.ListenInside.{IsEnd};
-ghost use Rattle.mpm_run.specs.ExitStatuses as exit_statuses;
-ghost use Rattle.mpm_run.specs.ExitStatuses.{EndsFor, EndsFull, EndsRefused, EndsUnknown, EndsUnread, EndsUnwritten, EndsWell, HasEnd, HasPlayed, HasRun, IsExitStatus, KeepsTime, Reports, WritesText, board_report, is_cut, seen_call, sink_seen};
+ghost use Rattle.mpm_run.specs.Watched.{AreWatched, IsOpenedAndHushed};
+ghost use Rattle.mpm_run.specs.ExitStatuses.{EndsFor, EndsFull, EndsRefused, EndsUnknown, EndsUnread, EndsUnwritten, EndsWell, HasEnd, HasPlayed, HasRun, IsExitStatus, IsPatient, KeepsTime, Reports, WritesText, board_report, fault_at, seen_call};
 ghost use Rattle.mpm_run.specs.ExitStatusesInside.{IsRefusalOf, IsStoppedStatus, IsPlayedStatus, IsExitStatusOf, ReportsAs, WritesAll};
 
 use crate::counting::tally;
@@ -16,12 +18,12 @@ use crate::exit_status;
 use crate::invocation::invocation_of;
 use crate::report::report_text;
 use crate::run_numbers::first_numbers;
-use crate::server::{Served, run_server};
+use crate::server::{OpenFault, Served, run_server};
 use crate::texts::{ScriptRefusal, script_refused_text, store_fault_text, usage_text};
 use board::Board;
 use conn_machine::{Going, Why};
 use conn_state::{Known, Nothing};
-use mpm_base::{Cause, Link, NoMemory, Octets, Put, Sink, Store, StoreFault, Words};
+use mpm_base::{Link, NoMemory, Octets, Put, Sink, Store, StoreFault, Words};
 use mpm_script::{Script, ScriptFault, read_script};
 use script_front::{ScriptClock, ScriptFront};
 use stand_ins::ScriptLink;
@@ -60,7 +62,7 @@ pub struct Outcome {
 /// Runs the command that the words give, over the store and the output. The one command is `--script FILE`.
 ///
 /// All texts go to `out`: the report of a run, or why there is none.
-#[tactic(auto, using(crate::proofs::CauseLemmas::is_large, crate::proofs::CauseLemmas::has_script, crate::proofs::CauseLemmas::is_script))]
+#[tactic(auto, using(crate::proofs::CauseLemmas::has_script, crate::proofs::CauseLemmas::is_script))]
 pub fn run<R: Threads + Wait + Sync, D: Store, K: Sink>(
     rt: &R,
     alloc: Global,
@@ -70,29 +72,38 @@ pub fn run<R: Threads + Wait + Sync, D: Store, K: Sink>(
 ) -> Outcome
     // Whatever the exit status, what is left of a run is of one of the script that was read: it closed each connection that it took,
     // and each child is gone.
-    ensures kept { IfSome result.scripted (λ s. HasPlayed (seen_call words.now (D.told store.old) (D.counts store.old) (D.told store.new) (D.counts store.new) (K.told out.old) (K.faults out.old) (K.told out.new) (K.faults out.new) result.shown) s.board s.front) }
+    ensures kept { IfSome result.scripted (λ s. HasPlayed (seen_call words.now (D.seen store.old) (D.seen store.new) (K.seen out.old) (K.seen out.new) result.shown) s.board s.front) }
+
+    // Its front was bound once, and has stopped listening in the end.
+    ensures front { IfSome result.scripted (λ s. IsOpenedAndHushed opening.first_numbers s.front.told) }
+
+    // It watched each link that the table took, once and in order, under the name of its connection.
+    ensures watched { IfSome result.scripted (λ s. AreWatched s.board.book.history s.front.told) }
 
     // Its clock was told what the waits of its front gave, all of which the front tells, and answered that; and the ticks and signals
     // of its history come from them.
     ensures time { IfSome result.scripted (λ s. KeepsTime s.board s.front s.clock) }
+
+    // Time passed only where nothing was left to be done.
+    ensures patient { IfSome result.scripted (λ s. IsPatient s.board s.front) }
 
     // Why it stopped: where nothing more could come the whole script was played, whatever the exit status.
     ensures ended { IfSome result.scripted (λ s. s.board.book.state.going ≡ Halted why.FrontEnded → HasEnd s.board s.front) }
     ensures stopped { IfSome result.scripted (λ s. EndsFor s.board.book.state.going result.status) }
 
     // With exit status 0 it was, and the output has the report.
-    ensures served { result.status ≡ 0 → IsSomeAnd result.scripted (λ s. EndsWell (sink_seen (K.told out.old) (K.faults out.old)) (sink_seen (K.told out.new) (K.faults out.new)) s.board) }
+    ensures served { result.status ≡ 0 → IsSomeAnd result.scripted (λ s. EndsWell (K.seen out.old) (K.seen out.new) s.board) }
 
     // Each other exit status has its cause.
     ensures known { IsExitStatus result.status }
-    ensures unknown { result.status ≡ 2 → EndsUnknown (seen_call words.now (D.told store.old) (D.counts store.old) (D.told store.new) (D.counts store.new) (K.told out.old) (K.faults out.old) (K.told out.new) (K.faults out.new) result.shown) }
-    ensures unread { result.status ≡ 3 → EndsUnread (seen_call words.now (D.told store.old) (D.counts store.old) (D.told store.new) (D.counts store.new) (K.told out.old) (K.faults out.old) (K.told out.new) (K.faults out.new) result.shown) }
-    ensures refused { result.status ≡ 8 → EndsRefused (seen_call words.now (D.told store.old) (D.counts store.old) (D.told store.new) (D.counts store.new) (K.told out.old) (K.faults out.old) (K.told out.new) (K.faults out.new) result.shown) }
-    ensures unwritten { result.status ≡ 5 → IsSomeAnd result.scripted (λ s. EndsUnwritten (sink_seen (K.told out.old) (K.faults out.old)) (sink_seen (K.told out.new) (K.faults out.new)) s.board) }
-    ensures full { result.status ≡ 7 → IsSomeAnd result.scripted (λ s. EndsFull (sink_seen (K.told out.old) (K.faults out.old)) (sink_seen (K.told out.new) (K.faults out.new)) s.board) }
+    ensures unknown { result.status ≡ 2 → EndsUnknown (seen_call words.now (D.seen store.old) (D.seen store.new) (K.seen out.old) (K.seen out.new) result.shown) }
+    ensures unread { result.status ≡ 3 → EndsUnread (seen_call words.now (D.seen store.old) (D.seen store.new) (K.seen out.old) (K.seen out.new) result.shown) }
+    ensures refused { result.status ≡ 8 → EndsRefused (seen_call words.now (D.seen store.old) (D.seen store.new) (K.seen out.old) (K.seen out.new) result.shown) }
+    ensures unwritten { result.status ≡ 5 → IsSomeAnd result.scripted (λ s. EndsUnwritten (K.seen out.old) (K.seen out.new) s.board) }
+    ensures full { result.status ≡ 7 → IsSomeAnd result.scripted (λ s. EndsFull (K.seen out.old) (K.seen out.new) s.board) }
 
     // A run that did not open for want of memory writes nothing.
-    ensures silent { result.status ≡ 6 → IsNone result.scripted → K.told out.new ≡ K.told out.old }
+    ensures silent { result.status ≡ 6 → IsNone result.scripted → (K.seen out.new).told ≡ (K.seen out.old).told }
 {
     let Some(invocation) = invocation_of(words) else {
         let Ok(text) = usage_text(alloc) else {
@@ -147,7 +158,7 @@ fn refuse<K: Sink>(out: &mut K, status: u8, shown: Option<u64>, text: &Octets) -
     ensures status { result.status ≡ status }
     ensures shown { result.shown ≡ shown }
     ensures scripted { IsNone result.scripted }
-    ensures text { WritesText (sink_seen (K.told out.old) (K.faults out.old)) (sink_seen (K.told out.new) (K.faults out.new)) text.now }
+    ensures text { WritesText (K.seen out.old) (K.seen out.new) text.now }
 {
     let _ = write_all(out, text.as_slice());
     Outcome {
@@ -158,18 +169,15 @@ fn refuse<K: Sink>(out: &mut K, status: u8, shown: Option<u64>, text: &Octets) -
 }
 
 /// The end of a run whose script is refused for the fault, or for which memory lacked.
+#[tactic(auto, using(crate::proofs::CauseLemmas::refusal_of))]
 fn refuse_script<K: Sink>(alloc: Global, fault: ScriptFault, out: &mut K) -> Outcome
     ensures known { (result.status ≡ 8) ⊎ (result.status ≡ 6) }
     ensures scripted { IsNone result.scripted }
-    ensures refused { result.status ≡ 8 → IsRefusalOf (sink_seen (K.told out.old) (K.faults out.old)) (sink_seen (K.told out.new) (K.faults out.new)) fault result.shown }
-    ensures silent { result.status ≡ 6 → K.told out.new ≡ K.told out.old }
+    ensures refused { result.status ≡ 8 → IsRefusalOf (K.seen out.old) (K.seen out.new) fault result.shown }
+    ensures silent { result.status ≡ 6 → (K.seen out.new).told ≡ (K.seen out.old).told }
 {
-    let (line, why) = match fault {
-        ScriptFault::BadLine(line) => (line, ScriptRefusal::BadLine),
-        ScriptFault::MomentBackwards(line) => (line, ScriptRefusal::MomentBackwards),
-        ScriptFault::UnknownName(line) => (line, ScriptRefusal::UnknownName),
-        ScriptFault::NotYet(line) => (line, ScriptRefusal::NotYet),
-        ScriptFault::NoMemory => return no_memory(),
+    let Some((line, why)) = refusal_at(fault) else {
+        return no_memory();
     };
     let Ok(text) = script_refused_text(alloc, line, why) else {
         return no_memory();
@@ -177,33 +185,61 @@ fn refuse_script<K: Sink>(alloc: Global, fault: ScriptFault, out: &mut K) -> Out
     refuse(out, exit_status::REFUSED, Some(line), &text)
 }
 
+/// The line at which a script is refused, and why. None where memory lacked.
+fn refusal_at(fault: ScriptFault) -> Option<(u64, ScriptRefusal)>
+    ensures { IfSome result (λ refusal. fault ≡ fault_at refusal.1 refusal.0) }
+{
+    match fault {
+        ScriptFault::BadLine(line) => Some((line, ScriptRefusal::BadLine)),
+        ScriptFault::MomentBackwards(line) => Some((line, ScriptRefusal::MomentBackwards)),
+        ScriptFault::UnknownName(line) => Some((line, ScriptRefusal::UnknownName)),
+        ScriptFault::NotYet(line) => Some((line, ScriptRefusal::NotYet)),
+        ScriptFault::NoMemory => None,
+    }
+}
+
 /// Plays the script, and writes the report.
 fn play_script<R: Wait, K: Sink>(rt: &R, alloc: Global, script: Script, out: &mut K) -> Outcome
     ensures kept { IfSome result.scripted (λ s. HasRun (clients_of script) s.board) }
     ensures script { IfSome result.scripted (λ s. s.front.script ≡ script) }
+    ensures front { IfSome result.scripted (λ s. IsOpenedAndHushed opening.first_numbers s.front.told) }
+    ensures watched { IfSome result.scripted (λ s. AreWatched s.board.book.history s.front.told) }
     ensures time { IfSome result.scripted (λ s. KeepsTime s.board s.front s.clock) }
+    ensures patient { IfSome result.scripted (λ s. IsPatient s.board s.front) }
     ensures ended { IfSome result.scripted (λ s. s.board.book.state.going ≡ Halted why.FrontEnded → HasEnd s.board s.front) }
     ensures stopped { IfSome result.scripted (λ s. EndsFor s.board.book.state.going result.status) }
     ensures shown { result.shown ≡ None }
     ensures known { IsPlayedStatus result.status }
-    ensures served { result.status ≡ 0 → IsSomeAnd result.scripted (λ s. EndsWell (sink_seen (K.told out.old) (K.faults out.old)) (sink_seen (K.told out.new) (K.faults out.new)) s.board) }
-    ensures unwritten { result.status ≡ 5 → IsSomeAnd result.scripted (λ s. EndsUnwritten (sink_seen (K.told out.old) (K.faults out.old)) (sink_seen (K.told out.new) (K.faults out.new)) s.board) }
-    ensures full { result.status ≡ 7 → IsSomeAnd result.scripted (λ s. EndsFull (sink_seen (K.told out.old) (K.faults out.old)) (sink_seen (K.told out.new) (K.faults out.new)) s.board) }
-    ensures silent { IsNone result.scripted → K.told out.new ≡ K.told out.old }
+    ensures served { result.status ≡ 0 → IsSomeAnd result.scripted (λ s. EndsWell (K.seen out.old) (K.seen out.new) s.board) }
+    ensures unwritten { result.status ≡ 5 → IsSomeAnd result.scripted (λ s. EndsUnwritten (K.seen out.old) (K.seen out.new) s.board) }
+    ensures full { result.status ≡ 7 → IsSomeAnd result.scripted (λ s. EndsFull (K.seen out.old) (K.seen out.new) s.board) }
+    ensures silent { IsNone result.scripted → (K.seen out.new).told ≡ (K.seen out.old).told }
 {
     let Ok(front) = ScriptFront::make(alloc, script) else {
         return no_memory();
     };
     let clock = ScriptClock::make();
-    let Some(served) = run_server::<R, ScriptLink, ScriptFront, ScriptClock, Brand>(
+    match run_server::<R, ScriptLink, ScriptFront, ScriptClock, Brand>(
         rt,
         alloc,
         first_numbers(),
         front,
         clock,
-    ) else {
-        return no_memory();
-    };
+    ) {
+        Ok(served) => finish(alloc, played(served), out),
+        Err(OpenFault::NoMemory) => no_memory(),
+        Err(OpenFault::Bind) => unreachable!(),
+    }
+}
+
+/// What is left of a run, with what its front and its clock show.
+fn played(served: Served<ScriptLink, ScriptFront, ScriptClock>) -> Scripted
+    ensures board { result.board ≡ served.board }
+    ensures front { result.front ≡ served.front }
+    ensures clock { result.clock ≡ served.clock }
+    ensures played { IsOfScript result.front }
+    ensures echoes { AreEchoes result.clock }
+{
     let Served {
         board,
         front,
@@ -211,15 +247,11 @@ fn play_script<R: Wait, K: Sink>(rt: &R, alloc: Global, script: Script, out: &mu
     } = served;
     front.show();
     clock.show();
-    finish(
-        alloc,
-        Scripted {
-            board,
-            front,
-            clock,
-        },
-        out,
-    )
+    Scripted {
+        board,
+        front,
+        clock,
+    }
 }
 
 /// The end of a run that opened: its report is written.
@@ -230,14 +262,13 @@ fn finish<K: Sink>(alloc: Global, scripted: Scripted, out: &mut K) -> Outcome
     ensures shown { result.shown ≡ None }
     ensures known { IsPlayedStatus result.status }
     ensures ended { (result.status ≡ 0) ⊎ (result.status ≡ 5) → scripted.board.book.state.going ≡ Halted why.FrontEnded }
-    ensures reported { result.status ≡ 0 → Reports (sink_seen (K.told out.old) (K.faults out.old)) (sink_seen (K.told out.new) (K.faults out.new)) scripted.board }
-    ensures none_cut { (result.status ≡ 0) ⊎ (result.status ≡ 5) → list_any is_cut scripted.board.ended ≡ false }
-    ensures unwritten { result.status ≡ 5 → Rises (K.faults out.old) (K.faults out.new) }
-    ensures full { result.status ≡ 7 → EndsFull (sink_seen (K.told out.old) (K.faults out.old)) (sink_seen (K.told out.new) (K.faults out.new)) scripted.board }
+    ensures reported { result.status ≡ 0 → Reports (K.seen out.old) (K.seen out.new) scripted.board }
+    ensures unwritten { result.status ≡ 5 → Rises (K.seen out.old).faults (K.seen out.new).faults }
+    ensures full { result.status ≡ 7 → EndsFull (K.seen out.old) (K.seen out.new) scripted.board }
 {
     let board = &scripted.board;
     board.show();
-    let status = report(alloc, board, out, status_of(board.going(), has_cut(board)));
+    let status = report(alloc, board, out, status_of(board.going()));
     Outcome {
         status,
         shown: None,
@@ -245,39 +276,17 @@ fn finish<K: Sink>(alloc: Global, scripted: Scripted, out: &mut K) -> Outcome
     }
 }
 
-/// The exit status of a run that stopped so. No call of a scripted link is to fail yet, so a connection that was cut short by
-/// one wanted memory.
-fn status_of(going: Going, cut: bool) -> u8
+/// The exit status of a run that stopped so.
+fn status_of(going: Going) -> u8
     requires { IsEnd going }
-    ensures is { IsExitStatusOf going result }
-    ensures whole { result ≡ 0 → cut ≡ false }
+    ensures { IsExitStatusOf going result }
 {
     match going {
-        Going::Halted(Why::FrontEnded) => {
-            if cut {
-                exit_status::NO_MEMORY
-            } else {
-                exit_status::PLAYED
-            }
-        }
+        Going::Halted(Why::FrontEnded) => exit_status::PLAYED,
         Going::Halted(Why::Full) => exit_status::FULL,
         Going::Halted(Why::NoMemory) => exit_status::NO_MEMORY,
         _ => unreachable!(),
     }
-}
-
-/// Whether a connection ended for another cause than that its client was done or that memory lacked.
-fn has_cut<L: Link, N: Known>(board: &Board<L, N>) -> bool
-    ensures { result ≡ list_any is_cut board.now.ended }
-{
-    board.ended().iter().any(|ended| is_cut_by(ended.cause))
-}
-
-/// Whether the cause is another one than that the client was done or that memory lacked.
-fn is_cut_by(cause: Cause) -> bool
-    ensures { result ≡ exit_statuses.is_cut_by cause }
-{
-    !matches!(cause, Cause::ClientDone | Cause::NoMemory)
 }
 
 /// Writes the report of the run, and answers its exit status: a failed write changes 0 alone.
@@ -289,9 +298,9 @@ fn report<L: Link, N: Known, K: Sink>(
 ) -> u8
     requires status { IsStoppedStatus status }
     ensures status { ReportsAs status result }
-    ensures reported { result ≡ 0 → Reports (sink_seen (K.told out.old) (K.faults out.old)) (sink_seen (K.told out.new) (K.faults out.new)) board.now }
-    ensures unwritten { result ≡ 5 → Rises (K.faults out.old) (K.faults out.new) }
-    ensures full { result ≡ 7 → WritesText (sink_seen (K.told out.old) (K.faults out.old)) (sink_seen (K.told out.new) (K.faults out.new)) (board_report board.now) }
+    ensures reported { result ≡ 0 → Reports (K.seen out.old) (K.seen out.new) board.now }
+    ensures unwritten { result ≡ 5 → Rises (K.seen out.old).faults (K.seen out.new).faults }
+    ensures full { result ≡ 7 → WritesText (K.seen out.old) (K.seen out.new) (board_report board.now) }
 {
     match report_of(alloc, board) {
         Ok(text) if write_all(out, text.as_slice()) => status,
@@ -311,8 +320,8 @@ fn report_of<L: Link, N: Known>(alloc: Global, board: &Board<L, N>) -> Result<Oc
 
 /// Writes all the bytes. False where a write failed.
 fn write_all<K: Sink>(out: &mut K, bytes: &[u8]) -> bool
-    ensures all { WritesAll (sink_seen (K.told out.old) (K.faults out.old)) (sink_seen (K.told out.new) (K.faults out.new)) bytes.now result }
-    ensures faults { NeverFalls (K.faults out.old) (K.faults out.new) }
+    ensures all { WritesAll (K.seen out.old) (K.seen out.new) bytes.now result }
+    ensures faults { NeverFalls (K.seen out.old).faults (K.seen out.new).faults }
 {
     let mut from = 0;
     while from < bytes.len() {

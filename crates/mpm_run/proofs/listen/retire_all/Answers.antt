@@ -34,11 +34,11 @@ loop-child-preserved g c =
     }
 
 pub returns-clause-down : goal.returns-clause-down
-returns-clause-down g c live =
+returns-clause-down g c halted live =
     let still = ap (list_any is_live) c.loop-child.invariant.rows ∙ live in
     record {
       live = still;
       empty =
-          all-gone c.loop-child.board.book.state c.show.ensures.sound (ap is_halted c.loop-child.invariant.going ∙ c.requires.halted)
+          all-gone c.loop-child.board.book.state c.show.ensures.sound (ap is_halted c.loop-child.invariant.going ∙ halted)
           c.in_default.ensures still;
     }

@@ -3,14 +3,14 @@ use Rattle.mpm_run.proofs.server.show_run.Goals as goal
 
 pub returns-clause-run : goal.returns-clause-run
 returns-clause-run g c =
-    run-from c.args.numbers c.args.board.now c.requires c.events_keep_states_sound.ensures.run
+    run-from c.args.numbers c.args.board.now c.requires.base c.requires.few c.events_keep_states_sound.ensures.run
     c.show.ensures.history c.show.ensures.made c.show.ensures.state c.show.ensures.opened c.show.ensures.stops c.show.ensures.full c.show.ensures.agrees
 
 pub returns-clause-closed : goal.returns-clause-closed
 returns-clause-closed g c down =
     let n = c.args.numbers in
     let b = c.args.board.now in
-    let run = run-from n b c.requires c.events_keep_states_sound.ensures.run
+    let run = run-from n b c.requires.base c.requires.few c.events_keep_states_sound.ensures.run
     c.show.ensures.history c.show.ensures.made c.show.ensures.state c.show.ensures.opened c.show.ensures.stops c.show.ensures.full c.show.ensures.agrees in
     closed-all n b run
     (c.accepted_connections_are_closed_or_live.ensures.closed_or_live n.slots n.children n.shape b.book.history run.is_history.run)

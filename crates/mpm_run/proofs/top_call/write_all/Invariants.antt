@@ -7,8 +7,8 @@ abbrev pub invariant-loop-from : goal.invariant-loop-from
 invariant-loop-from g l =
     record {
       from : l.from ≤ length l.bytes;
-      told : g.K.Sink.told l.out ≡ option_map (λ written. written ++ take l.from l.bytes) (g.K.Sink.told l.fn.out);
-      faults : NeverFalls (g.K.Sink.faults l.fn.out) (g.K.Sink.faults l.out);
+      told : (g.K.Sink.seen l.out).told ≡ option_map (λ written. written ++ take l.from l.bytes) (g.K.Sink.seen l.fn.out).told;
+      faults : NeverFalls (g.K.Sink.seen l.fn.out).faults (g.K.Sink.seen l.out).faults;
     }
 
 -- how many bytes are left

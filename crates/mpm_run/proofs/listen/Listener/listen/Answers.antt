@@ -1,81 +1,76 @@
-use Rattle.std.proofs.Common.{inl, inr, ap, refl, sym, subst, ◌∙◌}
-use Rattle.mpm_base.specs.declared.conn.Cause.TheVariants as cause
-use Rattle.conn_machine.specs.declared.event.Why.TheVariants as why
-use Rattle.conn_machine.specs.States.{is_halted}
-use Rattle.board.specs.Board.{SeenBoard}
-use Rattle.mpm_run.specs.Times.{IsBrokenOff}
-use Rattle.mpm_run.proofs.StopLemmas.{informed-quiet, quiet-closed, quiet-halted, quiet-retired, quiet-stopped, so_far-quiet}
+use Rattle.std.proofs.Common.{◌<◌, None, Option, List, ap, sym, subst, ◌∙◌, arith}
+use Rattle.mpm_base.specs.Front.{FrontSeen, WaitTold}
+use Rattle.mpm_run.specs.ListenInside.{HaltsAs}
+use Rattle.mpm_run.specs.Times.{WasInformed}
+use Rattle.mpm_run.proofs.FrontLemmas.{follows-hushed, follows-trans, waits-hushed}
+use Rattle.mpm_run.proofs.PaceLemmas.{patience-down}
+use Rattle.mpm_run.proofs.StopLemmas.{free-halted, has-halted, has-stopped, must-halt, was-informed}
+use Rattle.mpm_run.proofs.TurnLemmas.{few-acts}
+use Rattle.mpm_run.proofs.WatchLemmas.{names-down, watched-as, watched-hushed}
 use Rattle.mpm_run.proofs.listen.Listener.listen.Goals as goal
 
-pub returns-in-Ok-Ended-clause-informed : goal.returns-in-Ok-Ended-clause-informed
-returns-in-Ok-Ended-clause-informed g c =
-    let free = rw (← c.self.view_is) at c.take_turns.ensures.free in
-    let informed = rw (← c.self.view_is) at c.in-Ok-Ended.ensures.informed in
-    let halted = quiet-halted why.FrontEnded c.self.inside.board c.halt.new.self free c.halt.ensures.is c.halt.ensures.entries c.halt.ensures.row in
-    let retired = quiet-retired c.halt.new.self.book c.retire_all.new.board.book halted.free c.retire_all.ensures.retires in
-    inl (informed-quiet _ _ c.halt.new.self.book c.retire_all.new.board.book retired c.retire_all.ensures.rest.moment
-    (informed-quiet _ _ c.self.inside.board.book c.halt.new.self.book halted
-    (ap (λ (b : SeenBoard). b.book.state.moment) c.halt.ensures.is) informed))
+pub halt-requires-clause-must : goal.halt-requires-clause-must
+halt-requires-clause-must g c =
+    let ends = rw (← c.self.view_is) at c.take_turns-turns.ensures.ends in
+    must-halt c.take_turns-turns.result c.args.self.now.front (g.F.Front.seen c.self.inside.front) c.self.inside.board.book ends
 
-pub returns-in-Ok-Failed-clause-stopped : goal.returns-in-Ok-Failed-clause-stopped
-returns-in-Ok-Failed-clause-stopped g c =
-    let free = rw (← c.self.view_is) at c.take_turns.ensures.free in
-    let failed = rw c.in-Ok-Failed.field-0-is at c.in-Ok-Failed.ensures.ok in
-    let rises = rw (← c.self.view_is) at failed.1 in
-    let halted =
-    quiet-halted why.FrontFailed c.self.inside.board c.halt-in-Ok-Failed.new.self free c.halt-in-Ok-Failed.ensures.is
-    c.halt-in-Ok-Failed.ensures.entries c.halt-in-Ok-Failed.ensures.row in
-    record {
-      down = c.retire_all-in-Ok-Failed.ensures.down (c.close_all.ensures.live halted.free);
-      cause =
-          inr (inl (record {
-            going =
-                c.retire_all-in-Ok-Failed.ensures.going ∙ c.close_all.ensures.going
-                ∙ ap (λ (b : SeenBoard). b.book.state.going) c.halt-in-Ok-Failed.ensures.is;
-            failed = rises;
-          }));
-    }
+pub returns-clause-stopped : goal.returns-clause-stopped
+returns-clause-stopped g c =
+    let free = rw (← c.self.view_is) at c.take_turns-turns.ensures.free in
+    let ends = rw (← c.self.view_is) at c.take_turns-turns.ensures.ends in
+    let turns = c.take_turns-turns.result in
+    let halted = free-halted turns c.self.inside.board.book c.halt.new.board.book free c.halt.ensures.acts in
+    has-stopped turns c.args.self.now.front _ (g.F.Front.seen c.hush.new.self) c.self.inside.board.book c.retire_all.new.board.book.state ends
+    (subst (HaltsAs turns) (sym (c.retire_all.ensures.going ∙ c.close_all.ensures.going)) c.halt.ensures.stopped)
+    (c.retire_all.ensures.rest.accepted ∙ c.close_all.ensures.rest.accepted ∙ c.halt.ensures.taken) c.hush.ensures
+    (c.retire_all.ensures.down (has-halted turns _ (subst (HaltsAs turns) (sym c.close_all.ensures.going) c.halt.ensures.stopped)) (c.close_all.ensures.live halted))
 
-pub returns-in-Ok-Failed-clause-informed : goal.returns-in-Ok-Failed-clause-informed
-returns-in-Ok-Failed-clause-informed g c =
-    let free = rw (← c.self.view_is) at c.take_turns.ensures.free in
-    let informed = rw (← c.self.view_is) at c.in-Ok-Failed.ensures.informed in
-    let halted =
-    quiet-halted why.FrontFailed c.self.inside.board c.halt-in-Ok-Failed.new.self free c.halt-in-Ok-Failed.ensures.is
-    c.halt-in-Ok-Failed.ensures.entries c.halt-in-Ok-Failed.ensures.row in
-    let closed = quiet-closed cause.Stopped c.halt-in-Ok-Failed.new.self.book c.close_all.new.board.book halted.free c.close_all.ensures.closes in
-    let retired =
-    quiet-retired c.close_all.new.board.book c.retire_all-in-Ok-Failed.new.board.book closed.free c.retire_all-in-Ok-Failed.ensures.retires in
-    inl (informed-quiet _ _ c.close_all.new.board.book c.retire_all-in-Ok-Failed.new.board.book retired c.retire_all-in-Ok-Failed.ensures.rest.moment
-    (informed-quiet _ _ c.halt-in-Ok-Failed.new.self.book c.close_all.new.board.book closed c.close_all.ensures.rest.moment
-    (informed-quiet _ _ c.self.inside.board.book c.halt-in-Ok-Failed.new.self.book halted
-    (ap (λ (b : SeenBoard). b.book.state.moment) c.halt-in-Ok-Failed.ensures.is) informed)))
+pub returns-clause-follows : goal.returns-clause-follows
+returns-clause-follows g c =
+    let follows = rw (← c.self.view_is) at c.take_turns-turns.ensures.follows in
+    follows-trans _ _ _ follows (follows-hushed _ _ c.hush.ensures)
 
-pub returns-in-Err-clause-stopped : goal.returns-in-Err-clause-stopped
-returns-in-Err-clause-stopped g c =
-    let free = rw (← c.self.view_is) at c.take_turns.ensures.free in
-    let stopped =
-    quiet-stopped _ (is_halted c.self.inside.board.book.state.going) c.self.inside.board c.stop.new.board refl free c.stop.ensures.stops
-    c.stop.ensures.stays in
-    let going = c.retire_all-in-Err.ensures.going ∙ c.close_all-in-Err.ensures.going in
-    record {
-      down = c.retire_all-in-Err.ensures.down (c.close_all-in-Err.ensures.live stopped.free);
-      cause = inr (inr (subst IsBrokenOff (sym going) c.stop.ensures.stopped));
-    }
+pub returns-clause-informed : goal.returns-clause-informed
+returns-clause-informed g c =
+    let free = rw (← c.self.view_is) at c.take_turns-turns.ensures.free in
+    let informed = rw (← c.self.view_is) at c.take_turns-turns.ensures.informed in
+    let begun = rw (← c.self.view_is) at c.take_turns-turns.ensures.begun in
+    let turns = c.take_turns-turns.result in
+    subst (λ (o : Option (List WaitTold)). WasInformed o (g.C.Clock.told c.self.inside.clock) c.retire_all.new.board.book) (sym (waits-hushed _ _ c.hush.ensures))
+    (was-informed turns _ _ c.self.inside.board.book c.halt.new.board.book c.close_all.new.board.book c.retire_all.new.board.book
+    (record {
+      free = free;
+      halts = c.halt.ensures.acts;
+      closes = c.close_all.ensures.gone;
+      retires = c.retire_all.ensures.retires;
+      halt_moment = c.halt.ensures.moment;
+      close_rest = c.close_all.ensures.rest;
+      retire_rest = c.retire_all.ensures.rest;
+    })
+    (subst (HaltsAs turns) (sym (c.retire_all.ensures.going ∙ c.close_all.ensures.going)) c.halt.ensures.stopped) informed begun)
 
-pub returns-in-Err-clause-informed : goal.returns-in-Err-clause-informed
-returns-in-Err-clause-informed g c =
-    let free = rw (← c.self.view_is) at c.take_turns.ensures.free in
-    let so_far = rw (← c.self.view_is) at c.in-Err.ensures.begun in
-    let stopped =
-    quiet-stopped _ (is_halted c.self.inside.board.book.state.going) c.self.inside.board c.stop.new.board refl free c.stop.ensures.stops
-    c.stop.ensures.stays in
-    let closed = quiet-closed cause.Stopped c.stop.new.board.book c.close_all-in-Err.new.board.book stopped.free c.close_all-in-Err.ensures.closes in
-    let retired = quiet-retired c.close_all-in-Err.new.board.book c.retire_all-in-Err.new.board.book closed.free c.retire_all-in-Err.ensures.retires in
-    let going = c.retire_all-in-Err.ensures.going ∙ c.close_all-in-Err.ensures.going in
-    inr (
-      subst IsBrokenOff (sym going) c.stop.ensures.stopped,
-      so_far-quiet _ _ c.close_all-in-Err.new.board.book c.retire_all-in-Err.new.board.book retired
-          (so_far-quiet _ _ c.stop.new.board.book c.close_all-in-Err.new.board.book closed
-          (so_far-quiet _ _ c.self.inside.board.book c.stop.new.board.book stopped so_far)),
-    )
+pub returns-clause-watched : goal.returns-clause-watched
+returns-clause-watched g c began tells =
+    let watched = rw (← c.self.view_is) at c.take_turns-turns.ensures.watched in
+    watched-hushed (g.F.Front.seen c.self.inside.front).told (g.F.Front.seen c.hush.new.self).told c.retire_all.new.board.book
+    (ap (λ (f : FrontSeen). f.told) c.hush.ensures)
+    (watched-as (g.F.Front.seen c.self.inside.front).told c.self.inside.board.book c.retire_all.new.board.book
+    (names-down c.take_turns-turns.result c.self.inside.board.book c.halt.new.board.book c.close_all.new.board.book c.retire_all.new.board.book c.halt.ensures.acts
+    c.close_all.ensures.gone c.retire_all.ensures.retires)
+    (c.retire_all.ensures.rest.accepted ∙ c.close_all.ensures.rest.accepted ∙ c.halt.ensures.taken) (watched began tells))
+
+pub returns-clause-patient : goal.returns-clause-patient
+returns-clause-patient g c start =
+    let patient = rw (← c.self.view_is) at c.take_turns-turns.ensures.patient in
+    patience-down c.take_turns-turns.result (g.F.Front.seen c.self.inside.front) (g.F.Front.seen c.hush.new.self) (g.C.Clock.told c.self.inside.clock)
+    c.self.inside.board.book c.halt.new.board.book c.close_all.new.board.book c.retire_all.new.board.book c.halt.ensures.acts c.close_all.ensures.gone
+    c.retire_all.ensures.retires c.hush.ensures (patient start)
+
+pub returns-clause-few : goal.returns-clause-few
+returns-clause-few g c began =
+    let passes = c.args.self.now.board.book.passes in
+    let some : 0 < passes = omega (arith, c.requires.passes) in
+    let few = rw (← c.self.view_is) at c.take_turns-turns.ensures.few in
+    few-acts passes 0 _ None c.close_all.new.board.book c.retire_all.new.board.book some c.retire_all.ensures.retires.acts
+    (few-acts passes 0 _ None c.halt.new.board.book c.close_all.new.board.book some c.close_all.ensures.gone.acts
+    (few-acts passes 0 _ None c.self.inside.board.book c.halt.new.board.book some c.halt.ensures.acts (few began)))

@@ -1,5 +1,6 @@
-use Rattle.std.proofs.Common.{Option, None, Some, ap, subst, sym, refl, ◌∙◌}
+use Rattle.std.proofs.Common.{Option, None, Some, IfSome, ap, subst, sym, refl, ◌∙◌}
 use Rattle.std.proofs.lemmas.Result.{on_ok_weaker}
+use Rattle.mpm_base.specs.Front.{FrontSeen}
 use Rattle.mpm_base.specs.Link.{LinkTold}
 use Rattle.conn_state.specs.Conn.{SeenConn}
 use Rattle.conn_state.specs.Known.{IsOfClient}
@@ -7,9 +8,12 @@ use Rattle.board.specs.declared.faults.BoardFault.{BoardFault}
 use Rattle.board.specs.Board.{SeenBoard}
 use Rattle.worker_group.specs.Acts.{Acts}
 use Rattle.worker_group.proofs.ActsLemmas.{acts_as}
-use Rattle.mpm_run.specs.RoundInside.{GivesUp, TakesUntil, left_events, way_of}
-use Rattle.mpm_run.proofs.FrontLemmas.{follows-same, follows-watch, step-watch, waits-watch}
+use Rattle.mpm_run.specs.ListenInside.{IsArrival, WatchesAll}
+use Rattle.worker_group.specs.Service.{left_events}
+use Rattle.mpm_run.specs.RoundInside.{GivesUp, TakesUntil, way_of}
+use Rattle.mpm_run.proofs.FrontLemmas.{follows-same, follows-watch, step-watch, takes-same, takes-watch}
 use Rattle.mpm_run.proofs.RoundLemmas.{err-on, takes-given_up, takes-one, until-none}
+use Rattle.mpm_run.proofs.WatchLemmas.{names-left, names-took, watched-took}
 use Rattle.mpm_run.proofs.listen.Listener.take.Goals as goal
 
 pub accept-requires-clause-passes : goal.accept-requires-clause-passes
@@ -40,6 +44,9 @@ returns-in-Err-clause-step g c = rw (← c.self.view_is) (λ step. step)
 pub returns-in-Err-clause-follows : goal.returns-in-Err-clause-follows
 returns-in-Err-clause-follows g c = rw (← c.self.view_is) (follows-same _)
 
+pub returns-in-Err-clause-front : goal.returns-in-Err-clause-front
+returns-in-Err-clause-front g c = rw (← c.self.view_is) (takes-same _)
+
 pub returns-clause-takes : goal.returns-clause-takes
 returns-clause-takes g c =
     rw (← c.self.view_is)
@@ -48,7 +55,7 @@ returns-clause-takes g c =
     record {
       taking = record { name = c.in-Ok.taken.name; way = way_of c.watch-watched.result };
       left = record { watched = c.watch-watched.result; way_is = refl };
-      watched = c.watch-watched.ensures.watches.told_is;
+      watched = ap (λ (f : FrontSeen). f.told) c.watch-watched.ensures.watches.front;
       acts =
           takes-one c.in-Ok.taken.name (way_of c.watch-watched.result) c.self.inside.board.book c.accept.new.board.book c.settle.new.board.book
           c.in-Ok.ensures.acts
@@ -69,17 +76,36 @@ returns-clause-until g c =
 pub returns-clause-step : goal.returns-clause-step
 returns-clause-step g c =
     rw (← c.self.view_is)
-    (λ step. step-watch (g.F.Front.told c.self.inside.front) (g.F.Front.told c.watch-watched.new.self) _ _ c.settle.new.board.book.state
-    c.watch-watched.ensures.watches.told_is step)
+    (λ step. step-watch (g.F.Front.seen c.self.inside.front).told (g.F.Front.seen c.watch-watched.new.self).told _ _ c.settle.new.board.book.state
+    (ap (λ (f : FrontSeen). f.told) c.watch-watched.ensures.watches.front) step)
 
 pub returns-clause-follows : goal.returns-clause-follows
 returns-clause-follows g c =
     rw (← c.self.view_is)
-    (follows-watch _ _ _ _ _ _ _ _ c.watch-watched.ensures.script c.watch-watched.ensures.watches.told_is
-    c.watch-watched.ensures.watches.counts_are)
+    (follows-watch _ _ _ _ c.watch-watched.ensures.watches.front)
 
-pub returns-clause-waits : goal.returns-clause-waits
-returns-clause-waits g c = rw (← c.self.view_is) (waits-watch _ _ _ _ c.watch-watched.ensures.watches.told_is)
+pub returns-clause-front : goal.returns-clause-front
+returns-clause-front g c = rw (← c.self.view_is) (takes-watch _ _ _ _ (ap (λ (f : FrontSeen). f.told) c.watch-watched.ensures.watches.front))
 
 pub returns-clause-up : goal.returns-clause-up
 returns-clause-up g c = c.settle.ensures.rest.up (rw (c.in-Ok.ensures.going) (rw (← c.self.view_is) at c.requires.up))
+
+pub returns-in-Err-clause-watched : goal.returns-in-Err-clause-watched
+returns-in-Err-clause-watched g c =
+    rw (← c.self.view_is)
+    (λ before tells. subst (λ (b : SeenBoard). IfSome (g.F.Front.seen c.self.inside.front).told (WatchesAll b.book)) (sym c.in-Err.ensures.refused) (before tells))
+
+pub returns-clause-watched : goal.returns-clause-watched
+returns-clause-watched g c =
+    let arrival = rw (← c.self.view_is) at c.requires.arrival in
+    rw (← c.self.view_is)
+    (λ before tells.
+    let link = tells.each c.args.link in
+    let arrives = subst (IsArrival c.self.inside.board.book.state.accepted) link.1 arrival in
+    watched-took c.in-Ok.taken.name (g.L.Link.seen c.args.link).told link.0 (g.F.Front.seen c.self.inside.front).told
+    (g.F.Front.seen c.watch-watched.new.self).told c.self.inside.board.book c.settle.new.board.book link.1 arrives.rank
+    (ap (λ (f : FrontSeen). f.told) c.watch-watched.ensures.watches.front)
+    (names-left c.settle.result (way_of c.watch-watched.result) _ _ c.accept.new.board.book c.settle.new.board.book c.settle.ensures.left
+    c.settle.ensures.given_up
+    ∙ names-took c.in-Ok.taken.name.slot c.in-Ok.taken.name c.self.inside.board.book c.accept.new.board.book c.in-Ok.ensures.acts)
+    (c.settle.ensures.rest.accepted ∙ c.in-Ok.ensures.taken) (before tells))

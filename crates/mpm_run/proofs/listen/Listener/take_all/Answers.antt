@@ -1,9 +1,8 @@
-use Rattle.std.proofs.Common.{ℕ, ◌<◌, refl, sym, subst, ◌∙◌, arith}
-use Rattle.mpm_base.specs.Count.{NeverFalls}
-use Rattle.mpm_base.specs.Front.{FrontCounts}
-use Rattle.mpm_run.proofs.FrontLemmas.{arrives-next, follows-accept, follows-same, follows-trans, handed-known, rises-where, step-none, step-taken, waits-accept}
+use Rattle.std.proofs.Common.{ℕ, ◌<◌, refl, sym, subst, ◌∙◌}
+use Rattle.mpm_run.proofs.FrontLemmas.{arrives-next, follows-accept, follows-same, follows-trans, handed-known, step-none, step-taken, takes-accept, takes-same, takes-trans}
 use Rattle.mpm_run.proofs.RoundLemmas.{on-err, takes-more, takes-none, takes-until}
 use Rattle.mpm_run.proofs.TakeLemmas.{took-none}
+use Rattle.mpm_run.proofs.WatchLemmas.{watched-accept}
 use Rattle.mpm_run.proofs.listen.Listener.take_all.Goals as goal
 
 pub loop-init : goal.loop-init
@@ -14,8 +13,8 @@ loop-init g c =
       moment = refl;
       step = c.requires.step;
       follows = follows-same _;
-      waits = refl;
-      accept_faults = omega arith;
+      front = takes-same _;
+      watched = λ before. before;
       calls = refl;
       ready = refl;
     }
@@ -33,13 +32,13 @@ take-requires-clause-free g c κs within =
 pub take-requires-clause-arrival : goal.take-requires-clause-arrival
 take-requires-clause-arrival g c κs within =
     let step = rw (← c.self.view_is) at c.loop.invariant.step in
-    arrives-next (g.F.Front.told c.self.inside.front) (g.L.Link.told c.in-Some-accept.link) c.self.inside.board.book.state
-    c.in-Some-accept.ensures.accepts.hands.0 step
+    arrives-next (g.F.Front.seen c.self.inside.front).told (g.L.Link.seen c.in-Some-accept.link).told c.self.inside.board.book.state
+    c.in-Some-accept.ensures.accepts.hands.1 step
 
 pub take-requires-clause-client : goal.take-requires-clause-client
 take-requires-clause-client g c κs within =
-    handed-known g.N.Known.known g.L.Link.told (g.F.Front.told c.self.inside.front) c.in-Some-accept.link c.self.invariant
-    c.in-Some-accept.ensures.accepts.hands.0
+    handed-known g.N.Known.known g.L.Link.seen (g.F.Front.seen c.self.inside.front).told c.in-Some-accept.link c.self.invariant
+    c.in-Some-accept.ensures.accepts.hands.1
 
 pub loop-preserved : goal.loop-preserved
 loop-preserved g c =
@@ -52,16 +51,18 @@ loop-preserved g c =
       moment = c.take.ensures.moment ∙ before.moment;
       step =
           c.take.ensures.step
-          (step-taken (g.F.Front.told c.self.inside.front) (g.F.Front.told c.accept.new.self) c.self.inside.board.book.state
+          (step-taken c.in-Some-accept.link (g.F.Front.seen c.self.inside.front).told (g.F.Front.seen c.accept.new.self).told c.self.inside.board.book.state
           c.take.new.self.board.book.state c.in-Some-accept.ensures.accepts.told_is c.in_ok-take-in-Some-accept.ensures.taken before.step);
       follows =
           follows-trans _ _ _ before.follows
-          (follows-trans _ _ _ (follows-accept g.L.Link.told g.L.Link.counts _ _ _ _ _ _ _ c.accept.ensures.script c.accept.ensures.accepts)
+          (follows-trans _ _ _ (follows-accept g.L.Link.seen _ _ _ c.accept.ensures.accepts)
           c.take.ensures.follows);
-      waits = c.take.ensures.waits ∙ waits-accept _ _ _ c.accept.ensures.accepts.told_is ∙ before.waits;
-      accept_faults =
-          subst (λ (n : FrontCounts). NeverFalls c.args.self.now.front.counts.accept_faults n.accept_faults) (sym c.take.ensures.counts)
-          (omega (arith, before.accept_faults, rises-where _ _ _ c.accept.ensures.accepts.accept_faults));
+      front =
+          takes-trans _ _ _ before.front
+          (takes-trans _ _ _ (takes-accept _ _ _ c.accept.ensures.accepts.told_is) c.take.ensures.front);
+      watched =
+          λ first. c.take.ensures.watched
+          (λ tells. watched-accept _ _ _ _ c.accept.ensures.accepts.told_is (before.watched first tells));
       calls = c.take.ensures.calls ∙ before.calls;
       ready = c.take.ensures.ready ∙ before.ready;
     }
@@ -81,13 +82,14 @@ pub returns-in_err-take-in-Some-accept-clause-follows : goal.returns-in_err-take
 returns-in_err-take-in-Some-accept-clause-follows g c =
     let before = rw (← c.self.view_is) at c.loop.invariant.follows in
     follows-trans _ _ _ before
-    (follows-trans _ _ _ (follows-accept g.L.Link.told g.L.Link.counts _ _ _ _ _ _ _ c.accept.ensures.script c.accept.ensures.accepts)
+    (follows-trans _ _ _ (follows-accept g.L.Link.seen _ _ _ c.accept.ensures.accepts)
     c.take.ensures.follows)
 
-pub returns-in_err-take-in-Some-accept-clause-waits : goal.returns-in_err-take-in-Some-accept-clause-waits
-returns-in_err-take-in-Some-accept-clause-waits g c =
-    let before = rw (← c.self.view_is) at c.loop.invariant.waits in
-    c.take.ensures.waits ∙ waits-accept _ _ _ c.accept.ensures.accepts.told_is ∙ before
+pub returns-in_err-take-in-Some-accept-clause-front : goal.returns-in_err-take-in-Some-accept-clause-front
+returns-in_err-take-in-Some-accept-clause-front g c =
+    let before = rw (← c.self.view_is) at c.loop.invariant.front in
+    takes-trans _ _ _ before
+    (takes-trans _ _ _ (takes-accept _ _ _ c.accept.ensures.accepts.told_is) c.take.ensures.front)
 
 pub returns-in_err-take-in-Some-accept-clause-calls : goal.returns-in_err-take-in-Some-accept-clause-calls
 returns-in_err-take-in-Some-accept-clause-calls g c =
@@ -108,17 +110,22 @@ returns-in-None-accept g c =
       up = before.up;
       moment = before.moment;
       step =
-          step-none (g.F.Front.told c.self.inside.front) (g.F.Front.told c.accept.new.self) c.accept.result c.self.inside.board.book.state
+          step-none (g.F.Front.seen c.self.inside.front).told (g.F.Front.seen c.accept.new.self).told c.accept.result c.self.inside.board.book.state
           c.in-None-accept.is c.accept.ensures.accepts.told_is before.step;
       taken =
-          took-none g.L.Link.told g.L.Link.counts (g.F.Front.told c.self.inside.front) (g.F.Front.told c.accept.new.self) c.args.self.now.front.counts
-          (g.F.Front.counts c.self.inside.front) (g.F.Front.counts c.accept.new.self) c.accept.result c.self.inside.board.book.state
-          c.in-None-accept.is before.accept_faults c.accept.ensures.accepts;
+          took-none g.L.Link.seen (g.F.Front.seen c.self.inside.front) (g.F.Front.seen c.accept.new.self) c.accept.result
+          c.self.inside.board.book.state c.in-None-accept.is c.accept.ensures.accepts;
       follows =
           follows-trans _ _ _ before.follows
-          (follows-accept g.L.Link.told g.L.Link.counts _ _ _ _ _ _ _ c.accept.ensures.script c.accept.ensures.accepts);
-      waits = waits-accept _ _ _ c.accept.ensures.accepts.told_is ∙ before.waits;
+          (follows-accept g.L.Link.seen _ _ _ c.accept.ensures.accepts);
+      front = takes-trans _ _ _ before.front (takes-accept _ _ _ c.accept.ensures.accepts.told_is);
+      watched = λ first tells. watched-accept _ _ _ _ c.accept.ensures.accepts.told_is (before.watched first tells);
       calls = before.calls;
       ready = before.ready;
       err = tt;
     }
+
+pub returns-in_err-take-in-Some-accept-clause-watched : goal.returns-in_err-take-in-Some-accept-clause-watched
+returns-in_err-take-in-Some-accept-clause-watched g c =
+    let before = rw (← c.self.view_is) at c.loop.invariant.watched in
+    λ first. c.take.ensures.watched (λ tells. watched-accept _ _ _ _ c.accept.ensures.accepts.told_is (before first tells))

@@ -1,7 +1,7 @@
 use Rattle.std.proofs.Common.{◌≡◌}
-use Rattle.mpm_base.specs.Count.{NeverFalls}
+use Rattle.mpm_base.specs.Front.{TellsOn}
 use Rattle.worker_group.specs.Service.{IsUp}
-use Rattle.mpm_run.specs.ListenInside.{Follows, IsInStep, waits_of}
+use Rattle.mpm_run.specs.ListenInside.{Follows, IsInStep, IsWatching, OnlyTakes}
 use Rattle.mpm_run.specs.RoundInside.{TakesSome}
 use Rattle.mpm_run.proofs.listen.Listener.take_all.Given as goal
 
@@ -14,8 +14,8 @@ invariant-loop g l =
       moment : l.self.board.book.state.moment ≡ l.fn.self.board.book.state.moment;
       step : IsInStep l.self.front.told l.self.board.book.state;
       follows : Follows l.fn.self.front l.self.front;
-      waits : waits_of l.self.front.told ≡ waits_of l.fn.self.front.told;
-      accept_faults : NeverFalls l.fn.self.front.counts.accept_faults l.self.front.counts.accept_faults;
+      front : TellsOn OnlyTakes l.fn.self.front.told l.self.front.told;
+      watched : IsWatching g.L.Link.seen l.fn.self.front.told l.fn.self.board.book → IsWatching g.L.Link.seen l.self.front.told l.self.board.book;
       calls : l.self.calls ≡ l.fn.self.calls;
       ready : l.self.ready ≡ l.fn.self.ready;
     }

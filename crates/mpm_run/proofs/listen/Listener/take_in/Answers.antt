@@ -1,11 +1,12 @@
-use Rattle.std.proofs.Common.{ℕ, ◌<◌, List, sym, subst, ◌∙◌}
+use Rattle.std.proofs.Common.{ℕ, ◌<◌, List, [], ◌∷◌, None, sym, subst, ◌∙◌}
 use Rattle.std.proofs.lemmas.Result.{on_err_weaker, on_ok_weaker}
 use Rattle.worker_group.specs.Acts.{Acts}
+use Rattle.mpm_run.specs.ClosingInside.{IsLateWay}
 use Rattle.mpm_run.specs.RoundInside.{SignalsFirst, TakesSome, TakesUntil, signal_events}
 use Rattle.mpm_run.specs.Times.{moment_for}
-use Rattle.std.proofs.Common.{None}
 use Rattle.mpm_run.proofs.FrontLemmas.{step-kept}
-use Rattle.mpm_run.proofs.RoundLemmas.{breaks-behind, breaks-early, goes-round, on-err, on-ok, signals-all, starts-none, until-none}
+use Rattle.mpm_run.proofs.RoundLemmas.{breaks-behind, breaks-early, goes-round, lets-go-none, on-err, on-ok, retires-none, signals-all, starts-none, until-none}
+use Rattle.mpm_run.proofs.WatchLemmas.{names-gone, names-kept, names-let_go, names-passed, names-retired, names-signalled, names-started, none-signals, watched-as}
 use Rattle.mpm_run.proofs.listen.Listener.take_in.Goals as goal
 
 pub pass_time-requires-clause-passes : goal.pass_time-requires-clause-passes
@@ -25,31 +26,53 @@ signal_all-requires-clause-passes g c =
 pub signal_all-requires-clause-free : goal.signal_all-requires-clause-free
 signal_all-requires-clause-free g c = c.in_ok-pass_time.ensures.passes.acts.row
 
-pub start_children-requires-clause-passes : goal.start_children-requires-clause-passes
-start_children-requires-clause-passes g c =
+pub let_go_of_conns-requires-clause-passes : goal.let_go_of_conns-requires-clause-passes
+let_go_of_conns-requires-clause-passes g c =
     let first = rw (← c.self.view_is) at c.requires.passes in
     subst (λ (n : ℕ). 0 < n) (sym (c.in_ok-signal_all.ensures.signals.passes ∙ c.in_ok-pass_time.ensures.passes.acts.passes)) first
 
+pub let_go_of_conns-requires-clause-free : goal.let_go_of_conns-requires-clause-free
+let_go_of_conns-requires-clause-free g c = c.in_ok-signal_all.ensures.signals.row
+
+pub retire_all-requires-clause-passes : goal.retire_all-requires-clause-passes
+retire_all-requires-clause-passes g c =
+    let first = rw (← c.self.view_is) at c.requires.passes in
+    subst (λ (n : ℕ). 0 < n)
+    (sym (c.in_ok-let_go_of_conns.ensures.gone.acts.passes ∙ c.in_ok-signal_all.ensures.signals.passes ∙ c.in_ok-pass_time.ensures.passes.acts.passes)) first
+
+pub retire_all-requires-clause-free : goal.retire_all-requires-clause-free
+retire_all-requires-clause-free g c = c.in_ok-let_go_of_conns.ensures.gone.acts.row
+
+pub start_children-requires-clause-passes : goal.start_children-requires-clause-passes
+start_children-requires-clause-passes g c =
+    let first = rw (← c.self.view_is) at c.requires.passes in
+    subst (λ (n : ℕ). 0 < n)
+    (sym (c.retire_all.ensures.retires.acts.passes ∙ c.in_ok-let_go_of_conns.ensures.gone.acts.passes ∙ c.in_ok-signal_all.ensures.signals.passes
+    ∙ c.in_ok-pass_time.ensures.passes.acts.passes)) first
+
 pub start_children-requires-clause-free : goal.start_children-requires-clause-free
-start_children-requires-clause-free g c = c.in_ok-signal_all.ensures.signals.row
+start_children-requires-clause-free g c = c.retire_all.ensures.retires.acts.row
 
 pub take_all-requires-clause-passes : goal.take_all-requires-clause-passes
 take_all-requires-clause-passes g c κs within =
     let first = rw (← c.self.view_is) at c.requires.passes in
     subst (λ (n : ℕ). 0 < n)
-    (sym (c.start_children.ensures.starts.acts.passes ∙ c.in_ok-signal_all.ensures.signals.passes ∙ c.in_ok-pass_time.ensures.passes.acts.passes)) first
+    (sym (c.start_children.ensures.starts.acts.passes ∙ c.retire_all.ensures.retires.acts.passes ∙ c.in_ok-let_go_of_conns.ensures.gone.acts.passes
+    ∙ c.in_ok-signal_all.ensures.signals.passes ∙ c.in_ok-pass_time.ensures.passes.acts.passes)) first
 
 pub take_all-requires-clause-free : goal.take_all-requires-clause-free
 take_all-requires-clause-free g c κs within = c.start_children.ensures.starts.acts.row
 
 pub take_all-requires-clause-up : goal.take_all-requires-clause-up
-take_all-requires-clause-up g c κs within = c.start_children.ensures.rest.up (c.signal_all.ensures.rest.up c.pass_time.ensures.up)
+take_all-requires-clause-up g c κs within =
+    c.start_children.ensures.rest.up
+    (c.retire_all.ensures.rest.up (c.let_go_of_conns.ensures.rest.up (c.signal_all.ensures.rest.up c.pass_time.ensures.up)))
 
 pub take_all-requires-clause-step : goal.take_all-requires-clause-step
 take_all-requires-clause-step g c κs within =
     let step = rw (← c.self.view_is) at c.requires.step in
-    step-kept (g.F.Front.told c.self.inside.front) c.self.inside.board.book.state c.start_children.new.board.book.state
-    (c.start_children.ensures.rest.accepted ∙ c.signal_all.ensures.rest.accepted ∙ c.pass_time.ensures.taken) step
+    step-kept (g.F.Front.seen c.self.inside.front).told c.self.inside.board.book.state c.start_children.new.board.book.state
+    (c.start_children.ensures.rest.accepted ∙ c.retire_all.ensures.rest.accepted ∙ c.let_go_of_conns.ensures.rest.accepted ∙ c.signal_all.ensures.rest.accepted ∙ c.pass_time.ensures.taken) step
 
 pub returns-in_err-pass_time-clause-broken : goal.returns-in_err-pass_time-clause-broken
 returns-in_err-pass_time-clause-broken g c =
@@ -59,25 +82,42 @@ returns-in_err-pass_time-clause-broken g c =
 
 pub returns-in_err-signal_all-clause-broken : goal.returns-in_err-signal_all-clause-broken
 returns-in_err-signal_all-clause-broken g c =
+    let b = c.signal_all.new.board.book in
     let first =
     subst (λ (xs : List ℕ). SignalsFirst xs c.pass_time.new.board.book c.signal_all.new.board.book) c.slots.ensures.is c.in_err-signal_all.ensures.first in
     rw (← c.self.view_is)
     (on-err c.from_residual-in_err-signal_all.result _
-    (breaks-behind (moment_for c.args.moment) c.self.inside.ready c.self.inside.board.book c.pass_time.new.board.book c.signal_all.new.board.book
-    c.signal_all.new.board.book c.signal_all.new.board.book c.in_ok-pass_time.ensures.passes first (starts-none c.signal_all.new.board.book first.acts.row)
-    (until-none c.signal_all.new.board.book first.acts.row)))
+    (breaks-behind (moment_for c.args.moment) c.self.inside.ready [] c.self.inside.board.book c.pass_time.new.board.book b b b b b
+    c.in_ok-pass_time.ensures.passes first (lets-go-none b first.acts.row) (retires-none b first.acts.row) (starts-none b first.acts.row)
+    (until-none b first.acts.row)))
+
+pub returns-in_err-let_go_of_conns-clause-broken : goal.returns-in_err-let_go_of_conns-clause-broken
+returns-in_err-let_go_of_conns-clause-broken g c =
+    let b = c.let_go_of_conns.new.board.book in
+    let until = c.in_err-let_go_of_conns.ensures.until in
+    let row = until.1.acts.row in
+    let signals =
+    subst (λ (xs : List ℕ). Acts 0 (signal_events c.pass_time.new.board.book xs) None c.pass_time.new.board.book c.signal_all.new.board.book)
+    c.slots.ensures.is c.in_ok-signal_all.ensures.signals in
+    rw (← c.self.view_is)
+    (on-err c.from_residual-in_err-let_go_of_conns.result _
+    (breaks-behind (moment_for c.args.moment) c.self.inside.ready (until.0 ∷ []) c.self.inside.board.book c.pass_time.new.board.book
+    c.signal_all.new.board.book b b b b c.in_ok-pass_time.ensures.passes
+    (signals-all c.self.inside.ready c.pass_time.new.board.book c.signal_all.new.board.book signals) until.1 (retires-none b row) (starts-none b row)
+    (until-none b row)))
 
 pub returns-in_err-start_children-clause-broken : goal.returns-in_err-start_children-clause-broken
 returns-in_err-start_children-clause-broken g c =
+    let b = c.start_children.new.board.book in
     let signals =
     subst (λ (xs : List ℕ). Acts 0 (signal_events c.pass_time.new.board.book xs) None c.pass_time.new.board.book c.signal_all.new.board.book)
     c.slots.ensures.is c.in_ok-signal_all.ensures.signals in
     rw (← c.self.view_is)
     (on-err c.from_residual-in_err-start_children.result _
-    (breaks-behind (moment_for c.args.moment) c.self.inside.ready c.self.inside.board.book c.pass_time.new.board.book c.signal_all.new.board.book
-    c.start_children.new.board.book c.start_children.new.board.book c.in_ok-pass_time.ensures.passes
-    (signals-all c.self.inside.ready c.pass_time.new.board.book c.signal_all.new.board.book signals) c.start_children.ensures.starts
-    (until-none c.start_children.new.board.book c.start_children.ensures.starts.acts.row)))
+    (breaks-behind (moment_for c.args.moment) c.self.inside.ready [] c.self.inside.board.book c.pass_time.new.board.book c.signal_all.new.board.book
+    c.let_go_of_conns.new.board.book c.retire_all.new.board.book b b c.in_ok-pass_time.ensures.passes
+    (signals-all c.self.inside.ready c.pass_time.new.board.book c.signal_all.new.board.book signals) c.in_ok-let_go_of_conns.ensures.gone
+    c.retire_all.ensures.retires c.start_children.ensures.starts (until-none b c.start_children.ensures.starts.acts.row)))
 
 pub returns-clause-round : goal.returns-clause-round
 returns-clause-round g c =
@@ -88,7 +128,8 @@ returns-clause-round g c =
     (on_ok_weaker c.take_all.result
     (λ (takes : TakesSome c.start_children.new.board.book c.take_all.new.self.board.book).
     goes-round (moment_for c.args.moment) c.self.inside.ready c.self.inside.board.book c.pass_time.new.board.book c.signal_all.new.board.book
-    c.start_children.new.board.book c.take_all.new.self.board.book c.in_ok-pass_time.ensures.passes signals c.start_children.ensures.starts takes)
+    c.let_go_of_conns.new.board.book c.retire_all.new.board.book c.start_children.new.board.book c.take_all.new.self.board.book
+    c.in_ok-pass_time.ensures.passes signals c.in_ok-let_go_of_conns.ensures.gone c.retire_all.ensures.retires c.start_children.ensures.starts takes)
     c.take_all.ensures.takes)
 
 pub returns-clause-broken : goal.returns-clause-broken
@@ -99,25 +140,72 @@ returns-clause-broken g c =
     rw (← c.self.view_is)
     (on_err_weaker c.take_all.result
     (λ (until : TakesUntil c.start_children.new.board.book c.take_all.new.self.board.book).
-    breaks-behind (moment_for c.args.moment) c.self.inside.ready c.self.inside.board.book c.pass_time.new.board.book c.signal_all.new.board.book
-    c.start_children.new.board.book c.take_all.new.self.board.book c.in_ok-pass_time.ensures.passes
-    (signals-all c.self.inside.ready c.pass_time.new.board.book c.signal_all.new.board.book signals) c.start_children.ensures.starts until)
+    breaks-behind (moment_for c.args.moment) c.self.inside.ready [] c.self.inside.board.book c.pass_time.new.board.book c.signal_all.new.board.book
+    c.let_go_of_conns.new.board.book c.retire_all.new.board.book c.start_children.new.board.book c.take_all.new.self.board.book
+    c.in_ok-pass_time.ensures.passes (signals-all c.self.inside.ready c.pass_time.new.board.book c.signal_all.new.board.book signals)
+    c.in_ok-let_go_of_conns.ensures.gone c.retire_all.ensures.retires c.start_children.ensures.starts until)
     c.take_all.ensures.until)
 
 pub returns-clause-moment : goal.returns-clause-moment
 returns-clause-moment g c =
     rw (← c.self.view_is)
     (on-ok c.take_all.result _
-    (c.take_all.ensures.moment ∙ c.start_children.ensures.rest.moment ∙ c.signal_all.ensures.rest.moment ∙ c.in_ok-pass_time.ensures.moment))
+    (c.take_all.ensures.moment ∙ c.start_children.ensures.rest.moment ∙ c.retire_all.ensures.rest.moment ∙ c.let_go_of_conns.ensures.rest.moment ∙ c.signal_all.ensures.rest.moment ∙ c.in_ok-pass_time.ensures.moment))
 
 pub returns-clause-taken : goal.returns-clause-taken
-returns-clause-taken g c = rw (← c.self.view_is) c.take_all.ensures.taken
+returns-clause-taken g c = c.take_all.ensures.taken
 
 pub returns-clause-follows : goal.returns-clause-follows
 returns-clause-follows g c = rw (← c.self.view_is) c.take_all.ensures.follows
 
-pub returns-clause-waits : goal.returns-clause-waits
-returns-clause-waits g c = rw (← c.self.view_is) c.take_all.ensures.waits
+pub returns-clause-front : goal.returns-clause-front
+returns-clause-front g c = rw (← c.self.view_is) c.take_all.ensures.front
 
 pub returns-clause-calls : goal.returns-clause-calls
 returns-clause-calls g c = rw (← c.self.view_is) c.take_all.ensures.calls
+
+pub returns-in_err-pass_time-clause-watched : goal.returns-in_err-pass_time-clause-watched
+returns-in_err-pass_time-clause-watched g c =
+    rw (← c.self.view_is)
+    (λ before tells. watched-as (g.F.Front.seen c.self.inside.front).told c.self.inside.board.book c.pass_time.new.board.book
+    (names-gone IsLateWay c.self.inside.board.book c.pass_time.new.board.book c.in_err-pass_time.ensures.refused) c.pass_time.ensures.taken (before tells))
+
+pub returns-in_err-signal_all-clause-watched : goal.returns-in_err-signal_all-clause-watched
+returns-in_err-signal_all-clause-watched g c =
+    rw (← c.self.view_is)
+    (λ before tells. watched-as (g.F.Front.seen c.self.inside.front).told c.self.inside.board.book c.signal_all.new.board.book
+    (names-kept 0 _ None c.pass_time.new.board.book c.signal_all.new.board.book c.in_err-signal_all.ensures.first.acts (none-signals c.in_err-signal_all.ensures.first.first)
+    ∙ names-passed _ c.self.inside.board.book c.pass_time.new.board.book c.in_ok-pass_time.ensures.passes)
+    (c.signal_all.ensures.rest.accepted ∙ c.pass_time.ensures.taken) (before tells))
+
+pub returns-in_err-let_go_of_conns-clause-watched : goal.returns-in_err-let_go_of_conns-clause-watched
+returns-in_err-let_go_of_conns-clause-watched g c =
+    rw (← c.self.view_is)
+    (λ before tells. watched-as (g.F.Front.seen c.self.inside.front).told c.self.inside.board.book c.let_go_of_conns.new.board.book
+    (names-let_go _ c.signal_all.new.board.book c.let_go_of_conns.new.board.book c.in_err-let_go_of_conns.ensures.until.1
+    ∙ names-signalled c.slots.result.now c.pass_time.new.board.book c.signal_all.new.board.book c.in_ok-signal_all.ensures.signals
+    ∙ names-passed _ c.self.inside.board.book c.pass_time.new.board.book c.in_ok-pass_time.ensures.passes)
+    (c.let_go_of_conns.ensures.rest.accepted ∙ c.signal_all.ensures.rest.accepted ∙ c.pass_time.ensures.taken) (before tells))
+
+pub returns-in_err-start_children-clause-watched : goal.returns-in_err-start_children-clause-watched
+returns-in_err-start_children-clause-watched g c =
+    rw (← c.self.view_is)
+    (λ before tells. watched-as (g.F.Front.seen c.self.inside.front).told c.self.inside.board.book c.start_children.new.board.book
+    (names-started c.retire_all.new.board.book c.start_children.new.board.book c.start_children.ensures.starts
+    ∙ names-retired c.let_go_of_conns.new.board.book c.retire_all.new.board.book c.retire_all.ensures.retires
+    ∙ names-let_go [] c.signal_all.new.board.book c.let_go_of_conns.new.board.book c.in_ok-let_go_of_conns.ensures.gone
+    ∙ names-signalled c.slots.result.now c.pass_time.new.board.book c.signal_all.new.board.book c.in_ok-signal_all.ensures.signals
+    ∙ names-passed _ c.self.inside.board.book c.pass_time.new.board.book c.in_ok-pass_time.ensures.passes)
+    (c.start_children.ensures.rest.accepted ∙ c.retire_all.ensures.rest.accepted ∙ c.let_go_of_conns.ensures.rest.accepted ∙ c.signal_all.ensures.rest.accepted ∙ c.pass_time.ensures.taken) (before tells))
+
+pub returns-clause-watched : goal.returns-clause-watched
+returns-clause-watched g c =
+    rw (← c.self.view_is)
+    (λ before. c.take_all.ensures.watched
+    (λ tells. watched-as (g.F.Front.seen c.self.inside.front).told c.self.inside.board.book c.start_children.new.board.book
+    (names-started c.retire_all.new.board.book c.start_children.new.board.book c.start_children.ensures.starts
+    ∙ names-retired c.let_go_of_conns.new.board.book c.retire_all.new.board.book c.retire_all.ensures.retires
+    ∙ names-let_go [] c.signal_all.new.board.book c.let_go_of_conns.new.board.book c.in_ok-let_go_of_conns.ensures.gone
+    ∙ names-signalled c.slots.result.now c.pass_time.new.board.book c.signal_all.new.board.book c.in_ok-signal_all.ensures.signals
+    ∙ names-passed _ c.self.inside.board.book c.pass_time.new.board.book c.in_ok-pass_time.ensures.passes)
+    (c.start_children.ensures.rest.accepted ∙ c.retire_all.ensures.rest.accepted ∙ c.let_go_of_conns.ensures.rest.accepted ∙ c.signal_all.ensures.rest.accepted ∙ c.pass_time.ensures.taken) (before tells)))

@@ -1,262 +1,254 @@
-use Rattle.std.proofs.Common.{ap, refl, sym, ◌∙◌}
+use Rattle.std.proofs.Common.{ap, ◌∙◌}
 use Rattle.conn_machine.specs.States.{is_halted}
-use Rattle.mpm_run.specs.ListenInside.{SeenListener, outside}
-use Rattle.mpm_run.proofs.FrontLemmas.{follows-trans, follows-wait}
-use Rattle.mpm_run.proofs.InformLemmas.{informed-so_far}
+use Rattle.mpm_run.specs.ListenInside.{LinksTell}
+use Rattle.mpm_run.proofs.FrontLemmas.{takes-same}
+use Rattle.mpm_run.proofs.PaceLemmas.{abreast-round, pace-broken, pace-round, pace-served, pace-started, patience-started, patience-waited, served-patience}
 use Rattle.mpm_run.proofs.RoundLemmas.{on-err}
-use Rattle.mpm_run.proofs.TurnLemmas.{HasWaited, IsBetween, another, between-round, between-served, between-started, free-broken, so_far-broken, time-turned}
+use Rattle.mpm_run.proofs.TurnLemmas.{HasServed, IsBetween, between-ended, between-failed, between-round, between-served, between-started, broken-between, broken-round, broken-served}
 use Rattle.mpm_run.proofs.listen.Listener.take_turns.Goals as goal
 
-pub returns-in_err-start_children-clause-free : goal.returns-in_err-start_children-clause-free
-returns-in_err-start_children-clause-free g c =
-    let a : SeenListener = record { board = c.self.inside.board; front = outside (g.F.Front.script c.self.inside.front) (g.F.Front.told c.self.inside.front) (g.F.Front.counts c.self.inside.front); calls = g.C.Clock.told c.self.inside.clock; ready = c.self.inside.ready } in
-    let free = rw (← c.self.view_is) at c.requires.free in
-    let step = rw (← c.self.view_is) at c.requires.step in
-    let informed = rw (← c.self.view_is) at c.requires.informed in
-    let started : IsBetween a (record a { board = c.start_children.new.board }) =
-    between-started a c.start_children.new.board free step informed c.start_children.ensures.starts c.start_children.ensures.rest.moment
-    c.start_children.ensures.rest.accepted in
-    started.free
-
-pub returns-in_err-start_children-clause-begun : goal.returns-in_err-start_children-clause-begun
-returns-in_err-start_children-clause-begun g c =
-    let a : SeenListener = record { board = c.self.inside.board; front = outside (g.F.Front.script c.self.inside.front) (g.F.Front.told c.self.inside.front) (g.F.Front.counts c.self.inside.front); calls = g.C.Clock.told c.self.inside.clock; ready = c.self.inside.ready } in
-    let free = rw (← c.self.view_is) at c.requires.free in
-    let step = rw (← c.self.view_is) at c.requires.step in
-    let informed = rw (← c.self.view_is) at c.requires.informed in
-    let started : IsBetween a (record a { board = c.start_children.new.board }) =
-    between-started a c.start_children.new.board free step informed c.start_children.ensures.starts c.start_children.ensures.rest.moment
-    c.start_children.ensures.rest.accepted in
-    on-err c.from_residual.result _ (informed-so_far _ _ _ started.informed)
-
 pub loop-init : goal.loop-init
-loop-init g c =
-    let a : SeenListener = record { board = c.self.inside.board; front = outside (g.F.Front.script c.self.inside.front) (g.F.Front.told c.self.inside.front) (g.F.Front.counts c.self.inside.front); calls = g.C.Clock.told c.self.inside.clock; ready = c.self.inside.ready } in
-    let free = rw (← c.self.view_is) at c.requires.free in
-    let step = rw (← c.self.view_is) at c.requires.step in
-    let informed = rw (← c.self.view_is) at c.requires.informed in
-    let started : IsBetween a (record a { board = c.start_children.new.board }) =
-    between-started a c.start_children.new.board free step informed c.start_children.ensures.starts c.start_children.ensures.rest.moment
-    c.start_children.ensures.rest.accepted in
-    let going = rw (← c.self.view_is) at c.requires.going in
-    record { between = rw (← c.self.view_is) started; going = ap is_halted c.start_children.ensures.going ∙ going }
+loop-init g c = record {
+  between =
+      between-started (LinksTell g.L.Link.seen) c.args.self.now c.start.new.self c.requires.passes c.requires.free c.requires.going c.requires.step c.requires.informed c.start.ensures.others
+      c.start.ensures.starts c.start.ensures.going c.start.ensures.rest;
+  going = ap is_halted c.start.ensures.going ∙ c.requires.going;
+  paced =
+      λ start. pace-started c.in_ok-first.first c.args.self.now c.start.new.self start c.start.ensures.others c.start.ensures.starts c.start.ensures.rest.moment
+      c.in_ok-first.ensures.until c.in_ok-first.ensures.quiet;
+}
+
+pub returns-in_err-first-clause-free : goal.returns-in_err-first-clause-free
+returns-in_err-first-clause-free g c =
+    (between-started (LinksTell g.L.Link.seen) c.args.self.now c.start.new.self c.requires.passes c.requires.free c.requires.going c.requires.step c.requires.informed c.start.ensures.others
+    c.start.ensures.starts c.start.ensures.going c.start.ensures.rest).free
+
+pub returns-in_err-first-clause-few : goal.returns-in_err-first-clause-few
+returns-in_err-first-clause-few g c =
+    (between-started (LinksTell g.L.Link.seen) c.args.self.now c.start.new.self c.requires.passes c.requires.free c.requires.going c.requires.step c.requires.informed c.start.ensures.others
+    c.start.ensures.starts c.start.ensures.going c.start.ensures.rest).few
+
+pub returns-in_err-first-clause-watched : goal.returns-in_err-first-clause-watched
+returns-in_err-first-clause-watched g c =
+    (between-started (LinksTell g.L.Link.seen) c.args.self.now c.start.new.self c.requires.passes c.requires.free c.requires.going c.requires.step c.requires.informed c.start.ensures.others
+    c.start.ensures.starts c.start.ensures.going c.start.ensures.rest).watched
+
+pub returns-in_err-first-clause-begun : goal.returns-in_err-first-clause-begun
+returns-in_err-first-clause-begun g c =
+    on-err c.from_residual.result _
+    (broken-between (LinksTell g.L.Link.seen) c.args.self.now c.start.new.self
+    (between-started (LinksTell g.L.Link.seen) c.args.self.now c.start.new.self c.requires.passes c.requires.free c.requires.going c.requires.step c.requires.informed c.start.ensures.others
+    c.start.ensures.starts c.start.ensures.going c.start.ensures.rest)).so_far
 
 pub returns-in-Ended-clause-follows : goal.returns-in-Ended-clause-follows
 returns-in-Ended-clause-follows g c =
-    let a : SeenListener = record { board = c.self-in-loop.inside.board; front = outside (g.F.Front.script c.self-in-loop.inside.front) (g.F.Front.told c.self-in-loop.inside.front) (g.F.Front.counts c.self-in-loop.inside.front); calls = g.C.Clock.told c.self-in-loop.inside.clock; ready = c.self-in-loop.inside.ready } in
-    let before : IsBetween c.args.self.now a = rw (← c.self-in-loop.view_is) at c.loop.invariant.between in
-    follows-trans _ _ _ before.follows (follows-wait _ _ _ _ _ _ _ _ c.wait-woke.ensures.script c.wait-woke.ensures.waits)
+    (between-ended (LinksTell g.L.Link.seen) c.loop.rest c.pause-pause.result c.args.self.now c.loop.self c.pause-pause.new.self c.loop.invariant.between c.pause-pause.ensures c.in-Ended.is).follows
+
+pub returns-in-Ended-clause-few : goal.returns-in-Ended-clause-few
+returns-in-Ended-clause-few g c =
+    (between-ended (LinksTell g.L.Link.seen) c.loop.rest c.pause-pause.result c.args.self.now c.loop.self c.pause-pause.new.self c.loop.invariant.between c.pause-pause.ensures c.in-Ended.is).few
+
+pub returns-in-Ended-clause-watched : goal.returns-in-Ended-clause-watched
+returns-in-Ended-clause-watched g c =
+    (between-ended (LinksTell g.L.Link.seen) c.loop.rest c.pause-pause.result c.args.self.now c.loop.self c.pause-pause.new.self c.loop.invariant.between c.pause-pause.ensures c.in-Ended.is).watched
+
+pub returns-in-Ended-clause-bound : goal.returns-in-Ended-clause-bound
+returns-in-Ended-clause-bound g c =
+    (between-ended (LinksTell g.L.Link.seen) c.loop.rest c.pause-pause.result c.args.self.now c.loop.self c.pause-pause.new.self c.loop.invariant.between c.pause-pause.ensures c.in-Ended.is).bound
+
+pub returns-in-Ended-clause-time : goal.returns-in-Ended-clause-time
+returns-in-Ended-clause-time g c =
+    (between-ended (LinksTell g.L.Link.seen) c.loop.rest c.pause-pause.result c.args.self.now c.loop.self c.pause-pause.new.self c.loop.invariant.between c.pause-pause.ensures c.in-Ended.is).time
+
+pub returns-in-Ended-clause-informed : goal.returns-in-Ended-clause-informed
+returns-in-Ended-clause-informed g c =
+    (between-ended (LinksTell g.L.Link.seen) c.loop.rest c.pause-pause.result c.args.self.now c.loop.self c.pause-pause.new.self c.loop.invariant.between c.pause-pause.ensures c.in-Ended.is).informed
 
 pub returns-in-Failed-clause-follows : goal.returns-in-Failed-clause-follows
 returns-in-Failed-clause-follows g c =
-    let a : SeenListener = record { board = c.self-in-loop.inside.board; front = outside (g.F.Front.script c.self-in-loop.inside.front) (g.F.Front.told c.self-in-loop.inside.front) (g.F.Front.counts c.self-in-loop.inside.front); calls = g.C.Clock.told c.self-in-loop.inside.clock; ready = c.self-in-loop.inside.ready } in
-    let before : IsBetween c.args.self.now a = rw (← c.self-in-loop.view_is) at c.loop.invariant.between in
-    follows-trans _ _ _ before.follows (follows-wait _ _ _ _ _ _ _ _ c.wait-woke.ensures.script c.wait-woke.ensures.waits)
+    (between-failed (LinksTell g.L.Link.seen) c.loop.rest c.pause-pause.result c.args.self.now c.loop.self c.pause-pause.new.self c.loop.invariant.between c.pause-pause.ensures c.in-Failed.is).follows
+
+pub returns-in-Failed-clause-few : goal.returns-in-Failed-clause-few
+returns-in-Failed-clause-few g c =
+    (between-failed (LinksTell g.L.Link.seen) c.loop.rest c.pause-pause.result c.args.self.now c.loop.self c.pause-pause.new.self c.loop.invariant.between c.pause-pause.ensures c.in-Failed.is).few
+
+pub returns-in-Failed-clause-watched : goal.returns-in-Failed-clause-watched
+returns-in-Failed-clause-watched g c =
+    (between-failed (LinksTell g.L.Link.seen) c.loop.rest c.pause-pause.result c.args.self.now c.loop.self c.pause-pause.new.self c.loop.invariant.between c.pause-pause.ensures c.in-Failed.is).watched
+
+pub returns-in-Failed-clause-bound : goal.returns-in-Failed-clause-bound
+returns-in-Failed-clause-bound g c =
+    (between-failed (LinksTell g.L.Link.seen) c.loop.rest c.pause-pause.result c.args.self.now c.loop.self c.pause-pause.new.self c.loop.invariant.between c.pause-pause.ensures c.in-Failed.is).bound
+
+pub returns-in-Failed-clause-time : goal.returns-in-Failed-clause-time
+returns-in-Failed-clause-time g c =
+    (between-failed (LinksTell g.L.Link.seen) c.loop.rest c.pause-pause.result c.args.self.now c.loop.self c.pause-pause.new.self c.loop.invariant.between c.pause-pause.ensures c.in-Failed.is).time
+
+pub returns-in-Failed-clause-informed : goal.returns-in-Failed-clause-informed
+returns-in-Failed-clause-informed g c =
+    (between-failed (LinksTell g.L.Link.seen) c.loop.rest c.pause-pause.result c.args.self.now c.loop.self c.pause-pause.new.self c.loop.invariant.between c.pause-pause.ensures c.in-Failed.is).informed
 
 pub returns-in_err-take_in-clause-free : goal.returns-in_err-take_in-clause-free
 returns-in_err-take_in-clause-free g c =
-    let a : SeenListener = record { board = c.self-in-loop.inside.board; front = outside (g.F.Front.script c.self-in-loop.inside.front) (g.F.Front.told c.self-in-loop.inside.front) (g.F.Front.counts c.self-in-loop.inside.front); calls = g.C.Clock.told c.self-in-loop.inside.clock; ready = c.self-in-loop.inside.ready } in
-    let w : SeenListener = record { board = c.self-in-loop.inside.board; front = outside (g.F.Front.script c.wait-woke.new.self) (g.F.Front.told c.wait-woke.new.self) (g.F.Front.counts c.wait-woke.new.self); calls = g.C.Clock.told c.moment_of-moment.new.clock; ready = c.wait-woke.new.ready } in
-    let before : IsBetween c.args.self.now a = rw (← c.self-in-loop.view_is) at c.loop.invariant.between in
-    let follows = follows-wait _ _ _ _ _ _ _ _ c.wait-woke.ensures.script c.wait-woke.ensures.waits in
-    let waited : HasWaited c.wait-woke.result c.moment_of-moment.result a w =
-    record { board = refl; tells = c.wait-woke.ensures.waits.tells; asks = c.moment_of-moment.ensures; follows = follows } in
-    free-broken c.wait-woke.result c.moment_of-moment.result c.args.self.now a w c.take_in.new.self before waited c.in_err-take_in.ensures.broken
+    (broken-round (LinksTell g.L.Link.seen) c.loop.rest c.pause-pause.result c.args.self.now c.loop.self c.pause-pause.new.self c.take_in.new.self c.loop.invariant.between c.pause-pause.ensures
+    c.in_err-take_in.ensures.broken c.take_in.ensures.up c.take_in.ensures.follows c.take_in.ensures.front c.take_in.ensures.watched c.take_in.ensures.calls).free
+
+pub returns-in_err-take_in-clause-follows : goal.returns-in_err-take_in-clause-follows
+returns-in_err-take_in-clause-follows g c =
+    (broken-round (LinksTell g.L.Link.seen) c.loop.rest c.pause-pause.result c.args.self.now c.loop.self c.pause-pause.new.self c.take_in.new.self c.loop.invariant.between c.pause-pause.ensures
+    c.in_err-take_in.ensures.broken c.take_in.ensures.up c.take_in.ensures.follows c.take_in.ensures.front c.take_in.ensures.watched c.take_in.ensures.calls).follows
+
+pub returns-in_err-take_in-clause-few : goal.returns-in_err-take_in-clause-few
+returns-in_err-take_in-clause-few g c =
+    (broken-round (LinksTell g.L.Link.seen) c.loop.rest c.pause-pause.result c.args.self.now c.loop.self c.pause-pause.new.self c.take_in.new.self c.loop.invariant.between c.pause-pause.ensures
+    c.in_err-take_in.ensures.broken c.take_in.ensures.up c.take_in.ensures.follows c.take_in.ensures.front c.take_in.ensures.watched c.take_in.ensures.calls).few
+
+pub returns-in_err-take_in-clause-watched : goal.returns-in_err-take_in-clause-watched
+returns-in_err-take_in-clause-watched g c =
+    (broken-round (LinksTell g.L.Link.seen) c.loop.rest c.pause-pause.result c.args.self.now c.loop.self c.pause-pause.new.self c.take_in.new.self c.loop.invariant.between c.pause-pause.ensures
+    c.in_err-take_in.ensures.broken c.take_in.ensures.up c.take_in.ensures.follows c.take_in.ensures.front c.take_in.ensures.watched c.take_in.ensures.calls).watched
+
+pub returns-in_err-take_in-clause-bound : goal.returns-in_err-take_in-clause-bound
+returns-in_err-take_in-clause-bound g c =
+    (broken-round (LinksTell g.L.Link.seen) c.loop.rest c.pause-pause.result c.args.self.now c.loop.self c.pause-pause.new.self c.take_in.new.self c.loop.invariant.between c.pause-pause.ensures
+    c.in_err-take_in.ensures.broken c.take_in.ensures.up c.take_in.ensures.follows c.take_in.ensures.front c.take_in.ensures.watched c.take_in.ensures.calls).bound
 
 pub returns-in_err-take_in-clause-time : goal.returns-in_err-take_in-clause-time
 returns-in_err-take_in-clause-time g c =
-    let a : SeenListener = record { board = c.self-in-loop.inside.board; front = outside (g.F.Front.script c.self-in-loop.inside.front) (g.F.Front.told c.self-in-loop.inside.front) (g.F.Front.counts c.self-in-loop.inside.front); calls = g.C.Clock.told c.self-in-loop.inside.clock; ready = c.self-in-loop.inside.ready } in
-    let w : SeenListener = record { board = c.self-in-loop.inside.board; front = outside (g.F.Front.script c.wait-woke.new.self) (g.F.Front.told c.wait-woke.new.self) (g.F.Front.counts c.wait-woke.new.self); calls = g.C.Clock.told c.moment_of-moment.new.clock; ready = c.wait-woke.new.ready } in
-    let before : IsBetween c.args.self.now a = rw (← c.self-in-loop.view_is) at c.loop.invariant.between in
-    let follows = follows-wait _ _ _ _ _ _ _ _ c.wait-woke.ensures.script c.wait-woke.ensures.waits in
-    let waited : HasWaited c.wait-woke.result c.moment_of-moment.result a w =
-    record { board = refl; tells = c.wait-woke.ensures.waits.tells; asks = c.moment_of-moment.ensures; follows = follows } in
-    time-turned c.wait-woke.result c.moment_of-moment.result c.args.self.now a w c.take_in.new.self before waited c.take_in.ensures.waits c.take_in.ensures.calls
+    (broken-round (LinksTell g.L.Link.seen) c.loop.rest c.pause-pause.result c.args.self.now c.loop.self c.pause-pause.new.self c.take_in.new.self c.loop.invariant.between c.pause-pause.ensures
+    c.in_err-take_in.ensures.broken c.take_in.ensures.up c.take_in.ensures.follows c.take_in.ensures.front c.take_in.ensures.watched c.take_in.ensures.calls).time
 
 pub returns-in_err-take_in-clause-begun : goal.returns-in_err-take_in-clause-begun
 returns-in_err-take_in-clause-begun g c =
-    let a : SeenListener = record { board = c.self-in-loop.inside.board; front = outside (g.F.Front.script c.self-in-loop.inside.front) (g.F.Front.told c.self-in-loop.inside.front) (g.F.Front.counts c.self-in-loop.inside.front); calls = g.C.Clock.told c.self-in-loop.inside.clock; ready = c.self-in-loop.inside.ready } in
-    let w : SeenListener = record { board = c.self-in-loop.inside.board; front = outside (g.F.Front.script c.wait-woke.new.self) (g.F.Front.told c.wait-woke.new.self) (g.F.Front.counts c.wait-woke.new.self); calls = g.C.Clock.told c.moment_of-moment.new.clock; ready = c.wait-woke.new.ready } in
-    let before : IsBetween c.args.self.now a = rw (← c.self-in-loop.view_is) at c.loop.invariant.between in
-    let follows = follows-wait _ _ _ _ _ _ _ _ c.wait-woke.ensures.script c.wait-woke.ensures.waits in
-    let waited : HasWaited c.wait-woke.result c.moment_of-moment.result a w =
-    record { board = refl; tells = c.wait-woke.ensures.waits.tells; asks = c.moment_of-moment.ensures; follows = follows } in
     on-err c.from_residual-in_err-take_in.result _
-    (so_far-broken c.wait-woke.result c.moment_of-moment.result c.args.self.now a w c.take_in.new.self before waited c.in_err-take_in.ensures.broken c.take_in.ensures.waits c.take_in.ensures.calls)
+    (broken-round (LinksTell g.L.Link.seen) c.loop.rest c.pause-pause.result c.args.self.now c.loop.self c.pause-pause.new.self c.take_in.new.self c.loop.invariant.between c.pause-pause.ensures
+    c.in_err-take_in.ensures.broken c.take_in.ensures.up c.take_in.ensures.follows c.take_in.ensures.front c.take_in.ensures.watched c.take_in.ensures.calls).so_far
 
-pub serve_all-requires-clause-free : goal.serve_all-requires-clause-free
-serve_all-requires-clause-free g c =
-    let a : SeenListener = record { board = c.self-in-loop.inside.board; front = outside (g.F.Front.script c.self-in-loop.inside.front) (g.F.Front.told c.self-in-loop.inside.front) (g.F.Front.counts c.self-in-loop.inside.front); calls = g.C.Clock.told c.self-in-loop.inside.clock; ready = c.self-in-loop.inside.ready } in
-    let w : SeenListener = record { board = c.self-in-loop.inside.board; front = outside (g.F.Front.script c.wait-woke.new.self) (g.F.Front.told c.wait-woke.new.self) (g.F.Front.counts c.wait-woke.new.self); calls = g.C.Clock.told c.moment_of-moment.new.clock; ready = c.wait-woke.new.ready } in
-    let before : IsBetween c.args.self.now a = rw (← c.self-in-loop.view_is) at c.loop.invariant.between in
-    let follows = follows-wait _ _ _ _ _ _ _ _ c.wait-woke.ensures.script c.wait-woke.ensures.waits in
-    let waited : HasWaited c.wait-woke.result c.moment_of-moment.result a w =
-    record { board = refl; tells = c.wait-woke.ensures.waits.tells; asks = c.moment_of-moment.ensures; follows = follows } in
-    let turned : IsBetween c.args.self.now c.take_in.new.self =
-    between-round c.wait-woke.result c.moment_of-moment.result c.args.self.now a w c.take_in.new.self before waited c.in_ok-take_in.ensures.round
-    c.in_ok-take_in.ensures.moment c.in_ok-take_in.ensures.step c.take_in.ensures.follows c.take_in.ensures.waits c.take_in.ensures.calls in
-    let b : SeenListener = record { board = c.self-in-loop-2.inside.board; front = outside (g.F.Front.script c.self-in-loop-2.inside.front) (g.F.Front.told c.self-in-loop-2.inside.front) (g.F.Front.counts c.self-in-loop-2.inside.front); calls = g.C.Clock.told c.self-in-loop-2.inside.clock; ready = c.self-in-loop-2.inside.ready } in
-    let there : IsBetween c.args.self.now b = rw (← c.self-in-loop-2.view_is) at turned in
-    there.free 1
+pub serve-requires-clause-free : goal.serve-requires-clause-free
+serve-requires-clause-free g c κs within =
+    (between-round (LinksTell g.L.Link.seen) c.loop.rest c.pause-pause.result c.args.self.now c.loop.self c.pause-pause.new.self c.take_in.new.self c.loop.invariant.between c.pause-pause.ensures
+    c.in_ok-take_in.ensures.round c.in_ok-take_in.ensures.moment c.in_ok-take_in.ensures.step c.take_in.ensures.up c.take_in.ensures.follows
+    c.take_in.ensures.front c.take_in.ensures.watched c.take_in.ensures.calls).free 1
 
-pub returns-in_err-serve_all-clause-free : goal.returns-in_err-serve_all-clause-free
-returns-in_err-serve_all-clause-free g c =
-    let a : SeenListener = record { board = c.self-in-loop.inside.board; front = outside (g.F.Front.script c.self-in-loop.inside.front) (g.F.Front.told c.self-in-loop.inside.front) (g.F.Front.counts c.self-in-loop.inside.front); calls = g.C.Clock.told c.self-in-loop.inside.clock; ready = c.self-in-loop.inside.ready } in
-    let w : SeenListener = record { board = c.self-in-loop.inside.board; front = outside (g.F.Front.script c.wait-woke.new.self) (g.F.Front.told c.wait-woke.new.self) (g.F.Front.counts c.wait-woke.new.self); calls = g.C.Clock.told c.moment_of-moment.new.clock; ready = c.wait-woke.new.ready } in
-    let before : IsBetween c.args.self.now a = rw (← c.self-in-loop.view_is) at c.loop.invariant.between in
-    let follows = follows-wait _ _ _ _ _ _ _ _ c.wait-woke.ensures.script c.wait-woke.ensures.waits in
-    let waited : HasWaited c.wait-woke.result c.moment_of-moment.result a w =
-    record { board = refl; tells = c.wait-woke.ensures.waits.tells; asks = c.moment_of-moment.ensures; follows = follows } in
-    let turned : IsBetween c.args.self.now c.take_in.new.self =
-    between-round c.wait-woke.result c.moment_of-moment.result c.args.self.now a w c.take_in.new.self before waited c.in_ok-take_in.ensures.round
-    c.in_ok-take_in.ensures.moment c.in_ok-take_in.ensures.step c.take_in.ensures.follows c.take_in.ensures.waits c.take_in.ensures.calls in
-    let b : SeenListener = record { board = c.self-in-loop-2.inside.board; front = outside (g.F.Front.script c.self-in-loop-2.inside.front) (g.F.Front.told c.self-in-loop-2.inside.front) (g.F.Front.counts c.self-in-loop-2.inside.front); calls = g.C.Clock.told c.self-in-loop-2.inside.clock; ready = c.self-in-loop-2.inside.ready } in
-    let there : IsBetween c.args.self.now b = rw (← c.self-in-loop-2.view_is) at turned in
-    let served =
-    between-served 1 c.serve_all.ensures.acts.0 c.args.self.now b c.serve_all.new.board another there c.serve_all.ensures.acts.1
-    c.serve_all.ensures.serves in
-    served.free
+pub returns-in_err-rest-clause-free : goal.returns-in_err-rest-clause-free
+returns-in_err-rest-clause-free g c =
+    let between : IsBetween (LinksTell g.L.Link.seen) c.args.self.now c.take_in.new.self =
+    between-round (LinksTell g.L.Link.seen) c.loop.rest c.pause-pause.result c.args.self.now c.loop.self c.pause-pause.new.self c.take_in.new.self c.loop.invariant.between c.pause-pause.ensures
+    c.in_ok-take_in.ensures.round c.in_ok-take_in.ensures.moment c.in_ok-take_in.ensures.step c.take_in.ensures.up c.take_in.ensures.follows
+    c.take_in.ensures.front c.take_in.ensures.watched c.take_in.ensures.calls in
+    let served : HasServed c.take_in.new.self c.serve.new.self =
+    record { events = c.serve.ensures.acts.0; acts = c.serve.ensures.acts.1; serves = c.serve.ensures.serves; others = c.serve.ensures.others } in
+    (broken-served (LinksTell g.L.Link.seen) c.args.self.now c.take_in.new.self c.serve.new.self between served).free
 
-pub returns-in_err-serve_all-clause-follows : goal.returns-in_err-serve_all-clause-follows
-returns-in_err-serve_all-clause-follows g c =
-    let a : SeenListener = record { board = c.self-in-loop.inside.board; front = outside (g.F.Front.script c.self-in-loop.inside.front) (g.F.Front.told c.self-in-loop.inside.front) (g.F.Front.counts c.self-in-loop.inside.front); calls = g.C.Clock.told c.self-in-loop.inside.clock; ready = c.self-in-loop.inside.ready } in
-    let w : SeenListener = record { board = c.self-in-loop.inside.board; front = outside (g.F.Front.script c.wait-woke.new.self) (g.F.Front.told c.wait-woke.new.self) (g.F.Front.counts c.wait-woke.new.self); calls = g.C.Clock.told c.moment_of-moment.new.clock; ready = c.wait-woke.new.ready } in
-    let before : IsBetween c.args.self.now a = rw (← c.self-in-loop.view_is) at c.loop.invariant.between in
-    let follows = follows-wait _ _ _ _ _ _ _ _ c.wait-woke.ensures.script c.wait-woke.ensures.waits in
-    let waited : HasWaited c.wait-woke.result c.moment_of-moment.result a w =
-    record { board = refl; tells = c.wait-woke.ensures.waits.tells; asks = c.moment_of-moment.ensures; follows = follows } in
-    let turned : IsBetween c.args.self.now c.take_in.new.self =
-    between-round c.wait-woke.result c.moment_of-moment.result c.args.self.now a w c.take_in.new.self before waited c.in_ok-take_in.ensures.round
-    c.in_ok-take_in.ensures.moment c.in_ok-take_in.ensures.step c.take_in.ensures.follows c.take_in.ensures.waits c.take_in.ensures.calls in
-    let b : SeenListener = record { board = c.self-in-loop-2.inside.board; front = outside (g.F.Front.script c.self-in-loop-2.inside.front) (g.F.Front.told c.self-in-loop-2.inside.front) (g.F.Front.counts c.self-in-loop-2.inside.front); calls = g.C.Clock.told c.self-in-loop-2.inside.clock; ready = c.self-in-loop-2.inside.ready } in
-    let there : IsBetween c.args.self.now b = rw (← c.self-in-loop-2.view_is) at turned in
-    let served =
-    between-served 1 c.serve_all.ensures.acts.0 c.args.self.now b c.serve_all.new.board another there c.serve_all.ensures.acts.1
-    c.serve_all.ensures.serves in
-    served.follows
+pub returns-in_err-rest-clause-up : goal.returns-in_err-rest-clause-up
+returns-in_err-rest-clause-up g c =
+    let between : IsBetween (LinksTell g.L.Link.seen) c.args.self.now c.take_in.new.self =
+    between-round (LinksTell g.L.Link.seen) c.loop.rest c.pause-pause.result c.args.self.now c.loop.self c.pause-pause.new.self c.take_in.new.self c.loop.invariant.between c.pause-pause.ensures
+    c.in_ok-take_in.ensures.round c.in_ok-take_in.ensures.moment c.in_ok-take_in.ensures.step c.take_in.ensures.up c.take_in.ensures.follows
+    c.take_in.ensures.front c.take_in.ensures.watched c.take_in.ensures.calls in
+    let served : HasServed c.take_in.new.self c.serve.new.self =
+    record { events = c.serve.ensures.acts.0; acts = c.serve.ensures.acts.1; serves = c.serve.ensures.serves; others = c.serve.ensures.others } in
+    (broken-served (LinksTell g.L.Link.seen) c.args.self.now c.take_in.new.self c.serve.new.self between served).up
 
-pub returns-in_err-serve_all-clause-time : goal.returns-in_err-serve_all-clause-time
-returns-in_err-serve_all-clause-time g c =
-    let a : SeenListener = record { board = c.self-in-loop.inside.board; front = outside (g.F.Front.script c.self-in-loop.inside.front) (g.F.Front.told c.self-in-loop.inside.front) (g.F.Front.counts c.self-in-loop.inside.front); calls = g.C.Clock.told c.self-in-loop.inside.clock; ready = c.self-in-loop.inside.ready } in
-    let w : SeenListener = record { board = c.self-in-loop.inside.board; front = outside (g.F.Front.script c.wait-woke.new.self) (g.F.Front.told c.wait-woke.new.self) (g.F.Front.counts c.wait-woke.new.self); calls = g.C.Clock.told c.moment_of-moment.new.clock; ready = c.wait-woke.new.ready } in
-    let before : IsBetween c.args.self.now a = rw (← c.self-in-loop.view_is) at c.loop.invariant.between in
-    let follows = follows-wait _ _ _ _ _ _ _ _ c.wait-woke.ensures.script c.wait-woke.ensures.waits in
-    let waited : HasWaited c.wait-woke.result c.moment_of-moment.result a w =
-    record { board = refl; tells = c.wait-woke.ensures.waits.tells; asks = c.moment_of-moment.ensures; follows = follows } in
-    let turned : IsBetween c.args.self.now c.take_in.new.self =
-    between-round c.wait-woke.result c.moment_of-moment.result c.args.self.now a w c.take_in.new.self before waited c.in_ok-take_in.ensures.round
-    c.in_ok-take_in.ensures.moment c.in_ok-take_in.ensures.step c.take_in.ensures.follows c.take_in.ensures.waits c.take_in.ensures.calls in
-    let b : SeenListener = record { board = c.self-in-loop-2.inside.board; front = outside (g.F.Front.script c.self-in-loop-2.inside.front) (g.F.Front.told c.self-in-loop-2.inside.front) (g.F.Front.counts c.self-in-loop-2.inside.front); calls = g.C.Clock.told c.self-in-loop-2.inside.clock; ready = c.self-in-loop-2.inside.ready } in
-    let there : IsBetween c.args.self.now b = rw (← c.self-in-loop-2.view_is) at turned in
-    let served =
-    between-served 1 c.serve_all.ensures.acts.0 c.args.self.now b c.serve_all.new.board another there c.serve_all.ensures.acts.1
-    c.serve_all.ensures.serves in
-    served.time
+pub returns-in_err-rest-clause-follows : goal.returns-in_err-rest-clause-follows
+returns-in_err-rest-clause-follows g c =
+    let between : IsBetween (LinksTell g.L.Link.seen) c.args.self.now c.take_in.new.self =
+    between-round (LinksTell g.L.Link.seen) c.loop.rest c.pause-pause.result c.args.self.now c.loop.self c.pause-pause.new.self c.take_in.new.self c.loop.invariant.between c.pause-pause.ensures
+    c.in_ok-take_in.ensures.round c.in_ok-take_in.ensures.moment c.in_ok-take_in.ensures.step c.take_in.ensures.up c.take_in.ensures.follows
+    c.take_in.ensures.front c.take_in.ensures.watched c.take_in.ensures.calls in
+    let served : HasServed c.take_in.new.self c.serve.new.self =
+    record { events = c.serve.ensures.acts.0; acts = c.serve.ensures.acts.1; serves = c.serve.ensures.serves; others = c.serve.ensures.others } in
+    (broken-served (LinksTell g.L.Link.seen) c.args.self.now c.take_in.new.self c.serve.new.self between served).follows
 
-pub returns-in_err-serve_all-clause-begun : goal.returns-in_err-serve_all-clause-begun
-returns-in_err-serve_all-clause-begun g c =
-    let a : SeenListener = record { board = c.self-in-loop.inside.board; front = outside (g.F.Front.script c.self-in-loop.inside.front) (g.F.Front.told c.self-in-loop.inside.front) (g.F.Front.counts c.self-in-loop.inside.front); calls = g.C.Clock.told c.self-in-loop.inside.clock; ready = c.self-in-loop.inside.ready } in
-    let w : SeenListener = record { board = c.self-in-loop.inside.board; front = outside (g.F.Front.script c.wait-woke.new.self) (g.F.Front.told c.wait-woke.new.self) (g.F.Front.counts c.wait-woke.new.self); calls = g.C.Clock.told c.moment_of-moment.new.clock; ready = c.wait-woke.new.ready } in
-    let before : IsBetween c.args.self.now a = rw (← c.self-in-loop.view_is) at c.loop.invariant.between in
-    let follows = follows-wait _ _ _ _ _ _ _ _ c.wait-woke.ensures.script c.wait-woke.ensures.waits in
-    let waited : HasWaited c.wait-woke.result c.moment_of-moment.result a w =
-    record { board = refl; tells = c.wait-woke.ensures.waits.tells; asks = c.moment_of-moment.ensures; follows = follows } in
-    let turned : IsBetween c.args.self.now c.take_in.new.self =
-    between-round c.wait-woke.result c.moment_of-moment.result c.args.self.now a w c.take_in.new.self before waited c.in_ok-take_in.ensures.round
-    c.in_ok-take_in.ensures.moment c.in_ok-take_in.ensures.step c.take_in.ensures.follows c.take_in.ensures.waits c.take_in.ensures.calls in
-    let b : SeenListener = record { board = c.self-in-loop-2.inside.board; front = outside (g.F.Front.script c.self-in-loop-2.inside.front) (g.F.Front.told c.self-in-loop-2.inside.front) (g.F.Front.counts c.self-in-loop-2.inside.front); calls = g.C.Clock.told c.self-in-loop-2.inside.clock; ready = c.self-in-loop-2.inside.ready } in
-    let there : IsBetween c.args.self.now b = rw (← c.self-in-loop-2.view_is) at turned in
-    let served =
-    between-served 1 c.serve_all.ensures.acts.0 c.args.self.now b c.serve_all.new.board another there c.serve_all.ensures.acts.1
-    c.serve_all.ensures.serves in
-    on-err c.from_residual-in_err-serve_all.result _ (informed-so_far _ _ _ served.informed)
+pub returns-in_err-rest-clause-few : goal.returns-in_err-rest-clause-few
+returns-in_err-rest-clause-few g c =
+    let between : IsBetween (LinksTell g.L.Link.seen) c.args.self.now c.take_in.new.self =
+    between-round (LinksTell g.L.Link.seen) c.loop.rest c.pause-pause.result c.args.self.now c.loop.self c.pause-pause.new.self c.take_in.new.self c.loop.invariant.between c.pause-pause.ensures
+    c.in_ok-take_in.ensures.round c.in_ok-take_in.ensures.moment c.in_ok-take_in.ensures.step c.take_in.ensures.up c.take_in.ensures.follows
+    c.take_in.ensures.front c.take_in.ensures.watched c.take_in.ensures.calls in
+    let served : HasServed c.take_in.new.self c.serve.new.self =
+    record { events = c.serve.ensures.acts.0; acts = c.serve.ensures.acts.1; serves = c.serve.ensures.serves; others = c.serve.ensures.others } in
+    (broken-served (LinksTell g.L.Link.seen) c.args.self.now c.take_in.new.self c.serve.new.self between served).few
 
-pub returns-then-is_halted-clause-free : goal.returns-then-is_halted-clause-free
-returns-then-is_halted-clause-free g c =
-    let a : SeenListener = record { board = c.self-in-loop.inside.board; front = outside (g.F.Front.script c.self-in-loop.inside.front) (g.F.Front.told c.self-in-loop.inside.front) (g.F.Front.counts c.self-in-loop.inside.front); calls = g.C.Clock.told c.self-in-loop.inside.clock; ready = c.self-in-loop.inside.ready } in
-    let w : SeenListener = record { board = c.self-in-loop.inside.board; front = outside (g.F.Front.script c.wait-woke.new.self) (g.F.Front.told c.wait-woke.new.self) (g.F.Front.counts c.wait-woke.new.self); calls = g.C.Clock.told c.moment_of-moment.new.clock; ready = c.wait-woke.new.ready } in
-    let before : IsBetween c.args.self.now a = rw (← c.self-in-loop.view_is) at c.loop.invariant.between in
-    let follows = follows-wait _ _ _ _ _ _ _ _ c.wait-woke.ensures.script c.wait-woke.ensures.waits in
-    let waited : HasWaited c.wait-woke.result c.moment_of-moment.result a w =
-    record { board = refl; tells = c.wait-woke.ensures.waits.tells; asks = c.moment_of-moment.ensures; follows = follows } in
-    let turned : IsBetween c.args.self.now c.take_in.new.self =
-    between-round c.wait-woke.result c.moment_of-moment.result c.args.self.now a w c.take_in.new.self before waited c.in_ok-take_in.ensures.round
-    c.in_ok-take_in.ensures.moment c.in_ok-take_in.ensures.step c.take_in.ensures.follows c.take_in.ensures.waits c.take_in.ensures.calls in
-    let b : SeenListener = record { board = c.self-in-loop-2.inside.board; front = outside (g.F.Front.script c.self-in-loop-2.inside.front) (g.F.Front.told c.self-in-loop-2.inside.front) (g.F.Front.counts c.self-in-loop-2.inside.front); calls = g.C.Clock.told c.self-in-loop-2.inside.clock; ready = c.self-in-loop-2.inside.ready } in
-    let there : IsBetween c.args.self.now b = rw (← c.self-in-loop-2.view_is) at turned in
-    let served =
-    between-served 1 c.serve_all.ensures.acts.0 c.args.self.now b c.serve_all.new.board another there c.serve_all.ensures.acts.1
-    c.serve_all.ensures.serves in
-    served.free
+pub returns-in_err-rest-clause-watched : goal.returns-in_err-rest-clause-watched
+returns-in_err-rest-clause-watched g c =
+    let between : IsBetween (LinksTell g.L.Link.seen) c.args.self.now c.take_in.new.self =
+    between-round (LinksTell g.L.Link.seen) c.loop.rest c.pause-pause.result c.args.self.now c.loop.self c.pause-pause.new.self c.take_in.new.self c.loop.invariant.between c.pause-pause.ensures
+    c.in_ok-take_in.ensures.round c.in_ok-take_in.ensures.moment c.in_ok-take_in.ensures.step c.take_in.ensures.up c.take_in.ensures.follows
+    c.take_in.ensures.front c.take_in.ensures.watched c.take_in.ensures.calls in
+    let served : HasServed c.take_in.new.self c.serve.new.self =
+    record { events = c.serve.ensures.acts.0; acts = c.serve.ensures.acts.1; serves = c.serve.ensures.serves; others = c.serve.ensures.others } in
+    (broken-served (LinksTell g.L.Link.seen) c.args.self.now c.take_in.new.self c.serve.new.self between served).watched
 
-pub returns-then-is_halted-clause-follows : goal.returns-then-is_halted-clause-follows
-returns-then-is_halted-clause-follows g c =
-    let a : SeenListener = record { board = c.self-in-loop.inside.board; front = outside (g.F.Front.script c.self-in-loop.inside.front) (g.F.Front.told c.self-in-loop.inside.front) (g.F.Front.counts c.self-in-loop.inside.front); calls = g.C.Clock.told c.self-in-loop.inside.clock; ready = c.self-in-loop.inside.ready } in
-    let w : SeenListener = record { board = c.self-in-loop.inside.board; front = outside (g.F.Front.script c.wait-woke.new.self) (g.F.Front.told c.wait-woke.new.self) (g.F.Front.counts c.wait-woke.new.self); calls = g.C.Clock.told c.moment_of-moment.new.clock; ready = c.wait-woke.new.ready } in
-    let before : IsBetween c.args.self.now a = rw (← c.self-in-loop.view_is) at c.loop.invariant.between in
-    let follows = follows-wait _ _ _ _ _ _ _ _ c.wait-woke.ensures.script c.wait-woke.ensures.waits in
-    let waited : HasWaited c.wait-woke.result c.moment_of-moment.result a w =
-    record { board = refl; tells = c.wait-woke.ensures.waits.tells; asks = c.moment_of-moment.ensures; follows = follows } in
-    let turned : IsBetween c.args.self.now c.take_in.new.self =
-    between-round c.wait-woke.result c.moment_of-moment.result c.args.self.now a w c.take_in.new.self before waited c.in_ok-take_in.ensures.round
-    c.in_ok-take_in.ensures.moment c.in_ok-take_in.ensures.step c.take_in.ensures.follows c.take_in.ensures.waits c.take_in.ensures.calls in
-    let b : SeenListener = record { board = c.self-in-loop-2.inside.board; front = outside (g.F.Front.script c.self-in-loop-2.inside.front) (g.F.Front.told c.self-in-loop-2.inside.front) (g.F.Front.counts c.self-in-loop-2.inside.front); calls = g.C.Clock.told c.self-in-loop-2.inside.clock; ready = c.self-in-loop-2.inside.ready } in
-    let there : IsBetween c.args.self.now b = rw (← c.self-in-loop-2.view_is) at turned in
-    let served =
-    between-served 1 c.serve_all.ensures.acts.0 c.args.self.now b c.serve_all.new.board another there c.serve_all.ensures.acts.1
-    c.serve_all.ensures.serves in
-    served.follows
+pub returns-in_err-rest-clause-bound : goal.returns-in_err-rest-clause-bound
+returns-in_err-rest-clause-bound g c =
+    let between : IsBetween (LinksTell g.L.Link.seen) c.args.self.now c.take_in.new.self =
+    between-round (LinksTell g.L.Link.seen) c.loop.rest c.pause-pause.result c.args.self.now c.loop.self c.pause-pause.new.self c.take_in.new.self c.loop.invariant.between c.pause-pause.ensures
+    c.in_ok-take_in.ensures.round c.in_ok-take_in.ensures.moment c.in_ok-take_in.ensures.step c.take_in.ensures.up c.take_in.ensures.follows
+    c.take_in.ensures.front c.take_in.ensures.watched c.take_in.ensures.calls in
+    let served : HasServed c.take_in.new.self c.serve.new.self =
+    record { events = c.serve.ensures.acts.0; acts = c.serve.ensures.acts.1; serves = c.serve.ensures.serves; others = c.serve.ensures.others } in
+    (broken-served (LinksTell g.L.Link.seen) c.args.self.now c.take_in.new.self c.serve.new.self between served).bound
 
-pub returns-then-is_halted-clause-time : goal.returns-then-is_halted-clause-time
-returns-then-is_halted-clause-time g c =
-    let a : SeenListener = record { board = c.self-in-loop.inside.board; front = outside (g.F.Front.script c.self-in-loop.inside.front) (g.F.Front.told c.self-in-loop.inside.front) (g.F.Front.counts c.self-in-loop.inside.front); calls = g.C.Clock.told c.self-in-loop.inside.clock; ready = c.self-in-loop.inside.ready } in
-    let w : SeenListener = record { board = c.self-in-loop.inside.board; front = outside (g.F.Front.script c.wait-woke.new.self) (g.F.Front.told c.wait-woke.new.self) (g.F.Front.counts c.wait-woke.new.self); calls = g.C.Clock.told c.moment_of-moment.new.clock; ready = c.wait-woke.new.ready } in
-    let before : IsBetween c.args.self.now a = rw (← c.self-in-loop.view_is) at c.loop.invariant.between in
-    let follows = follows-wait _ _ _ _ _ _ _ _ c.wait-woke.ensures.script c.wait-woke.ensures.waits in
-    let waited : HasWaited c.wait-woke.result c.moment_of-moment.result a w =
-    record { board = refl; tells = c.wait-woke.ensures.waits.tells; asks = c.moment_of-moment.ensures; follows = follows } in
-    let turned : IsBetween c.args.self.now c.take_in.new.self =
-    between-round c.wait-woke.result c.moment_of-moment.result c.args.self.now a w c.take_in.new.self before waited c.in_ok-take_in.ensures.round
-    c.in_ok-take_in.ensures.moment c.in_ok-take_in.ensures.step c.take_in.ensures.follows c.take_in.ensures.waits c.take_in.ensures.calls in
-    let b : SeenListener = record { board = c.self-in-loop-2.inside.board; front = outside (g.F.Front.script c.self-in-loop-2.inside.front) (g.F.Front.told c.self-in-loop-2.inside.front) (g.F.Front.counts c.self-in-loop-2.inside.front); calls = g.C.Clock.told c.self-in-loop-2.inside.clock; ready = c.self-in-loop-2.inside.ready } in
-    let there : IsBetween c.args.self.now b = rw (← c.self-in-loop-2.view_is) at turned in
-    let served =
-    between-served 1 c.serve_all.ensures.acts.0 c.args.self.now b c.serve_all.new.board another there c.serve_all.ensures.acts.1
-    c.serve_all.ensures.serves in
-    served.time
+pub returns-in_err-rest-clause-time : goal.returns-in_err-rest-clause-time
+returns-in_err-rest-clause-time g c =
+    let between : IsBetween (LinksTell g.L.Link.seen) c.args.self.now c.take_in.new.self =
+    between-round (LinksTell g.L.Link.seen) c.loop.rest c.pause-pause.result c.args.self.now c.loop.self c.pause-pause.new.self c.take_in.new.self c.loop.invariant.between c.pause-pause.ensures
+    c.in_ok-take_in.ensures.round c.in_ok-take_in.ensures.moment c.in_ok-take_in.ensures.step c.take_in.ensures.up c.take_in.ensures.follows
+    c.take_in.ensures.front c.take_in.ensures.watched c.take_in.ensures.calls in
+    let served : HasServed c.take_in.new.self c.serve.new.self =
+    record { events = c.serve.ensures.acts.0; acts = c.serve.ensures.acts.1; serves = c.serve.ensures.serves; others = c.serve.ensures.others } in
+    (broken-served (LinksTell g.L.Link.seen) c.args.self.now c.take_in.new.self c.serve.new.self between served).time
 
-pub returns-then-is_halted-clause-begun : goal.returns-then-is_halted-clause-begun
-returns-then-is_halted-clause-begun g c =
-    let a : SeenListener = record { board = c.self-in-loop.inside.board; front = outside (g.F.Front.script c.self-in-loop.inside.front) (g.F.Front.told c.self-in-loop.inside.front) (g.F.Front.counts c.self-in-loop.inside.front); calls = g.C.Clock.told c.self-in-loop.inside.clock; ready = c.self-in-loop.inside.ready } in
-    let w : SeenListener = record { board = c.self-in-loop.inside.board; front = outside (g.F.Front.script c.wait-woke.new.self) (g.F.Front.told c.wait-woke.new.self) (g.F.Front.counts c.wait-woke.new.self); calls = g.C.Clock.told c.moment_of-moment.new.clock; ready = c.wait-woke.new.ready } in
-    let before : IsBetween c.args.self.now a = rw (← c.self-in-loop.view_is) at c.loop.invariant.between in
-    let follows = follows-wait _ _ _ _ _ _ _ _ c.wait-woke.ensures.script c.wait-woke.ensures.waits in
-    let waited : HasWaited c.wait-woke.result c.moment_of-moment.result a w =
-    record { board = refl; tells = c.wait-woke.ensures.waits.tells; asks = c.moment_of-moment.ensures; follows = follows } in
-    let turned : IsBetween c.args.self.now c.take_in.new.self =
-    between-round c.wait-woke.result c.moment_of-moment.result c.args.self.now a w c.take_in.new.self before waited c.in_ok-take_in.ensures.round
-    c.in_ok-take_in.ensures.moment c.in_ok-take_in.ensures.step c.take_in.ensures.follows c.take_in.ensures.waits c.take_in.ensures.calls in
-    let b : SeenListener = record { board = c.self-in-loop-2.inside.board; front = outside (g.F.Front.script c.self-in-loop-2.inside.front) (g.F.Front.told c.self-in-loop-2.inside.front) (g.F.Front.counts c.self-in-loop-2.inside.front); calls = g.C.Clock.told c.self-in-loop-2.inside.clock; ready = c.self-in-loop-2.inside.ready } in
-    let there : IsBetween c.args.self.now b = rw (← c.self-in-loop-2.view_is) at turned in
-    let served =
-    between-served 1 c.serve_all.ensures.acts.0 c.args.self.now b c.serve_all.new.board another there c.serve_all.ensures.acts.1
-    c.serve_all.ensures.serves in
-    informed-so_far _ _ _ served.informed
+pub returns-in_err-rest-clause-begun : goal.returns-in_err-rest-clause-begun
+returns-in_err-rest-clause-begun g c =
+    let between : IsBetween (LinksTell g.L.Link.seen) c.args.self.now c.take_in.new.self =
+    between-round (LinksTell g.L.Link.seen) c.loop.rest c.pause-pause.result c.args.self.now c.loop.self c.pause-pause.new.self c.take_in.new.self c.loop.invariant.between c.pause-pause.ensures
+    c.in_ok-take_in.ensures.round c.in_ok-take_in.ensures.moment c.in_ok-take_in.ensures.step c.take_in.ensures.up c.take_in.ensures.follows
+    c.take_in.ensures.front c.take_in.ensures.watched c.take_in.ensures.calls in
+    let served : HasServed c.take_in.new.self c.serve.new.self =
+    record { events = c.serve.ensures.acts.0; acts = c.serve.ensures.acts.1; serves = c.serve.ensures.serves; others = c.serve.ensures.others } in
+    on-err c.from_residual-in_err-rest.result _ (broken-served (LinksTell g.L.Link.seen) c.args.self.now c.take_in.new.self c.serve.new.self between served).so_far
 
 pub loop-preserved : goal.loop-preserved
 loop-preserved g c =
-    let a : SeenListener = record { board = c.self-in-loop.inside.board; front = outside (g.F.Front.script c.self-in-loop.inside.front) (g.F.Front.told c.self-in-loop.inside.front) (g.F.Front.counts c.self-in-loop.inside.front); calls = g.C.Clock.told c.self-in-loop.inside.clock; ready = c.self-in-loop.inside.ready } in
-    let w : SeenListener = record { board = c.self-in-loop.inside.board; front = outside (g.F.Front.script c.wait-woke.new.self) (g.F.Front.told c.wait-woke.new.self) (g.F.Front.counts c.wait-woke.new.self); calls = g.C.Clock.told c.moment_of-moment.new.clock; ready = c.wait-woke.new.ready } in
-    let before : IsBetween c.args.self.now a = rw (← c.self-in-loop.view_is) at c.loop.invariant.between in
-    let follows = follows-wait _ _ _ _ _ _ _ _ c.wait-woke.ensures.script c.wait-woke.ensures.waits in
-    let waited : HasWaited c.wait-woke.result c.moment_of-moment.result a w =
-    record { board = refl; tells = c.wait-woke.ensures.waits.tells; asks = c.moment_of-moment.ensures; follows = follows } in
-    let turned : IsBetween c.args.self.now c.take_in.new.self =
-    between-round c.wait-woke.result c.moment_of-moment.result c.args.self.now a w c.take_in.new.self before waited c.in_ok-take_in.ensures.round
-    c.in_ok-take_in.ensures.moment c.in_ok-take_in.ensures.step c.take_in.ensures.follows c.take_in.ensures.waits c.take_in.ensures.calls in
-    let b : SeenListener = record { board = c.self-in-loop-2.inside.board; front = outside (g.F.Front.script c.self-in-loop-2.inside.front) (g.F.Front.told c.self-in-loop-2.inside.front) (g.F.Front.counts c.self-in-loop-2.inside.front); calls = g.C.Clock.told c.self-in-loop-2.inside.clock; ready = c.self-in-loop-2.inside.ready } in
-    let there : IsBetween c.args.self.now b = rw (← c.self-in-loop-2.view_is) at turned in
-    let served =
-    between-served 1 c.serve_all.ensures.acts.0 c.args.self.now b c.serve_all.new.board another there c.serve_all.ensures.acts.1
-    c.serve_all.ensures.serves in
-    record { between = served; going = ap is_halted (sym c.going.ensures) ∙ sym c.if-is_halted.ensures }
+    let between : IsBetween (LinksTell g.L.Link.seen) c.args.self.now c.take_in.new.self =
+    between-round (LinksTell g.L.Link.seen) c.loop.rest c.pause-pause.result c.args.self.now c.loop.self c.pause-pause.new.self c.take_in.new.self c.loop.invariant.between c.pause-pause.ensures
+    c.in_ok-take_in.ensures.round c.in_ok-take_in.ensures.moment c.in_ok-take_in.ensures.step c.take_in.ensures.up c.take_in.ensures.follows
+    c.take_in.ensures.front c.take_in.ensures.watched c.take_in.ensures.calls in
+    let served : HasServed c.take_in.new.self c.serve.new.self =
+    record { events = c.serve.ensures.acts.0; acts = c.serve.ensures.acts.1; serves = c.serve.ensures.serves; others = c.serve.ensures.others } in
+    record {
+      between = between-served (LinksTell g.L.Link.seen) c.args.self.now c.take_in.new.self c.serve.new.self between served;
+      going = c.in_ok-rest.ensures.going;
+      paced =
+          λ start. pace-served c.in_ok-rest.rest c.take_in.new.self c.serve.new.self
+          (abreast-round c.loop.rest c.pause-pause.result c.loop.self c.pause-pause.new.self c.take_in.new.self (c.loop.invariant.paced start).abreast c.pause-pause.ensures c.in_ok-take_in.ensures.moment
+          c.take_in.ensures.front c.take_in.ensures.calls)
+          (pace-round c.loop.rest c.pause-pause.result c.loop.self c.pause-pause.new.self c.take_in.new.self (c.loop.invariant.paced start) c.pause-pause.ensures c.loop.invariant.between.step
+          c.in_ok-take_in.ensures.round c.take_in.ensures.front c.take_in.ensures.calls) c.in_ok-take_in.ensures.taken served c.in_ok-rest.ensures.settled;
+    }
+
+pub returns-in_err-first-clause-patient : goal.returns-in_err-first-clause-patient
+returns-in_err-first-clause-patient g c start = patience-started c.args.self.now c.start.new.self start c.start.ensures.others c.start.ensures.starts
+
+pub returns-in-Ended-clause-patient : goal.returns-in-Ended-clause-patient
+returns-in-Ended-clause-patient g c start =
+    patience-waited c.loop.rest c.pause-pause.result c.loop.self c.pause-pause.new.self (c.loop.invariant.paced start).patient c.pause-pause.ensures (takes-same _)
+
+pub returns-in-Failed-clause-patient : goal.returns-in-Failed-clause-patient
+returns-in-Failed-clause-patient g c start =
+    patience-waited c.loop.rest c.pause-pause.result c.loop.self c.pause-pause.new.self (c.loop.invariant.paced start).patient c.pause-pause.ensures (takes-same _)
+
+pub returns-in_err-take_in-clause-patient : goal.returns-in_err-take_in-clause-patient
+returns-in_err-take_in-clause-patient g c start =
+    pace-broken c.loop.rest c.pause-pause.result c.loop.self c.pause-pause.new.self c.take_in.new.self (c.loop.invariant.paced start) c.pause-pause.ensures c.loop.invariant.between.step
+    c.in_err-take_in.ensures.broken c.take_in.ensures.front c.take_in.ensures.calls
+
+pub returns-in_err-rest-clause-patient : goal.returns-in_err-rest-clause-patient
+returns-in_err-rest-clause-patient g c start =
+    let served : HasServed c.take_in.new.self c.serve.new.self =
+    record { events = c.serve.ensures.acts.0; acts = c.serve.ensures.acts.1; serves = c.serve.ensures.serves; others = c.serve.ensures.others } in
+    served-patience c.take_in.new.self c.serve.new.self
+    (pace-round c.loop.rest c.pause-pause.result c.loop.self c.pause-pause.new.self c.take_in.new.self (c.loop.invariant.paced start) c.pause-pause.ensures c.loop.invariant.between.step
+    c.in_ok-take_in.ensures.round c.take_in.ensures.front c.take_in.ensures.calls) served

@@ -1,5 +1,7 @@
 use Rattle.std.proofs.Common.{◌≡◌, false}
 use Rattle.conn_machine.specs.States.{is_halted}
+use Rattle.mpm_run.specs.ListenInside.{IsAtStart, LinksTell}
+use Rattle.mpm_run.proofs.PaceLemmas.{KeepsPace}
 use Rattle.mpm_run.proofs.TurnLemmas.{IsBetween}
 use Rattle.mpm_run.proofs.listen.Listener.take_turns.Given as goal
 
@@ -7,6 +9,7 @@ use Rattle.mpm_run.proofs.listen.Listener.take_turns.Given as goal
 abbrev pub invariant-loop : goal.invariant-loop
 invariant-loop g l =
     record {
-      between : IsBetween l.fn.self l.self;
+      between : IsBetween (LinksTell g.L.Link.seen) l.fn.self l.self;
       going : is_halted l.self.board.book.state.going ≡ false;
+      paced : IsAtStart l.fn.self.front.told l.fn.self.board.book → KeepsPace l.rest l.self;
     }

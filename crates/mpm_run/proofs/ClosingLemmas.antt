@@ -1,0 +1,142 @@
+-- How connections that wait are let go of, one behind the other, and the states that this makes.
+use Rattle.std.proofs.Common.{◌≡◌, ℕ, List, [], ◌∷◌, ◌++◌, map, Option, None, Some, refl, sym, ap, subst, ◌∙◌, append-nil, append_assoc, eq-eqb}
+use Rattle.std.proofs.lemmas.Grind.{flat_map-append}
+use Rattle.std.proofs.lemmas.List.{append_cancel_left, map-append}
+use Rattle.std.specs.List.{flat_map}
+use Rattle.mpm_base.specs.declared.conn.ConnName.{ConnName}
+use Rattle.mpm_base.specs.declared.conn.Cause.{Cause}
+use Rattle.mpm_base.specs.declared.conn.Tail.{Tail}
+use Rattle.conn_machine.specs.declared.event.Event.{Event}
+use Rattle.conn_machine.specs.declared.event.Event.TheVariants as event
+use Rattle.conn_machine.specs.declared.event.Entry.{Entry}
+use Rattle.conn_machine.specs.declared.state.State.{State}
+use Rattle.conn_machine.specs.Runs.{Adds, AreEntriesOf, after, entries_of, row_of}
+use Rattle.conn_machine.specs.Table.{next}
+use Rattle.conn_machine.proofs.HistoryLemmas.{entries_of-append}
+use Rattle.conn_machine.proofs.RunLemmas.{after-append}
+use Rattle.conn_state.specs.Conn.{SeenConn}
+use Rattle.board.specs.declared.faults.BoardFault.{BoardFault}
+use Rattle.board.specs.Book.{SeenBook, book_with_entry}
+use Rattle.board.specs.Board.{SeenBoard}
+use Rattle.board.specs.Events.{with_recorded}
+use Rattle.worker_group.specs.declared.service.Exit.{Exit}
+use Rattle.worker_group.specs.Acts.{Acts, events_of}
+use Rattle.worker_group.specs.Service.{LeavesRest, left_events}
+use Rattle.worker_group.proofs.ActsLemmas.{acts_as, acts_more, acts_none, acts_one}
+use Rattle.worker_group.proofs.ExitLemmas.{rest_closed, rest_more}
+use Rattle.mpm_run.specs.ClosingInside.{AllLeftBy, DrainsUntil, IsDrainedWay, LetsGo, LetsOneGo, LettingGo, RefusedWait, letting_events, lingering_given_up, refused_events, state_by}
+
+-- ## The state that a pass made
+
+-- all entries of a pass are of the pass
+own-entries : (who : ℕ) (base : State) (before added : List Entry) → AreEntriesOf who base before added → entries_of who added ≡ added
+own-entries who base before [] are = refl
+own-entries who base before (e ∷ added) are =
+    rw (eq-eqb e.pass who are.0.pass) (ap (λ (es : List Entry). e ∷ es) (own-entries who base (before ++ e ∷ []) added are.1))
+
+-- the state after entries is the one that their events make
+after-events : (s : State) (added : List Entry) → after s added ≡ state_by s (map (λ (e : Entry). e.event) added)
+after-events s [] = refl
+after-events s (e ∷ added) = after-events (next s e.event) added
+
+-- the events of what was added are those that the pass has more
+added-events : (who : ℕ) (base : State) (old added : List Entry) (es : List Event) → AreEntriesOf who base old added
+    → events_of who (old ++ added) ≡ events_of who old ++ es → map (λ (e : Entry). e.event) added ≡ es
+added-events who base old added es are grown =
+    append_cancel_left (events_of who old) (map (λ (e : Entry). e.event) added) es
+    (sym (ap (map (λ (e : Entry). e.event)) (entries_of-append who old added ∙ ap (λ (xs : List Entry). entries_of who old ++ xs) (own-entries who base old added are))
+    ∙ map-append (λ (e : Entry). e.event) (entries_of who old) added)
+    ∙ grown)
+
+-- the state after what a pass did is the one that its events make
+pub acts-state : (who : ℕ) (es : List Event) (has : Option ConnName) (a b : SeenBook) → after a.base a.history ≡ a.state
+    → after b.base b.history ≡ b.state → Acts who es has a b → b.state ≡ state_by a.state es
+acts-state who es has a b here there acts =
+    let added = acts.entries.0 in
+    let same : map (λ (e : Entry). e.event) added ≡ es =
+    added-events who a.base a.history added es acts.entries.2 (ap (events_of who) (sym acts.entries.1) ∙ acts.made) in
+    sym there ∙ ap (λ (s : State). after s b.history) acts.base ∙ ap (after a.base) acts.entries.1 ∙ after-append a.base a.history added
+    ∙ ap (λ (s : State). after s added) here ∙ after-events a.state added ∙ ap (state_by a.state) same
+
+-- ## One connection
+
+-- it was held
+pub held-acts : (name : ConnName) (conns : List (Option SeenConn)) (b b' : SeenBoard)
+    → b' ≡ record (with_recorded 0 (event.Hold name) b) { conns = conns } → Adds 0 b.book.base b.book.history b'.book.history
+    → row_of 0 b'.book.history ≡ Some name → Acts 0 (event.Hold name ∷ []) (Some name) b.book b'.book
+held-acts name conns b b' is adds row = acts_one 0 (event.Hold name) (Some name) b.book b'.book (ap (λ (v : SeenBoard). v.book) is) adds row
+
+-- and then left
+pub let-go : (Way : Exit → Type 0) (way : Exit) (name named : ConnName) (a b c : SeenBook) → Way way
+    → Acts 0 (event.Hold name ∷ []) (Some name) a b → named ≡ name → Acts 0 (left_events way named) None b c → LetsOneGo Way name a c
+let-go Way way name named a b c is_way held same left = record {
+  way = way;
+  is_way = is_way;
+  acts =
+      acts_more 0 (event.Hold name ∷ []) (left_events way name) (Some name) None a b c held
+      (acts_as 0 _ (left_events way name) None None b c left (ap (left_events way) same) refl);
+}
+
+-- a hold leaves alone what the listener decides
+pub rest-held : (name : ConnName) (conns : List (Option SeenConn)) (b b' : SeenBoard)
+    → b' ≡ record (with_recorded 0 (event.Hold name) b) { conns = conns } → LeavesRest b.book b'.book
+rest-held name conns b b' is = subst (λ (v : SeenBoard). LeavesRest b.book v.book) (sym is) (record { moment = refl; accepted = refl; up = λ up. up })
+
+-- so does a close behind it
+pub rest-held_closed : (why : Cause) (how : Tail) (name named : ConnName) (conns : List (Option SeenConn)) (b b' : SeenBoard) (d : SeenBook)
+    → b' ≡ record (with_recorded 0 (event.Hold name) b) { conns = conns } → d ≡ book_with_entry 0 (event.Close named why how) b'.book
+    → LeavesRest b.book d
+rest-held_closed why how name named conns b b' d is closed =
+    rest_more b.book b'.book d (rest-held name conns b b' is) (rest_closed 0 named why how b'.book d closed)
+
+-- ## Several
+
+pub lets-none : (Way : Exit → Type 0) (b : SeenBook) → row_of 0 b.history ≡ None → LetsGo Way b b
+lets-none Way b row = record { gone = []; ways = tt; acts = acts_none 0 None b row }
+
+ways-more : (Way : Exit → Type 0) (gone : List LettingGo) (l : LettingGo) → AllLeftBy Way gone → Way l.way → AllLeftBy Way (gone ++ l ∷ [])
+ways-more Way [] l all one = (one, tt)
+ways-more Way (x ∷ gone) l all one = (all.0, ways-more Way gone l all.1 one)
+
+-- the events of some with those of one behind them
+letting-more : (gone : List LettingGo) (l : LettingGo) → flat_map letting_events gone ++ letting_events l ≡ flat_map letting_events (gone ++ l ∷ [])
+letting-more gone l =
+    ap (λ (es : List Event). flat_map letting_events gone ++ es) (sym (append-nil (letting_events l))) ∙ sym (flat_map-append letting_events gone (l ∷ []))
+
+-- one more was let go of
+pub lets-more : (Way : Exit → Type 0) (name : ConnName) (a b c : SeenBook) → LetsGo Way a b → LetsOneGo Way name b c → LetsGo Way a c
+lets-more Way name a b c lets one =
+    let l : LettingGo = record { name = name; way = one.way } in
+    record {
+      gone = lets.gone ++ l ∷ [];
+      ways = ways-more Way lets.gone l lets.ways one.is_way;
+      acts = acts_as 0 _ _ None None a c (acts_more 0 _ _ None None a b c lets.acts one.acts) (letting-more lets.gone l) refl;
+    }
+
+-- no further one could wait on
+pub drains-refused : (w : RefusedWait) (a b : SeenBook) → Acts 0 (refused_events w) None a b → DrainsUntil a b
+drains-refused w a b acts = record { gone = []; ways = tt; last = w; acts = acts }
+
+-- one that was held could not
+pub refused-wait : (name named : ConnName) (why : Cause) (fault : BoardFault) (a b c : SeenBook) → Acts 0 (event.Hold name ∷ []) (Some name) a b
+    → named ≡ name → Acts 0 (lingering_given_up fault why named) None b c → DrainsUntil a c
+refused-wait name named why fault a b c held same given =
+    drains-refused (record { name = name; ending = why; refused = fault }) a c
+    (acts_more 0 (event.Hold name ∷ []) (lingering_given_up fault why name) (Some name) None a b c held
+    (acts_as 0 _ (lingering_given_up fault why name) None None b c given (ap (lingering_given_up fault why) same) refl))
+
+ways-both : (Way : Exit → Type 0) (gone more : List LettingGo) → AllLeftBy Way gone → AllLeftBy Way more → AllLeftBy Way (gone ++ more)
+ways-both Way [] more all rest = rest
+ways-both Way (x ∷ gone) more all rest = (all.0, ways-both Way gone more all.1 rest)
+
+-- some were drained, until one could not wait on
+pub drains-until : (a b c : SeenBook) → LetsGo IsDrainedWay a b → DrainsUntil b c → DrainsUntil a c
+drains-until a b c drains until = record {
+  gone = drains.gone ++ until.gone;
+  ways = ways-both IsDrainedWay drains.gone until.gone drains.ways until.ways;
+  last = until.last;
+  acts =
+      acts_as 0 _ _ None None a c (acts_more 0 _ _ None None a b c drains.acts until.acts)
+      (sym (append_assoc (flat_map letting_events drains.gone) (flat_map letting_events until.gone) (refused_events until.last))
+      ∙ ap (λ (es : List Event). es ++ refused_events until.last) (sym (flat_map-append letting_events drains.gone until.gone))) refl;
+}

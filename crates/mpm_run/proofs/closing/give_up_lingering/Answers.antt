@@ -1,0 +1,91 @@
+use Rattle.std.proofs.Common.{◌≡◌, true, ◌∷◌, [], None, Some, ap, sym, subst, ◌∙◌}
+use Rattle.std.proofs.lemmas.Bool.{le-leb}
+use Rattle.mpm_base.specs.declared.conn.ConnName.{ConnName}
+use Rattle.mpm_base.specs.declared.conn.Cause.{Cause}
+use Rattle.mpm_base.specs.declared.conn.Tail.TheVariants as tail
+use Rattle.conn_machine.specs.Runs.{full_load, load}
+use Rattle.conn_machine.specs.declared.event.Event.TheVariants as event
+use Rattle.conn_machine.specs.States.{is_halted}
+use Rattle.board.specs.declared.faults.BoardFault.{BoardFault}
+use Rattle.board.specs.declared.faults.BoardFault.TheVariants as fault
+use Rattle.board.specs.Faults.{IsFull, IsRefusedFor}
+use Rattle.board.specs.Book.{SeenBook, full_stop}
+use Rattle.board.specs.Board.{SeenBoard}
+use Rattle.worker_group.specs.Acts.{Acts}
+use Rattle.worker_group.specs.Service.{RefusalLasts}
+use Rattle.worker_group.proofs.ActsLemmas.{acts_more, acts_recorded}
+use Rattle.worker_group.proofs.ExitLemmas.{full-closed, halted-closed, rest_closed, rest_more, rest_stopped}
+use Rattle.mpm_run.specs.ClosingInside.{lingering_given_up}
+use Rattle.mpm_run.proofs.HeldLemmas.{closes-lingering}
+use Rattle.mpm_run.proofs.closing.give_up_lingering.Goals as goal
+
+pub halt-requires-clause-role : goal.halt-requires-clause-role
+halt-requires-clause-role g c =
+    let why : IsFull c.args.board.now.book = subst (λ (f : BoardFault). IsRefusedFor f c.args.board.now.book) c.in-Full.is c.requires.why in
+    le-leb full_load (load c.args.board.now.book.history) why.heavy
+
+pub close-requires-clause-may : goal.close-requires-clause-may
+close-requires-clause-may g c =
+    let halted : is_halted c.args.board.now.book.state.going ≡ true =
+    subst (λ (f : BoardFault). IsRefusedFor f c.args.board.now.book) c.in-Halted.is c.requires.why in
+    closes-lingering c.args.board.now.book.state c.args.cause tail.Halted c.args.conn c.requires.lingers halted c.requires.lingers.shut
+
+-- the events of the fault that it is
+acts-for : (why : Cause) (name : ConnName) (f g : BoardFault) (a b : SeenBook) → f ≡ g → Acts 0 (lingering_given_up g why name) None a b
+    → Acts 0 (lingering_given_up f why name) None a b
+acts-for why name f g a b is acts = subst (λ (x : BoardFault). Acts 0 (lingering_given_up x why name) None a b) (sym is) acts
+
+-- what lasts of it
+lasts-for : (f g : BoardFault) (b : SeenBook) → f ≡ g → RefusalLasts g b → RefusalLasts f b
+lasts-for f g b is lasts = subst (λ (x : BoardFault). RefusalLasts x b) (sym is) lasts
+
+pub returns-in-Halted-clause-acts : goal.returns-in-Halted-clause-acts
+returns-in-Halted-clause-acts g c =
+    acts-for c.args.cause c.args.conn.name c.args.fault fault.Halted c.args.board.now.book c.close.new.board.book c.in-Halted.is
+    c.close.ensures.acts
+
+pub returns-in-Halted-clause-lasts : goal.returns-in-Halted-clause-lasts
+returns-in-Halted-clause-lasts g c =
+    let halted : is_halted c.args.board.now.book.state.going ≡ true =
+    subst (λ (f : BoardFault). IsRefusedFor f c.args.board.now.book) c.in-Halted.is c.requires.why in
+    lasts-for c.args.fault fault.Halted c.close.new.board.book c.in-Halted.is
+    (halted-closed 0 c.args.conn.name c.args.cause tail.Halted c.args.board.now.book c.close.new.board.book halted c.close.ensures.closed)
+
+pub returns-in-Halted-clause-rest : goal.returns-in-Halted-clause-rest
+returns-in-Halted-clause-rest g c =
+    rest_closed 0 c.args.conn.name c.args.cause tail.Halted c.args.board.now.book c.close.new.board.book c.close.ensures.closed
+
+pub returns-in-Full-clause-acts : goal.returns-in-Full-clause-acts
+returns-in-Full-clause-acts g c =
+    let halted : Acts 0 (full_stop ∷ []) (Some c.args.conn.name) c.args.board.now.book c.halt.new.self.book =
+    acts_recorded 0 full_stop (Some c.args.conn.name) c.args.board.now c.halt.new.self c.halt.ensures.is c.halt.ensures.entries
+    (c.halt.ensures.row ∙ c.requires.row) in
+    acts-for c.args.cause c.args.conn.name c.args.fault fault.Full c.args.board.now.book c.close-in-Full.new.board.book c.in-Full.is
+    (acts_more 0 (full_stop ∷ []) (event.Close c.args.conn.name c.args.cause tail.Halted ∷ []) (Some c.args.conn.name) None
+    c.args.board.now.book c.halt.new.self.book c.close-in-Full.new.board.book halted c.close-in-Full.ensures.acts)
+
+pub returns-in-Full-clause-lasts : goal.returns-in-Full-clause-lasts
+returns-in-Full-clause-lasts g c =
+    let why : IsFull c.args.board.now.book = subst (λ (f : BoardFault). IsRefusedFor f c.args.board.now.book) c.in-Full.is c.requires.why in
+    lasts-for c.args.fault fault.Full c.close-in-Full.new.board.book c.in-Full.is
+    (full-closed 0 c.args.conn.name c.args.cause tail.Halted c.args.board.now.book c.halt.new.self.book c.close-in-Full.new.board.book why.heavy
+    (ap (λ (b : SeenBoard). b.book) c.halt.ensures.is) c.close-in-Full.ensures.closed)
+
+pub returns-in-Full-clause-rest : goal.returns-in-Full-clause-rest
+returns-in-Full-clause-rest g c =
+    rest_more c.args.board.now.book c.halt.new.self.book c.close-in-Full.new.board.book
+    (rest_stopped 0 c.args.board.now.book c.halt.new.self.book (ap (λ (b : SeenBoard). b.book) c.halt.ensures.is))
+    (rest_closed 0 c.args.conn.name c.args.cause tail.Halted c.halt.new.self.book c.close-in-Full.new.board.book c.close-in-Full.ensures.closed)
+
+pub returns-in-NoMemory-clause-acts : goal.returns-in-NoMemory-clause-acts
+returns-in-NoMemory-clause-acts g c =
+    acts-for c.args.cause c.args.conn.name c.args.fault fault.NoMemory c.args.board.now.book c.close-in-NoMemory.new.board.book c.in-NoMemory.is
+    c.close-in-NoMemory.ensures.acts
+
+pub returns-in-NoMemory-clause-lasts : goal.returns-in-NoMemory-clause-lasts
+returns-in-NoMemory-clause-lasts g c = lasts-for c.args.fault fault.NoMemory c.close-in-NoMemory.new.board.book c.in-NoMemory.is tt
+
+pub returns-in-NoMemory-clause-rest : goal.returns-in-NoMemory-clause-rest
+returns-in-NoMemory-clause-rest g c =
+    rest_closed 0 c.args.conn.name c.args.cause tail.NoMemory c.args.board.now.book c.close-in-NoMemory.new.board.book
+    c.close-in-NoMemory.ensures.closed

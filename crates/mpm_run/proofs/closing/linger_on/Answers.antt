@@ -1,0 +1,59 @@
+use Rattle.std.proofs.Common.{None, Some, ap, subst, sym, ◌∙◌}
+use Rattle.conn_machine.specs.Runs.{row_of}
+use Rattle.conn_machine.specs.declared.event.Event.TheVariants as event
+use Rattle.conn_state.specs.Conn.{SeenConn}
+use Rattle.board.specs.Board.{SeenBoard}
+use Rattle.board.specs.Faults.{IsRefusedFor}
+use Rattle.worker_group.specs.Acts.{Acts}
+use Rattle.worker_group.specs.InHand.{IsLingeringFor}
+use Rattle.worker_group.specs.Service.{LeavesRest}
+use Rattle.worker_group.proofs.ActsLemmas.{acts_one}
+use Rattle.worker_group.proofs.ExitLemmas.{rest_parked}
+use Rattle.mpm_run.specs.ClosingInside.{lingering_given_up}
+use Rattle.mpm_run.proofs.HeldLemmas.{found-no_more, settled-on}
+use Rattle.mpm_run.proofs.closing.linger_on.Goals as goal
+
+pub park-requires-clause-settled : goal.park-requires-clause-settled
+park-requires-clause-settled g c =
+    settled-on c.args.board.now.book.state c.args.kind c.args.cause c.args.conn c.requires.lingers c.requires.kind c.requires.late c.show.ensures.conn
+
+pub park-requires-clause-turned : goal.park-requires-clause-turned
+park-requires-clause-turned g c = found-no_more c.args.kind c.args.conn c.requires.kind c.requires.late
+
+pub give_up_lingering-requires-clause-row : goal.give_up_lingering-requires-clause-row
+give_up_lingering-requires-clause-row g c =
+    ap (λ (b : SeenBoard). row_of 0 b.book.history) c.in-Err.ensures.err ∙ c.requires.row
+    ∙ ap (λ (x : SeenConn). Some x.name) (sym c.in-Err.ensures.back)
+
+pub give_up_lingering-requires-clause-lingers : goal.give_up_lingering-requires-clause-lingers
+give_up_lingering-requires-clause-lingers g c =
+    subst (λ (x : SeenConn). IsLingeringFor c.args.cause c.park.new.self.book.state x) (sym c.in-Err.ensures.back)
+    (subst (λ (b : SeenBoard). IsLingeringFor c.args.cause b.book.state c.args.conn) (sym c.in-Err.ensures.err) c.requires.lingers)
+
+pub give_up_lingering-requires-clause-why : goal.give_up_lingering-requires-clause-why
+give_up_lingering-requires-clause-why g c =
+    subst (λ (b : SeenBoard). IsRefusedFor c.in-Err.fault b.book) (sym c.in-Err.ensures.err) c.in-Err.ensures.why
+
+pub returns-in-Ok-clause-parked : goal.returns-in-Ok-clause-parked
+returns-in-Ok-clause-parked g c =
+    acts_one 0 (event.Park c.args.conn.name c.args.kind) None c.args.board.now.book c.park.new.self.book
+    (ap (λ (b : SeenBoard). b.book) c.in-Ok.ensures.ok.new_is) c.park.ensures.entries c.in-Ok.ensures.row
+
+pub returns-in-Ok-clause-state : goal.returns-in-Ok-clause-state
+returns-in-Ok-clause-state g c = ap (λ (b : SeenBoard). b.book.state) c.in-Ok.ensures.ok.new_is
+
+pub returns-in-Ok-clause-rest : goal.returns-in-Ok-clause-rest
+returns-in-Ok-clause-rest g c =
+    rest_parked 0 c.args.conn.name c.args.kind c.args.board.now.book c.park.new.self.book
+    (ap (λ (b : SeenBoard). b.book) c.in-Ok.ensures.ok.new_is)
+
+pub returns-in-Err-clause-given_up : goal.returns-in-Err-clause-given_up
+returns-in-Err-clause-given_up g c =
+    subst (λ (b : SeenBoard). Acts 0 (lingering_given_up c.in-Err.fault c.args.cause c.args.conn.name) None b.book c.give_up_lingering.new.board.book)
+    c.in-Err.ensures.err
+    (subst (λ (x : SeenConn). Acts 0 (lingering_given_up c.in-Err.fault c.args.cause x.name) None c.park.new.self.book c.give_up_lingering.new.board.book)
+    c.in-Err.ensures.back c.give_up_lingering.ensures.acts)
+
+pub returns-in-Err-clause-rest : goal.returns-in-Err-clause-rest
+returns-in-Err-clause-rest g c =
+    subst (λ (b : SeenBoard). LeavesRest b.book c.give_up_lingering.new.board.book) c.in-Err.ensures.err c.give_up_lingering.ensures.rest

@@ -1,0 +1,106 @@
+-- When time passes in a run over a patient front: where nothing is left to be done before.
+use Rattle.std.specs.Prelude.{◌≡◌, ◌⊎◌, ◌<◌, ℕ, true, false, List, [], ◌∷◌, Option, None, Some, slice_get, Contains, ⊤}
+use Rattle.mpm_base.specs.Front.{FrontTold, WaitTold, Waiting}
+use Rattle.mpm_base.specs.declared.front.Woke.TheVariants as woke
+use Rattle.script_front.specs.ScriptClock.{AreEchoes}
+use Rattle.conn_machine.specs.declared.event.Entry.{Entry}
+use Rattle.conn_machine.specs.declared.event.Event.{Event}
+use Rattle.conn_machine.specs.declared.event.Event.TheVariants as event
+use Rattle.conn_machine.specs.declared.row.Row.{Row}
+use Rattle.conn_machine.specs.declared.state.State.{State}
+use Rattle.conn_machine.specs.Rows.{is_parked}
+use Rattle.conn_machine.specs.States.{is_signalled}
+use Rattle.conn_machine.specs.Table.{may_retire, next}
+use Rattle.board.specs.Book.{SeenBook}
+use Rattle.board.specs.Finds.{acceptable, has_to_be_drained, is_due, is_let_go, is_quiet, next_deadline_of, startable}
+use Rattle.mpm_run.specs.Times.{moment_for}
+
+-- ## Nothing left to be done
+
+-- no connection has to be served, for which a worker is free
+abbrev pub NoneDue : State → Type 0
+NoneDue s = (slot : ℕ) (r : Row) → slice_get s.rows slot ≡ Some r → is_due s slot r ≡ false
+
+-- no connection that lingers is signalled
+abbrev pub NoneToDrain : State → Type 0
+NoneToDrain s = (slot : ℕ) (r : Row) → slice_get s.rows slot ≡ Some r → has_to_be_drained s slot r ≡ false
+
+-- no connection is kept alive by a child that stops, with nothing to come
+abbrev pub NoneToLetGo : State → Type 0
+NoneToLetGo s = (slot : ℕ) (r : Row) → slice_get s.rows slot ≡ Some r → is_let_go s slot r ≡ false
+
+-- no connection is in hand, has to be served or drained, or retires, and no child waits to be started or let go of
+pub record IsAtRest (s : State) : Type 0 where
+  pub quiet : is_quiet s ≡ true
+  pub served : NoneDue s
+  pub drained : NoneToDrain s
+  pub let_go : NoneToLetGo s
+  pub kept : (k : ℕ) → may_retire s k ≡ false
+  pub started : startable s ≡ None
+
+-- no row that waits is signalled
+abbrev pub NoneSignalled : State → Type 0
+NoneSignalled s = (slot : ℕ) (r : Row) → slice_get s.rows slot ≡ Some r → is_parked r.place ≡ true → is_signalled s slot ≡ false
+
+-- ## Patience
+
+-- the wait was told that time may pass, up to the least deadline, and let it pass to this moment; and where connections waited to be
+-- taken before, none could be
+pub record LetPass (wait : WaitTold) (to : ℕ) (s : State) : Type 0 where
+  pub quiet : wait.quiet ≡ true
+  pub until : wait.until ≡ next_deadline_of s
+  pub waited : Waiting
+  pub passed : wait.passed ≡ Some waited
+  pub woke : wait.answer ≡ woke.Woke to
+  pub taken : 0 < waited.arrivals → acceptable s ≡ None
+
+-- time passes to the moment in a state in which nothing is left to be done and no row that waits is signalled, as one of the waits
+-- let it: to a moment at which something comes by itself, or to the least deadline
+pub record PassesPatiently (comings : List ℕ) (waits : List WaitTold) (s : State) (m : ℕ) : Type 0 where
+  pub to : ℕ
+  pub moment : m ≡ moment_for to
+  pub comes : Contains comings to ⊎ (next_deadline_of s ≡ Some to)
+  pub rest : IsAtRest s
+  pub unsignalled : NoneSignalled s
+  pub wait : WaitTold
+  pub told : Contains waits wait
+  pub let_pass : LetPass wait to s
+
+-- where the event is that time passes, it does so patiently
+abbrev pub IsPatientEvent : List ℕ → List WaitTold → State → Event → Type 0
+IsPatientEvent comings waits s (event.Accept slot) = ⊤
+IsPatientEvent comings waits s (event.Park name kind) = ⊤
+IsPatientEvent comings waits s (event.Hold name) = ⊤
+IsPatientEvent comings waits s (event.Queue name) = ⊤
+IsPatientEvent comings waits s (event.Start name) = ⊤
+IsPatientEvent comings waits s (event.Answer name ask) = ⊤
+IsPatientEvent comings waits s (event.Linger name cause) = ⊤
+IsPatientEvent comings waits s (event.Close name cause tail) = ⊤
+IsPatientEvent comings waits s (event.Ready slot) = ⊤
+IsPatientEvent comings waits s (event.Tick m) = PassesPatiently comings waits s m
+IsPatientEvent comings waits s (event.StartChild k) = ⊤
+IsPatientEvent comings waits s (event.Command c) = ⊤
+IsPatientEvent comings waits s (event.Retire k) = ⊤
+
+-- of each entry of a history from the state on this holds, in the state in which it was made
+abbrev pub AllAt : (State → Event → Type 0) → State → List Entry → Type 0
+AllAt P s [] = ⊤
+AllAt P s (e ∷ entries) = P s e.event × AllAt P (next s e.event) entries
+
+-- in a history from the state on time passes patiently
+abbrev pub ArePatient : List ℕ → List WaitTold → State → List Entry → Type 0
+ArePatient comings waits s history = AllAt (IsPatientEvent comings waits) s history
+
+-- a patient front that tells, and a clock that tells and answered what it was told
+pub record IsSteady (told : Option FrontTold) (calls : Option (List (ℕ × ℕ))) : Type 0 where
+  pub front : FrontTold
+  pub tells : told ≡ Some front
+  pub comings : List ℕ
+  pub patient : front.comings ≡ Some comings
+  pub asked : List (ℕ × ℕ)
+  pub clock : calls ≡ Some asked
+  pub echoes : AreEchoes asked
+
+-- over such ones time passes patiently
+abbrev pub IsPatientRun : Option FrontTold → Option (List (ℕ × ℕ)) → SeenBook → Type 0
+IsPatientRun told calls b = (steady : IsSteady told calls) → ArePatient steady.comings steady.front.waits b.base b.history
