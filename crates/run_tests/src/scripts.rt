@@ -15,7 +15,7 @@ const SCRIPT: &[u8] = b"conn a\nsend a GET / HTTP/1.1\\r\\nHost: localhost\\r\\n
 
 const REQUEST: &[u8] = b"GET / HTTP/1.1\r\nHost: localhost\r\n\r\n";
 
-const REPLY: &[u8] =
+pub(crate) const REPLY: &[u8] =
     b"HTTP/1.1 200 OK\r\nDate: Thu, 01 Jan 1970 00:00:00 GMT\r\nContent-Type: text/html\r\nContent-Length: 6\r\n\r\nhello\n";
 
 const REPORT: &[u8] =
@@ -24,9 +24,9 @@ const REPORT: &[u8] =
 const USAGE: &[u8] =
     b"usage: event_server --script FILE | --load N | -f FILE | -t -f FILE | -k WORD -f FILE\n";
 
-const FIRST: ConnName = ConnName { slot: 0, life: 0 };
+pub(crate) const FIRST: ConnName = ConnName { slot: 0, life: 0 };
 
-const FOUND: Ask = Ask {
+pub(crate) const FOUND: Ask = Ask {
     asked_close: false,
     refused: false,
     code: 200,
@@ -81,7 +81,7 @@ fn first_call(alloc: Global) -> Result<Calls, NoMemory> {
 }
 
 /// Runs the words over a folder whose file `s` has the bytes.
-fn plays<R: Threads + Wait + Sync>(
+pub(crate) fn plays<R: Threads + Wait + Sync>(
     rt: &R,
     alloc: Global,
     list: &[&str],
@@ -235,16 +235,16 @@ fn scripts_are_refused_at_their_line(rt: HostRuntime) -> Result<(), Fail> {
             b"script refused at 2: MomentBackwards\n",
         ),
         (b"send z hi\n", 1, b"script refused at 1: UnknownName\n"),
-        (b"conn a\nconn b\n", 1, b"script refused at 1: NotYet\n"),
+        (b"clear\nconn b\n", 1, b"script refused at 1: NotYet\n"),
         (
-            b"conn a\nsend a GET / HTTP/1.1\\r\\nHost: a\\r\\n\\r\\n\n",
-            1,
-            b"script refused at 1: NotYet\n",
-        ),
-        (
-            b"conn a\nroom a 5\nend a\n",
+            b"conn a\nsend a POST / HTTP/1.1\\r\\nHost: a\\r\\n\\r\\n\nend a\n",
             2,
             b"script refused at 2: NotYet\n",
+        ),
+        (
+            b"conn a\ndrop a\nend a\ncommand stop\n",
+            4,
+            b"script refused at 4: NotYet\n",
         ),
         (
             b"command stop\nhello\n",

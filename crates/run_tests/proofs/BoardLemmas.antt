@@ -1,0 +1,140 @@
+-- A turn with a board may be given back.
+use Rattle.std.proofs.Common.{◌≡◌, inl, ℕ, zero, suc, ◌<◌, true, List, [], ◌∷◌, ◌++◌, length, Some, None, refl, sym, ap, subst, ◌∙◌, append-nil, arith}
+use Rattle.std.proofs.lemmas.List.{append_cancel_left}
+use Rattle.std.specs.Prelude.{map, slice_get, option_to_list, IfSome, Option, Result, OnOk, OnErr}
+use Rattle.std.specs.declared.result.Result.TheVariants.{Ok, Err}
+use Rattle.atomic_table.specs.Table.{Me}
+use Rattle.mpm_base.specs.declared.shape.Shape.{Shape}
+use Rattle.conn_machine.specs.declared.event.Entry.{Entry}
+use Rattle.conn_machine.specs.declared.event.Event.TheVariants.{StartChild}
+use Rattle.conn_machine.specs.Children.{is_in_bounds}
+use Rattle.conn_machine.specs.Runs.{after, Adds, AreEntriesOf}
+use Rattle.conn_machine.specs.States.{opening_state}
+use Rattle.table_rule.specs.declared.view.Origin.{Origin}
+use Rattle.table_rule.specs.declared.view.View.{View}
+use Rattle.table_rule.specs.Ledgers.{MayGiveBack}
+use Rattle.table_rule.specs.Tie.{IsNew}
+use Rattle.board_lock.specs.Passes.{HasNoTurn, TookTurn, fresh_view}
+use Rattle.board.specs.declared.faults.BoardFault.{BoardFault}
+use Rattle.board.specs.Board.{SeenBoard}
+use Rattle.board.specs.Book.{entry_of}
+use Rattle.board.specs.Events.{IsAdded, with_recorded}
+use Rattle.board.specs.Ledger.{ledger_of}
+use Rattle.board.specs.ReportLine.{line_of}
+
+-- ## A new lock
+
+-- a board without a history may be put into a lock
+pub opens : (b : SeenBoard) (slots children : ℕ) (shape : Shape) → is_in_bounds shape ≡ true → b.book.base ≡ opening_state slots children shape
+    → b.book.history ≡ [] → b.book.passes ≡ 2 → b.ended ≡ [] → IsNew (ledger_of b)
+opens b slots children shape bounds base history passes ended = record {
+  opened = record { slots = slots; children = children; shape = shape; bounds = bounds; state = base };
+  some = omega (arith, passes);
+  few = omega (arith, passes);
+  history = history;
+  texts = ap (map line_of) ended;
+  folded = refl;
+}
+
+-- a fresh pass has no turn
+pub fresh : {K : Type 0} (origin : Origin) (p : ℕ) (me : Me (Option K) View) → me ≡ (fresh_view origin p, []) → HasNoTurn me
+fresh origin zero me is = subst HasNoTurn (sym is) record { hand = refl; turn = refl }
+fresh origin (suc p) me is = subst HasNoTurn (sym is) record { hand = refl; turn = refl }
+
+-- ## What a turn finds
+
+-- there is some pass
+pub has_passes : {K : Type 0} (v w : Me (Option K) View) (b : SeenBoard) → TookTurn v w (ledger_of b) → 0 < b.book.passes
+has_passes v w b took =
+    let f = took.is_found in
+    more v.0.who.number b.book.passes (subst (λ n. v.0.who.number < n) (sym f.parts.passes) f.number)
+  where
+    more : (p n : ℕ) → p < n → 0 < n
+    more p n lt = omega arith
+
+empty : (l : List Entry) → 0 ≡ length l → l ≡ []
+empty [] e = refl
+empty (x ∷ l) e = absurd (omega arith)
+
+-- nothing of a board is folded, so its history is all that the pass has seen
+seen_is : {K : Type 0} (v w : Me (Option K) View) (b : SeenBoard) → TookTurn v w (ledger_of b) → w.0.seen ≡ b.book.history
+seen_is v w b took =
+    let f = took.is_found in
+    f.parts.whole_is ∙ ap (λ l. l ++ b.book.history) (empty f.left.entries f.parts.counted)
+
+-- it begins where the board's history does
+base_is : {K : Type 0} (v w : Me (Option K) View) (b : SeenBoard) → TookTurn v w (ledger_of b) → w.0.origin.state ≡ b.book.base
+base_is v w b took =
+    let f = took.is_found in
+    ap (λ (u : View). u.origin.state) took.view ∙ sym (f.parts.base ∙ ap (after v.0.origin.state) (empty f.left.entries f.parts.counted))
+
+-- ## What a turn may leave
+
+-- the board as it was found
+pub may_stay : {K : Type 0} (v w : Me (Option K) View) (b : SeenBoard) → TookTurn v w (ledger_of b) → MayGiveBack w.0 (ledger_of b)
+may_stay v w b took = (
+  ledger_of b,
+  ap (λ (u : View). u.turn) took.view,
+  record {
+    added = [];
+    change = inl record { base = refl; record_is = refl; history = sym (append-nil b.book.history); texts = ([], sym (append-nil (map line_of b.ended))) };
+    passes = refl;
+    entries = tt;
+    permitted = tt;
+  },
+)
+
+-- an entry of pass 0 is one that it may make behind what it has seen
+own_entry : {K : Type 0} (v w : Me (Option K) View) (b : SeenBoard) (e : Entry) → TookTurn v w (ledger_of b) → v.0.who.number ≡ 0
+    → Adds 0 b.book.base b.book.history (b.book.history ++ e ∷ []) → AreEntriesOf w.0.who.number w.0.origin.state w.0.seen (e ∷ [])
+own_entry v w b e took number adds =
+    let who : w.0.who.number ≡ 0 = ap (λ (u : View). u.who.number) took.view ∙ number in
+    let is : adds.0 ≡ e ∷ [] = append_cancel_left b.book.history adds.0 (e ∷ []) (sym adds.1) in
+    let own = subst (AreEntriesOf 0 b.book.base b.book.history) is adds.2 in
+    subst (λ q. AreEntriesOf q w.0.origin.state w.0.seen (e ∷ [])) (sym who)
+    (subst (λ s. AreEntriesOf 0 s w.0.seen (e ∷ [])) (sym (base_is v w b took))
+    (subst (λ h. AreEntriesOf 0 b.book.base h (e ∷ [])) (sym (seen_is v w b took)) own))
+
+-- the board with the entry that starts the child
+may_start : {K : Type 0} (v w : Me (Option K) View) (b : SeenBoard) (k : ℕ) → TookTurn v w (ledger_of b) → v.0.who.number ≡ 0
+    → Adds 0 b.book.base b.book.history (with_recorded 0 (StartChild k) b).book.history → MayGiveBack w.0 (ledger_of (with_recorded 0 (StartChild k) b))
+may_start v w b k took number adds = (
+  ledger_of b,
+  ap (λ (u : View). u.turn) took.view,
+  record {
+    added = entry_of 0 (StartChild k) b.book ∷ [];
+    change = inl record { base = refl; record_is = refl; history = refl; texts = ([], sym (append-nil (map line_of b.ended))) };
+    passes = refl;
+    entries = own_entry v w b (entry_of 0 (StartChild k) b.book) took number adds;
+    permitted = (tt, tt);
+  },
+)
+
+-- the board after the call that starts a child, whatever it answers
+pub may_end : {K T : Type 0} (v w : Me (Option K) View) (old new : SeenBoard) (k : ℕ) (result : Result T BoardFault) → TookTurn v w (ledger_of old)
+    → v.0.who.number ≡ 0 → OnOk result (IsAdded 0 (StartChild k) old new) → OnErr result (new ≡ old)
+    → Adds 0 old.book.base old.book.history new.book.history → MayGiveBack w.0 (ledger_of new)
+may_end v w old new k (Ok x) took number ok err adds =
+    subst (λ b. MayGiveBack w.0 (ledger_of b)) (sym ok.new_is)
+    (may_start v w old k took number (subst (λ b. Adds 0 old.book.base old.book.history b.book.history) ok.new_is adds))
+may_end v w old new k (Err e) took number ok err adds =
+    subst (λ b. MayGiveBack w.0 (ledger_of b)) (sym err) (may_stay v w old took)
+
+-- ## Lists
+
+-- an item between two lists
+at_between : {X : Type 0} (xs ys : List X) (x : X) → slice_get (xs ++ x ∷ ys) (length xs) ≡ Some x
+at_between [] ys x = refl
+at_between (z ∷ xs) ys x = at_between xs ys x
+
+-- an item of the first of two lists
+pub at_first : {X : Type 0} (xs ys : List X) (i : ℕ) (x : X) → slice_get xs i ≡ Some x → slice_get (xs ++ ys) i ≡ Some x
+at_first [] ys i x at = absurd (cc)
+at_first (z ∷ xs) ys zero x at = at
+at_first (z ∷ xs) ys (suc i) x at = at_first xs ys i x at
+
+-- the last item is as all are
+pub last_has : {X : Type 0} (P : X → Type 0) (old new : List X) (o : Option X) → old ≡ new ++ option_to_list o
+    → ((i : ℕ) (x : X) → slice_get old i ≡ Some x → P x) → IfSome o P
+last_has P old new None e all = tt
+last_has P old new (Some x) e all = all (length new) x (ap (λ l. slice_get l (length new)) e ∙ at_between new [] x)

@@ -1,0 +1,10 @@
+use Rattle.run_tests.proofs.BoardLemmas.{has_passes, may_end}
+use Rattle.run_tests.proofs.passes.starts.Goals as goal
+
+pub start_child-started-requires-clause-who : goal.start_child-started-requires-clause-who
+start_child-started-requires-clause-who g c = has_passes _ _ c.turn-turn.result.kept c.turn-turn.ensures.turn
+
+pub done-requires-clause-left : goal.done-requires-clause-left
+done-requires-clause-left g c =
+    may_end _ _ c.turn-turn.result.kept c.start_child-started.new.self 0 c.start_child-started.result c.turn-turn.ensures.turn c.requires.number
+    c.start_child-started.ensures.ok c.start_child-started.ensures.err c.start_child-started.ensures.entries
