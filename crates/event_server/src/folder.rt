@@ -51,9 +51,7 @@ impl<'a, R: Files> Folder<'a, R> {
 }
 
 impl<'a, R: Files + AllocGlobal + Clone + Drop> Store for Folder<'a, R> {
-    ghost told = { λ _. None };
-
-    ghost counts = { λ f. record { faults = f.faults; refusals = f.refusals } };
+    ghost seen = { λ f. record { told = None; counts = record { faults = f.faults; refusals = f.refusals } } };
 
     fn renew(&mut self) {}
 

@@ -1,7 +1,7 @@
 //! A writer as a sink.
 ghost use Rattle.std.specs.Prelude.{◌≡◌, None, length};
 ghost use Rattle.std.specs.Io.KnownBytes.{Appends};
-ghost use Rattle.mpm_base.specs.Sink.{FitsOutput, Puts, put_bytes};
+ghost use Rattle.mpm_base.specs.Sink.{FitsOutput, Puts, put_bytes, silent_sink};
 ghost use Rattle.event_server.specs.Output.{put_for};
 
 use mpm_base::{Put, Sink};
@@ -22,12 +22,10 @@ impl<W: Write + Drop> Output<W> {
 }
 
 impl<W: Write + Drop> Sink for Output<W> {
-    ghost told = { λ _. None };
-
-    ghost faults = { λ o. o.faults };
+    ghost seen = { λ o. silent_sink o.faults };
 
     fn write(&mut self, bytes: &[u8]) -> Put
-        ensures sink { Puts None None self.old.faults self.new.faults result bytes.now }
+        ensures sink { Puts (silent_sink self.old.faults) (silent_sink self.new.faults) result bytes.now }
         ensures writer { Appends (W.contents self.old.writer) (W.contents self.new.writer) (put_bytes result bytes.now) }
     {
         let put = write_piece(&mut self.writer, bytes);
