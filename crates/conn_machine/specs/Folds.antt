@@ -1,6 +1,6 @@
 -- Folds: what a value that keeps a history still knows of the entries that it folded.
-use Rattle.std.specs.Prelude.{◌==◌, ℕ, ◌+◌, ◌-◌, Bool, ◌&&◌, ◌||◌, not, List, [], ◌∷◌, ◌++◌, length, map, filter, take, replicate, slice_index}
-use Rattle.std.specs.List.{enumerate_from, flat_map, list_any}
+use Rattle.std.specs.Prelude.{◌≡◌, ◌==◌, ℕ, ◌+◌, ◌-◌, Bool, ◌&&◌, ◌||◌, not, List, [], ◌∷◌, ◌++◌, length, map, filter, take, replicate, slice_index}
+use Rattle.std.specs.List.{enumerate_from, flat_map, list_any, range_with_len}
 use Rattle.conn_machine.specs.declared.child.Child.{Child}
 use Rattle.conn_machine.specs.declared.event.Entry.{Entry}
 use Rattle.conn_machine.specs.declared.folded.Edition.{Edition}
@@ -34,6 +34,17 @@ opening_record passes =
       editions = first_edition ∷ [];
       ordinals = replicate passes 0;
     }
+
+-- ## The order of the passes
+
+-- the entries of the pass are numbered on from this number, in the order of the history
+abbrev pub IsNumberedFrom : ℕ → ℕ → List Entry → Type 0
+IsNumberedFrom first p history =
+    map (λ e. e.ordinal) (entries_of p history) ≡ range_with_len first (length (entries_of p history))
+
+-- the entries of each pass are numbered on from its next number in the record
+abbrev pub IsInPassOrderFrom : Folded → List Entry → Type 0
+IsInPassOrderFrom f history = (p : ℕ) → IsNumberedFrom (slice_index f.ordinals p) p history
 
 -- ## Editions
 

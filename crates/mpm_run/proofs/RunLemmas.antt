@@ -1,8 +1,9 @@
 -- What a board shows of its run.
-use Rattle.std.proofs.Common.{◌≡◌, ℕ, ◌+◌, Bool, true, false, ◌||◌, cond, List, [], ◌∷◌, ◌++◌, length, count_by, Option, Some, IfSome, refl, sym, ap, subst, ◌∙◌, arith}
+use Rattle.std.proofs.Common.{◌≡◌, ℕ, zero, suc, ◌+◌, Bool, true, false, ◌||◌, cond, List, [], ◌∷◌, ◌++◌, length, count_by, replicate, Option, Some, IfSome, refl, sym, ap, subst, ◌∙◌, arith}
 use Rattle.std.proofs.lemmas.List.{append-nil}
 use Rattle.std.proofs.lemmas.List.Sums.{sum_by-cons}
 use Rattle.std.specs.List.{list_any}
+use Rattle.std.specs.Prelude.{slice_index}
 use Rattle.mpm_base.specs.Front.{client_at}
 use Rattle.mpm_base.specs.Link.{LinkTold}
 use Rattle.conn_machine.specs.declared.row.Row.{Row}
@@ -12,7 +13,8 @@ use Rattle.conn_machine.specs.declared.event.Entry.{Entry}
 use Rattle.conn_machine.specs.declared.state.State.{State}
 use Rattle.conn_machine.specs.Rows.{is_live}
 use Rattle.conn_machine.specs.Table.{next}
-use Rattle.conn_machine.specs.Runs.{Run, after, IsHistory}
+use Rattle.conn_machine.specs.Folds.{IsNumberedFrom, IsInPassOrderFrom, opening_record}
+use Rattle.conn_machine.specs.Runs.{Run, after, IsHistory, IsInPassOrder}
 use Rattle.conn_machine.specs.Made.{AreMade, AreOfPasses}
 use Rattle.conn_machine.specs.Sound.{IsSound}
 use Rattle.conn_machine.specs.Events.{count_events, is_accept, is_close}
@@ -28,6 +30,16 @@ use Rattle.mpm_run.specs.Listen.{HasClosedAll, HasNoLive, IsClosedDown, IsRunFro
 
 -- ## The history
 
+-- in the record of a value that never folded the next number of each pass is 0
+no-ordinals : (passes p : ℕ) → slice_index (replicate passes 0) p ≡ 0
+no-ordinals zero p = refl
+no-ordinals (suc passes) zero = refl
+no-ordinals (suc passes) (suc p) = no-ordinals passes p
+
+-- in the order of its passes, a history is so behind that record
+order-opening : (passes : ℕ) (history : List Entry) → IsInPassOrder history → IsInPassOrderFrom (opening_record passes) history
+order-opening passes history order = λ p. subst (λ (first : ℕ). IsNumberedFrom first p history) (sym (no-ordinals passes p)) (order p)
+
 -- the history of a board that opened so is a run from there, each state of which is sound
 pub run-from : (n : RunNumbers) (b : SeenBoard) → b.book.base ≡ opened_by n → AreOfPasses n.passes b.book.history
     → ((s : State) (history : List Entry) → IsSound s → Run s history → StaysSound s history)
@@ -35,7 +47,8 @@ pub run-from : (n : RunNumbers) (b : SeenBoard) → b.book.base ≡ opened_by n 
     → IsSound b.book.base → StopsWhereFull b.book.history → TellsFullStop b.book.state.going b.book.history → Agrees b → IsRunFrom n b
 run-from n b opened few law is_history made state sound stops full agrees = record {
   opened = opened;
-  is_history = subst (λ (s : State). IsHistory s b.book.history) opened is_history;
+  run = subst (λ (s : State). Run s b.book.history) opened is_history.run;
+  order = order-opening n.passes b.book.history is_history.order;
   made = subst (λ (s : State). AreMade s b.book.history) opened made;
   few = few;
   state = subst (λ (s : State). after s b.book.history ≡ b.book.state) opened state;

@@ -13,6 +13,7 @@ use Rattle.mpm_script.specs.declared.script.ScriptFault.TheVariants as script
 use Rattle.conn_machine.specs.declared.event.Why.TheVariants as why
 use Rattle.conn_machine.specs.declared.state.Going.{Going}
 use Rattle.conn_machine.specs.declared.state.Going.TheVariants.{Halted}
+use Rattle.conn_machine.specs.Folds.{opening_record}
 use Rattle.conn_machine.specs.Runs.{full_load, load}
 use Rattle.board.specs.Book.{HasFullStop}
 use Rattle.board.specs.Board.{SeenBoard}
@@ -131,9 +132,9 @@ EndsRefused call = EndsTooLarge call ⊎ EndsAtLine call
 
 -- ## Where a run opened
 
--- the report of a board
+-- the report of a board, which never folded
 abbrev pub board_report : SeenBoard → List ℕ
-board_report b = report_of b.book.history b.book.state.newest b.ended
+board_report b = report_of (opening_record b.book.passes) b.book.history b.book.state.newest b.ended
 
 -- the report of the board was written whole
 abbrev pub Reports : SinkSeen → SinkSeen → SeenBoard → Type 0

@@ -5,7 +5,8 @@ use Rattle.conn_machine.specs.declared.state.State.{State}
 use Rattle.conn_machine.specs.Rows.{is_live}
 use Rattle.conn_machine.specs.Children.{child_at, is_empty}
 use Rattle.conn_machine.specs.Events.{count_events, is_accept}
-use Rattle.conn_machine.specs.Runs.{after, IsHistory}
+use Rattle.conn_machine.specs.Folds.{IsInPassOrderFrom, opening_record}
+use Rattle.conn_machine.specs.Runs.{Run, after}
 use Rattle.conn_machine.specs.Made.{AreMade, AreOfPasses}
 use Rattle.conn_machine.specs.Laws.{StaysSound}
 use Rattle.board.specs.Book.{StopsWhereFull, TellsFullStop}
@@ -35,7 +36,8 @@ pub record IsClosedDown (s : State) : Type 0 where
 -- stands only where it is, and is told by the state; and the connections agree with the history
 pub record IsRunFrom (n : RunNumbers) (b : SeenBoard) : Type 0 where
   pub opened : b.book.base ≡ opened_by n
-  pub is_history : IsHistory (opened_by n) b.book.history
+  pub run : Run (opened_by n) b.book.history
+  pub order : IsInPassOrderFrom (opening_record n.passes) b.book.history
   pub made : AreMade (opened_by n) b.book.history
   pub few : AreOfPasses n.passes b.book.history
   pub state : after (opened_by n) b.book.history ≡ b.book.state

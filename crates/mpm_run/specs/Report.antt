@@ -1,10 +1,12 @@
 -- The report of a run: what it counts, and its text.
-use Rattle.std.specs.Prelude.{ℕ, List, ◌++◌, map, take, codes, slice_index}
+use Rattle.std.specs.Prelude.{ℕ, ◌+◌, List, ◌++◌, map, codes, slice_index}
 use Rattle.std.specs.List.{flat_map}
 use Rattle.std.specs.Fmt.{decimal}
 use Rattle.mpm_base.specs.declared.conn.Cause.{Cause}
 use Rattle.conn_machine.specs.declared.event.Entry.{Entry}
-use Rattle.conn_machine.specs.Events.{causes, count_events, is_accept, is_answer, is_close, is_close_for, is_start_child}
+use Rattle.conn_machine.specs.declared.folded.Folded.{Folded}
+use Rattle.conn_machine.specs.Events.{causes, count_events, is_accept, is_answer, is_close, is_start_child}
+use Rattle.conn_machine.specs.Folds.{causes_after, lines_after}
 use Rattle.mpm_base.specs.Cause.{cause_number}
 use Rattle.conn_state.specs.Answered.{SeenEnded}
 use Rattle.board.specs.ReportLine.{cause_word, line_of}
@@ -12,17 +14,17 @@ use Rattle.mpm_run.specs.declared.report.Tally.{Tally}
 
 -- ## The report
 
--- the numbers of a history, and a line for each of the first 64 connections that ended
-abbrev pub tally_of : List Entry → ℕ → List SeenEnded → Tally
-tally_of history newest ended =
+-- the numbers of the record and of the history behind it, and a line for each of the first 64 connections that ended
+abbrev pub tally_of : Folded → List Entry → ℕ → List SeenEnded → Tally
+tally_of f history newest ended =
     record {
       generation = newest;
-      accepted = count_events is_accept history;
-      closed = count_events is_close history;
-      responses = count_events is_answer history;
-      causes = map (λ why. count_events (is_close_for why) history) causes;
-      children = count_events is_start_child history;
-      lines = flat_map line_of (take 64 ended);
+      accepted = f.accepted + count_events is_accept history;
+      closed = f.closed + count_events is_close history;
+      responses = f.responses + count_events is_answer history;
+      causes = causes_after history f.causes;
+      children = f.children + count_events is_start_child history;
+      lines = lines_after (map line_of ended) f.closed f.lines;
     }
 
 -- a line with a name and a number
@@ -41,5 +43,5 @@ text_of t =
     ++ flat_map (cause_line t.causes) causes ++ count_line (codes "ChildrenStarted") t.children ++ t.lines
 
 -- the report of a run
-abbrev pub report_of : List Entry → ℕ → List SeenEnded → List ℕ
-report_of history newest ended = text_of (tally_of history newest ended)
+abbrev pub report_of : Folded → List Entry → ℕ → List SeenEnded → List ℕ
+report_of f history newest ended = text_of (tally_of f history newest ended)

@@ -1,4 +1,5 @@
 use Rattle.std.proofs.Common.{refl}
+use Rattle.mpm_run.proofs.ReportLemmas.{tally-opening}
 use Rattle.mpm_run.proofs.counting.tally.Goals as goal
 
 pub returns : goal.returns
@@ -13,4 +14,4 @@ returns g c =
       c.in_ok-ended_lines.ensures,
       c.ended.ensures,
       c.history-history.ensures,
-    ) refl
+    ) (tally-opening c.args.board.now.book.passes c.args.board.now.book.state.newest c.args.board.now.book.history c.args.board.now.ended)

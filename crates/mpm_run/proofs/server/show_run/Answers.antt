@@ -13,5 +13,5 @@ returns-clause-closed g c down =
     let run = run-from n b c.requires.base c.requires.few c.events_keep_states_sound.ensures.run
     c.show.ensures.history c.show.ensures.made c.show.ensures.state c.show.ensures.opened c.show.ensures.stops c.show.ensures.full c.show.ensures.agrees in
     closed-all n b run
-    (c.accepted_connections_are_closed_or_live.ensures.closed_or_live n.slots n.children n.shape b.book.history run.is_history.run)
+    (c.accepted_connections_are_closed_or_live.ensures.closed_or_live n.slots n.children n.shape b.book.history run.run)
     down
