@@ -1,12 +1,14 @@
 pub mod AcceptLemmas
 pub mod AcceptedLaw
 pub mod AllowedLemmas
+pub mod ArrivalLaw
 pub mod CellLaw
 pub mod CellLemmas
 pub mod ChanceLemmas
 pub mod ChangeLaw
 pub mod ChildLemmas
 pub mod ChildSound
+pub mod CountLemmas
 pub mod FairLemmas
 pub mod FreshLaw
 pub mod HandLaw

@@ -1,3 +1,4 @@
+pub mod Arrivals
 pub mod Children
 pub mod Events
 pub mod Folds

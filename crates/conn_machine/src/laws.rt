@@ -17,6 +17,7 @@ ghost use Rattle.conn_machine.specs.declared.event.Commanded.TheVariants.{Gracef
 ghost use Rattle.conn_machine.specs.declared.event.Reply.TheVariants.{Took};
 ghost use Rattle.conn_machine.specs.declared.event.Entry.{Entry};
 ghost use Rattle.conn_machine.specs.declared.state.State.{State};
+ghost use Rattle.conn_machine.specs.Arrivals.{arrival_count};
 ghost use Rattle.conn_machine.specs.Rows.{is_live, is_live_in, is_lingering, is_with_a_pass, live_row, owner_of};
 ghost use Rattle.conn_machine.specs.Children.{is_in_bounds};
 ghost use Rattle.conn_machine.specs.States.{opening_state, pick_child};
@@ -48,6 +49,13 @@ pub fn accepted_connections_are_closed_or_live()
     ensures closed_or_live { (slots children : ℕ) (shape : Shape) (history : List Entry) → Run (opening_state slots children shape) history → count_events is_accept history ≡ count_events is_close history + count_by is_live (after (opening_state slots children shape) history).rows }
     ensures named { (s : State) (before rest : List Entry) (e : Entry) (slot : ℕ) (name : ConnName) (child generation : ℕ) → Run s (before ++ e ∷ rest) → e.event ≡ event.Accept slot → e.reply ≡ Took name child generation → is_alive_or_closed (after s (before ++ e ∷ rest)) rest name ≡ true }
     ensures accepted { (slots children : ℕ) (shape : Shape) (history : List Entry) → (after (opening_state slots children shape) history).accepted ≡ min (count_events is_accept history) greatest_count }
+{}
+
+/// Each connection that was taken has a number of its own, by the order in which they were taken, and either it is live or one
+/// entry closed it; no other connection was closed or is live. So it is while fewer were taken than the greatest count.
+pub fn arrivals_are_taken_once()
+    ensures once { (slots children : ℕ) (shape : Shape) (history : List Entry) (arrival : ℕ) → Run (opening_state slots children shape) history → (after (opening_state slots children shape) history).accepted < greatest_count → arrival < (after (opening_state slots children shape) history).accepted → arrival_count (opening_state slots children shape) history arrival ≡ 1 }
+    ensures no_other { (slots children : ℕ) (shape : Shape) (history : List Entry) (arrival : ℕ) → Run (opening_state slots children shape) history → (after (opening_state slots children shape) history).accepted < greatest_count → (after (opening_state slots children shape) history).accepted ≤ arrival → arrival_count (opening_state slots children shape) history arrival ≡ 0 }
 {}
 
 /// A connection that was closed is never live again.
