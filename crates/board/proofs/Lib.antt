@@ -7,6 +7,7 @@ pub mod FindLemmas
 pub mod HandLemmas
 pub mod PassLemmas
 pub mod QueueLemmas
+pub mod RankLemmas
 pub mod RoomLemmas
 pub mod SlotLemmas
 pub mod StopLemmas

@@ -9,5 +9,6 @@ pub mod Finds
 pub mod Fits
 pub mod Ledger
 pub mod QueuesInside
+pub mod Ranks
 pub mod ReportLine
 pub mod RoomInside

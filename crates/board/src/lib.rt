@@ -14,6 +14,7 @@ mod board;
 mod book;
 mod faults;
 mod finds;
+pub mod laws;
 #[cfg(test)]
 mod tests;
 mod waits;

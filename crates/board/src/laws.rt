@@ -1,0 +1,28 @@
+//! Laws of a board's connections that ended. Each is the contract of a function that does nothing.
+ghost use Rattle.std.specs.Prelude.{◌≡◌, ◌<◌, ◌≤◌, ℕ, false, List, count_by};
+ghost use Rattle.std.specs.List.{list_any};
+ghost use Rattle.mpm_base.specs.Count.{greatest_count};
+ghost use Rattle.mpm_base.specs.declared.shape.Shape.{Shape};
+ghost use Rattle.conn_machine.specs.declared.event.Entry.{Entry};
+ghost use Rattle.conn_machine.specs.declared.state.State.{State};
+ghost use Rattle.conn_machine.specs.Arrivals.{closed_arrivals};
+ghost use Rattle.conn_machine.specs.Rows.{is_live};
+ghost use Rattle.conn_machine.specs.States.{opening_state};
+ghost use Rattle.conn_machine.specs.Runs.{Run, after};
+ghost use Rattle.conn_state.specs.Answered.{SeenEnded};
+ghost use Rattle.board.specs.Board.{AreClosed};
+ghost use Rattle.board.specs.Ranks.{AllTell, has_rank, ranks_of};
+
+use conn_machine::laws::arrivals_are_taken_once;
+
+/// The links of the connections that ended, where they tell, are those of the connections that the history closed, in order. In
+/// a run from the opening state to one without a live connection they are, each once, those of the connections that were taken:
+/// each number below how many there were is the rank of exactly one of them, and no other is of any. So it is while fewer were
+/// taken than the greatest count.
+pub fn ended_links_are_of_closed_connections()
+    ensures ranks { (base : State) (history : List Entry) (ended : List SeenEnded) → AreClosed base history ended → AllTell ended → ranks_of ended ≡ closed_arrivals base history }
+    ensures once { (slots children : ℕ) (shape : Shape) (history : List Entry) (ended : List SeenEnded) (rank : ℕ) → Run (opening_state slots children shape) history → AreClosed (opening_state slots children shape) history ended → AllTell ended → list_any is_live (after (opening_state slots children shape) history).rows ≡ false → (after (opening_state slots children shape) history).accepted < greatest_count → rank < (after (opening_state slots children shape) history).accepted → count_by (has_rank rank) ended ≡ 1 }
+    ensures no_other { (slots children : ℕ) (shape : Shape) (history : List Entry) (ended : List SeenEnded) (rank : ℕ) → Run (opening_state slots children shape) history → AreClosed (opening_state slots children shape) history ended → AllTell ended → (after (opening_state slots children shape) history).accepted < greatest_count → (after (opening_state slots children shape) history).accepted ≤ rank → count_by (has_rank rank) ended ≡ 0 }
+{
+    arrivals_are_taken_once();
+}
