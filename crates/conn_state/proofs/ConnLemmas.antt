@@ -23,17 +23,17 @@ use Rattle.conn_state.specs.Held.{IsSizeOf, IsHeld}
 use Rattle.conn_state.specs.ExchangeInside.{TakesIn, IsSame, SendsOn}
 use Rattle.conn_state.proofs.KnownLemmas.{client-received, client-sent}
 use Rattle.conn_state.proofs.LinkLemmas.{before-open, told-open_received, told-open_sent, open-link, still-open}
-use Rattle.conn_state.proofs.StreamLemmas.{fitting-more, fitting-snoc, replies-snoc}
+use Rattle.conn_state.proofs.StreamLemmas.{Stays, fitting-snoc, replies-snoc}
 
 -- ## The reply stream
 
 -- more bytes come
-streams-more : (notes : List Note) (pending rest more : List ℕ) (t : LinkTold) → Streams notes pending rest t → t.shuts ≡ 0 → more ≡ take (length more) t.coming
+streams-more : Stays → (notes : List Note) (pending rest more : List ℕ) (t : LinkTold) → Streams notes pending rest t → t.shuts ≡ 0 → more ≡ take (length more) t.coming
     → Streams notes pending (rest ++ more) (with_received (length more) t)
-streams-more notes pending rest more t s not_shut comes = record {
+streams-more stays notes pending rest more t s not_shut comes = record {
   items = s.items;
   fitting = subst (λ xs. IsFitting notes xs s.items (rest ++ more)) (ap (λ xs. t.before_shut ++ xs) comes ∙ sym (before-open (length more) t not_shut))
-      (fitting-more notes t.before_shut s.items rest more s.fitting);
+      (stays notes t.before_shut s.items rest more s.fitting);
   replies = s.replies;
 }
 
@@ -80,27 +80,22 @@ told-broken usable (Some t) notes pending rest s = broke_while usable notes pend
 
 -- ## Reading
 
--- a turn of reading keeps it, or breaks it off
-streams-read : (answer : ReadTurn) (notes : List Note) (pending rest rest' got : List ℕ) (t : LinkTold) → Streams notes pending rest t → t.shuts ≡ 0
-    → got ≡ take (length got) t.coming → KeepsRead answer got rest rest'
-    → StreamsWhile (is_usable (after_reading answer)) notes pending rest' (with_received (length got) t)
-streams-read (read.Asked ask) notes pending rest rest' got t s not_shut comes keeps =
-    subst (λ xs. Streams notes pending xs (with_received (length got) t)) (sym keeps) (streams-more notes pending rest got t s not_shut comes)
-streams-read read.More notes pending rest rest' got t s not_shut comes keeps =
-    subst (λ xs. Streams notes pending xs (with_received (length got) t)) (sym keeps) (streams-more notes pending rest got t s not_shut comes)
-streams-read read.Gone notes pending rest rest' got t s not_shut comes keeps =
-    subst (λ xs. Streams notes pending xs (with_received (length got) t)) (sym keeps) (streams-more notes pending rest got t s not_shut comes)
-streams-read read.LinkFailed notes pending rest rest' got t s not_shut comes keeps =
-    broke_off notes pending (rest ++ got) (with_received (length got) t) (streams-more notes pending rest got t s not_shut comes)
-streams-read read.NoMemory notes pending rest rest' got t s not_shut comes keeps =
-    broke_off notes pending (rest ++ got) (with_received (length got) t) (streams-more notes pending rest got t s not_shut comes)
+-- a turn of reading leaves the stream that goes on with what came, or breaks it off
+streams-read : (answer : ReadTurn) (notes : List Note) (pending rest rest' got : List ℕ) (t : LinkTold) → Streams notes pending (rest ++ got) t → KeepsRead answer got rest rest'
+    → StreamsWhile (is_usable (after_reading answer)) notes pending rest' t
+streams-read (read.Asked ask) notes pending rest rest' got t s keeps = subst (λ xs. Streams notes pending xs t) (sym keeps) s
+streams-read read.More notes pending rest rest' got t s keeps = subst (λ xs. Streams notes pending xs t) (sym keeps) s
+streams-read read.Gone notes pending rest rest' got t s keeps = subst (λ xs. Streams notes pending xs t) (sym keeps) s
+streams-read read.LinkFailed notes pending rest rest' got t s keeps = broke_off notes pending (rest ++ got) t s
+streams-read read.NoMemory notes pending rest rest' got t s keeps = broke_off notes pending (rest ++ got) t s
 
 -- the same of a link that may tell
-told-read : (answer : ReadTurn) (notes : List Note) (pending rest rest' got : List ℕ) (told : Option LinkTold)
+told-read : Stays → (answer : ReadTurn) (notes : List Note) (pending rest rest' got : List ℕ) (told : Option LinkTold)
     → IfSome told (Streams notes pending rest) → IfSome told (LinkFits linger.Open 0) → IfSome told (λ t. got ≡ take (length got) t.coming) → KeepsRead answer got rest rest'
     → IfSome (option_map (with_received (length got)) told) (StreamsWhile (is_usable (after_reading answer)) notes pending rest')
-told-read answer notes pending rest rest' got None s link comes keeps = tt
-told-read answer notes pending rest rest' got (Some t) s link comes keeps = streams-read answer notes pending rest rest' got t s link.shuts comes keeps
+told-read stays answer notes pending rest rest' got None s link comes keeps = tt
+told-read stays answer notes pending rest rest' got (Some t) s link comes keeps =
+    streams-read answer notes pending rest rest' got (with_received (length got) t) (streams-more stays notes pending rest got t s link.shuts comes) keeps
 
 -- a count that rose isn't 0
 pub rises-some : (old new : ℕ) → Rises old new → 0 < new
@@ -134,11 +129,11 @@ pub usable-streams : (c : SeenConn) → IsConn c → is_usable c.turn ≡ true �
 usable-streams c is usable = subst (λ b. IfSome c.told (StreamsWhile b c.notes c.pending c.rest)) usable is.streams
 
 -- a connection holds after a turn of reading
-pub held-read : (known : Option KnownOutside) (c seen : SeenConn) (size size' : ℕ) (told' : Option LinkTold) (counts' : LinkCounts) (rest' : List ℕ) (answer : ReadTurn) (turn' : LastTurn)
+pub held-read : Stays → (known : Option KnownOutside) (c seen : SeenConn) (size size' : ℕ) (told' : Option LinkTold) (counts' : LinkCounts) (rest' : List ℕ) (answer : ReadTurn) (turn' : LastTurn)
     → IsHeld known c size → c ≡ seen → is_usable seen.turn ≡ true → seen.pending ≡ [] → says_last seen.notes ≡ false → seen.linger ≡ linger.Open
     → TakesIn c.told told' c.counts counts' c.rest rest' answer → turn' ≡ after_reading answer → IsSizeOf (after_reading answer) rest' size'
     → IsHeld known (record c { told = told'; counts = counts'; rest = rest'; turn = turn' }) size'
-held-read known c seen size size' told' counts' rest' answer turn' held is usable sent goes_on not_shut takes turn_is sized =
+held-read stays known c seen size size' told' counts' rest' answer turn' held is usable sent goes_on not_shut takes turn_is sized =
     let usable' : is_usable c.turn ≡ true = ap (λ (x : SeenConn). is_usable x.turn) is ∙ usable in
     let sent' : c.pending ≡ [] = ap (λ (x : SeenConn). x.pending) is ∙ sent in
     let goes_on' : says_last c.notes ≡ false = ap (λ (x : SeenConn). says_last x.notes) is ∙ goes_on in
@@ -147,7 +142,7 @@ held-read known c seen size size' told' counts' rest' answer turn' held is usabl
     let link' : IfSome told' (LinkFits linger.Open 0) =
     subst (λ o. IfSome o (LinkFits linger.Open 0)) (sym takes.told_is) (told-open_received (length takes.got) c.told link) in
     let way = still-open c (record c { told = told'; counts = counts'; rest = rest'; turn = after_reading answer }) held.conn not_shut' refl refl link' in
-    let streams = told-read answer c.notes c.pending c.rest rest' takes.got c.told (usable-streams c held.conn usable') link takes.gives takes.bytes_are in
+    let streams = told-read stays answer c.notes c.pending c.rest rest' takes.got c.told (usable-streams c held.conn usable') link takes.gives takes.bytes_are in
     subst (λ (u : LastTurn). IsHeld known (record c { told = told'; counts = counts'; rest = rest'; turn = u }) size') (sym turn_is)
     (record {
       conn = record {

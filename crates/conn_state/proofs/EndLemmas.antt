@@ -17,7 +17,7 @@ use Rattle.conn_state.specs.Items.{Item, SpellsNone}
 use Rattle.conn_state.specs.Replies.{IsFitting, AreReplies}
 use Rattle.conn_state.specs.Conn.{SeenConn, is_usable, is_half_closed, shuts_at, IsFrontOf, LinkFits, LingerFits, Streams, BrokeOff, TurnFits, IsWaiting, IsConn}
 use Rattle.conn_state.specs.Answered.{SeenEnded, ShowsAtOnce, SentAll, SentLast, ShowsLingering, MayLinger, ShowsCause, IsLeft, IsShown, SentFor, HasAnswered, shuts_of, IsAnswered, LicensesCause, LicensesTail, IsEnded}
-use Rattle.conn_state.proofs.StreamLemmas.{fitting-more, interim-none}
+use Rattle.conn_state.proofs.StreamLemmas.{Stays, interim-none}
 use Rattle.conn_state.proofs.ConnLemmas.{usable-streams, told-broken}
 
 -- ## What was answered
@@ -27,16 +27,16 @@ front-nil : (whole front : List ℕ) → IsFrontOf whole front → IsFrontOf (wh
 front-nil whole front f = (f.0, append-nil whole ∙ f.1)
 
 -- where a front of the replies is enough, a stream that broke off will do
-has_answered-front : (why : Cause) (notes : List Note) (last : LastLinger) (dropped : ℕ) (t : LinkTold) → why ≢ cause.ClientDone
+has_answered-front : Stays → (why : Cause) (notes : List Note) (last : LastLinger) (dropped : ℕ) (t : LinkTold) → why ≢ cause.ClientDone
     → ((items : List Item) (rest replies : List ℕ) → IsFrontOf (replies ++ []) t.sent → SentFor why items notes rest replies [] t)
     → LinkFits last dropped t → BrokeOff notes t → HasAnswered why notes t
-has_answered-front why notes last dropped t other enough l b = record {
+has_answered-front stays why notes last dropped t other enough l b = record {
   items = b.items;
   rest = b.left ++ l.behind;
   replies = b.replies;
   interim = [];
   fitting = subst (λ xs. IsFitting notes xs b.items (b.left ++ l.behind)) (sym l.received)
-      (fitting-more notes t.before_shut b.items b.left l.behind b.fitting);
+      (stays notes t.before_shut b.items b.left l.behind b.fitting);
   are_replies = b.are_replies;
   is_interim = interim-none notes (b.left ++ l.behind);
   sent = enough b.items (b.left ++ l.behind) b.replies (front-nil b.replies t.sent b.front);
@@ -44,17 +44,17 @@ has_answered-front why notes last dropped t other enough l b = record {
 }
 
 -- where all was sent, a stream that goes on will do
-has_answered-whole : (why : Cause) (notes : List Note) (rest : List ℕ) (last : LastLinger) (dropped : ℕ) (t : LinkTold) → (why ≡ cause.ClientDone → t.coming ≡ [])
+has_answered-whole : Stays → (why : Cause) (notes : List Note) (rest : List ℕ) (last : LastLinger) (dropped : ℕ) (t : LinkTold) → (why ≡ cause.ClientDone → t.coming ≡ [])
     → ((items : List Item) (behind : List ℕ) → length behind ≡ dropped → IsFitting notes t.before_shut items rest
     → SentFor why items notes (rest ++ behind) t.sent [] t)
     → LinkFits last dropped t → Streams notes [] rest t → HasAnswered why notes t
-has_answered-whole why notes rest last dropped t all enough l s = record {
+has_answered-whole stays why notes rest last dropped t all enough l s = record {
   items = s.items;
   rest = rest ++ l.behind;
   replies = t.sent;
   interim = [];
   fitting = subst (λ xs. IsFitting notes xs s.items (rest ++ l.behind)) (sym l.received)
-      (fitting-more notes t.before_shut s.items rest l.behind s.fitting);
+      (stays notes t.before_shut s.items rest l.behind s.fitting);
   are_replies = subst (AreReplies s.items notes) (append-nil t.sent) s.replies;
   is_interim = interim-none notes (rest ++ l.behind);
   sent = enough s.items l.behind l.count s.fitting;
@@ -62,20 +62,20 @@ has_answered-whole why notes rest last dropped t all enough l s = record {
 }
 
 -- the same of a link that may tell
-told-front : (why : Cause) (notes : List Note) (last : LastLinger) (dropped : ℕ) (told : Option LinkTold) → why ≢ cause.ClientDone
+told-front : Stays → (why : Cause) (notes : List Note) (last : LastLinger) (dropped : ℕ) (told : Option LinkTold) → why ≢ cause.ClientDone
     → ((t : LinkTold) (items : List Item) (rest replies : List ℕ) → IsFrontOf (replies ++ []) t.sent → SentFor why items notes rest replies [] t)
     → IfSome told (LinkFits last dropped) → IfSome told (BrokeOff notes) → IfSome told (HasAnswered why notes)
-told-front why notes last dropped None other enough l b = tt
-told-front why notes last dropped (Some t) other enough l b = has_answered-front why notes last dropped t other (enough t) l b
+told-front stays why notes last dropped None other enough l b = tt
+told-front stays why notes last dropped (Some t) other enough l b = has_answered-front stays why notes last dropped t other (enough t) l b
 
 -- the same of a link that may tell
-told-whole : (why : Cause) (notes : List Note) (rest : List ℕ) (last : LastLinger) (dropped : ℕ) (told : Option LinkTold)
+told-whole : Stays → (why : Cause) (notes : List Note) (rest : List ℕ) (last : LastLinger) (dropped : ℕ) (told : Option LinkTold)
     → IfSome told (λ t. why ≡ cause.ClientDone → t.coming ≡ [])
     → ((t : LinkTold) (items : List Item) (behind : List ℕ) → length behind ≡ dropped → IsFitting notes t.before_shut items rest
     → SentFor why items notes (rest ++ behind) t.sent [] t)
     → IfSome told (LinkFits last dropped) → IfSome told (Streams notes [] rest) → IfSome told (HasAnswered why notes)
-told-whole why notes rest last dropped None all enough l s = tt
-told-whole why notes rest last dropped (Some t) all enough l s = has_answered-whole why notes rest last dropped t all (enough t) l s
+told-whole stays why notes rest last dropped None all enough l s = tt
+told-whole stays why notes rest last dropped (Some t) all enough l s = has_answered-whole stays why notes rest last dropped t all (enough t) l s
 
 -- a cause asks nothing of what still comes unless the client had done
 told-other : (why : Cause) (told : Option LinkTold) → why ≢ cause.ClientDone → IfSome told (λ t. why ≡ cause.ClientDone → t.coming ≡ [])
@@ -97,11 +97,11 @@ whole-streams c is usable none = subst (λ xs. IfSome c.told (Streams c.notes xs
 
 -- ## Causes that linger
 
-module _ (c : SeenConn) (is : IsConn c) (usable : is_usable c.turn ≡ true) where
+module _ (stays : Stays) (c : SeenConn) (is : IsConn c) (usable : is_usable c.turn ≡ true) where
   -- the last response was sent whole
   last-lingering : SentLast c → IfSome c.told (HasAnswered cause.LastSent c.notes)
   last-lingering sent =
-      told-whole cause.LastSent c.notes c.rest c.linger c.dropped c.told (told-other cause.LastSent c.told (λ e. absurd (cc)))
+      told-whole stays cause.LastSent c.notes c.rest c.linger c.dropped c.told (told-other cause.LastSent c.told (λ e. absurd (cc)))
       (λ t items behind count fits. (refl, sent.says_it)) is.link (whole-streams c is usable sent.none_pending)
 
   -- each item that was received before the half-close has its note
@@ -110,7 +110,7 @@ module _ (c : SeenConn) (is : IsConn c) (usable : is_usable c.turn ≡ true) whe
       → SentFor why items c.notes (c.rest ++ behind) t.sent [] t)
       → SentAll c → IfSome c.told (HasAnswered why c.notes)
   all-lingering why other enough sent =
-      told-whole why c.notes c.rest c.linger c.dropped c.told (told-other why c.told other)
+      told-whole stays why c.notes c.rest c.linger c.dropped c.told (told-other why c.told other)
       (λ t items behind count fits. enough t items behind fits) is.link (whole-streams c is usable sent.none_pending)
 
   -- a connection that shows a cause with which it lingers was answered
@@ -123,15 +123,15 @@ module _ (c : SeenConn) (is : IsConn c) (usable : is_usable c.turn ≡ true) whe
       all-lingering cause.ReadLate (λ e. absurd (cc))
       (λ t items behind fits. (inl refl, record { left = c.rest; first = fits.first; none_left = shows.none_whole })) shows
   shown-lingering cause.WriteLate shows =
-      told-front cause.WriteLate c.notes c.linger c.dropped c.told (λ e. absurd (cc)) (λ t items rest replies f. f) is.link (conn-broken c is)
+      told-front stays cause.WriteLate c.notes c.linger c.dropped c.told (λ e. absurd (cc)) (λ t items rest replies f. f) is.link (conn-broken c is)
   shown-lingering cause.Retiring shows =
       all-lingering cause.Retiring (λ e. absurd (cc))
       (λ t items behind fits. (refl, record { left = c.rest; first = fits.first; none_left = shows.none_whole })) shows
   shown-lingering other shows = absurd shows
 
 -- a connection that lingers was answered for its cause
-pub answered-lingering : (c : SeenConn) (why : Cause) → IsConn c → MayLinger why c → IfSome c.told (HasAnswered why c.notes)
-answered-lingering c why is may = shown-lingering c is may.usable why may.shows
+pub answered-lingering : Stays → (c : SeenConn) (why : Cause) → IsConn c → MayLinger why c → IfSome c.told (HasAnswered why c.notes)
+answered-lingering stays c why is may = shown-lingering stays c is may.usable why may.shows
 
 -- where nothing but the way out changes, it shows the same cause
 pub may_linger-kept : (old new : SeenConn) (why : Cause) → new.turn ≡ old.turn → new.notes ≡ old.notes → new.pending ≡ old.pending → new.rest ≡ old.rest
@@ -169,24 +169,24 @@ none-behind rest behind dropped count none spells =
     subst SpellsNone (sym (append-nil rest) ∙ ap (λ xs. rest ++ xs) (sym (nil_from_length behind (count ∙ none)))) spells
 
 -- a connection whose client sends no more was answered
-done-answered : (c : SeenConn) → IsConn c → c.turn ≡ turn.Gone → is_half_closed c.linger ≡ false → IfSome c.told (HasAnswered cause.ClientDone c.notes)
-done-answered c is gone not_shut =
+done-answered : Stays → (c : SeenConn) → IsConn c → c.turn ≡ turn.Gone → is_half_closed c.linger ≡ false → IfSome c.told (HasAnswered cause.ClientDone c.notes)
+done-answered stays c is gone not_shut =
     let waits : IsWaiting c = subst (λ (u : LastTurn). TurnFits u c) gone is.turn_fits in
     let none : c.dropped ≡ 0 = none-dropped c.linger c not_shut is.linger_fits in
-    told-whole cause.ClientDone c.notes c.rest c.linger c.dropped c.told (told-all c.told (is.ended gone).all_came)
+    told-whole stays cause.ClientDone c.notes c.rest c.linger c.dropped c.told (told-all c.told (is.ended gone).all_came)
     (λ t items behind count fits. (sym (append-nil t.sent), none-behind c.rest behind c.dropped count none waits.none_whole))
     is.link (whole-streams c is (ap is_usable gone) waits.none_pending)
 
 -- a connection that is closed at once was answered
-answered-at-once : (why : Cause) (c : SeenConn) → IsConn c → ShowsAtOnce why c → is_half_closed c.linger ≡ false → IfSome c.told (HasAnswered why c.notes)
-answered-at-once cause.ClientDone c is shown not_shut = done-answered c is shown not_shut
-answered-at-once cause.LinkFailed c is shown not_shut =
-    told-front cause.LinkFailed c.notes c.linger c.dropped c.told (λ e. absurd (cc)) (λ t items rest replies f. f) is.link (conn-broken c is)
-answered-at-once cause.Stopped c is shown not_shut =
-    told-front cause.Stopped c.notes c.linger c.dropped c.told (λ e. absurd (cc)) (λ t items rest replies f. f) is.link (conn-broken c is)
-answered-at-once cause.NoMemory c is shown not_shut =
-    told-front cause.NoMemory c.notes c.linger c.dropped c.told (λ e. absurd (cc)) (λ t items rest replies f. f) is.link (conn-broken c is)
-answered-at-once other c is shown not_shut = absurd shown
+answered-at-once : Stays → (why : Cause) (c : SeenConn) → IsConn c → ShowsAtOnce why c → is_half_closed c.linger ≡ false → IfSome c.told (HasAnswered why c.notes)
+answered-at-once stays cause.ClientDone c is shown not_shut = done-answered stays c is shown not_shut
+answered-at-once stays cause.LinkFailed c is shown not_shut =
+    told-front stays cause.LinkFailed c.notes c.linger c.dropped c.told (λ e. absurd (cc)) (λ t items rest replies f. f) is.link (conn-broken c is)
+answered-at-once stays cause.Stopped c is shown not_shut =
+    told-front stays cause.Stopped c.notes c.linger c.dropped c.told (λ e. absurd (cc)) (λ t items rest replies f. f) is.link (conn-broken c is)
+answered-at-once stays cause.NoMemory c is shown not_shut =
+    told-front stays cause.NoMemory c.notes c.linger c.dropped c.told (λ e. absurd (cc)) (λ t items rest replies f. f) is.link (conn-broken c is)
+answered-at-once stays other c is shown not_shut = absurd shown
 
 -- ## The close
 
@@ -280,14 +280,14 @@ leaves-so tail.Halted c is left = leaves-other tail.Halted c.dropped c.told (λ 
 leaves-so tail.NoMemory c is left = leaves-other tail.NoMemory c.dropped c.told (λ e. absurd (cc)) (λ e. absurd (cc))
 
 -- a connection that may be ended so was answered for its cause
-answered-shown : (why : Cause) (how : Tail) (c : SeenConn) → IsConn c → ShowsCause why how c → IsLeft how c.linger → IfSome c.told (HasAnswered why c.notes)
-answered-shown why tail.Direct c is shows left = answered-at-once why c is shows left
-answered-shown why tail.Drained c is shows left = answered-lingering c why is shows
-answered-shown why tail.Sated c is shows left = answered-lingering c why is shows
-answered-shown why tail.Late c is shows left = answered-lingering c why is shows
-answered-shown why tail.Failed c is shows left = answered-lingering c why is shows
-answered-shown why tail.Halted c is shows left = answered-lingering c why is shows
-answered-shown why tail.NoMemory c is shows left = answered-lingering c why is shows
+answered-shown : Stays → (why : Cause) (how : Tail) (c : SeenConn) → IsConn c → ShowsCause why how c → IsLeft how c.linger → IfSome c.told (HasAnswered why c.notes)
+answered-shown stays why tail.Direct c is shows left = answered-at-once stays why c is shows left
+answered-shown stays why tail.Drained c is shows left = answered-lingering stays c why is shows
+answered-shown stays why tail.Sated c is shows left = answered-lingering stays c why is shows
+answered-shown stays why tail.Late c is shows left = answered-lingering stays c why is shows
+answered-shown stays why tail.Failed c is shows left = answered-lingering stays c why is shows
+answered-shown stays why tail.Halted c is shows left = answered-lingering stays c why is shows
+answered-shown stays why tail.NoMemory c is shows left = answered-lingering stays c why is shows
 
 -- ## What the counts show
 
@@ -337,12 +337,12 @@ licensed-tail tail.NoMemory c counts' is left only = tt
 -- ## The connection that ended
 
 -- what the closed link of a connection that ended tells and counts
-pub ended-shown : (c seen : SeenConn) (e : SeenEnded) → IsConn c → c ≡ seen → IsShown e.cause e.tail seen
+pub ended-shown : Stays → (c seen : SeenConn) (e : SeenEnded) → IsConn c → c ≡ seen → IsShown e.cause e.tail seen
     → e.told ≡ option_map after_close c.told → OnlyFaults false c.counts e.counts → e.notes ≡ c.notes → IsEnded e
-ended-shown c seen e is same shown closed only notes =
+ended-shown stays c seen e is same shown closed only notes =
     let shown' : IsShown e.cause e.tail c = subst (λ (x : SeenConn). IsShown e.cause e.tail x) (sym same) shown in
     let answered = told-closed e.cause e.tail c.notes c.linger c.dropped c.told shown'.left (leaves-so e.tail c is shown'.left) is.link
-    (answered-shown e.cause e.tail c is shown'.shows shown'.left) in
+    (answered-shown stays e.cause e.tail c is shown'.shows shown'.left) in
     record {
       licensed = record {
         by_cause = licensed-cause e.cause e.tail c e.counts is shown'.shows only;

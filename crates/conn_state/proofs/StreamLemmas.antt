@@ -1,60 +1,59 @@
 -- How the reply stream goes on.
-use Rattle.std.proofs.Common.{◌≡◌, ℕ, ◌≤◌, inl, inr, false, List, [], ◌∷◌, ◌++◌, length, refl, sym, ap, subst, ◌∙◌, arith, append_assoc, length-append}
+use Rattle.std.proofs.Common.{◌≡◌, ℕ, ◌≤◌, inl, inr, true, false, List, [], ◌∷◌, ◌++◌, length, refl, sym, ap, subst, ◌∙◌, arith, append_assoc, length-append}
 use Rattle.std.proofs.lemmas.Bool.{false≢true}
 use Rattle.std.proofs.lemmas.List.{append-nil, drop-append-le}
+use Rattle.std.proofs.lemmas.List.Elements.{All-cons, All-nil}
 use Rattle.mpm_base.specs.Notes.{says_last}
-use Rattle.mpm_base.specs.RootRequest.{request_of, before_host}
+use Rattle.mpm_base.specs.RootRequest.{is_host_byte, IsHost, request_of}
 use Rattle.mpm_base.specs.declared.note.Note.{Note}
-use Rattle.mpm_base.proofs.RootRequestLemmas.{before_more, started_before, started_within}
+use Rattle.http_read.specs.declared.root_head.RootAnswer.TheVariants as answer
 use Rattle.http_read.specs.declared.root_head.RootHead.{RootHead}
-use Rattle.http_read.specs.RootHead.{BeginsWith, IsNoFront}
-use Rattle.http_read.proofs.RootAnswerLemmas.{stays_whole}
+use Rattle.http_read.specs.RootHead.{BeginsWith, RootHeadIs}
 use Rattle.conn_state.specs.Items.{Item, AreFirst, BeginsItem, IsLastItem, SpellsNone, ask_of}
 use Rattle.conn_state.specs.Response.{IsResponse}
 use Rattle.conn_state.specs.Replies.{IsFitting, AreNotesOf, AreReplies, IsLastWhere, IsNoteFor, IsInterim, Expects, first_part}
 
 -- ## More bytes
 
+-- the first items of the bytes stay the first, with their notes, whatever comes behind them
+abbrev pub Stays : Type 0
+Stays = (notes : List Note) (bytes : List ℕ) (items : List Item) (rest more : List ℕ) → IsFitting notes bytes items rest → IsFitting notes (bytes ++ more) items (rest ++ more)
+
 -- a request is no longer than the bytes that begin with it
 within_bytes : (bytes : List ℕ) (request : RootHead) (size : ℕ) → BeginsWith bytes request size → size ≤ length bytes
 within_bytes bytes request size b = omega (arith, b.length_is, ap length b.whole, length-append (request_of b.host) b.rest)
 
--- what neither begins with a request nor is a front of one stays so
-stays_refused : (bytes more : List ℕ) → IsNoFront bytes → IsNoFront (bytes ++ more)
-stays_refused bytes more none = record {
-  no_request = λ h. elim (before_more bytes more h) [ inl b ↦ none.no_request b | inr s ↦ none.no_front s ];
-  no_front = λ h. none.no_front (started_before bytes more h);
-}
+-- what the bytes say of their first item they go on to say, by the laws of the reader of heads
+module _ (whole : (bytes more : List ℕ) (request : RootHead) (size : ℕ) → RootHeadIs bytes (answer.Whole request size) → RootHeadIs (bytes ++ more) (answer.Whole request size))
+    (refused : (bytes more : List ℕ) (code : ℕ) → RootHeadIs bytes (answer.Refused code) → RootHeadIs (bytes ++ more) (answer.Refused code)) where
+  -- the item at the front stays there
+  begins-more : (bytes : List ℕ) (item : Item) (rest more : List ℕ) → BeginsItem bytes item rest → BeginsItem (bytes ++ more) item (rest ++ more)
+  begins-more bytes (inl request) rest more b = record {
+    size = b.size;
+    begins = whole bytes more request b.size b.begins;
+    left = ap (λ xs. xs ++ more) b.left ∙ sym (drop-append-le b.size bytes more (within_bytes bytes request b.size b.begins));
+  }
+  begins-more bytes (inr code) rest more b = record {
+    bad_request = b.bad_request;
+    no_front = (refused bytes more code (b.bad_request, b.no_front)).1;
+    left = ap (λ xs. xs ++ more) b.left;
+  }
 
--- the item at the front stays there
-begins-more : (bytes : List ℕ) (item : Item) (rest more : List ℕ) → BeginsItem bytes item rest → BeginsItem (bytes ++ more) item (rest ++ more)
-begins-more bytes (inl request) rest more b = record {
-  size = b.size;
-  begins = stays_whole bytes more request b.size b.begins;
-  left = ap (λ xs. xs ++ more) b.left ∙ sym (drop-append-le b.size bytes more (within_bytes bytes request b.size b.begins));
-}
-begins-more bytes (inr code) rest more b = record {
-  bad_request = b.bad_request;
-  no_front = stays_refused bytes more b.no_front;
-  left = ap (λ xs. xs ++ more) b.left;
-}
+  -- the first items stay the first
+  first-more : (items : List Item) (rest bytes more : List ℕ) → AreFirst items rest bytes → AreFirst items (rest ++ more) (bytes ++ more)
+  first-more [] rest bytes more first = ap (λ xs. xs ++ more) first
+  first-more (item ∷ items) rest bytes more first = (
+    record {
+      behind = first.0.behind ++ more;
+      begins = begins-more bytes item first.0.behind more first.0.begins;
+      others = first-more items rest first.0.behind more first.0.others;
+    },
+    first.1,
+  )
 
--- the first items stay the first
-first-more : (items : List Item) (rest bytes more : List ℕ) → AreFirst items rest bytes → AreFirst items (rest ++ more) (bytes ++ more)
-first-more [] rest bytes more first = ap (λ xs. xs ++ more) first
-first-more (item ∷ items) rest bytes more first = (
-  record {
-    behind = first.0.behind ++ more;
-    begins = begins-more bytes item first.0.behind more first.0.begins;
-    others = first-more items rest first.0.behind more first.0.others;
-  },
-  first.1,
-)
-
--- more bytes come behind the rest
-pub fitting-more : (notes : List Note) (bytes : List ℕ) (items : List Item) (rest more : List ℕ)
-    → IsFitting notes bytes items rest → IsFitting notes (bytes ++ more) items (rest ++ more)
-fitting-more notes bytes items rest more fits = record { first = first-more items rest bytes more fits.first; noted = fits.noted }
+  -- more bytes come behind the rest
+  pub fitting-more : Stays
+  fitting-more notes bytes items rest more fits = record { first = first-more items rest bytes more fits.first; noted = fits.noted }
 
 -- ## A further item
 
@@ -154,6 +153,10 @@ interim-none notes rest = record {
   unexpected = λ _. refl;
 }
 
+-- a host of one byte, 'a'
+short_host : IsHost (97 ∷ [])
+short_host = record { some = omega arith; fits = omega arith; bytes = All-cons (λ b. is_host_byte b ≡ true) 97 [] refl (All-nil (λ b. is_host_byte b ≡ true)) }
+
 -- nothing is spelled by no bytes
 pub spells_none-empty : SpellsNone []
-spells_none-empty = started_within [] (record { more = before_host; some = omega arith; whole = refl })
+spells_none-empty = (97 ∷ [], short_host, record { more = request_of (97 ∷ []); some = omega arith; whole = refl })

@@ -18,6 +18,7 @@ use crate::buffers::{Pending, Received};
 use crate::ended::Ended;
 use crate::exchange::{drop_rest, read_item, send};
 use crate::known::{Known, Nothing};
+use crate::laws::first_items_stay;
 use crate::response::response;
 use crate::turn::{LastLinger, LastTurn, LingerTurn, ReadTurn, WriteTurn};
 use mpm_base::{Cause, ConnName, Link, NoMemory, Note, Notes, Octets, Tail};
@@ -191,6 +192,7 @@ impl<L: Link, N: Known> Conn<L, N> {
         ensures reads { ReadsOn self.old self.new result }
         ensures still { (ask : Ask) → IsAskedIn self.old.rest ask → AsksNothing self.old self.new }
     {
+        first_items_stay();
         let reading = read_item(self.alloc, &mut self.link, &mut self.rest);
         self.turn = reading.turn.leaves();
         self.size = reading.size;
@@ -259,6 +261,7 @@ impl<L: Link, N: Known> Conn<L, N> {
         ensures ended { IsEnded result }
         ensures client { IsOfClient N.known result.told }
     {
+        first_items_stay();
         let Conn {
             alloc: _,
             name,
