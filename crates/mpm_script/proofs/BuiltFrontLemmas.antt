@@ -1,9 +1,8 @@
 -- Which line of a script is the first that isn't built: there is one place at most.
-use Rattle.std.proofs.Common.{◌≡◌, ℕ, inl, inr, List, [], ◌∷◌, ◌++◌, length, sym, ap, subst, ◌∙◌, append_assoc}
+use Rattle.std.proofs.Common.{◌≡◌, ℕ, suc, List, [], ◌∷◌, ◌++◌, length, refl, sym, ap, subst, ◌∙◌, append_assoc}
 use Rattle.std.proofs.lemmas.List.{append-nil}
 use Rattle.mpm_script.specs.BuiltLines.{IsBuilt, AreBuilt, FirstUnbuilt}
 use Rattle.mpm_base.specs.declared.script_line.ScriptLine.{ScriptLine}
-use Rattle.mpm_base.proofs.ListLemmas.{two_cuts}
 
 -- each line of built ones is built
 pub built_at : (before front : List ScriptLine) (line : ScriptLine) (more : List ScriptLine)
@@ -18,25 +17,28 @@ pub no_first_unbuilt : (lines : List ScriptLine) (place : ℕ) → AreBuilt [] l
 no_first_unbuilt lines place all h =
     h.unbuilt (built_at [] h.before h.line h.behind (subst (λ l. AreBuilt [] l) h.whole all))
 
--- a first line that isn't built doesn't stand among those before another
-not_before : (lines : List ScriptLine) (place other : ℕ) (h : FirstUnbuilt lines place) (k : FirstUnbuilt lines other)
-    (line : ScriptLine) (more : List ScriptLine) → k.before ≡ h.before ++ line ∷ more
-    → h.line ∷ h.behind ≡ (line ∷ more) ++ k.line ∷ k.behind → ⊥
-not_before lines place other h k line more before from =
-    let same : line ≡ h.line = cc in
-    let at = built_at [] h.before line more (subst (λ b. AreBuilt [] b) before k.built_before) in
-    h.unbuilt (subst (λ l. IsBuilt h.before l) same at)
-
--- there is one place
-same_place : (lines : List ScriptLine) (place other : ℕ) (h : FirstUnbuilt lines place) (k : FirstUnbuilt lines other)
-    (more : List ScriptLine) → k.before ≡ h.before ++ more → h.line ∷ h.behind ≡ more ++ k.line ∷ k.behind → place ≡ other
-same_place lines place other h k [] before from =
-    h.place_is ∙ ap length (sym (append-nil h.before) ∙ sym before) ∙ sym k.place_is
-same_place lines place other h k (line ∷ more) before from = absurd (not_before lines place other h k line more before from)
+-- as many lines are built before one that isn't as before another one, in the same lines
+same_length : (before front other : List ScriptLine) (line next : ScriptLine) (behind rest : List ScriptLine)
+    → front ++ line ∷ behind ≡ other ++ next ∷ rest → AreBuilt before front → AreBuilt before other
+    → ¬ IsBuilt (before ++ front) line → ¬ IsBuilt (before ++ other) next → length front ≡ length other
+same_length before [] [] line next behind rest same built also fails fails_too = refl
+same_length before [] (o ∷ other) line next behind rest same built also fails fails_too =
+    let first : o ≡ line = cc in
+    absurd (fails (subst (λ b. IsBuilt b line) (sym (append-nil before)) (subst (IsBuilt before) first also.0)))
+same_length before (f ∷ front) [] line next behind rest same built also fails fails_too =
+    let first : f ≡ next = cc in
+    absurd (fails_too (subst (λ b. IsBuilt b next) (sym (append-nil before)) (subst (IsBuilt before) first built.0)))
+same_length before (f ∷ front) (o ∷ other) line next behind rest same built also fails fails_too =
+    let first : o ≡ f = cc in
+    let others : front ++ line ∷ behind ≡ other ++ next ∷ rest = cc in
+    ap suc
+    (same_length (before ++ f ∷ []) front other line next behind rest others built.1
+    (subst (λ l. AreBuilt (before ++ l ∷ []) other) first also.1)
+    (λ is. fails (subst (λ b. IsBuilt b line) (append_assoc before (f ∷ []) front) is))
+    (λ is. fails_too (subst (λ b. IsBuilt b next) (append_assoc before (f ∷ []) other ∙ ap (λ l. before ++ l ∷ other) (sym first)) is)))
 
 pub one_place : (lines : List ScriptLine) (place other : ℕ) → FirstUnbuilt lines place → FirstUnbuilt lines other → place ≡ other
 one_place lines place other h k =
-    elim (two_cuts h.before (h.line ∷ h.behind) k.before (k.line ∷ k.behind) (sym h.whole ∙ k.whole)) [
-      | inl w ↦ same_place lines place other h k w.0 w.1 w.2
-      | inr w ↦ sym (same_place lines other place k h w.0 w.1 w.2)
-    ]
+    h.place_is
+    ∙ same_length [] h.before k.before h.line k.line h.behind k.behind (sym h.whole ∙ k.whole) h.built_before k.built_before h.unbuilt k.unbuilt
+    ∙ sym k.place_is

@@ -5,13 +5,12 @@ use Rattle.std.specs.List.{AllByRecursion, flat_map}
 use Rattle.std.proofs.lemmas.Bool.{false≢true}
 use Rattle.std.proofs.lemmas.Bool.Decides.{nat_tests}
 use Rattle.std.proofs.lemmas.List.{append-nil, drop_all}
-use Rattle.std.proofs.lemmas.List.Elements.{All-nil}
+use Rattle.std.proofs.lemmas.List.Elements.{All-cons, All-nil}
 use Rattle.mpm_script.specs.BuiltLines.{IsPipelined}
 use Rattle.mpm_base.specs.RootRequest.{is_host_byte, IsHost, before_host, after_host, request_of, IsStarted}
 use Rattle.mpm_script.specs.BuiltProgressInside.{IsSpot, is_whole, Completes, Advances, StaysWithin, GoesPast, IsOpen, BytesMayFollow, Leads, Breaks}
 use Rattle.mpm_script.specs.declared.built_requests.Spot.{Spot}
 use Rattle.mpm_script.specs.declared.built_requests.Spot.TheVariants as spot
-use Rattle.mpm_base.proofs.RootRequestLemmas.{short_host}
 
 -- ## Where a request begins
 
@@ -151,7 +150,7 @@ pub may_end : (at : Spot) → IsOpen at → BytesMayFollow at []
 may_end at is = inl (end_at at is.is_spot is.open_spot)
   where
     short : IsHost (97 ∷ [])
-    short = short_host
+    short = record { some = omega arith; fits = omega arith; bytes = All-cons (λ b. is_host_byte b ≡ true) 97 [] refl (All-nil (λ b. is_host_byte b ≡ true)) }
 
     end_at : (spot : Spot) → IsSpot spot → is_whole spot ≡ false → StaysWithin spot []
     end_at (spot.BeforeHost n) is open_spot = record {

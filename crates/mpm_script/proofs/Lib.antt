@@ -5,6 +5,7 @@ pub mod BuiltFrontLemmas
 pub mod BuiltLemmas
 pub mod BuiltProgressLemmas
 pub mod BuiltSpotLemmas
+pub mod CutLemmas
 pub mod EscapeLemmas
 pub mod FirstLineLemmas
 pub mod LineLemmas

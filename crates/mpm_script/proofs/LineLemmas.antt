@@ -19,7 +19,7 @@ use Rattle.mpm_base.specs.declared.script_line.SiteLine.TheVariants as site
 use Rattle.mpm_base.specs.declared.script_line.ScriptLine.{ScriptLine}
 use Rattle.mpm_base.specs.declared.script_line.ScriptLine.TheVariants as line
 use Rattle.mpm_script.proofs.EscapeLemmas.{one_byte, byte_is_some}
-use Rattle.mpm_script.proofs.LineWordLemmas.{one_cut}
+use Rattle.mpm_script.proofs.CutLemmas.{one_cut}
 
 -- ---- texts that differ
 

@@ -5,7 +5,8 @@ use Rattle.std.proofs.lemmas.Bool.Decides.{Decides-eqb}
 use Rattle.std.proofs.lemmas.List.Sums.{prefix_len-le-length}
 use Rattle.std.proofs.lemmas.Slice.Eq.{strip_prefix_is}
 use Rattle.mpm_script.specs.ScriptLine.{is_file_byte, IsFileName}
-use Rattle.mpm_script.proofs.LineWordLemmas.{cut_at, one_file}
+use Rattle.mpm_script.proofs.CutLemmas.{cut_at}
+use Rattle.mpm_script.proofs.LineWordLemmas.{one_file}
 use Rattle.mpm_script.proofs.line_words.filed.Goals as goal
 
 pub split_at-requires : goal.split_at-requires

@@ -4,7 +4,8 @@ use Rattle.std.proofs.lemmas.Bool.Decides.{Decides-eqb}
 use Rattle.std.proofs.lemmas.List.Sums.{prefix_len-le-length}
 use Rattle.std.proofs.lemmas.Slice.Eq.{strip_prefix_is}
 use Rattle.mpm_script.specs.ScriptLine.{is_name_byte, IsName}
-use Rattle.mpm_script.proofs.LineWordLemmas.{cut_at, one_name}
+use Rattle.mpm_script.proofs.CutLemmas.{cut_at}
+use Rattle.mpm_script.proofs.LineWordLemmas.{one_name}
 use Rattle.mpm_script.proofs.line_words.named.Goals as goal
 
 pub returns-in_err-rest-clause-none : goal.returns-in_err-rest-clause-none
