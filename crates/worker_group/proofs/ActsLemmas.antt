@@ -1,17 +1,15 @@
 -- What a pass does, in steps, and what another pass keeps meanwhile.
-use Rattle.std.proofs.Common.{◌≡◌, ◌≢◌, ℕ, true, false, List, [], ◌∷◌, ◌++◌, map, Option, Some, ap, refl, sym, subst, ◌∙◌, append_assoc, append-nil, eq-eqb, ne_eqb}
+use Rattle.std.proofs.Common.{◌≡◌, ◌≢◌, ℕ, true, false, List, [], ◌∷◌, ◌++◌, map, fold, Option, None, Some, ap, refl, sym, subst, ◌∙◌, append_assoc, append-nil, eq-eqb, ne_eqb}
 use Rattle.std.proofs.lemmas.List.{map-append}
 use Rattle.std.proofs.lemmas.List.Elements.{filter-append}
 use Rattle.mpm_base.specs.declared.conn.ConnName.{ConnName}
 use Rattle.conn_machine.specs.declared.event.Event.{Event}
 use Rattle.conn_machine.specs.declared.event.Entry.{Entry}
 use Rattle.conn_machine.specs.declared.state.State.{State}
-use Rattle.conn_machine.specs.Runs.{is_of_pass, entries_of, row_of, AreEntriesOf, Adds}
-use Rattle.conn_machine.proofs.RunLemmas.{entries_of-own}
+use Rattle.conn_machine.specs.Runs.{is_of_pass, entries_of, has_after, row_of, AreEntriesOf, Adds}
 use Rattle.board.specs.Book.{SeenBook, book_with_entry, entry_of}
 use Rattle.board.specs.Board.{SeenBoard}
 use Rattle.board.specs.Events.{with_recorded}
-use Rattle.conn_machine.proofs.HistoryLemmas.{adds_none, adds_more, row-others}
 use Rattle.worker_group.specs.Acts.{Acts, events_of}
 
 -- ## Events of a history
@@ -20,7 +18,8 @@ use Rattle.worker_group.specs.Acts.{Acts, events_of}
 pub events-own : (who : ℕ) (history : List Entry) (e : Entry) → is_of_pass who e ≡ true
     → events_of who (history ++ e ∷ []) ≡ events_of who history ++ e.event ∷ []
 events-own who history e own =
-    ap (map (λ (x : Entry). x.event)) (entries_of-own who history e own)
+    let last : entries_of who (e ∷ []) ≡ e ∷ [] = rw own refl in
+    ap (map (λ (x : Entry). x.event)) (filter-append (is_of_pass who) history (e ∷ []) ∙ ap (λ (es : List Entry). entries_of who history ++ es) last)
     ∙ map-append (λ (x : Entry). x.event) (entries_of who history) (e ∷ [])
 
 -- the entries of one pass are none of another's
@@ -37,6 +36,11 @@ entries-others p q base old new adds differs =
     ∙ ap (λ (es : List Entry). entries_of q old ++ es) (none-of_other p q base old adds.0 adds.2 differs)
     ∙ append-nil (entries_of q old)
 
+-- so does its connection
+row-others : (p q : ℕ) (base : State) (old new : List Entry) → Adds p base old new → q ≢ p → row_of q new ≡ row_of q old
+row-others p q base old new adds differs =
+    ap (λ (es : List Entry). fold (λ had x. has_after had x.event x.reply) None es) (entries-others p q base old new adds differs)
+
 -- and so do their events
 pub events-others : (p q : ℕ) (base : State) (old new : List Entry) → Adds p base old new → q ≢ p → events_of q new ≡ events_of q old
 events-others p q base old new adds differs = ap (map (λ (x : Entry). x.event)) (entries-others p q base old new adds differs)
@@ -48,7 +52,7 @@ pub acts_none : (who : ℕ) (has : Option ConnName) (b : SeenBook) → row_of wh
 acts_none who has b row = record {
   base = refl;
   passes = refl;
-  entries = adds_none who b.base b.history;
+  entries = ([], sym (append-nil b.history), tt);
   made = sym (append-nil (events_of who b.history));
   row = row;
 }
@@ -75,13 +79,34 @@ pub acts_recorded : (who : ℕ) (e : Event) (has : Option ConnName) (b b' : Seen
     → Adds who b.book.base b.book.history b'.book.history → row_of who b'.book.history ≡ has → Acts who (e ∷ []) has b.book b'.book
 acts_recorded who e has b b' is adds row = acts_one who e has b.book b'.book (ap (λ (v : SeenBoard). v.book) is) adds row
 
--- what a pass does in two steps, it es
+-- the entries of a pass, and others behind them
+are-both : (p : ℕ) (base : State) (history a b : List Entry) → AreEntriesOf p base history a → AreEntriesOf p base (history ++ a) b
+    → AreEntriesOf p base history (a ++ b)
+are-both p base history [] b first second = subst (λ (h : List Entry). AreEntriesOf p base h b) (append-nil history) second
+are-both p base history (e ∷ a) b first second = (
+  first.0,
+  are-both p base (history ++ e ∷ []) a b first.1
+      (subst (λ (h : List Entry). AreEntriesOf p base h b) (sym (append_assoc history (e ∷ []) a)) second),
+)
+
+-- what was added in two steps was added
+adds-more : (p : ℕ) (base base' : State) (a b c : List Entry) → base' ≡ base → Adds p base a b → Adds p base' b c → Adds p base a c
+adds-more p base base' a b c same first second =
+    let behind : AreEntriesOf p base (a ++ first.0) second.0 =
+    subst (λ (h : List Entry). AreEntriesOf p base h second.0) first.1
+    (subst (λ (s : State). AreEntriesOf p s b second.0) same second.2) in (
+      first.0 ++ second.0,
+      second.1 ∙ ap (λ (h : List Entry). h ++ second.0) first.1 ∙ append_assoc a first.0 second.0,
+      are-both p base a first.0 second.0 first.2 behind,
+    )
+
+-- what a pass does in two steps, it does
 pub acts_more : (who : ℕ) (es fs : List Event) (had has : Option ConnName) (a b c : SeenBook) → Acts who es had a b → Acts who fs has b c
     → Acts who (es ++ fs) has a c
 acts_more who es fs had has a b c before behind = record {
   base = behind.base ∙ before.base;
   passes = behind.passes ∙ before.passes;
-  entries = adds_more who a.base b.base a.history b.history c.history before.base before.entries behind.entries;
+  entries = adds-more who a.base b.base a.history b.history c.history before.base before.entries behind.entries;
   made =
       behind.made ∙ ap (λ (xs : List Event). xs ++ fs) before.made
       ∙ append_assoc (events_of who a.history) es fs;

@@ -1,5 +1,5 @@
 -- A response that is decided, and its connection.
-use Rattle.std.proofs.Common.{◌≡◌, ℕ, ◌+◌, ◌-◌, ◌<◌, true, false, not, ◌&&◌, List, [], ◌∷◌, ◌++◌, length, Some, slice_get, refl, sym, ap, subst, ◌∙◌, inr, arith}
+use Rattle.std.proofs.Common.{◌≡◌, ℕ, zero, suc, ◌+◌, ◌-◌, ◌<◌, true, false, not, ◌&&◌, List, [], ◌∷◌, ◌++◌, length, Some, slice_get, refl, sym, ap, subst, ◌∙◌, inr, arith}
 use Rattle.std.proofs.lemmas.List.{length_push, map-append}
 use Rattle.mpm_base.specs.Notes.{says_last}
 use Rattle.mpm_base.specs.declared.conn.Ask.{Ask}
@@ -19,7 +19,6 @@ use Rattle.conn_machine.specs.States.{is_halted, child_of}
 use Rattle.conn_machine.specs.Table.{is_allowed, next, note_for, answered_row}
 use Rattle.conn_machine.specs.Sound.{IsSound}
 use Rattle.conn_machine.specs.Runs.{row_of}
-use Rattle.conn_machine.proofs.UpdateLemmas.{get_changed}
 use Rattle.conn_state.specs.declared.turn.LastTurn.{LastTurn}
 use Rattle.conn_state.specs.declared.turn.LastTurn.TheVariants as turn
 use Rattle.conn_state.specs.Conn.{SeenConn, TurnFits, IsConn, is_half_closed}
@@ -47,11 +46,19 @@ may-answer s c name ask sound served goes_on named going =
 
 -- ## The row of the response
 
+-- the changed row stands in its slot
+get-changed : (rows : List Row) (slot : ℕ) (r : Row) (change : Row → Row) → slice_get rows slot ≡ Some r → slice_get (update rows slot change) slot ≡ Some (change r)
+get-changed [] slot r change at = absurd (cc)
+get-changed (x ∷ rows) zero r change at =
+    let same : x ≡ r = cc in
+    ap (λ (y : Row). Some (change y)) same
+get-changed (x ∷ rows) (suc slot) r change at = get-changed rows slot r change at
+
 -- the changed row of a name that stays live is found by it
 pub live_row-update : (rows : List Row) (name : ConnName) (r : Row) (change : Row → Row) → slice_get rows name.slot ≡ Some r
     → is_live_as name (change r) ≡ true → live_row (update rows name.slot change) name ≡ Some (change r)
 live_row-update rows name r change at named =
-    ap (row_where (is_live_as name)) (get_changed rows name.slot r change at) ∙ rw named refl
+    ap (row_where (is_live_as name)) (get-changed rows name.slot r change at) ∙ rw named refl
 
 -- a worker goes on to another phase
 in_phase-working : (next : Phase) (p : Place) → is_working p ≡ true → is_working (in_phase next p) ≡ true

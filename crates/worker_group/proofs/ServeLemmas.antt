@@ -19,10 +19,9 @@ use Rattle.conn_machine.specs.declared.row.Row.{Row}
 use Rattle.conn_machine.specs.declared.event.Event.TheVariants as event
 use Rattle.conn_machine.specs.declared.state.State.{State}
 use Rattle.conn_machine.specs.Rows.{is_held, is_working, is_live, is_lingering, is_live_as, has_note, row_where, live_row, lives_and}
-use Rattle.conn_machine.specs.States.{is_halted}
+use Rattle.conn_machine.specs.States.{is_halted, child_of}
 use Rattle.conn_machine.specs.Table.{is_allowed, may_wait, direct_cause_fits, end_fits}
-use Rattle.conn_machine.specs.Sound.{IsSound}
-use Rattle.conn_machine.proofs.RowLemmas.{IsSoundRow, sound_row, served_by, in_service}
+use Rattle.conn_machine.specs.Sound.{IsSound, KindFits, IsInService, HasSoundNotes}
 use Rattle.conn_state.specs.declared.turn.LastTurn.{LastTurn}
 use Rattle.conn_state.specs.declared.turn.LastTurn.TheVariants as turn
 use Rattle.conn_state.specs.declared.turn.WriteTurn.{WriteTurn}
@@ -70,17 +69,30 @@ test-at rows name row test found = ap (λ (o : Option Row). option_map_or test o
 
 -- ## What a sound state says of a row that is served
 
+-- what it waited for fits its place, and its responses are sound
+pub record IsSoundRow (s : State) (row : Row) : Type 0 where
+  pub kind : KindFits row.place row
+  pub notes : HasSoundNotes (child_of s row).shape.most row
+
 -- it is a sound one
 pub served-row : (s : State) (name : ConnName) (row : Row) → IsSound s → live_row s.rows name ≡ Some row → IsSoundRow s row
 served-row s name row sound found =
     let lives = alive s.rows name row found in
-    sound_row s name.slot row sound lives.at lives.live
+    record { kind = sound.kinds name.slot row lives.at lives.live; notes = sound.notes name.slot row lives.at lives.live }
+
+-- it is in service
+in-service : (row : Row) (p : Place) → is_working p ≡ true → KindFits p row → IsInService row
+in-service row Vacant working fits = absurd (cc)
+in-service row Spent working fits = absurd (cc)
+in-service row Held working fits = absurd (cc)
+in-service row (Parked kind) working fits = absurd (cc)
+in-service row Queued working fits = absurd (cc)
+in-service row (Working cell phase) working fits = fits
 
 -- it doesn't linger
 pub served-stays : (s : State) (name : ConnName) (row : Row) → IsSound s → live_row s.rows name ≡ Some row → is_working row.place ≡ true
     → is_lingering row ≡ false
-served-stays s name row sound found working =
-    (in_service s row (served_by row.place working) (served-row s name row sound found)).stays
+served-stays s name row sound found working = (in-service row row.place working (served-row s name row sound found).kind).stays
 
 -- its last note says whether it was the last
 pub row-last : (s : State) (name : ConnName) (row : Row) → IsSound s → live_row s.rows name ≡ Some row → row.last ≡ says_last row.notes
