@@ -23,9 +23,8 @@ use Rattle.table_rule.specs.Views.{IsAwake, IsIdle, drawn_view, first_view, gone
 use Rattle.table_rule.specs.IdleWords.{bit, permits, tries}
 use Rattle.table_rule.specs.Steps.{DrawsNext}
 use Rattle.table_rule.specs.Tie.{AreDrawn, AreFirstWords, IsNew, IsTied, IsViewOf, KeptIsHome, KeptIsOut, origin_of}
-use Rattle.conn_machine.proofs.HistoryLemmas.{none_behind, row_none}
+use Rattle.table_rule.proofs.MachineLemmas.{none_behind, none_some, row_none}
 use Rattle.table_rule.proofs.OrdinalLemmas.{no_ordinals}
-use Rattle.conn_machine.proofs.PassRows.{none_some}
 use Rattle.table_rule.proofs.SumLemmas.{sum_snoc}
 use Rattle.table_rule.proofs.TieLemmas.{Placed, drawn_same, first_is, idle_same, moved, same_place}
 use Rattle.table_rule.proofs.WordLemmas.{at_snoc_or, first_after, first_other, first_same, set_length, snoc_length, word_else, word_here}

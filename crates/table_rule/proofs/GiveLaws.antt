@@ -15,23 +15,19 @@ use Rattle.conn_machine.specs.Runs.{after, entries_of, row_of, AreEntriesOf}
 use Rattle.conn_machine.specs.Runs.{Adds}
 use Rattle.conn_machine.specs.Folds.{ordinals_after}
 use Rattle.conn_machine.specs.Sound.{IsSound}
-use Rattle.conn_machine.proofs.ChildSound.{sound-opening}
-use Rattle.conn_machine.proofs.SoundRuns.{run_stays_sound}
 use Rattle.table_rule.specs.declared.view.Left.{Left}
 use Rattle.table_rule.specs.declared.view.Origin.{Origin}
 use Rattle.table_rule.specs.declared.view.View.{View}
-use Rattle.conn_machine.specs.Made.{AreMade, IsOpened}
+use Rattle.conn_machine.specs.Made.{AreMade, HasSeen, IsOpened}
 use Rattle.table_rule.specs.Histories.{ArePermitted, Extends}
 use Rattle.table_rule.specs.Ledgers.{EndsTurn, FoldsOn, IsLedgerLeft, IsSplit, KeepsOn, MayGiveBack, MayLeaveLedger}
 use Rattle.table_rule.specs.Views.{IsAwake, given_view}
 use Rattle.table_rule.specs.IdleWords.{HasPermit}
 use Rattle.table_rule.specs.Steps.{GivesBack}
 use Rattle.table_rule.specs.Tie.{IsTied, IsViewOf, KeptIsHome, KeptIsOut, origin_of}
-use Rattle.conn_machine.proofs.HistoryLemmas.{entries_of-append, made_more, others, row_by, run_made, seen_more, seen_whole}
-use Rattle.conn_machine.proofs.RunLemmas.{after-append}
+use Rattle.table_rule.proofs.MachineLemmas.{KeepsGoing, after-append, entries_of-append, none_some, row_by, seen_on, seen_same, seen_whole, some_is}
 use Rattle.table_rule.proofs.OrdinalLemmas.{ordinal_after, ordinals_length}
 use Rattle.table_rule.proofs.PermitLaws.{entries_credit, entries_permit}
-use Rattle.conn_machine.proofs.PassRows.{none_some, row_stays, some_is}
 use Rattle.table_rule.proofs.TieLemmas.{drawn_same, first_is, idle_kept, moved}
 use Rattle.table_rule.proofs.TurnLaws.{idle_else, second_else, turn_here}
 use Rattle.table_rule.proofs.WordLemmas.{FirstAfter, at_below, at_same, first_after, first_same, none_is, set_length}
@@ -122,10 +118,10 @@ split_length origin left l whole p =
 
 -- ## The step
 
-sound_of : (start : machine.State) → IsOpened start → (history : List Entry) → AreMade start history → IsSound (after start history)
-sound_of start opened history made =
-    let sound : IsSound start = subst IsSound (sym opened.state) (sound-opening opened.slots opened.children opened.shape opened.bounds) in
-    run_stays_sound start history sound (run_made start history made) history [] (sym (append-nil history))
+sound_of : KeepsGoing → (start : machine.State) → IsOpened start → (history : List Entry) → AreMade start history → IsSound (after start history)
+sound_of laws start opened history made =
+    let sound : IsSound start = subst IsSound (sym opened.state) (laws.opening opened.slots opened.children opened.shape opened.bounds) in
+    laws.run start history sound (laws.runs start history made) history [] (sym (append-nil history))
 
 module _ {K : Type 0} (ledger : K → Ledger) (o : Ledger) where
   -- what the pass with the turn finds of the rule
@@ -190,46 +186,45 @@ module _ {K : Type 0} (ledger : K → Ledger) (o : Ledger) where
       ]
 
   -- another view after entries of a pass
-  other_fits : (id j : ℕ) (v u : View) (history added : List Entry) → j ≢ id → AreEntriesOf id o.base history added
+  other_fits : KeepsGoing → (id j : ℕ) (u : View) (history added : List Entry) → j ≢ id → AreEntriesOf id o.base history added
       → IsViewOf (origin_of o) history j u → IsViewOf (origin_of o) (history ++ added) j u
-  other_fits id j v u history added ne are fits =
-      let none : entries_of j added ≡ [] = others id j o.base history added are ne in
-      let same : entries_of j (history ++ added) ≡ entries_of j history = entries_of-append j history added ∙ ap (λ l. entries_of j history ++ l) none ∙ append-nil (entries_of j history) in
+  other_fits laws id j u history added ne are fits =
+      let behind : HasSeen j history (history ++ added) = laws.seen id j o.base history (history ++ added) (added, refl, are) ne in
       record {
         number = fits.number;
         origin_is = fits.origin_is;
         begins = (fits.begins.0 ++ added, ap (λ l. l ++ added) fits.begins.1 ∙ append_assoc u.seen fits.begins.0 added);
-        seen = λ there up. seen_more j u.seen history added (fits.seen there up) none;
-        row = fits.row ∙ sym (row_by j (history ++ added) history same);
+        seen = λ there up. seen_on j u.seen history (history ++ added) (fits.seen there up) behind;
+        row = fits.row ∙ sym (row_by j (history ++ added) history (seen_same j history (history ++ added) behind));
       }
 
   -- another pass keeps its permit
-  other_permit : (id j : ℕ) (u : View) (history added : List Entry) → IsOpened o.base → AreMade o.base (history ++ added) → j ≢ id → AreEntriesOf id o.base history added
+  other_permit : KeepsGoing → (id j : ℕ) (u : View) (history added : List Entry) → IsOpened o.base → AreMade o.base (history ++ added) → j ≢ id → AreEntriesOf id o.base history added
       → u.row ≡ row_of j history → HasPermit (after o.base history) u → HasPermit (after o.base (history ++ added)) u
-  other_permit id j u history added opened made ne are row has name r is at carried =
-      let none : entries_of j added ≡ [] = others id j o.base history added are ne in
-      has name r is (sym (row_stays o.base opened j history (history ++ added) made (added, refl, none) name (sym row ∙ is)) ∙ at) carried
+  other_permit laws id j u history added opened made ne are row has name r is at carried =
+      let behind = laws.seen id j o.base history (history ++ added) (added, refl, are) ne in
+      has name r is (sym (laws.stays o.base j history (history ++ added) name opened made behind (sym row ∙ is)) ∙ at) carried
 
-  given : (s : State (Option K) View) (t : IsTied ledger o s) (id : ℕ) (v : View) (k : K) (found : Ledger) (x : ℕ) → get_elem? s.views id ≡ m.some v → IsAwake v
+  given : KeepsGoing → (s : State (Option K) View) (t : IsTied ledger o s) (id : ℕ) (v : View) (k : K) (found : Ledger) (x : ℕ) → get_elem? s.views id ≡ m.some v → IsAwake v
       → (h : IsHolder s t id v found) → (a : MayLeaveLedger v found (ledger k)) → AreEntriesOf id o.base t.history a.added
       → ArePermitted v.hand.permit v.credits (after o.base t.history) a.added
       → (g : IsGiven s t id v (ledger k) (t.history ++ a.added)) → x ≡ 2 * length (t.history ++ a.added)
       → IsTied ledger o (stepped s 0 x id ((0, Some k) ∷ []) (given_view v (t.history ++ a.added) g.left) gives)
-  given s t id v k found x at awake h a are permitted g word =
+  given laws s t id v k found x at awake h a are permitted g word =
       let mine = t.fits id v at in
       let number : v.who.number ≡ id = mine.number awake.there in
       let history = t.history ++ a.added in
       let w : View = given_view v history g.left in
       let f = first_after s.views id v w t.first at t.at in
       let words = set s.words 0 x in
-      let made = made_more id o.base t.history a.added t.made are in
+      let made = laws.made id o.base t.history (t.history ++ a.added) t.made (a.added, refl, are) in
       let credits : f.view.credits ≡ t.first.credits = first_same (λ (q : View). q.credits) s.views id v w t.first f (λ _. refl) in
       let own_row : row_of v.who.number history ≡ row_of id history = ap (λ n. row_of n history) number in
       moved ledger o s t id v w f words (slice_set s.homes 0 (m.some (Some k))) history
       (set_length s.words 0 x ∙ t.count) made
       (λ n le. let ne : n ≢ id = (λ e. let b = at_below s.views id v at in omega arith) in
-      entries_of-append n t.history a.added ∙ ap (λ l. l ++ entries_of n a.added) (t.undrawn n le) ∙ others id n o.base t.history a.added are ne)
-      (λ j u ne e. other_fits id j v u t.history a.added ne are (t.fits j u e))
+      seen_same n t.history history (laws.seen id n o.base t.history history (a.added, refl, are) ne) ∙ t.undrawn n le)
+      (λ j u ne e. other_fits laws id j u t.history a.added ne are (t.fits j u e))
       record { number = mine.number; origin_is = mine.origin_is; begins = ([], sym (append-nil history)); seen = λ _ _. seen_whole id history; row = own_row }
       (inl record {
         kept = k;
@@ -243,7 +238,7 @@ module _ {K : Type 0} (ledger : K → Ledger) (o : Ledger) where
       })
       (drawn_same (origin_of o) s.words words s.views id w t.first.draws f.view.draws t.drawn (second_else s.words x) (first_same (λ (q : View). q.draws) s.views id v w t.first f (λ _. refl)))
       (idle_kept (after o.base t.history) (after o.base history) s.words words s.views id v w t.first.credits f.view.credits t.idle at refl (λ j _. idle_else s.words x j) credits
-      (entries_credit o.base id t.history a.added v.hand.permit t.first.credits (sound_of o.base t.opening t.history t.made) are
+      (entries_credit laws.step o.base id t.history a.added v.hand.permit t.first.credits (sound_of laws o.base t.opening t.history t.made) are
       (λ z. subst (λ cs. ArePermitted v.hand.permit cs (after o.base t.history) a.added) (ap (λ (q : View). q.credits) (first_is ledger o s t id v at z)) permitted)
       t.idle.credited)
       (λ j u e. ⊎_elim
@@ -253,15 +248,15 @@ module _ {K : Type 0} (ledger : K → Ledger) (o : Ledger) where
       (λ n q had stands c. t.idle.holders id v at n q (mine.row ∙ had) stands c)
       name r (sym own_row ∙ is) there carried))
       (λ (z : (j ≢ id) × (get_elem? s.views j ≡ m.some u)).
-      other_permit id j u t.history a.added t.opening made z.0 are (t.fits j u z.1).row (t.idle.holders j u z.1))
+      other_permit laws id j u t.history a.added t.opening made z.0 are (t.fits j u z.1).row (t.idle.holders j u z.1))
       (at_set s.views id j w u e)))
 
-  given_back : (s : State (Option K) View) (t : IsTied ledger o s) (id : ℕ) (v : View) (k : K) (x : ℕ) → get_elem? s.views id ≡ m.some v → IsAwake v
+  given_back : KeepsGoing → (s : State (Option K) View) (t : IsTied ledger o s) (id : ℕ) (v : View) (k : K) (x : ℕ) → get_elem? s.views id ≡ m.some v → IsAwake v
       → (back : MayGiveBack v (ledger k)) → x ≡ 2 * ((ledger k).folded.entries + length (ledger k).history)
       → (w : View) × IsTied ledger o (stepped s 0 x id ((0, Some k) ∷ []) w gives)
       × ((history : List Entry) × (left : Left) × (w ≡ given_view v history left) × Adds v.who.number v.origin.state v.seen history
       × EndsTurn v (ledger k) history × IsLedgerLeft v (ledger k) history left)
-  given_back s t id v k x at awake back word =
+  given_back laws s t id v k x at awake back word =
       let found = back.0 in let a = back.2 in
       let h = holder s t id v found at back.1 in
       let mine = t.fits id v at in
@@ -277,7 +272,7 @@ module _ {K : Type 0} (ledger : K → Ledger) (o : Ledger) where
       let f = first_after s.views id v w t.first at t.at in
       let len = split_length (origin_of o) f.view.left (ledger k) history (g.then_is f) in (
         w,
-        given s t id v k found x at awake h a are permitted g (omega (arith, word, len)),
+        given laws s t id v k found x at awake h a are permitted g (omega (arith, word, len)),
         (
           history,
           g.left,
@@ -288,11 +283,11 @@ module _ {K : Type 0} (ledger : K → Ledger) (o : Ledger) where
         ),
       )
 
-  pub gives_law : (slots id : ℕ) (me : Me (Option K) View) (k : K) (x : ℕ) → me.1 ≡ (0, Some k) ∷ [] → IsAwake me.0 → MayGiveBack me.0 (ledger k)
+  pub gives_law : KeepsGoing → (slots id : ℕ) (me : Me (Option K) View) (k : K) (x : ℕ) → me.1 ≡ (0, Some k) ∷ [] → IsAwake me.0 → MayGiveBack me.0 (ledger k)
       → x ≡ 2 * ((ledger k).folded.entries + length (ledger k).history)
       → Allows (IsTied ledger o) slots id me 0 (λ _. x) (λ _. GivesBack ledger (step slots 0 x 0 m.none) me x)
-  gives_law slots id me k x hand awake back word =
+  gives_law laws slots id me k x hand awake back word =
       let P : List (ℕ × Option K) → Type 0 = λ l. Allows (IsTied ledger o) slots id (me.0, l) 0 (λ _. x) (λ _. GivesBack ledger (step slots 0 x 0 m.none) (me.0, l) x) in
       subst P (sym hand) (λ s t len at small.
-      let g = given_back s t id me.0 k x at awake back word in
+      let g = given_back laws s t id me.0 k x at awake back word in
       (g.0, gives, tt, g.1, (k, g.2.0, g.2.1, refl, refl, g.2.2, g.2.3, g.2.4, g.2.5)))

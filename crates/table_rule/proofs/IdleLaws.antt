@@ -22,7 +22,7 @@ use Rattle.table_rule.specs.Views.{IsAwake, IsIdle, credited_view, with_permit, 
 use Rattle.table_rule.specs.IdleWords.{bias, bit_at, sum_of, permits, tries, HasPermit, AreIdleWords}
 use Rattle.table_rule.specs.Steps.{Credits, LooksAtIdle, Releases, Tries, Uncredits, Undoes, tried_view, uncredited_view}
 use Rattle.table_rule.specs.Tie.{IsTied, origin_of}
-use Rattle.conn_machine.proofs.PassRows.{none_some, some_is}
+use Rattle.table_rule.proofs.MachineLemmas.{SomeoneHas, none_some, some_is}
 use Rattle.table_rule.proofs.SumLemmas.{bit_other, bit_self, sum_has, sum_same, sum_set, tries_le}
 use Rattle.table_rule.proofs.TieLemmas.{drawn_same, first_is, moved, same_place, views_of}
 use Rattle.table_rule.proofs.GiveLaws.{holder}
@@ -313,13 +313,13 @@ module _ {K : Type 0} (ledger : K → Ledger) (o : Ledger) where
 
   -- ## A look at an idle word
 
-  pub idles_law : (slots id : ℕ) (me : Me (Option K) View) (k : ℕ) → k < 32 → IsAwake me.0
+  pub idles_law : SomeoneHas → (slots id : ℕ) (me : Me (Option K) View) (k : ℕ) → k < 32 → IsAwake me.0
       → Allows (IsTied ledger o) slots id me (k + 2) (λ n. n) (LooksAtIdle (step slots (k + 2) 0 0 m.none) me)
-  idles_law slots id me k lt awake s t len at small =
+  idles_law someone slots id me k lt awake s t len at small =
       let mine = t.fits id me.0 at in
       let number : me.0.who.number ≡ id = mine.number awake.there in
       let base : me.0.origin.state ≡ o.base = ap (λ (g : Origin). g.state) (mine.origin_is awake.there awake.up) in
-      let c = carried_permits o.base t.history s.words s.views t.first.credits (views_of ledger o s t) k in
+      let c = carried_permits someone o.base t.history s.words s.views t.first.credits (views_of ledger o s t) k in
       let e = t.idle.equation k lt in
       let p = t.idle.permitted k lt in
       let small_credit = t.idle.small k lt in

@@ -1,6 +1,7 @@
 mod DrawLaws
 mod GiveLaws
 mod IdleLaws
+mod MachineLemmas
 mod OrdinalLemmas
 mod PermitLaws
 mod SumLemmas

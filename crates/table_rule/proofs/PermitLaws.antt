@@ -24,11 +24,8 @@ use Rattle.conn_machine.specs.States.{is_serving, is_halted, is_signalled}
 use Rattle.conn_machine.specs.Table.{is_allowed, next, reply, may_be_queued, next_command, taken_row, held_row, queued_row, served_row, answered_row, child_passes}
 use Rattle.conn_machine.specs.Runs.{after, has_after, may_make, row_of, load, AreEntriesOf}
 use Rattle.conn_machine.specs.Sound.{IsSound}
-use Rattle.conn_machine.proofs.SoundLemmas.{keeps_sound}
-use Rattle.conn_machine.proofs.UpdateLemmas.{get_changed}
 use Rattle.table_rule.specs.Histories.{ArePermitted, IsPermitted, threads_of}
-use Rattle.conn_machine.proofs.RunLemmas.{after-snoc}
-use Rattle.conn_machine.proofs.PassRows.{met, had_row, some_is, none_some, off, row_own}
+use Rattle.table_rule.proofs.MachineLemmas.{after-snoc, get_changed, had_row, met, none_some, off, row_own, some_is}
 
 -- ## The permit of the pass
 
@@ -223,16 +220,16 @@ event_credits s p weight had permit credits (event.Retire i) sound may role perm
     (λ k ne. ap (λ (c : Child). c.shape.threads) (child_else s.children i k retired_child ne)) (permitted (eqb-true p 0 role))
 
 -- so do its entries
-pub entries_credit : (start : State) (p : ℕ) (before added : List Entry) (permit : Option ℕ) (credits : List ℕ) → IsSound (after start before)
+pub entries_credit : ((s : State) (e : Event) → IsSound s → is_allowed s e ≡ true → IsSound (next s e)) → (start : State) (p : ℕ) (before added : List Entry) (permit : Option ℕ) (credits : List ℕ) → IsSound (after start before)
     → AreEntriesOf p start before added → (p ≡ 0 → ArePermitted permit credits (after start before) added) → IsCredited credits (after start before)
     → IsCredited credits (after start (before ++ added))
-entries_credit start p before [] permit credits sound are permitted has = subst (λ h. IsCredited credits (after start h)) (sym (append-nil before)) has
-entries_credit start p before (e ∷ added) permit credits sound are permitted has =
+entries_credit keeps start p before [] permit credits sound are permitted has = subst (λ h. IsCredited credits (after start h)) (sym (append-nil before)) has
+entries_credit keeps start p before (e ∷ added) permit credits sound are permitted has =
     let s = after start before in
     let one : IsCredited credits (next s e.event) =
     event_credits s p (load before) (row_of p before) permit credits e.event sound are.0.is_allowed are.0.role (λ z. (permitted z).0) has in
     subst (λ h. IsCredited credits (after start h)) (append_assoc before (e ∷ []) added)
-    (entries_credit start p (before ++ e ∷ []) added permit credits
-    (subst IsSound (sym (after-snoc start before e)) (keeps_sound s e.event sound are.0.is_allowed)) are.1
+    (entries_credit keeps start p (before ++ e ∷ []) added permit credits
+    (subst IsSound (sym (after-snoc start before e)) (keeps s e.event sound are.0.is_allowed)) are.1
     (λ z. subst (λ t. ArePermitted permit credits t added) (sym (after-snoc start before e)) (permitted z).1)
     (subst (IsCredited credits) (sym (after-snoc start before e)) one))

@@ -17,8 +17,7 @@ use Rattle.table_rule.specs.Ledgers.{IsSplit}
 use Rattle.table_rule.specs.Views.{IsAwake, IsFound, IsIdle, HasFreeWorker, resting_view, free_view, taken_view}
 use Rattle.table_rule.specs.Steps.{IsTurnTaken, TakesTurn, LooksAtWord, LiesDown, WakesUp}
 use Rattle.table_rule.specs.Tie.{IsTied, IsViewOf, KeptIsHome, KeptIsOut, origin_of}
-use Rattle.conn_machine.proofs.HistoryLemmas.{seen_whole, seen_same, row_by}
-use Rattle.conn_machine.proofs.PassRows.{row_stays, none_some}
+use Rattle.table_rule.proofs.MachineLemmas.{RowsStay, SomeoneHas, none_some, row_by, seen_same, seen_whole}
 use Rattle.table_rule.proofs.TieLemmas.{drawn_same, first_is, idle_same, moved, number_below, same_place, stays, views_of}
 use Rattle.table_rule.proofs.WordLemmas.{at_below, first_after, first_other, first_same, set_length, word_again, word_else, word_here}
 use Rattle.table_rule.proofs.WorkerLaws.{free_worker}
@@ -39,9 +38,9 @@ turn_here ws x count = word_here ws 0 x (omega (arith, count))
 
 module _ {K : Type 0} (ledger : K → Ledger) (o : Ledger) where
   -- what a pass finds that takes the turn
-  found_by : (s : State (Option K) View) (t : IsTied ledger o s) (id : ℕ) (v : View) (left : Left) (found : Ledger) → get_elem? s.views id ≡ m.some v → IsAwake v
+  found_by : SomeoneHas → RowsStay → (s : State (Option K) View) (t : IsTied ledger o s) (id : ℕ) (v : View) (left : Left) (found : Ledger) → get_elem? s.views id ≡ m.some v → IsAwake v
       → left ≡ t.first.left → IsSplit (origin_of o) left found t.history → IsFound v found t.history
-  found_by s t id v left found at awake same parts =
+  found_by someone stay s t id v left found at awake same parts =
       let mine = t.fits id v at in
       let number : v.who.number ≡ id = mine.number awake.there in
       let origin : v.origin ≡ origin_of o = mine.origin_is awake.there awake.up in
@@ -49,10 +48,10 @@ module _ {K : Type 0} (ledger : K → Ledger) (o : Ledger) where
       let row : v.row ≡ row_of id v.seen = mine.row ∙ row_by id t.history v.seen (seen_same id v.seen t.history behind) in
       let home : (q : Origin) → q ≡ origin_of o → IfSome v.row (λ name. slice_get (after q.state t.history).rows name.slot ≡ slice_get (after q.state v.seen).rows name.slot) =
       λ q e. subst (λ (g : Origin). IfSome v.row (λ name. slice_get (after g.state t.history).rows name.slot ≡ slice_get (after g.state v.seen).rows name.slot)) (sym e)
-      (if_some _ v.row (λ name is. row_stays o.base t.opening id v.seen t.history t.made behind name (sym row ∙ is))) in
+      (if_some _ v.row (λ name is. stay o.base id v.seen t.history name t.opening t.made behind (sym row ∙ is))) in
       let room : (q : Origin) → q ≡ origin_of o → HasFreeWorker v (after q.state t.history) =
       λ q e. subst (λ (g : Origin). HasFreeWorker v (after g.state t.history)) (sym e)
-      (λ none. if_some _ v.hand.permit (λ k is. free_worker o.base t.history s.words s.views t.first.credits (views_of ledger o s t) k id v at none is)) in
+      (λ none. if_some _ v.hand.permit (λ k is. free_worker someone o.base t.history s.words s.views t.first.credits (views_of ledger o s t) k id v at none is)) in
       record {
         seen = subst (λ n. HasSeen n v.seen t.history) (sym number) behind;
         made = subst (λ (g : Origin). AreMade g.state t.history) (sym origin) t.made;
@@ -70,9 +69,9 @@ module _ {K : Type 0} (ledger : K → Ledger) (o : Ledger) where
       × IsTied ledger o (stepped s 0 (either b (n + 1) (slice_index s.words 0)) id [] w a)
       × IsTurnTaken ledger b (v, []) (w, carried_after [] a)
 
-  taken_home : (s : State (Option K) View) (t : IsTied ledger o s) (id : ℕ) (v : View) (n : ℕ) → get_elem? s.views id ≡ m.some v → IsAwake v → slice_index s.words 0 ≡ n
+  taken_home : SomeoneHas → RowsStay → (s : State (Option K) View) (t : IsTied ledger o s) (id : ℕ) (v : View) (n : ℕ) → get_elem? s.views id ≡ m.some v → IsAwake v → slice_index s.words 0 ≡ n
       → KeptIsHome ledger (origin_of o) t.first.left t.history s → TakesGoal s id v n true
-  taken_home s t id v n at awake found home =
+  taken_home someone stay s t id v n at awake found home =
       let w : View = taken_view v (ledger home.kept) t.history in
       let f = first_after s.views id v w t.first at t.at in
       let words = set s.words 0 (n + 1) in
@@ -102,21 +101,21 @@ module _ {K : Type 0} (ledger : K → Ledger) (o : Ledger) where
             })
             (drawn_same (origin_of o) s.words words s.views id w t.first.draws f.view.draws t.drawn (second_else s.words (n + 1)) (first_same (λ (q : View). q.draws) s.views id v w t.first f (λ _. refl)))
             (idle_same (after o.base t.history) s.words words s.views id v w t.first.credits f.view.credits t.idle at refl refl (λ k _. idle_else s.words (n + 1) k) (first_same (λ (q : View). q.credits) s.views id v w t.first f (λ _. refl))),
-        (home.kept, t.history, refl, refl, found_by s t id v t.first.left (ledger home.kept) at awake refl home.parts),
+        (home.kept, t.history, refl, refl, found_by someone stay s t id v t.first.left (ledger home.kept) at awake refl home.parts),
       )
 
-  taken : (s : State (Option K) View) (t : IsTied ledger o s) (id : ℕ) (v : View) (n : ℕ) → get_elem? s.views id ≡ m.some v → IsAwake v → (n % 2 ≡ 1 → ⊥)
+  taken : SomeoneHas → RowsStay → (s : State (Option K) View) (t : IsTied ledger o s) (id : ℕ) (v : View) (n : ℕ) → get_elem? s.views id ≡ m.some v → IsAwake v → (n % 2 ≡ 1 → ⊥)
       → (b : Bool) → (slice_index s.words 0 == n) ≡ b → TakesGoal s id v n b
-  taken s t id v n at awake even true is =
+  taken someone stay s t id v n at awake even true is =
       let found : slice_index s.words 0 ≡ n = grind (arith, is) in
-      ⊎_elim (taken_home s t id v n at awake found) (λ (out : KeptIsOut (origin_of o) t.first.left t.history s). absurd (even (let e = out.word in omega (arith, e, found)))) t.place
-  taken s t id v n at awake even false is = (v, keeps, tt, stays ledger o s 0 t id v at, refl)
+      ⊎_elim (taken_home someone stay s t id v n at awake found) (λ (out : KeptIsOut (origin_of o) t.first.left t.history s). absurd (even (let e = out.word in omega (arith, e, found)))) t.place
+  taken someone stay s t id v n at awake even false is = (v, keeps, tt, stays ledger o s 0 t id v at, refl)
 
-  pub takes_law : (slots id : ℕ) (me : Me (Option K) View) (n : ℕ) → me.1 ≡ [] → IsAwake me.0 → (n % 2 ≡ 1 → ⊥)
+  pub takes_law : SomeoneHas → RowsStay → (slots id : ℕ) (me : Me (Option K) View) (n : ℕ) → me.1 ≡ [] → IsAwake me.0 → (n % 2 ≡ 1 → ⊥)
       → Allows (IsTied ledger o) slots id me 0 (λ x. either (x == n) (n + 1) x) (TakesTurn ledger (step slots 0 n (n + 1) m.none) me)
-  takes_law slots id me n none awake even =
+  takes_law someone stay slots id me n none awake even =
       let P : List (ℕ × Option K) → Type 0 = λ l. Allows (IsTied ledger o) slots id (me.0, l) 0 (λ x. either (x == n) (n + 1) x) (TakesTurn ledger (step slots 0 n (n + 1) m.none) (me.0, l)) in
-      subst P (sym none) (λ s t len at small. taken s t id me.0 n at awake even (slice_index s.words 0 == n) refl)
+      subst P (sym none) (λ s t len at small. taken someone stay s t id me.0 n at awake even (slice_index s.words 0 == n) refl)
 
   pub loads_law : (slots id : ℕ) (me : Me (Option K) View) (i : ℕ)
       → Allows (IsTied ledger o) slots id me i (λ n. n) (LooksAtWord (step slots i 0 0 m.none) me)

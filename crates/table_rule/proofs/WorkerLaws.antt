@@ -2,6 +2,7 @@
 use Rattle.std.proofs.Common.{◌≡◌, ◌⊎◌, inl, inr, ⊎_elim, ℕ, zero, suc, ◌+◌, ◌<◌, ◌≤◌, ◌==◌, Bool, true, false, cond, List, [], ◌∷◌, length, count_by, Option, Some, None, slice_get, refl, sym, ap, subst, ◌∙◌, arith, eq-eqb, ne_eqb}
 use Rattle.std.specs.Option.{option_map_or}
 use Rattle.std.proofs.lemmas.Bool.{and_parts, eqb-true}
+use Rattle.std.proofs.lemmas.List.Sums.{sum_by-cons}
 use native.Mathlib.Decide.{ℕ_discrete}
 use mathlib.Core.Option as m
 use lib.ListN.{get_elem?}
@@ -13,14 +14,12 @@ use Rattle.conn_machine.specs.declared.event.Entry.{Entry}
 use Rattle.conn_machine.specs.declared.state.State.{State}
 use Rattle.conn_machine.specs.Rows.{carried_count, is_carried_at, is_carried_by, is_with_a_pass, row_passes}
 use Rattle.conn_machine.specs.Runs.{after, entries_of, row_of}
-use Rattle.conn_machine.proofs.UpdateLemmas.{count_cons}
 use Rattle.table_rule.specs.declared.view.View.{View}
 use Rattle.conn_machine.specs.Made.{AreMade, IsOpened}
 use Rattle.table_rule.specs.Histories.{threads_of}
 use Rattle.table_rule.specs.IdleWords.{bit, bit_at, sum_of, permits, AreIdleWords}
-use Rattle.conn_machine.proofs.HistoryLemmas.{row_none}
+use Rattle.table_rule.proofs.MachineLemmas.{SomeoneHas, none_some, row_none}
 use Rattle.table_rule.proofs.SumLemmas.{sum_le, sum_less, sum_has, sum_add, sum_zero, bit_self}
-use Rattle.conn_machine.proofs.PassRows.{owned, none_some}
 use Rattle.table_rule.proofs.WordLemmas.{below_at}
 
 -- ## Counting by places
@@ -42,7 +41,7 @@ count_first test x xs (suc n) = let c = count_first test x xs n in omega arith
 counted_by : (test : Row → Bool) (rows : List Row) → count_by test rows ≡ count (row_passes test rows) (length rows)
 counted_by test [] = refl
 counted_by test (x ∷ xs) =
-    let a = count_cons test x xs in let b = counted_by test xs in let c = count_first test x xs (length xs) in let d = bit_cond (test x) in omega arith
+    let a : count_by test (x ∷ xs) ≡ cond (test x) 1 0 + count_by test xs = sum_by-cons (λ y. cond (test y) 1 0) x xs in let b = counted_by test xs in let c = count_first test x xs (length xs) in let d = bit_cond (test x) in omega arith
 
 -- ## Where each row that passes stands in a view
 
@@ -178,21 +177,21 @@ passes_at test rows slot is = by (slice_get rows slot) refl is
     by (Some r) e h = (r, e, h)
 
 -- each row that a pass has stands in a view
-pub stands_in_view : (start : State) (history : List Entry) (words : List ℕ) (views : List View) (credits : List ℕ) → AreViews start history words views credits
+pub stands_in_view : SomeoneHas → (start : State) (history : List Entry) (words : List ℕ) (views : List View) (credits : List ℕ) → AreViews start history words views credits
     → (slot : ℕ) (r : Row) → slice_get (after start history).rows slot ≡ Some r → is_with_a_pass r.place ≡ true
     → (id : ℕ) × (v : View) × (name : ConnName) × (get_elem? views id ≡ m.some v) × (v.row ≡ Some name) × (name.slot ≡ slot)
-stands_in_view start history words views credits a slot r at hand =
-    let who = (owned start a.opened history a.made).someone slot r at hand in
+stands_in_view someone start history words views credits a slot r at hand =
+    let who = someone start history slot r a.opened a.made at hand in
     ⊎_elim
     (λ (below : who.0 < length views). let v = below_at views who.0 below in (who.0, v.0, who.1, v.1, a.rows who.0 v.0 v.1 ∙ who.2, who.3))
     (λ (above : length views ≤ who.0). none_some (row_of who.0 history) who.1 (row_none who.0 history (a.undrawn who.0 above)) who.2)
     (nat_below who.0 (length views))
 
-module _ (start : State) (history : List Entry) (words : List ℕ) (views : List View) (credits : List ℕ) (a : AreViews start history words views credits) (k : ℕ) where
+module _ (someone : SomeoneHas) (start : State) (history : List Entry) (words : List ℕ) (views : List View) (credits : List ℕ) (a : AreViews start history words views credits) (k : ℕ) where
   stands : Stands (row_passes (is_carried_by k) (after start history).rows) (length (after start history).rows) views
   stands slot lt is =
       let row = passes_at (is_carried_by k) (after start history).rows slot is in
-      stands_in_view start history words views credits a slot row.0 row.1 (carried_hand row.0.place (carried_place k row.0 row.2).1)
+      stands_in_view someone start history words views credits a slot row.0 row.1 (carried_hand row.0.place (carried_place k row.0 row.2).1)
 
   covers : (id : ℕ) (v : View) → get_elem? views id ≡ m.some v → Covers (row_passes (is_carried_by k) (after start history).rows) (permits k) v
   covers id v at name is passes =

@@ -21,6 +21,10 @@ ghost use Rattle.table_rule.specs.Tie.{AreFirstWords, IsNew, IsTied, origin_of};
 ghost use Rattle.table_rule.specs.Views.{IsAwake, IsIdle, first_view, gone_view, joined_view, new_view, parted_view, resting_view};
 
 use conn_machine::Kept;
+use conn_machine::laws::{
+    connections_stay_while_others_go_on, each_pass_has_its_own_connection, events_keep_states_sound,
+};
+use conn_machine::laws_of_runs::{made_histories_are_runs, passes_add_entries};
 
 /// The rule holds of a new table.
 pub fn table_opens<K: Kept>()
@@ -30,12 +34,20 @@ pub fn table_opens<K: Kept>()
 /// The turn is taken.
 pub fn turn_is_taken<K: Kept>()
     ensures { (o : Ledger) (slots id n : ℕ) (me : Me (Option K) View) → me.1 ≡ [] → IsAwake me.0 → (n % 2 ≡ 1 → ⊥) → Allows (IsTied K.ledger o) slots id me 0 (λ x. either (x == n) (n + 1) x) (TakesTurn K.ledger (step slots 0 n (n + 1) none) me) }
-{}
+{
+    connections_stay_while_others_go_on();
+    each_pass_has_its_own_connection();
+}
 
 /// The turn is given back.
 pub fn turn_is_given_back<K: Kept>()
     ensures { (o : Ledger) (slots id n : ℕ) (me : Me (Option K) View) (kept : K) → me.1 ≡ (0, Some kept) ∷ [] → IsAwake me.0 → MayGiveBack me.0 (K.ledger kept) → n ≡ 2 * ((K.ledger kept).folded.entries + length (K.ledger kept).history) → Allows (IsTied K.ledger o) slots id me 0 (λ _. n) (λ _. GivesBack K.ledger (step slots 0 n 0 none) me n) }
-{}
+{
+    connections_stay_while_others_go_on();
+    events_keep_states_sound();
+    made_histories_are_runs();
+    passes_add_entries();
+}
 
 /// A word is looked at.
 pub fn word_is_looked_at<K: Kept>()
@@ -95,7 +107,9 @@ pub fn child_is_uncredited<K: Kept>()
 /// An idle word is looked at.
 pub fn idle_word_is_looked_at<K: Kept>()
     ensures { (o : Ledger) (slots id k : ℕ) (me : Me (Option K) View) → k < 32 → IsAwake me.0 → Allows (IsTied K.ledger o) slots id me (k + 2) (λ n. n) (LooksAtIdle (step slots (k + 2) 0 0 none) me) }
-{}
+{
+    each_pass_has_its_own_connection();
+}
 
 /// Where the rule holds, each connection that somebody holds or has stands in a pass's view; a child's workers carry no more
 /// connections than it has permits out; and a pass with a permit of it and no connection leaves one of them free.
@@ -103,4 +117,6 @@ pub fn views_tell_of_connections<K: Kept>()
     ensures stands { (o : Ledger) (s : table.State (Option K) View) (tied : IsTied K.ledger o s) (slot : ℕ) (r : Row) → slice_get (after o.base tied.history).rows slot ≡ Some r → is_with_a_pass r.place ≡ true → (id : ℕ) × (v : View) × (name : ConnName) × (get_elem? s.views id ≡ some v) × (v.row ≡ Some name) × (name.slot ≡ slot) }
     ensures carried { (o : Ledger) (s : table.State (Option K) View) (tied : IsTied K.ledger o s) (k : ℕ) → carried_count (after o.base tied.history).rows k ≤ sum_of (permits k) s.views }
     ensures room { (o : Ledger) (s : table.State (Option K) View) (tied : IsTied K.ledger o s) (id k : ℕ) (v : View) → get_elem? s.views id ≡ some v → v.row ≡ None → v.hand.permit ≡ Some k → carried_count (after o.base tied.history).rows k < threads_of (after o.base tied.history) k }
-{}
+{
+    each_pass_has_its_own_connection();
+}
