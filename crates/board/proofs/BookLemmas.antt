@@ -24,7 +24,7 @@ use Rattle.conn_machine.specs.declared.event.Reply.{Reply}
 use Rattle.board.specs.Faults.{IsOpen}
 use Rattle.board.specs.RoomInside.{row_owes, child_owes, owed_entries, is_sure}
 use Rattle.board.proofs.RoomLemmas.{owed-bound, owed-sure}
-use Rattle.board.proofs.StopLemmas.{stops_first, stops_more, stops_by_role, tells_first, tells_more}
+use Rattle.board.proofs.StopLemmas.{IsStopFor, stops_first, stops_more, tells_first, tells_more}
 
 -- the entry is the last of its pass, and no other pass has it
 pub record IsLastOf (history : List Entry) (e : Entry) : Type 0 where
@@ -97,9 +97,9 @@ goes_by base history s ordinals pages room e before allowed replied ordinal role
 kept_more : (base : State) (history : List Entry) (s : State) (ordinals ordinals' : List ℕ) (pages room room' : ℕ) (e : Entry)
     → IsKept base history s ordinals pages room → is_allowed s e.event ≡ true → AreNext ordinals' (history ++ e ∷ []) → IsSound (next s e.event)
     → IsSized (next s e.event) → length (history ++ e ∷ []) + owed_entries (next s e.event) ≤ room'
-    → may_make e.pass (row_of e.pass history) (load history) e.event ≡ true → GoesOn base history e
+    → IsStopFor (load history) e.event → GoesOn base history e
     → IsKept base (history ++ e ∷ []) (next s e.event) ordinals' (pages + (if asks_page e.event then 1 else 0)) room'
-kept_more base history s ordinals ordinals' pages room room' e before is_allowed numbers sound sized has_room role goes = record {
+kept_more base history s ordinals ordinals' pages room room' e before is_allowed numbers sound sized has_room stop goes = record {
   is_history = goes.is_history;
   made = goes.made;
   state_is = goes.state ∙ ap (λ (t : State). next t e.event) before.state_is;
@@ -109,7 +109,7 @@ kept_more base history s ordinals ordinals' pages room room' e before is_allowed
   pages_is = rw before.pages_is (sym (pages_more history e));
   sized = sized;
   has_room = has_room;
-  stops = stops_more history e before.stops (stops_by_role e.pass (row_of e.pass history) (load history) e.event role);
+  stops = stops_more history e before.stops stop;
   full = tells_more s history e before.full is_allowed;
 }
 
@@ -118,30 +118,30 @@ pub kept_with_room : (base : State) (history history' : List Entry) (s s' : Stat
     → IsKept base history s ordinals pages room → is_allowed s e.event ≡ true → AreNext ordinals' history' → IsStepped s s'
     → history' ≡ history ++ e ∷ [] → s' ≡ next s e.event → pages' ≡ pages + (if asks_page e.event then 1 else 0)
     → length history + (4 * length s.rows + length s.children + 2) ≤ room'
-    → may_make e.pass (row_of e.pass history) (load history) e.event ≡ true → GoesOn base history e
+    → IsStopFor (load history) e.event → GoesOn base history e
     → IsKept base history' s' ordinals' pages' room'
-kept_with_room base history history' s s' ordinals ordinals' pages pages' room room' e before is_allowed numbers stepped history_is state_is pages_is space role goes =
+kept_with_room base history history' s s' ordinals ordinals' pages pages' room room' e before is_allowed numbers stepped history_is state_is pages_is space stop goes =
     let len : length (history ++ e ∷ []) ≡ length history + 1 = length-append history (e ∷ []) in
     let owes = owed-bound (next s e.event) in
     let sizes : HasSizesOf s (next s e.event) = subst (HasSizesOf s) state_is stepped.sizes in
     rw (history_is, state_is, pages_is)
     (kept_more base history s ordinals ordinals' pages room room' e before is_allowed (rw history_is at numbers)
     (rw state_is at (stepped.sound before.sound)) (rw state_is at (stepped.sized before.sized))
-    (omega (arith, len, owes, sizes.rows, sizes.children, space)) role goes)
+    (omega (arith, len, owes, sizes.rows, sizes.children, space)) stop goes)
 
 -- the same, where the room was taken before
 pub kept_sure : (base : State) (history history' : List Entry) (s s' : State) (ordinals ordinals' : List ℕ) (pages room room' : ℕ) (e : Entry)
     → IsKept base history s ordinals pages room → is_allowed s e.event ≡ true → AreNext ordinals' history' → IsStepped s s'
     → history' ≡ history ++ e ∷ [] → s' ≡ next s e.event → is_sure e.event ≡ true → room ≤ room'
-    → may_make e.pass (row_of e.pass history) (load history) e.event ≡ true → GoesOn base history e
+    → IsStopFor (load history) e.event → GoesOn base history e
     → IsKept base history' s' ordinals' pages room'
-kept_sure base history history' s s' ordinals ordinals' pages room room' e before is_allowed numbers stepped history_is state_is sure space role goes =
+kept_sure base history history' s s' ordinals ordinals' pages room room' e before is_allowed numbers stepped history_is state_is sure space stop goes =
     let len : length (history ++ e ∷ []) ≡ length history + 1 = length-append history (e ∷ []) in
     let owes = owed-sure s e.event is_allowed sure in
     let none = sure-pages e.event sure in
     let more = kept_more base history s ordinals ordinals' pages room room' e before is_allowed (rw history_is at numbers)
     (rw state_is at (stepped.sound before.sound)) (rw state_is at (stepped.sized before.sized))
-    (omega (arith, len, owes, before.has_room, space)) role goes in
+    (omega (arith, len, owes, before.has_room, space)) stop goes in
     let same : pages + (if asks_page e.event then 1 else 0) ≡ pages = rw none (omega arith) in
     rw (history_is, state_is)
     (subst (λ (n : ℕ). IsKept base (history ++ e ∷ []) (next s e.event) ordinals' n room') same more)

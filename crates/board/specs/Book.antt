@@ -1,5 +1,5 @@
 -- What a board keeps of its history.
-use Rattle.std.specs.Prelude.{◌≡◌, ℕ, ◌≤◌, List, [], ◌∷◌, ◌++◌, length}
+use Rattle.std.specs.Prelude.{◌≡◌, ℕ, ◌<◌, ◌≤◌, List, [], ◌∷◌, ◌++◌, length}
 use Rattle.conn_machine.specs.declared.event.Why.TheVariants as why
 use Rattle.conn_machine.specs.declared.event.Commanded.TheVariants.{Stop}
 use Rattle.conn_machine.specs.declared.event.Event.{Event}
@@ -36,19 +36,25 @@ book_with_entry who event b = record b { history = b.history ++ entry_of who eve
 abbrev pub full_stop : Event
 full_stop = event.Command (Stop why.Full)
 
--- the history has an entry of that event: the entries before it, the entry, and those behind it
-pub record HasFullStop (history : List Entry) : Type 0 where
-  pub before : List Entry
-  pub stop : Entry
-  pub behind : List Entry
-  pub history_is : history ≡ before ++ stop ∷ behind
-  pub event_is : stop.event ≡ full_stop
+-- the event that stops the server for want of memory
+abbrev pub memory_stop : Event
+memory_stop = event.Command (Stop why.NoMemory)
 
--- wherever the history has one, the load of the entries before it is at its limit
-pub record StopsWhereFull (history : List Entry) : Type 0 where
-  pub full : (has : HasFullStop history) → full_load ≤ load has.before
+-- the history has an entry of the event: the entries before it, the entry, and those behind it
+pub record HasEntryOf (event : Event) (history : List Entry) : Type 0 where
+  pub before : List Entry
+  pub entry : Entry
+  pub behind : List Entry
+  pub history_is : history ≡ before ++ entry ∷ behind
+  pub event_is : entry.event ≡ event
+
+-- wherever the history has a stop because it is full, the load of the entries before is at its limit, and wherever it has one for
+-- want of memory, below its limit
+pub record StopsByLoad (history : List Entry) : Type 0 where
+  pub full : (has : HasEntryOf full_stop history) → full_load ≤ load has.before
+  pub light : (has : HasEntryOf memory_stop history) → load has.before < full_load
 
 -- the server stopped because the history is full exactly where the history has such an entry
 pub record TellsFullStop (going : Going) (history : List Entry) : Type 0 where
-  pub stands : going ≡ Halted why.Full → HasFullStop history
-  pub stopped : HasFullStop history → going ≡ Halted why.Full
+  pub stands : going ≡ Halted why.Full → HasEntryOf full_stop history
+  pub stopped : HasEntryOf full_stop history → going ≡ Halted why.Full

@@ -7,7 +7,7 @@ use Rattle.conn_machine.specs.Made.{AreMade}
 use Rattle.conn_machine.specs.Sizes.{IsSized}
 use Rattle.conn_machine.specs.Sound.{IsSound}
 use Rattle.board.specs.RoomInside.{owed_entries}
-use Rattle.board.specs.Book.{StopsWhereFull, TellsFullStop}
+use Rattle.board.specs.Book.{StopsByLoad, TellsFullStop}
 
 -- the numbers that the entries of the passes have next
 abbrev pub AreNext : List ℕ → List Entry → Type 0
@@ -18,8 +18,8 @@ abbrev pub pages_of : List Entry → ℕ
 pages_of history = count_by (λ e. asks_page e.event) history
 
 -- the history is one of the machine, from its base to its state, and the states are sound; each entry is one that its pass may
--- make; each pass's next number and the number of pages are known; there is room for what must follow; and a stop because the
--- history is full stands only where it is, and is told by the state
+-- make; each pass's next number and the number of pages are known; there is room for what must follow; a stop because the
+-- history is full stands only where it is, and one for want of memory only where it isn't; and the first is told by the state
 pub record IsKept (base : State) (history : List Entry) (state : State) (ordinals : List ℕ) (pages room : ℕ) : Type 0 where
   pub is_history : IsHistory base history
   pub made : AreMade base history
@@ -30,5 +30,5 @@ pub record IsKept (base : State) (history : List Entry) (state : State) (ordinal
   pub pages_is : pages ≡ pages_of history
   pub sized : IsSized state
   pub has_room : length history + owed_entries state ≤ room
-  pub stops : StopsWhereFull history
+  pub stops : StopsByLoad history
   pub full : TellsFullStop state.going history

@@ -1,5 +1,5 @@
 -- What the tests of a board look for in its state.
-use Rattle.std.specs.Prelude.{◌≡◌, ℕ, Bool, true, false, not, ◌&&◌, ◌||◌, List, [], ◌∷◌, ◌++◌, length, map, filter, find, min, nat_lt, Option, None, Some, option_map, slice_get, if◌then◌else◌}
+use Rattle.std.specs.Prelude.{◌≡◌, ℕ, Bool, true, false, not, ◌&&◌, List, [], ◌∷◌, ◌++◌, length, map, filter, find, min, nat_lt, Option, None, Some, option_map, slice_get, if◌then◌else◌}
 use Rattle.std.specs.List.{list_any, range_with_len, reduce}
 use Rattle.std.specs.Option.{option_and_then}
 use Rattle.mpm_base.specs.declared.conn.ConnName.{ConnName}
@@ -12,7 +12,7 @@ use Rattle.conn_machine.specs.declared.row.Row.{Row}
 use Rattle.conn_machine.specs.declared.state.Going.{Going}
 use Rattle.conn_machine.specs.declared.state.Going.TheVariants.{Serving, Ending, Halted}
 use Rattle.conn_machine.specs.declared.state.State.{State}
-use Rattle.conn_machine.specs.Rows.{is_vacant, is_held, is_parked, is_queued, is_working, is_from, is_lingering, live_row, lives_and}
+use Rattle.conn_machine.specs.Rows.{is_vacant, is_parked, is_with_a_pass, is_from, is_lingering, live_row, lives_and}
 use Rattle.conn_machine.specs.Children.{is_empty, is_stopping, running_count}
 use Rattle.conn_machine.specs.States.{is_serving, is_signalled, is_overdue, child_of, pick_child}
 use Rattle.conn_machine.specs.Table.{child_passes, may_be_queued, may_retire}
@@ -94,10 +94,6 @@ IsFirstDue s name = option_map (λ r. r.deadline) (live_row s.rows name) ≡ red
 abbrev pub next_deadline_of : State → Option ℕ
 next_deadline_of s = reduce min (waiting_deadlines s.rows ++ ending_moments s.going)
 
--- the row is in hand: a worker or the listener has it, or it waits for a worker
-abbrev pub is_in_hand : Row → Bool
-is_in_hand r = is_held r.place || is_queued r.place || is_working r.place
-
--- no row is in hand
+-- no pass has a row
 abbrev pub is_quiet : State → Bool
-is_quiet s = not (list_any is_in_hand s.rows)
+is_quiet s = not (list_any (λ r. is_with_a_pass r.place) s.rows)

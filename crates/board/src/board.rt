@@ -3,20 +3,20 @@ ghost use Rattle.std.specs.Prelude.{◌≡◌, ◌<◌, ◌≤◌, true, false, 
 ghost use Rattle.conn_machine.specs.Children.{is_in_bounds};
 ghost use Rattle.conn_machine.specs.States.{is_halted, opening_state};
 ghost use Rattle.conn_machine.specs.Table.{is_allowed, cell_at, reply, taken_reply};
-ghost use Rattle.conn_machine.specs.Runs.{Adds, IsHistory, after, load, may_order, row_of};
+ghost use Rattle.conn_machine.specs.Runs.{Adds, IsHistory, after, full_load, load, may_order, row_of};
 ghost use Rattle.conn_machine.specs.Made.{AreMade};
 ghost use Rattle.conn_machine.specs.Sizes.{IsSized};
 ghost use Rattle.conn_machine.specs.Sound.{IsSound};
 ghost use Rattle.conn_machine.specs.declared.event.Event.TheVariants as event;
 ghost use Rattle.conn_machine.specs.declared.event.Commanded.TheVariants.{Stop};
 ghost use Rattle.conn_machine.specs.declared.event.Reply.TheVariants.{Took};
-ghost use Rattle.conn_machine.specs.declared.event.Why.TheVariants as why;
+ghost use Rattle.conn_machine.specs.declared.event.Why.TheVariants as reason;
 ghost use Rattle.mpm_base.specs.Moment.{IsSecond};
 ghost use Rattle.conn_state.specs.declared.turn.LastLinger.TheVariants as linger;
 ghost use Rattle.conn_state.specs.Answered.{IsEnded, MayLinger};
 ghost use Rattle.conn_state.specs.Conn.{SeenConn};
 ghost use Rattle.conn_state.specs.Known.{IsOfClient};
-ghost use Rattle.board.specs.Book.{StopsWhereFull, TellsFullStop, book_with_entry};
+ghost use Rattle.board.specs.Book.{StopsByLoad, TellsFullStop, book_with_entry};
 ghost use Rattle.board.specs.Board.{Agrees, AreOfClients, WaitForClients, conn_at};
 ghost use Rattle.board.specs.Events.{IsAdded, IsDecided, IsTaken, with_recorded};
 ghost use Rattle.board.specs.EventsInside.{decided_note};
@@ -160,8 +160,9 @@ impl<L: Link, N: Known> Board<L, N> {
     }
 
     /// What holds of every board: its history is one of the machine, from its base to its state, which are sound; each entry
-    /// is one that its pass may make where it stands; a stop because the history is full stands only where it is; and the
-    /// connections agree with the history. Where `N` knows what the clients send, each link is that of one of them.
+    /// is one that its pass may make where it stands; a stop because the history is full stands only where it is, and one for want
+    /// of memory only where it isn't; and the connections agree with the history. Where `N` knows what the clients send, each link
+    /// is that of one of them.
     pub fn show(&self)
         ensures history { IsHistory self.now.book.base self.now.book.history }
         ensures made { AreMade self.now.book.base self.now.book.history }
@@ -169,7 +170,7 @@ impl<L: Link, N: Known> Board<L, N> {
         ensures opened { IsSound self.now.book.base }
         ensures sound { IsSound self.now.book.state }
         ensures sized { IsSized self.now.book.state }
-        ensures stops { StopsWhereFull self.now.book.history }
+        ensures stops { StopsByLoad self.now.book.history }
         ensures full { TellsFullStop self.now.book.state.going self.now.book.history }
         ensures agrees { Agrees self.now }
         ensures clients { AreOfClients N.known self.now }
@@ -410,10 +411,11 @@ impl<L: Link, N: Known> Board<L, N> {
         Ok(())
     }
 
-    /// The server stops: for a full history only where it is full. Takes no memory.
+    /// The server stops: for a full history only where it is full, and for want of memory only where it isn't. Takes no memory.
     pub fn halt(&mut self, who: u32, why: Why)
         requires who { who < self.old.book.passes }
         requires role { may_order who (load self.old.book.history) (Stop why) ≡ true }
+        requires light { why ≡ reason.NoMemory → load self.old.book.history < full_load }
         requires allowed { is_allowed self.old.book.state (event.Command (Stop why)) ≡ true }
         ensures is { self.new ≡ with_recorded who (event.Command (Stop why)) self.old }
         ensures entries { Adds who self.old.book.base self.old.book.history self.new.book.history }

@@ -7,7 +7,7 @@ ghost use Rattle.conn_machine.specs.Runs.{Adds, IsHistory, after, asks_page, ful
 ghost use Rattle.conn_machine.specs.Made.{AreMade};
 ghost use Rattle.conn_machine.specs.Sizes.{IsSized};
 ghost use Rattle.conn_machine.specs.Sound.{IsSound};
-ghost use Rattle.board.specs.Book.{StopsWhereFull, TellsFullStop, numbered_entry, book_with_entry};
+ghost use Rattle.board.specs.Book.{StopsByLoad, TellsFullStop, book_with_entry, memory_stop, numbered_entry};
 ghost use Rattle.board.specs.BookInside.{AreNext};
 ghost use Rattle.board.specs.Faults.{IsRefusedFor};
 ghost use Rattle.board.specs.FaultsInside.{IsRecorded};
@@ -97,8 +97,8 @@ impl Book {
         self.history.as_slice()
     }
 
-    /// The history is one of the machine, from its base to its state; each entry is one that its pass may make; and a stop
-    /// because it is full stands only where it is.
+    /// The history is one of the machine, from its base to its state; each entry is one that its pass may make; a stop
+    /// because it is full stands only where it is, and one for want of memory only where it isn't.
     pub fn show(&self)
         ensures history { IsHistory self.now.base self.now.history }
         ensures made { AreMade self.now.base self.now.history }
@@ -106,7 +106,7 @@ impl Book {
         ensures opened { IsSound self.now.base }
         ensures sound { IsSound self.now.state }
         ensures sized { IsSized self.now.state }
-        ensures stops { StopsWhereFull self.now.history }
+        ensures stops { StopsByLoad self.now.history }
         ensures full { TellsFullStop self.now.state.going self.now.history }
     {
         let _ = &self.history;
@@ -158,6 +158,7 @@ impl Book {
         requires who { who < self.old.passes }
         requires allowed { is_allowed self.old.state event ≡ true }
         requires sure { is_sure event ≡ true }
+        requires light { event ≡ memory_stop → load self.old.history < full_load }
         requires role { may_make who (row_of who self.old.history) (load self.old.history) event ≡ true }
         ensures is { self.new ≡ book_with_entry who event self.old }
         ensures entries { Adds who self.old.base self.old.history self.new.history }

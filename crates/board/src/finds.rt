@@ -1,10 +1,11 @@
 //! The board's tests of its state: none takes memory, and each is exact.
-ghost use Rattle.std.specs.Prelude.{◌≡◌, ℕ, ◌≤◌, ◌++◌, List, length, find, min, IfSome};
+ghost use Rattle.std.specs.Prelude.{◌≡◌, ℕ, ◌≤◌, ◌++◌, List, length, find, min, nat_le, IfSome};
 ghost use Rattle.std.specs.List.{list_any, range_with_len, reduce};
 ghost use Rattle.conn_machine.specs.Children.{is_empty};
-ghost use Rattle.conn_machine.specs.Rows.{is_vacant};
+ghost use Rattle.conn_machine.specs.Rows.{is_vacant, is_with_a_pass};
+ghost use Rattle.conn_machine.specs.Runs.{full_load, load};
 ghost use Rattle.conn_machine.specs.Table.{child_passes};
-ghost use Rattle.board.specs.Finds.{FindsRetirable, FindsRow, IsFirstDue, acceptable, cause_of, ending_moments, has_to_be_drained, is_due, is_in_hand, is_late, is_let_go, is_quiet, is_waiting, next_deadline_of, startable, waits_for};
+ghost use Rattle.board.specs.Finds.{FindsRetirable, FindsRow, IsFirstDue, acceptable, cause_of, ending_moments, has_to_be_drained, is_due, is_late, is_let_go, is_quiet, is_waiting, next_deadline_of, startable, waits_for};
 
 use crate::board::Board;
 use conn_machine::{Going, Place, Row, State};
@@ -103,6 +104,13 @@ impl<L: Link, N: Known> Board<L, N> {
         ensures { result ≡ is_quiet self.now.book.state }
     {
         quiet(self.book.state())
+    }
+
+    /// Whether the history takes no more than what must follow it.
+    pub fn is_full(&self) -> bool
+        ensures { result ≡ nat_le full_load (load self.now.book.history) }
+    {
+        self.book.is_full()
     }
 
     /// Whether the server takes connections, ends, or has stopped.
@@ -306,14 +314,14 @@ fn quiet(state: &State) -> bool
 
 /// Whether a connection is in hand.
 fn has_row_in_hand(state: &State) -> bool
-    ensures { result ≡ list_any is_in_hand state.now.rows }
+    ensures { result ≡ list_any (λ r. is_with_a_pass r.place) state.now.rows }
 {
     state.rows.as_slice().iter().any(|row| is_row_in_hand(row))
 }
 
-/// Whether a worker or the listener has the row, or it waits for a worker.
+/// Whether a pass has the row: the listener holds it, or a worker has it, or will.
 fn is_row_in_hand(row: &Row) -> bool
-    ensures { result ≡ is_in_hand row.now }
+    ensures { result ≡ is_with_a_pass row.now.place }
 {
     row.place.is_held() || row.place.is_queued() || row.place.is_working()
 }

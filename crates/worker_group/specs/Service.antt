@@ -133,8 +133,9 @@ RefusalLasts fault.NoMemory b = ⊤
 abbrev pub IsUp : Going → Type 0
 IsUp going = (is_halted going ≡ false) ⊎ (going ≡ Halted why.Full)
 
--- what only the listener changes is as it was: the moment, and how many connections were taken; and the server didn't stop,
--- unless for a full history
+-- the moment is as it was, and how many connections were taken, and the server didn't stop, unless for a full history. The
+-- listener's own calls between two ticks leave this too, though they start and let go of children and signal slots; what another
+-- pass leaves is more (`OnlyServes`)
 pub record LeavesRest (old new : SeenBook) : Type 0 where
   pub moment : new.state.moment ≡ old.state.moment
   pub accepted : new.state.accepted ≡ old.state.accepted

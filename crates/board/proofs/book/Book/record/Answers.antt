@@ -1,11 +1,12 @@
-use Rattle.std.proofs.Common.{◌≡◌, List, ◌+◌, ◌*◌, ◌≤◌, true, false, length, vec_capacity, if◌then◌else◌, subst, sym, refl, ◌∙◌, ap, rules}
+use Rattle.std.proofs.Common.{◌≡◌, List, ◌+◌, ◌*◌, ◌<◌, ◌≤◌, true, false, length, vec_capacity, if◌then◌else◌, subst, sym, refl, ◌∙◌, ap, rules}
 use Rattle.conn_machine.specs.States.{is_halted}
 use Rattle.conn_machine.specs.Table.{is_allowed, reply}
 use Rattle.conn_machine.specs.declared.event.Entry.{Entry}
-use Rattle.conn_machine.specs.Runs.{Adds, after, asks_page}
+use Rattle.conn_machine.specs.Runs.{Adds, after, asks_page, full_load, load}
 use Rattle.board.specs.Book.{SeenBook, entry_of, numbered_entry}
 use Rattle.board.proofs.BookLemmas.{goes_by, open_if, kept_with_room, recorded_is}
 use Rattle.board.proofs.PassLemmas.{adds_recorded, is_own, may_be_next, role_inside, row-recorded}
+use Rattle.board.proofs.StopLemmas.{stop_by_role}
 use Rattle.board.proofs.book.Book.record.Goals as goal
 
 pub step-requires-clause-allowed : goal.step-requires-clause-allowed
@@ -28,11 +29,15 @@ invariant_of-self-2 c =
     let e = numbered_entry c.args.who c.args.event c.in-Ok.reply history in
     let role = role_inside c.args.who _ c.args.self.now c.args.event c.self.view_is c.requires.role in
     let goes_on = c.histories_go_on_by_one_entry.ensures in
+    let free = open_if c.args.self.now inside.state c.is_halted.result c.is_full.result
+    (ap (λ (v : SeenBook). v.state) c.self.view_is) c.is_halted.ensures c.is_full.ensures c.if-is_halted.false c.if-is_full.false in
+    let light : load history < full_load = subst (λ (v : SeenBook). load v.history < full_load) (sym c.self.view_is) free.light in
     kept_with_room base history c.append.new.history.items inside.state c.step.new.state inside.ordinals.items
     c.append.new.ordinals.items inside.pages (inside.pages + c.pages_in.result) (vec_capacity inside.history) (vec_capacity c.append.new.history)
     e c.self.invariant may c.append.ensures.numbers
     (record { sound = c.step.ensures.sound; sizes = c.step.ensures.sizes; sized = c.step.ensures.sized })
-    (rw c.reserve.ensures.items at c.append.ensures.history) c.in-Ok.ensures.state pages space role
+    (rw c.reserve.ensures.items at c.append.ensures.history) c.in-Ok.ensures.state pages space
+    (stop_by_role c.args.who _ (load history) c.args.event role (λ is. light))
     (goes_by base history inside.state inside.ordinals.items inside.pages (vec_capacity inside.history) e c.self.invariant may c.in-Ok.ensures.reply refl role
     goes_on.state goes_on.history goes_on.made)
 
