@@ -11,7 +11,7 @@ use Rattle.conn_machine.specs.declared.event.Why.TheVariants as why
 use Rattle.conn_machine.specs.declared.state.Going.{Going}
 use Rattle.conn_machine.specs.declared.state.Going.TheVariants.{Halted}
 use Rattle.conn_machine.specs.declared.state.State.{State}
-use Rattle.board.specs.Book.{StopsWhereFull, TellsFullStop}
+use Rattle.board.specs.Book.{StopsByLoad, TellsFullStop}
 use Rattle.board.specs.Board.{SeenBoard}
 use Rattle.mpm_run.specs.ListenInside.{HasEnded, HasGivenAll, HasStopped, IsEnd, IsInTime, StoppedFor, waits_of}
 use Rattle.mpm_run.specs.ExitStatuses.{EndsFull, HasEnd, KeepsTime, WritesText, board_report}
@@ -43,7 +43,7 @@ seven-full going status (inr (inr no_memory)) is seven =
     absurd (omega (arith, subst (λ (g : Going). IsExitStatusOf g status) no_memory is, seven))
 
 -- then the history has a stop for that
-pub ends-full : (old new : SinkSeen) (b : SeenBoard) (status status' : ℕ) → StopsWhereFull b.book.history
+pub ends-full : (old new : SinkSeen) (b : SeenBoard) (status status' : ℕ) → StopsByLoad b.book.history
     → TellsFullStop b.book.state.going b.book.history → IsEnd b.book.state.going → IsExitStatusOf b.book.state.going status → ReportsAs status status'
     → status' ≡ 7 → WritesText old new (board_report b) → EndsFull old new b
 ends-full old new b status status' stops full end is reports seven text =

@@ -46,10 +46,10 @@ pub silent-retires : (children : List ℕ) → AreSilent (map event.Retire child
 silent-retires [] = silent-none
 silent-retires (k ∷ children) = record { ticks = (silent-retires children).ticks; signals = (silent-retires children).signals }
 
-pub silent-stops : (fault : BoardFault) → AreSilent (stop_events fault)
-silent-stops fault.Halted = silent-none
-silent-stops fault.Full = record { ticks = refl; signals = refl }
-silent-stops fault.NoMemory = record { ticks = refl; signals = refl }
+pub silent-stops : (b : SeenBook) (fault : BoardFault) → AreSilent (stop_events b fault)
+silent-stops b fault.Halted = silent-none
+silent-stops b fault.Full = record { ticks = refl; signals = refl }
+silent-stops b fault.NoMemory = record { ticks = refl; signals = refl }
 
 silent-left : (way : Exit) (name : ConnName) → AreSilent (left_events way name)
 silent-left (exit.Park kind) name = record { ticks = refl; signals = refl }

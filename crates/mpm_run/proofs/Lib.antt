@@ -1,5 +1,6 @@
 pub mod AddedLemmas
 pub mod CauseLemmas
+pub mod ChildrenLemmas
 pub mod ClosingLemmas
 pub mod EndLemmas
 pub mod EventLemmas

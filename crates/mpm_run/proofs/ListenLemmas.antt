@@ -17,15 +17,16 @@ use Rattle.conn_machine.specs.declared.event.Event.TheVariants as event
 use Rattle.conn_machine.specs.declared.state.Going.{Going}
 use Rattle.conn_machine.specs.declared.state.Going.TheVariants.{Serving, Ending, Halted}
 use Rattle.conn_machine.specs.declared.state.State.{State}
-use Rattle.conn_machine.specs.Rows.{is_unused, is_held, is_parked, is_queued, is_working, is_live, is_live_in}
+use Rattle.conn_machine.specs.Rows.{is_unused, is_parked, is_live, is_live_in, is_with_a_pass}
 use Rattle.conn_machine.specs.Children.{no_child, child_at, is_empty, is_running, is_stopping, running_count, is_in_bounds, is_between, started_child, retired_child}
 use Rattle.conn_machine.specs.States.{is_halted, is_serving, is_signalled}
 use Rattle.conn_machine.specs.Lists.{update}
 use Rattle.conn_machine.specs.Table.{is_allowed, next, child_passes, may_retire, may_be_held}
 use Rattle.conn_machine.specs.Sound.{IsSound}
 use Rattle.conn_machine.proofs.UpdateLemmas.{count_cons}
-use Rattle.board.specs.Finds.{startable, FindsRow, FindsRetirable, is_waiting, is_in_hand, is_quiet}
+use Rattle.board.specs.Finds.{startable, FindsRow, FindsRetirable, is_waiting, is_quiet}
 use Rattle.mpm_run.specs.Listen.{HasNoLive, AllEmpty}
+use Rattle.mpm_run.proofs.PassLemmas.{idle-place}
 use Rattle.worker_group.proofs.ServeLemmas.{alive, test-at}
 use Rattle.worker_group.proofs.StartLemmas.{Lives, lives}
 
@@ -59,7 +60,7 @@ found-passes p [] k found = absurd (cc)
 found-passes p (x ∷ ks) k found = found-by p ks x k (p x) refl (found-passes p ks k) found
 
 -- what a child has to be, so that it may be started
-record Startable (s : State) (k : ℕ) : Type 0 where
+pub record Startable (s : State) (k : ℕ) : Type 0 where
   pub serving : is_serving s.going ≡ true
   pub few : nat_lt (running_count s.children) s.shape.target ≡ true
   pub empty : child_passes (λ c. is_empty c.phase) s k ≡ true
@@ -71,7 +72,7 @@ startable-by s k true true serves less found =
 startable-by s k true false serves less found = absurd (cc)
 startable-by s k false few serves less found = absurd (cc)
 
-is-startable : (s : State) (k : ℕ) → startable s ≡ Some k → Startable s k
+pub is-startable : (s : State) (k : ℕ) → startable s ≡ Some k → Startable s k
 is-startable s k found = startable-by s k (is_serving s.going) (nat_lt (running_count s.children) s.shape.target) refl refl found
 
 -- fewer children should run than there may be
@@ -88,12 +89,12 @@ may-start_child s k sound found =
     rw (is.serving, is.empty, less-within (running_count s.children) s.shape.target s.shape.children is.few (target-within s.shape sound.children.newest)) refl
 
 -- the child of the number, which passes the test
-record ChildAt (test : Child → Bool) (children : List Child) (k : ℕ) : Type 0 where
+pub record ChildAt (test : Child → Bool) (children : List Child) (k : ℕ) : Type 0 where
   pub child : Child
   pub at : slice_get children k ≡ Some child
   pub passes : test child ≡ true
 
-child-by : (test : Child → Bool) (children : List Child) (k : ℕ) (o : Option Child) → slice_get children k ≡ o → option_map_or test o false ≡ true
+pub child-by : (test : Child → Bool) (children : List Child) (k : ℕ) (o : Option Child) → slice_get children k ≡ o → option_map_or test o false ≡ true
     → ChildAt test children k
 child-by test children k None at passes = absurd (cc)
 child-by test children k (Some c) at passes = record { child = c; at = at; passes = passes }
@@ -194,27 +195,18 @@ all-gone s sound halted found live k =
 
 -- ## Nothing more can come
 
--- a row that is neither in hand nor waits isn't live
-idle-row : (p : Place) → (is_held p || is_queued p || is_working p) ≡ false → is_parked p ≡ false → not (is_unused p) ≡ false
-idle-row Vacant hand parked = refl
-idle-row Spent hand parked = refl
-idle-row Held hand parked = absurd (cc)
-idle-row (Parked kind) hand parked = absurd (cc)
-idle-row Queued hand parked = absurd (cc)
-idle-row (Working cell phase) hand parked = absurd (cc)
-
 or-parts : (a b : Bool) → (a || b) ≡ false → (a ≡ false) × (b ≡ false)
 or-parts false false none = (refl, refl)
 or-parts false true none = absurd (cc)
 or-parts true b none = absurd (cc)
 
 -- no row is live where none is in hand and none waits
-idle-rows : (rows : List Row) → list_any is_in_hand rows ≡ false → ((slot : ℕ) (r : Row) → slice_get rows slot ≡ Some r → is_parked r.place ≡ false)
+idle-rows : (rows : List Row) → list_any (λ r. is_with_a_pass r.place) rows ≡ false → ((slot : ℕ) (r : Row) → slice_get rows slot ≡ Some r → is_parked r.place ≡ false)
     → list_any is_live rows ≡ false
 idle-rows [] quiet none = refl
 idle-rows (r ∷ rows) quiet none =
-    let parts = or-parts (is_in_hand r) (list_any is_in_hand rows) quiet in
-    rw (idle-row r.place parts.0 (none 0 r refl), idle-rows rows parts.1 (λ slot x at. none (suc slot) x at)) refl
+    let parts = or-parts (is_with_a_pass r.place) (list_any (λ (x : Row). is_with_a_pass x.place) rows) quiet in
+    rw (idle-place r.place parts.0 (none 0 r refl), idle-rows rows parts.1 (λ slot x at. none (suc slot) x at)) refl
 
 not-true : (b : Bool) → not b ≡ true → b ≡ false
 not-true true at = absurd (cc)
@@ -222,12 +214,12 @@ not-true false at = refl
 
 -- and where the board is quiet and no connection waits
 none-live : (s : State) → is_quiet s ≡ true → FindsRow is_waiting s None → HasNoLive s
-none-live s quiet none = idle-rows s.rows (not-true (list_any is_in_hand s.rows) quiet) none
+none-live s quiet none = idle-rows s.rows (not-true (list_any (λ (r : Row). is_with_a_pass r.place) s.rows) quiet) none
 
 -- ## A connection is live
 
 -- a row that is in hand is live
-live-in_hand : (p : Place) → (is_held p || is_queued p || is_working p) ≡ true → not (is_unused p) ≡ true
+live-in_hand : (p : Place) → is_with_a_pass p ≡ true → not (is_unused p) ≡ true
 live-in_hand Vacant hand = absurd (cc)
 live-in_hand Spent hand = absurd (cc)
 live-in_hand Held hand = refl
@@ -235,15 +227,15 @@ live-in_hand (Parked kind) hand = absurd (cc)
 live-in_hand Queued hand = refl
 live-in_hand (Working cell phase) hand = refl
 
-busy-cons : (r : Row) (rows : List Row) (hand : Bool) → is_in_hand r ≡ hand → (hand || list_any is_in_hand rows) ≡ true
-    → (list_any is_in_hand rows ≡ true → list_any is_live rows ≡ true) → list_any is_live (r ∷ rows) ≡ true
+busy-cons : (r : Row) (rows : List Row) (hand : Bool) → is_with_a_pass r.place ≡ hand → (hand || list_any (λ r. is_with_a_pass r.place) rows) ≡ true
+    → (list_any (λ r. is_with_a_pass r.place) rows ≡ true → list_any is_live rows ≡ true) → list_any is_live (r ∷ rows) ≡ true
 busy-cons r rows true is any rest = rw (live-in_hand r.place is) refl
 busy-cons r rows false is any rest = rw (rest any) (or-true (is_live r))
 
 -- some row is live where one is in hand
-busy-rows : (rows : List Row) → list_any is_in_hand rows ≡ true → list_any is_live rows ≡ true
+busy-rows : (rows : List Row) → list_any (λ r. is_with_a_pass r.place) rows ≡ true → list_any is_live rows ≡ true
 busy-rows [] any = absurd (cc)
-busy-rows (r ∷ rows) any = busy-cons r rows (is_in_hand r) refl any (busy-rows rows)
+busy-rows (r ∷ rows) any = busy-cons r rows (is_with_a_pass r.place) refl any (busy-rows rows)
 
 not-false : (b : Bool) → not b ≡ false → b ≡ true
 not-false true at = refl
@@ -251,7 +243,7 @@ not-false false at = absurd (cc)
 
 -- so it is where the board isn't quiet
 pub busy-live : (s : State) (quiet : Bool) → quiet ≡ is_quiet s → quiet ≡ false → not quiet ≡ list_any is_live s.rows
-busy-live s quiet is busy = ap not busy ∙ sym (busy-rows s.rows (not-false (list_any is_in_hand s.rows) (sym is ∙ busy)))
+busy-live s quiet is busy = ap not busy ∙ sym (busy-rows s.rows (not-false (list_any (λ (r : Row). is_with_a_pass r.place) s.rows) (sym is ∙ busy)))
 
 -- some row is live where that of a slot is
 live-at : (rows : List Row) (slot : ℕ) (r : Row) → slice_get rows slot ≡ Some r → is_live r ≡ true → list_any is_live rows ≡ true

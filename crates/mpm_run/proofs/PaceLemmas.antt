@@ -1,5 +1,5 @@
 -- That the listener keeps pace with a patient front, and lets time pass only where nothing is left to be done.
-use Rattle.std.proofs.Common.{◌≡◌, ◌≢◌, ◌⊎◌, ◌<◌, ◌≤◌, ◌-◌, inl, inr, ℕ, Bool, true, false, cond, if◌then◌else◌, List, [], ◌∷◌, ◌++◌, find, max, min, nat_le, nat_lt, Option, None, Some, option_map, IfSome, Contains, Result, refl, sym, ap, subst, ◌∙◌, append-nil, arith}
+use Rattle.std.proofs.Common.{◌≡◌, ◌≢◌, ◌⊎◌, ◌<◌, ◌≤◌, ◌-◌, inl, inr, ℕ, Bool, true, false, cond, if◌then◌else◌, List, [], ◌∷◌, ◌++◌, find, max, min, nat_le, nat_lt, Option, None, Some, is_some, option_map, IfSome, Contains, Result, refl, sym, ap, subst, ◌∙◌, append-nil, arith}
 use Rattle.std.proofs.lemmas.Bool.Decides.{nat_tests}
 use Rattle.std.proofs.lemmas.List.Elements.{Contains-append_left, Contains-append_right}
 use Rattle.std.specs.List.{flat_map}
@@ -332,7 +332,8 @@ pace-started rest l m start is starts moment until restful =
     (record {
       abreast =
           λ steady.
-          let first = told-part (λ t. t.moment ≡ 0) l.front.told steady.front steady.tells start.first in
+          let first : steady.front.moment ≡ 0 =
+          told-part (λ t. is_some t.comings ≡ true → t.moment ≡ 0) l.front.told steady.front steady.tells start.first (ap is_some steady.patient) in
           let zero = start.moment in
           omega (arith, moment, first, zero);
       patient =
@@ -394,13 +395,13 @@ unhushed (Some t) told' calls b is patient steady =
 
 -- the server was stopped, each connection that waited closed, and each child let go of
 pub patience-down : (turns : Result End BoardFault) (old new : FrontSeen) (calls : Option (List (ℕ × ℕ))) (a b c d : SeenBook)
-    → Acts 0 (halt_events a.state.going turns) None a b → LetsGo IsHaltedWay b c → RetiresSome c d → new ≡ after_hush old
+    → Acts 0 (halt_events a turns) None a b → LetsGo IsHaltedWay b c → RetiresSome c d → new ≡ after_hush old
     → IsPatientRun old.told calls a → IsPatientRun new.told calls d
 patience-down turns old new calls a b c d halts closes retires is patient =
     unhushed old.told new.told calls d (ap (λ (f : FrontSeen). f.told) is)
     (patience-silent 0 _ None old.told calls c d retires.acts (silent-retires retires.children).ticks
     (patience-silent 0 _ None old.told calls b c closes.acts (silent-gone closes.gone).ticks
-    (patience-silent 0 _ None old.told calls a b halts (silent-halts (is_halted a.state.going) turns).ticks patient)))
+    (patience-silent 0 _ None old.told calls a b halts (silent-halts (is_halted a.state.going) a turns).ticks patient)))
 
 -- ## A run of a script
 

@@ -85,7 +85,8 @@ rows-kept b state = ap (λ (s : State). length s.rows) (sym state) ∙ after-row
 
 -- ## No connection is live
 
-idle-place : (p : Place) → is_with_a_pass p ≡ false → is_parked p ≡ false → not (is_unused p) ≡ false
+-- a place that no pass has, and where nobody waits, isn't live
+pub idle-place : (p : Place) → is_with_a_pass p ≡ false → is_parked p ≡ false → not (is_unused p) ≡ false
 idle-place Vacant hand parked = refl
 idle-place Spent hand parked = refl
 idle-place Held hand parked = absurd (cc)

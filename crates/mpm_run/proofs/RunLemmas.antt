@@ -21,7 +21,7 @@ use Rattle.conn_machine.specs.Events.{count_events, is_accept, is_close}
 use Rattle.conn_machine.specs.Laws.{StaysSound}
 use Rattle.conn_state.specs.Answered.{SeenEnded, IsAnswered, IsEnded}
 use Rattle.conn_state.specs.Known.{KnownOutside, TellsFrom}
-use Rattle.board.specs.Book.{StopsWhereFull, TellsFullStop}
+use Rattle.board.specs.Book.{StopsByLoad, TellsFullStop}
 use Rattle.board.specs.Board.{SeenBoard, Agrees, AreClosed, AreEnded, ClosesFirst, EndedForClients}
 use Rattle.mpm_run.specs.Tells.{Receives, AllReceive}
 use Rattle.mpm_run.specs.FirstNumbers.{opened_by}
@@ -44,7 +44,7 @@ order-opening passes history order = λ p. subst (λ (first : ℕ). IsNumberedFr
 pub run-from : (n : RunNumbers) (b : SeenBoard) → b.book.base ≡ opened_by n → AreOfPasses n.passes b.book.history
     → ((s : State) (history : List Entry) → IsSound s → Run s history → StaysSound s history)
     → IsHistory b.book.base b.book.history → AreMade b.book.base b.book.history → after b.book.base b.book.history ≡ b.book.state
-    → IsSound b.book.base → StopsWhereFull b.book.history → TellsFullStop b.book.state.going b.book.history → Agrees b → IsRunFrom n b
+    → IsSound b.book.base → StopsByLoad b.book.history → TellsFullStop b.book.state.going b.book.history → Agrees b → IsRunFrom n b
 run-from n b opened few law is_history made state sound stops full agrees = record {
   opened = opened;
   run = subst (λ (s : State). Run s b.book.history) opened is_history.run;

@@ -1,17 +1,22 @@
 -- A server that has just opened.
 use Rattle.std.proofs.Common.{◌≡◌, inl, inr, ℕ, true, List, [], ◌∷◌, ◌++◌, map, Option, None, Some, option_map, IfSome, refl, sym, ap, subst, ◌∙◌}
 use Rattle.mpm_base.specs.Clock.{asked_at}
-use Rattle.mpm_base.specs.Front.{Binds, BoundTold, FrontSeen, FrontTold, WaitTold, after_bind, moments_of}
+use Rattle.mpm_base.specs.Front.{Binds, BoundTold, FrontSeen, FrontTold, IsUnused, WaitTold, after_bind, moments_of}
 use Rattle.mpm_base.specs.declared.addr.Addr.{Addr}
 use Rattle.conn_machine.specs.Made.{AreOfPasses, IsOpened}
 use Rattle.conn_machine.specs.declared.state.State.{State}
 use Rattle.board.specs.Book.{SeenBook}
 use Rattle.mpm_run.specs.FirstNumbers.{AreNumbers, opened_book}
-use Rattle.mpm_run.specs.ListenInside.{Follows, HasStopped, IsAtStart, IsIdle, IsInStep, IsInTime, IsStarting, IsUnasked, WatchesAll, bound_of, waits_of}
+use Rattle.mpm_run.specs.ListenInside.{Follows, HasStopped, IsAtStart, IsInStep, IsInTime, WatchesAll, bound_of, waits_of}
 use Rattle.mpm_run.specs.Times.{IsInformed, SignalsAre, TicksAre}
 use Rattle.mpm_run.specs.Watched.{AreWatched, IsBoundOnce, IsHushed, IsOpenedAndHushed}
 use Rattle.mpm_run.specs.declared.run_numbers.RunNumbers.{RunNumbers}
 use Rattle.mpm_run.proofs.FrontLemmas.{rises-after}
+
+-- nothing was asked of the front but to be bound, and nothing of the clock
+pub record IsIdle (told : Option FrontTold) (calls : Option (List (ℕ × ℕ))) : Type 0 where
+  pub front : IfSome told (λ t. IsUnused (record t { bound = [] }))
+  pub calls_are : IfSome calls (λ calls. calls ≡ [])
 
 -- a board that opens by the numbers opens as a server does
 pub opens : (n : RunNumbers) (b : SeenBook) → AreNumbers n → b ≡ opened_book n → IsOpened b.base
@@ -26,7 +31,7 @@ ticks-opened n (Some calls) none =
     subst (λ (calls : List (ℕ × ℕ)). TicksAre calls (opened_book n)) (sym none) (record { ticks = refl; moment = refl })
 
 -- a front that didn't wait, and a history without signals
-signals-opened : (n : RunNumbers) (told : Option FrontTold) → IfSome told IsUnasked → IfSome (waits_of told) (λ waits. SignalsAre waits (opened_book n))
+signals-opened : (n : RunNumbers) (told : Option FrontTold) → IfSome told (λ t. IsUnused (record t { bound = [] })) → IfSome (waits_of told) (λ waits. SignalsAre waits (opened_book n))
 signals-opened n None none = tt
 signals-opened n (Some t) none = subst (λ (waits : List WaitTold). SignalsAre waits (opened_book n)) (sym none.waits) refl
 
@@ -55,27 +60,38 @@ step-opened n (Some t) calls b opened starting = record {
 
 -- ## A front that was bound
 
-unasked-bound : (listen : Addr) (control : Option ℕ) (told told' : Option FrontTold) → told' ≡ option_map (after_bind true listen control) told
-    → IfSome told IsUnasked → IfSome told' IsUnasked
-unasked-bound listen control None told' is unasked = subst (λ (o : Option FrontTold). IfSome o IsUnasked) (sym is) tt
-unasked-bound listen control (Some t) told' is unasked =
-    subst (λ (o : Option FrontTold). IfSome o IsUnasked) (sym is)
-    (record { accepted = unasked.accepted; arrived = unasked.arrived; moment = unasked.moment; hushed = unasked.hushed; watches = unasked.watches; waits = unasked.waits })
+unused-bound : (listen : Addr) (control : Option ℕ) (told told' : Option FrontTold) → told' ≡ option_map (after_bind true listen control) told
+    → IfSome told IsUnused → IfSome told' (λ t. IsUnused (record t { bound = [] }))
+unused-bound listen control None told' is unused = subst (λ (o : Option FrontTold). IfSome o (λ t. IsUnused (record t { bound = [] }))) (sym is) tt
+unused-bound listen control (Some t) told' is unused =
+    subst (λ (o : Option FrontTold). IfSome o (λ t. IsUnused (record t { bound = [] }))) (sym is)
+    (record {
+      arrived = unused.arrived;
+      accepted = unused.accepted;
+      watches = unused.watches;
+      lines = unused.lines;
+      read = unused.read;
+      bound = refl;
+      hushed = unused.hushed;
+      waits = unused.waits;
+      failed = unused.failed;
+      stands = unused.stands;
+    })
 
 -- nothing else was asked of it
 pub idle-bound : (n : RunNumbers) (old new : FrontSeen) (calls : Option (List (ℕ × ℕ))) → Binds old new n.listen n.control true
-    → IsStarting old.told calls → IsIdle new.told calls
-idle-bound n old new calls binds starting = record {
-  front = unasked-bound n.listen n.control old.told new.told binds.told_is starting.idle.front;
-  calls_are = starting.idle.calls_are;
+    → IfSome old.told IsUnused → IfSome calls (λ calls. calls ≡ []) → IsIdle new.told calls
+idle-bound n old new calls binds unused unasked = record {
+  front = unused-bound n.listen n.control old.told new.told binds.told_is unused;
+  calls_are = unasked;
 }
 
-bound-to : (n : RunNumbers) (told told' : Option FrontTold) → told' ≡ option_map (after_bind true n.listen n.control) told → IfSome told (λ t. t.bound ≡ [])
+bound-to : (n : RunNumbers) (told told' : Option FrontTold) → told' ≡ option_map (after_bind true n.listen n.control) told → IfSome told IsUnused
     → IfSome told' (IsBoundOnce n)
-bound-to n None told' is unbound = subst (λ (o : Option FrontTold). IfSome o (IsBoundOnce n)) (sym is) tt
-bound-to n (Some t) told' is unbound =
+bound-to n None told' is unused = subst (λ (o : Option FrontTold). IfSome o (IsBoundOnce n)) (sym is) tt
+bound-to n (Some t) told' is unused =
     subst (λ (o : Option FrontTold). IfSome o (IsBoundOnce n)) (sym is)
-    (ap (λ (bound : List BoundTold). bound ++ record { listen = n.listen; control = n.control } ∷ []) unbound)
+    (ap (λ (bound : List BoundTold). bound ++ record { listen = n.listen; control = n.control } ∷ []) unused.bound)
 
 still-bound : (n : RunNumbers) (told told' : Option FrontTold) → bound_of told' ≡ bound_of told → IfSome told (IsBoundOnce n) → IfSome told' IsHushed
     → IfSome told' (IsOpenedAndHushed n)
@@ -86,10 +102,10 @@ still-bound n (Some t) (Some t') same bound hushed =
     record { bound = bounds ∙ bound; hushed = hushed }
 
 -- it was bound once, and then takes no further connection
-pub opened-hushed : (n : RunNumbers) (old bound new : FrontSeen) (calls : Option (List (ℕ × ℕ))) → Binds old bound n.listen n.control true
-    → IsStarting old.told calls → bound_of new.told ≡ bound_of bound.told → IfSome new.told IsHushed → IfSome new.told (IsOpenedAndHushed n)
-opened-hushed n old bound new calls binds starting same hushed =
-    still-bound n bound.told new.told same (bound-to n old.told bound.told binds.told_is starting.unbound) hushed
+pub opened-hushed : (n : RunNumbers) (old bound new : FrontSeen) → Binds old bound n.listen n.control true
+    → IfSome old.told IsUnused → bound_of new.told ≡ bound_of bound.told → IfSome new.told IsHushed → IfSome new.told (IsOpenedAndHushed n)
+opened-hushed n old bound new binds unused same hushed =
+    still-bound n bound.told new.told same (bound-to n old.told bound.told binds.told_is unused) hushed
 
 -- why the server stopped, as it was before the front was bound
 pub stopped-before : (old bound new : FrontSeen) (s : State) → Follows old bound → HasStopped bound new s → HasStopped old new s
@@ -140,7 +156,7 @@ starts-opened n None calls b opened idle = record {
 }
 starts-opened n (Some t) calls b opened idle = record {
   none = idle.front.accepted ∙ sym idle.front.arrived;
-  first = idle.front.moment;
+  first = idle.front.stands;
   moment = ap (λ (x : SeenBook). x.state.moment) opened;
   history = ap (λ (x : SeenBook). x.history) opened;
 }
@@ -148,3 +164,8 @@ starts-opened n (Some t) calls b opened idle = record {
 -- no pass made an entry
 pub few-opened : (n : RunNumbers) (passes : ℕ) (b : SeenBook) → b ≡ opened_book n → AreOfPasses passes b.history
 few-opened n passes b opened = subst (λ (x : SeenBook). AreOfPasses passes x.history) (sym opened) (λ p above. refl)
+
+-- a front that wasn't asked didn't wait
+pub unwaited : (told : Option FrontTold) (calls : Option (List (ℕ × ℕ))) → IsIdle told calls → IfSome told (λ t. t.waits ≡ [])
+unwaited None calls idle = tt
+unwaited (Some t) calls idle = idle.front.waits

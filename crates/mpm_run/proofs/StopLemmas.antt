@@ -38,17 +38,17 @@ pub record IsQuietStep (old new : SeenBook) : Type 0 where
 quiet-acts : (a b : SeenBook) (es : List _) → NoneHas a → Acts 0 es None a b → AreSilent es → IsQuietStep a b
 quiet-acts a b es free acts silent = record { free = none-has 0 es a b free acts; alike = tells-silent es a b acts silent }
 
-silent-ends : (turns : Result End BoardFault) → AreSilent (end_events turns)
-silent-ends (Ok end) = record { ticks = refl; signals = refl }
-silent-ends (Err f) = silent-stops f
+silent-ends : (b : SeenBook) (turns : Result End BoardFault) → AreSilent (end_events b turns)
+silent-ends b (Ok end) = record { ticks = refl; signals = refl }
+silent-ends b (Err f) = silent-stops b f
 
-pub silent-halts : (halted : Bool) (turns : Result End BoardFault) → AreSilent (if halted then [] else end_events turns)
-silent-halts true turns = silent-none
-silent-halts false turns = silent-ends turns
+pub silent-halts : (halted : Bool) (b : SeenBook) (turns : Result End BoardFault) → AreSilent (if halted then [] else end_events b turns)
+silent-halts true b turns = silent-none
+silent-halts false b turns = silent-ends b turns
 
 -- the server was stopped
-pub quiet-halted : (turns : Result End BoardFault) (a b : SeenBook) → NoneHas a → Acts 0 (halt_events a.state.going turns) None a b → IsQuietStep a b
-quiet-halted turns a b free acts = quiet-acts a b _ free acts (silent-halts (is_halted a.state.going) turns)
+pub quiet-halted : (turns : Result End BoardFault) (a b : SeenBook) → NoneHas a → Acts 0 (halt_events a turns) None a b → IsQuietStep a b
+quiet-halted turns a b free acts = quiet-acts a b _ free acts (silent-halts (is_halted a.state.going) a turns)
 
 -- closes
 pub quiet-closed : (a b : SeenBook) → NoneHas a → LetsGo IsHaltedWay a b → IsQuietStep a b
@@ -61,7 +61,7 @@ quiet-retired a b free retires = quiet-acts a b _ free retires.acts (silent-reti
 -- the server was stopped, each connection that waited closed, and each child let go of
 pub record GoesDown (turns : Result End BoardFault) (a b c d : SeenBook) : Type 0 where
   pub free : NoneHas a
-  pub halts : Acts 0 (halt_events a.state.going turns) None a b
+  pub halts : Acts 0 (halt_events a turns) None a b
   pub closes : LetsGo IsHaltedWay b c
   pub retires : RetiresSome c d
   pub halt_moment : b.state.moment ≡ a.state.moment
@@ -69,7 +69,7 @@ pub record GoesDown (turns : Result End BoardFault) (a b c d : SeenBook) : Type 
   pub retire_rest : LeavesRest c d
 
 -- then no pass has a connection
-pub free-halted : (turns : Result End BoardFault) (a b : SeenBook) → NoneHas a → Acts 0 (halt_events a.state.going turns) None a b → NoneHas b
+pub free-halted : (turns : Result End BoardFault) (a b : SeenBook) → NoneHas a → Acts 0 (halt_events a turns) None a b → NoneHas b
 free-halted turns a b free acts = none-has 0 _ a b free acts
 
 -- the history is informed still
@@ -150,13 +150,13 @@ may-halt turns e reason b is reason_is must =
 -- and the server stops by it
 pub acts-stopped : (turns : Result End BoardFault) (e : End) (reason : Why) (b b' : SeenBoard) → turns ≡ Ok e → reason ≡ why_of e → MustHalt turns b.book
     → row_of 0 b.book.history ≡ None → b' ≡ with_recorded 0 (event.Command (Stop reason)) b → Adds 0 b.book.base b.book.history b'.book.history
-    → row_of 0 b'.book.history ≡ row_of 0 b.book.history → Acts 0 (halt_events b.book.state.going turns) None b.book b'.book
+    → row_of 0 b'.book.history ≡ row_of 0 b.book.history → Acts 0 (halt_events b.book turns) None b.book b'.book
 acts-stopped turns e reason b b' is reason_is must free new_is adds row =
     let going = goes-on e b.book (subst (λ (t : Result End BoardFault). MustHalt t b.book) is must) in
-    let events : event.Command (Stop reason) ∷ [] ≡ halt_events b.book.state.going turns =
-    ap (λ (w : Why). event.Command (Stop w) ∷ []) reason_is ∙ ap end_events (sym is)
-    ∙ ap (λ (halted : Bool). if halted then [] else end_events turns) (sym going) in
-    acts_as 0 (event.Command (Stop reason) ∷ []) (halt_events b.book.state.going turns) None None b.book b'.book
+    let events : event.Command (Stop reason) ∷ [] ≡ halt_events b.book turns =
+    ap (λ (w : Why). event.Command (Stop w) ∷ []) reason_is ∙ ap (end_events b.book) (sym is)
+    ∙ ap (λ (halted : Bool). if halted then [] else end_events b.book turns) (sym going) in
+    acts_as 0 (event.Command (Stop reason) ∷ []) (halt_events b.book turns) None None b.book b'.book
     (acts_recorded 0 (event.Command (Stop reason)) None b b' new_is adds (row ∙ free)) events refl
 
 pub halts-as : (turns : Result End BoardFault) (e : End) (reason : Why) (going : Going) → turns ≡ Ok e → reason ≡ why_of e → going ≡ Halted reason
@@ -166,15 +166,15 @@ halts-as turns e reason going is reason_is halted =
 
 -- a stop for a fault, unless the server was stopped
 pub acts-fault : (turns : Result End BoardFault) (f : BoardFault) (halted : Bool) (a b : SeenBoard) → turns ≡ Err f → is_halted a.book.state.going ≡ halted
-    → row_of 0 a.book.history ≡ None → (is_halted a.book.state.going ≡ false → Acts 0 (stop_events f) None a.book b.book)
-    → (is_halted a.book.state.going ≡ true → b ≡ a) → Acts 0 (halt_events a.book.state.going turns) None a.book b.book
+    → row_of 0 a.book.history ≡ None → (is_halted a.book.state.going ≡ false → Acts 0 (stop_events a.book f) None a.book b.book)
+    → (is_halted a.book.state.going ≡ true → b ≡ a) → Acts 0 (halt_events a.book turns) None a.book b.book
 acts-fault turns f true a b turns_is is free stops stays =
-    acts_as 0 [] (halt_events a.book.state.going turns) None None a.book b.book
+    acts_as 0 [] (halt_events a.book turns) None None a.book b.book
     (acts_same 0 None a.book b.book (ap (λ (v : SeenBoard). v.book) (stays is)) free)
-    (ap (λ (h : Bool). if h then [] else end_events turns) (sym is)) refl
+    (ap (λ (h : Bool). if h then [] else end_events a.book turns) (sym is)) refl
 acts-fault turns f false a b turns_is is free stops stays =
-    acts_as 0 (stop_events f) (halt_events a.book.state.going turns) None None a.book b.book (stops is)
-    (ap end_events (sym turns_is) ∙ ap (λ (h : Bool). if h then [] else end_events turns) (sym is)) refl
+    acts_as 0 (stop_events a.book f) (halt_events a.book turns) None None a.book b.book (stops is)
+    (ap (end_events a.book) (sym turns_is) ∙ ap (λ (h : Bool). if h then [] else end_events a.book turns) (sym is)) refl
 
 -- a server that stopped so has stopped
 pub has-halted : (turns : Result End BoardFault) (going : Going) → HaltsAs turns going → is_halted going ≡ true

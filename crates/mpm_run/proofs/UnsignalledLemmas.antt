@@ -1,5 +1,5 @@
 -- Where nothing is left to be done no row that waits is signalled.
-use Rattle.std.proofs.Common.{◌≡◌, ℕ, ◌<◌, ◌≤◌, ◌==◌, Bool, true, false, not, ◌&&◌, ◌||◌, List, [], ◌∷◌, count_by, nat_lt, Some, slice_get, refl, sym, ap, ◌∙◌, arith}
+use Rattle.std.proofs.Common.{◌≡◌, ℕ, ◌≤◌, ◌==◌, Bool, true, false, not, List, [], ◌∷◌, nat_lt, Some, slice_get, refl, ◌∙◌, arith}
 use Rattle.std.proofs.lemmas.Bool.{and_right, or_parts}
 use Rattle.std.proofs.lemmas.Bool.Decides.{nat_tests}
 use Rattle.std.specs.List.{list_any}
@@ -7,24 +7,21 @@ use Rattle.conn_machine.specs.declared.row.Place.{Place}
 use Rattle.conn_machine.specs.declared.row.Place.TheVariants.{Vacant, Spent, Held, Parked, Queued, Working}
 use Rattle.conn_machine.specs.declared.row.Row.{Row}
 use Rattle.conn_machine.specs.declared.state.State.{State}
-use Rattle.conn_machine.specs.Rows.{carried_count, is_carried_by, is_lingering, is_live, is_parked, is_queued, is_unused, is_working}
+use Rattle.conn_machine.specs.Rows.{carried_count, is_carried_at, is_carried_by, is_held, is_lingering, is_parked, is_unused, is_with_a_pass}
 use Rattle.conn_machine.specs.Sound.{IsSound}
 use Rattle.conn_machine.specs.States.{child_of, is_signalled}
 use Rattle.conn_machine.proofs.UpdateLemmas.{count_cons}
-use Rattle.board.specs.Finds.{has_to_be_drained, is_due, is_in_hand}
+use Rattle.board.specs.Finds.{has_to_be_drained, is_due}
 use Rattle.mpm_run.specs.Patient.{IsAtRest, NoneSignalled}
 
-not-carried : (k : ℕ) (r : Row) → is_in_hand r ≡ false → is_carried_by k r ≡ false
-not-carried k r none =
-    let outer = or_parts _ (is_working r.place) none in
-    let inner = or_parts _ (is_queued r.place) outer.0 in
-    and_right (r.child == k) (is_queued r.place || is_working r.place) (rw (inner.1, outer.1) refl)
+not-carried : (k : ℕ) (r : Row) → is_with_a_pass r.place ≡ false → is_carried_by k r ≡ false
+not-carried k r none = and_right (r.child == k) (is_carried_at r.place) (or_parts (is_held r.place) (is_carried_at r.place) none).1
 
--- no worker carries a row where none is in hand
-none-carried : (rows : List Row) (k : ℕ) → list_any is_in_hand rows ≡ false → carried_count rows k ≡ 0
+-- no worker carries a row where no pass has one
+none-carried : (rows : List Row) (k : ℕ) → list_any (λ r. is_with_a_pass r.place) rows ≡ false → carried_count rows k ≡ 0
 none-carried [] k none = refl
 none-carried (r ∷ rows) k none =
-    let parts = or_parts (is_in_hand r) (list_any is_in_hand rows) none in
+    let parts = or_parts (is_with_a_pass r.place) (list_any (λ (x : Row). is_with_a_pass x.place) rows) none in
     let rest : carried_count rows k ≡ 0 = none-carried rows k parts.1 in
     count_cons (is_carried_by k) r rows ∙ rw (not-carried k r parts.0) (omega (arith, rest))
 
@@ -55,6 +52,6 @@ signalled-by s slot r true false is l parked none works due drained =
 
 pub none-signalled : (s : State) → IsSound s → IsAtRest s → NoneSignalled s
 none-signalled s sound rest slot r at parked =
-    let quiet : list_any is_in_hand s.rows ≡ false = grind (arith, nat_tests, rest.quiet) in
+    let quiet : list_any (λ (x : Row). is_with_a_pass x.place) s.rows ≡ false = grind (arith, nat_tests, rest.quiet) in
     signalled-by s slot r (is_signalled s slot) (is_lingering r) refl refl parked (none-carried s.rows r.child quiet) (has-worker s slot r sound at parked)
     (rest.served slot r at) (rest.drained slot r at)

@@ -304,20 +304,20 @@ names-started a b starts = names-kept 0 _ None a b starts.acts (none-starts star
 
 -- ## The stop
 
-none-ends : (turns : Result End BoardFault) → TakesNone (end_events turns)
-none-ends (Ok end) = refl
-none-ends (Err fault.Halted) = refl
-none-ends (Err fault.Full) = refl
-none-ends (Err fault.NoMemory) = refl
+none-ends : (b : SeenBook) (turns : Result End BoardFault) → TakesNone (end_events b turns)
+none-ends b (Ok end) = refl
+none-ends b (Err fault.Halted) = refl
+none-ends b (Err fault.Full) = refl
+none-ends b (Err fault.NoMemory) = refl
 
-none-halts : (halted : Bool) (turns : Result End BoardFault) → TakesNone (if halted then [] else end_events turns)
-none-halts true turns = refl
-none-halts false turns = none-ends turns
+none-halts : (halted : Bool) (b : SeenBook) (turns : Result End BoardFault) → TakesNone (if halted then [] else end_events b turns)
+none-halts true b turns = refl
+none-halts false b turns = none-ends b turns
 
 -- the server was stopped, each connection that waited closed, and each child let go of
-pub names-down : (turns : Result End BoardFault) (a b c d : SeenBook) → Acts 0 (halt_events a.state.going turns) None a b → LetsGo IsHaltedWay b c
+pub names-down : (turns : Result End BoardFault) (a b c d : SeenBook) → Acts 0 (halt_events a turns) None a b → LetsGo IsHaltedWay b c
     → RetiresSome c d → accepted_names d.history ≡ accepted_names a.history
 names-down turns a b c d halts closes retires =
     names-kept 0 _ None c d retires.acts (none-retires retires.children)
     ∙ names-gone IsHaltedWay b c closes
-    ∙ names-kept 0 _ None a b halts (none-halts (is_halted a.state.going) turns)
+    ∙ names-kept 0 _ None a b halts (none-halts (is_halted a.state.going) a turns)

@@ -15,7 +15,7 @@ use Rattle.conn_machine.specs.declared.state.Going.{Going}
 use Rattle.conn_machine.specs.declared.state.Going.TheVariants.{Halted}
 use Rattle.conn_machine.specs.Folds.{opening_record}
 use Rattle.conn_machine.specs.Runs.{full_load, load}
-use Rattle.board.specs.Book.{HasFullStop}
+use Rattle.board.specs.Book.{HasEntryOf, full_stop}
 use Rattle.board.specs.Board.{SeenBoard}
 use Rattle.mpm_run.specs.Invocations.{IsNoInvocation, script_words}
 use Rattle.mpm_run.specs.FirstNumbers.{first_numbers}
@@ -193,7 +193,7 @@ pub record EndsUnwritten (sink sink' : SinkSeen) (b : SeenBoard) : Type 0 where
 
 -- with exit status 7: the history has a stop because it is full, at a load that is at its limit
 pub record EndsFull (sink sink' : SinkSeen) (b : SeenBoard) : Type 0 where
-  pub stop : HasFullStop b.book.history
+  pub stop : HasEntryOf full_stop b.book.history
   pub full : full_load ≤ load stop.before
   pub text : WritesText sink sink' (board_report b)
 

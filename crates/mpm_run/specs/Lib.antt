@@ -8,6 +8,7 @@ pub mod ListenInside
 pub mod Patient
 pub mod Report
 pub mod RoundInside
+pub mod Started
 pub mod Tells
 pub mod Texts
 pub mod Times

@@ -9,7 +9,7 @@ use Rattle.conn_machine.specs.Folds.{IsInPassOrderFrom, opening_record}
 use Rattle.conn_machine.specs.Runs.{Run, after}
 use Rattle.conn_machine.specs.Made.{AreMade, AreOfPasses}
 use Rattle.conn_machine.specs.Laws.{StaysSound}
-use Rattle.board.specs.Book.{StopsWhereFull, TellsFullStop}
+use Rattle.board.specs.Book.{StopsByLoad, TellsFullStop}
 use Rattle.board.specs.Board.{SeenBoard, Agrees}
 use Rattle.mpm_run.specs.FirstNumbers.{opened_by}
 use Rattle.mpm_run.specs.declared.run_numbers.RunNumbers.{RunNumbers}
@@ -33,7 +33,8 @@ pub record IsClosedDown (s : State) : Type 0 where
 
 -- the history that is kept is one of the machine, from the opening state of these numbers on, in the order of its passes, and
 -- each entry is one that its pass, one of so many, may make where it stands; each state on its way is sound; a stop because the history is full
--- stands only where it is, and is told by the state; and the connections agree with the history
+-- stands only where it is, and one for want of memory only where it isn't; the first is told by the state; and the connections agree
+-- with the history
 pub record IsRunFrom (n : RunNumbers) (b : SeenBoard) : Type 0 where
   pub opened : b.book.base ≡ opened_by n
   pub run : Run (opened_by n) b.book.history
@@ -42,7 +43,7 @@ pub record IsRunFrom (n : RunNumbers) (b : SeenBoard) : Type 0 where
   pub few : AreOfPasses n.passes b.book.history
   pub state : after (opened_by n) b.book.history ≡ b.book.state
   pub stays_sound : StaysSound (opened_by n) b.book.history
-  pub stops : StopsWhereFull b.book.history
+  pub stops : StopsByLoad b.book.history
   pub full : TellsFullStop b.book.state.going b.book.history
   pub agrees : Agrees b
 

@@ -1,7 +1,7 @@
 -- What the listener keeps on its way, of its front, its clock and its table, and how its turns end.
-use Rattle.std.specs.Prelude.{◌≡◌, ℕ, List, map, Option, IfSome, option_map, is_some, ◌⊎◌, ◌↔◌, ◌≤◌, Bool, true, false, [], ◌∷◌, None, Some, slice_get, length, Result, Ok, Err, ⊤}
+use Rattle.std.specs.Prelude.{◌≡◌, ℕ, List, map, Option, IfSome, option_map, is_some, min, ◌⊎◌, ◌↔◌, ◌≤◌, Bool, true, false, [], ◌∷◌, None, Some, slice_get, length, Result, Ok, Err, ⊤}
 use Rattle.mpm_base.specs.Clock.{Answers, asked_at}
-use Rattle.mpm_base.specs.Front.{FrontTold, FrontSeen, BoundTold, WaitTold, moments_of, HasNoneToTake}
+use Rattle.mpm_base.specs.Front.{Binds, FrontTold, FrontSeen, BoundTold, WaitTold, moments_of, HasNoneToTake}
 use Rattle.mpm_base.specs.declared.front.Woke.{Woke}
 use Rattle.mpm_base.specs.declared.front.Woke.TheVariants as woke
 use Rattle.std.specs.List.{list_any}
@@ -16,6 +16,7 @@ use Rattle.conn_machine.specs.declared.state.Going.TheVariants.{Halted}
 use Rattle.conn_machine.specs.declared.state.State.{State}
 use Rattle.conn_machine.specs.Rows.{is_held, is_lingering, is_parked, live_row}
 use Rattle.conn_machine.specs.States.{is_halted, is_overdue}
+use Rattle.conn_machine.specs.Made.{IsOpened}
 use Rattle.conn_machine.specs.Runs.{full_load, load}
 use Rattle.conn_state.specs.Conn.{IsFresh}
 use Rattle.conn_state.specs.Known.{KnownOutside}
@@ -26,8 +27,12 @@ use Rattle.board.specs.Board.{SeenBoard}
 use Rattle.board.specs.Finds.{acceptable}
 use Rattle.mpm_run.specs.declared.listen.End.{End}
 use Rattle.mpm_run.specs.declared.listen.End.TheVariants as end
+use Rattle.mpm_run.specs.declared.run_numbers.RunNumbers.{RunNumbers}
+use Rattle.mpm_run.specs.declared.server.OpenFault.{OpenFault}
+use Rattle.mpm_run.specs.declared.server.OpenFault.TheVariants as opening
 use Rattle.mpm_run.specs.Listen.{HasNoLive, IsClosedDown}
 use Rattle.mpm_run.specs.Patient.{IsAtRest}
+use Rattle.mpm_run.specs.Started.{BeginsWithStarts}
 use Rattle.mpm_run.specs.Watched.{AreWatched, accepted_names}
 
 -- the waits of a front, where it tells
@@ -73,24 +78,10 @@ pub record IsNamed {L : Type 0} (known : Option KnownOutside) (link_seen : L →
   pub front : IfSome known (λ k. HasClients k.clients told)
   pub links : is_some known ≡ true → LinksTell link_seen
 
--- nothing was asked of the front, and nothing has come
-pub record IsUnasked (t : FrontTold) : Type 0 where
-  pub accepted : t.accepted ≡ 0
-  pub arrived : t.arrived ≡ 0
-  pub moment : t.moment ≡ 0
-  pub hushed : t.hushed ≡ false
-  pub watches : t.watches ≡ []
-  pub waits : t.waits ≡ []
-
--- the same of a front and of a clock that tell
-pub record IsIdle (told : Option FrontTold) (calls : Option (List (ℕ × ℕ))) : Type 0 where
-  pub front : IfSome told IsUnasked
-  pub calls_are : IfSome calls (λ calls. calls ≡ [])
-
--- and the front wasn't bound
-pub record IsStarting (told : Option FrontTold) (calls : Option (List (ℕ × ℕ))) : Type 0 where
-  pub idle : IsIdle told calls
-  pub unbound : IfSome told (λ t. t.bound ≡ [])
+-- a front that could not be bound to what the numbers say comes back: it has counted a failed call, and tells what it told
+abbrev pub ComesBack : {F : Type 0} → (F → FrontSeen) → RunNumbers → FrontSeen → OpenFault F → Type 0
+ComesBack front_seen n old (opening.Bind front) = Binds old (front_seen front) n.listen n.control false
+ComesBack front_seen n old opening.NoMemory = ⊤
 
 -- the front is still the one that it was
 pub record Follows (old new : FrontSeen) : Type 0 where
@@ -108,6 +99,21 @@ pub record KeepsStep (s : State) (t : FrontTold) : Type 0 where
 abbrev pub IsInStep : Option FrontTold → State → Type 0
 IsInStep told s = IfSome told (KeepsStep s)
 
+-- how many children a server that opens in the state starts at first
+abbrev pub asked_children : State → ℕ
+asked_children s = min s.shape.target (length s.children)
+
+-- nothing was done yet, in a state in which a server opens
+pub record IsOpening (b : SeenBook) : Type 0 where
+  pub opened : IsOpened b.base
+  pub none : b.history ≡ []
+
+-- the front didn't wait, or the children were started before all else
+abbrev pub HasStarted : SeenListener → SeenListener → Type 0
+HasStarted old new =
+    (waits_of new.front.told ≡ waits_of old.front.told)
+    ⊎ BeginsWithStarts (asked_children old.board.book.base) new.board.book.history
+
 -- the number at which a count from this one stands behind the names
 abbrev pub number_after : ℕ → List ConnName → ℕ
 number_after number [] = number
@@ -122,10 +128,10 @@ pub record WatchesAll (b : SeenBook) (t : FrontTold) : Type 0 where
 abbrev pub IsWatching : {L : Type 0} → (L → LinkSeen) → Option FrontTold → SeenBook → Type 0
 IsWatching link_seen told b = LinksTell link_seen → IfSome told (WatchesAll b)
 
--- nothing has come of a front that tells, and of the table nothing was asked: no time has passed
+-- nothing has come of a front that tells, and of the table nothing was asked: no time has passed, that a patient one tells
 pub record IsAtStart (told : Option FrontTold) (b : SeenBook) : Type 0 where
   pub none : IfSome told (λ t. t.accepted ≡ t.arrived)
-  pub first : IfSome told (λ t. t.moment ≡ 0)
+  pub first : IfSome told (λ t. is_some t.comings ≡ true → t.moment ≡ 0)
   pub moment : b.state.moment ≡ 0
   pub history : b.history ≡ []
 

@@ -1,5 +1,5 @@
 -- The events that the listener adds, by the parts of its round.
-use Rattle.std.specs.Prelude.{◌≡◌, ◌⊎◌, ℕ, Bool, true, false, List, [], ◌∷◌, ◌++◌, length, map, if◌then◌else◌, Option, None, option_map, Result, Ok, Err, ⊤}
+use Rattle.std.specs.Prelude.{◌≡◌, ◌⊎◌, ℕ, Bool, true, false, List, [], ◌∷◌, ◌++◌, length, map, nat_le, if◌then◌else◌, Option, None, option_map, Result, Ok, Err, ⊤}
 use Rattle.std.specs.List.{flat_map}
 use Rattle.mpm_base.specs.Front.{Waits, after_watch}
 use Rattle.mpm_base.specs.Link.{LinkTold}
@@ -10,8 +10,9 @@ use Rattle.mpm_base.specs.declared.conn.Tail.TheVariants.{Direct}
 use Rattle.conn_machine.specs.declared.event.Commanded.TheVariants.{Stop}
 use Rattle.conn_machine.specs.declared.event.Event.{Event}
 use Rattle.conn_machine.specs.declared.event.Event.TheVariants as event
+use Rattle.conn_machine.specs.declared.event.Why.{Why}
 use Rattle.conn_machine.specs.declared.event.Why.TheVariants as why
-use Rattle.conn_machine.specs.Runs.{after, row_of}
+use Rattle.conn_machine.specs.Runs.{after, full_load, load, row_of}
 use Rattle.conn_state.specs.Conn.{IsFrontOf}
 use Rattle.board.specs.declared.faults.BoardFault.{BoardFault}
 use Rattle.board.specs.declared.faults.BoardFault.TheVariants as fault
@@ -28,7 +29,6 @@ use Rattle.mpm_run.specs.Patient.{IsAtRest}
 use Rattle.mpm_run.specs.declared.listen.End.{End}
 use Rattle.mpm_run.specs.declared.listen.Pause.{Pause}
 use Rattle.mpm_run.specs.declared.listen.Rest.{Rest}
-use Rattle.conn_machine.specs.declared.state.Going.{Going}
 use Rattle.conn_machine.specs.Sound.{IsSound}
 use Rattle.conn_machine.specs.States.{is_halted}
 use Rattle.mpm_run.specs.Times.{known_slots, ticks_to}
@@ -222,17 +222,21 @@ pub record BreaksOff (to : ℕ) (slots : List ℕ) (old new : SeenBook) : Type 0
 
 -- ## The end
 
+-- why the server stops where memory lacks: a history that is full comes first
+abbrev pub why_without_memory : SeenBook → Why
+why_without_memory b = if nat_le full_load (load b.history) then why.Full else why.NoMemory
+
 -- the event that stops the server for the fault
-abbrev pub stop_events : BoardFault → List Event
-stop_events fault.Halted = []
-stop_events fault.Full = event.Command (Stop why.Full) ∷ []
-stop_events fault.NoMemory = event.Command (Stop why.NoMemory) ∷ []
+abbrev pub stop_events : SeenBook → BoardFault → List Event
+stop_events b fault.Halted = []
+stop_events b fault.Full = event.Command (Stop why.Full) ∷ []
+stop_events b fault.NoMemory = event.Command (Stop (why_without_memory b)) ∷ []
 
 -- the events by which the turns' end stops the server
-abbrev pub end_events : Result End BoardFault → List Event
-end_events (Ok end) = event.Command (Stop (why_of end)) ∷ []
-end_events (Err fault) = stop_events fault
+abbrev pub end_events : SeenBook → Result End BoardFault → List Event
+end_events b (Ok end) = event.Command (Stop (why_of end)) ∷ []
+end_events b (Err fault) = stop_events b fault
 
 -- the same, unless it was stopped
-abbrev pub halt_events : Going → Result End BoardFault → List Event
-halt_events going turns = if is_halted going then [] else end_events turns
+abbrev pub halt_events : SeenBook → Result End BoardFault → List Event
+halt_events b turns = if is_halted b.state.going then [] else end_events b turns

@@ -1,8 +1,8 @@
 -- What a run did with its front.
 use Rattle.std.specs.Prelude.{◌≡◌, ℕ, true, List, [], ◌∷◌, Option, None, Some}
 use Rattle.std.specs.List.{flat_map}
-use Rattle.mpm_base.specs.Count.{Rises, next_count}
-use Rattle.mpm_base.specs.Front.{FrontSeen, FrontTold, WatchTold}
+use Rattle.mpm_base.specs.Count.{next_count}
+use Rattle.mpm_base.specs.Front.{FrontTold, WatchTold}
 use Rattle.mpm_base.specs.declared.conn.ConnName.{ConnName}
 use Rattle.conn_machine.specs.declared.event.Entry.{Entry}
 use Rattle.conn_machine.specs.declared.event.Event.{Event}
@@ -25,10 +25,6 @@ IsHushed t = t.hushed ≡ true
 pub record IsOpenedAndHushed (n : RunNumbers) (t : FrontTold) : Type 0 where
   pub bound : IsBoundOnce n t
   pub hushed : IsHushed t
-
--- such a front has counted a failed call more; where a type's fronts count none, no bind fails
-abbrev pub CantBind : {F : Type 0} → (F → FrontSeen) → F → Type 0
-CantBind {F} front_seen front = (after : F) × Rises (front_seen front).counts.faults (front_seen after).counts.faults
 
 -- ## Watches
 

@@ -27,9 +27,10 @@ ghost use Rattle.worker_group.specs.InHand.{IsClosable, IsInHand};
 ghost use Rattle.worker_group.specs.Service.{IsUp, LeavesRest, left_events};
 ghost use Rattle.mpm_run.specs.ClosingInside.{IsLateWay, LetsGo};
 ghost use Rattle.mpm_run.specs.Listen.{HasNoLive, IsClosedDown};
-ghost use Rattle.mpm_run.specs.ListenInside.{AsksFor, Follows, HaltsAs, HasStopped, HasTaken, IsArrival, IsAtStart, IsInStep, IsInTime, IsRestful, IsWatching, MustHalt, MustStop, NoneOverdue, NoneParked, OnlyTakes, TookAll, TurnsEnd, bound_of, waits_of, why_of};
+ghost use Rattle.mpm_run.specs.ListenInside.{AsksFor, Follows, HaltsAs, HasStarted, HasStopped, HasTaken, IsArrival, IsAtStart, IsInStep, IsInTime, IsOpening, IsRestful, IsWatching, MustHalt, MustStop, NoneOverdue, NoneParked, OnlyTakes, TookAll, TurnsEnd, asked_children, bound_of, waits_of, why_of};
 ghost use Rattle.mpm_run.specs.Patient.{IsPatientRun, NoneDue};
-ghost use Rattle.mpm_run.specs.RoundInside.{BreaksOff, GivesUp, GoesRound, HasWaited, IsSettledBy, IsTaking, LetsGoOfConns, LetsGoUntil, NoneHas, PassesTime, RetiresSome, SignalsFirst, StartsSome, TakesSome, TakesUntil, halt_events, signal_events, stop_events, way_of};
+ghost use Rattle.mpm_run.specs.RoundInside.{BreaksOff, GivesUp, GoesRound, HasWaited, IsSettledBy, IsTaking, LetsGoOfConns, LetsGoUntil, NoneHas, PassesTime, RetiresSome, SignalsFirst, StartsSome, TakesSome, TakesUntil, halt_events, signal_events, stop_events, way_of, why_without_memory};
+ghost use Rattle.mpm_run.specs.Started.{BeginsWithStarts};
 ghost use Rattle.mpm_run.specs.Times.{IsBrokenOff, IsInformed, IsInformedSoFar, WasInformed, moment_for};
 ghost use Rattle.mpm_run.specs.Watched.{IsHushed};
 
@@ -122,10 +123,10 @@ impl<L: Link + Send, F: Front<L = L>, C: Clock, N: Known> Model for Listener<L, 
 }
 
 impl<L: Link + Send, F: Front<L = L>, C: Clock, N: Known> Listener<L, F, C, N> {
-    /// Takes the connections that come, has them served, and stops when nothing more can come. The server stops before that
-    /// for a wait that failed, for a full history, and for want of memory where a call that the listener must make was refused
-    /// for that. However it stops, no further connection is taken then, each one that waits is closed, and each child is let
-    /// go of. How it ended is read off the board.
+    /// Starts the children, takes the connections that come, has them served, and stops when nothing more can come. The server
+    /// stops before that for a wait that failed, for a full history, and for want of memory where a call that the listener must
+    /// make was refused for that and the history isn't full. However it stops, no further connection is taken then, each one that
+    /// waits is closed, and each child is let go of. How it ended is read off the board.
     pub fn listen<R: Wait>(&mut self, rt: &R)
         requires passes { 1 < self.old.board.book.passes }
         requires opened { IsOpened self.old.board.book.base }
@@ -139,6 +140,7 @@ impl<L: Link + Send, F: Front<L = L>, C: Clock, N: Known> Listener<L, F, C, N> {
         ensures follows { Follows self.old.front self.new.front }
         ensures bound { bound_of self.new.front.told ≡ bound_of self.old.front.told }
         ensures hushed { IfSome self.new.front.told IsHushed }
+        ensures started { self.old.board.book.history ≡ [] → HasStarted self.old self.new }
         ensures watched { IsWatching L.seen self.old.front.told self.old.board.book → IsWatching L.seen self.new.front.told self.new.board.book }
         ensures time { IsInTime (waits_of self.old.front.told) self.old.calls → IsInTime (waits_of self.new.front.told) self.new.calls }
         ensures patient { IsAtStart self.old.front.told self.old.board.book → IsPatientRun self.new.front.told self.new.calls self.new.board.book }
@@ -155,6 +157,7 @@ impl<L: Link + Send, F: Front<L = L>, C: Clock, N: Known> Listener<L, F, C, N> {
     /// is signalled. Err where the server has to stop before.
     fn take_turns<R: Wait>(&mut self, rt: &R) -> Result<End, BoardFault>
         requires passes { 1 < self.old.board.book.passes }
+        requires opened { IsOpened self.old.board.book.base }
         requires free { NoneHas self.old.board.book }
         requires going { is_halted self.old.board.book.state.going ≡ false }
         requires step { IsInStep self.old.front.told self.old.board.book.state }
@@ -166,6 +169,7 @@ impl<L: Link + Send, F: Front<L = L>, C: Clock, N: Known> Listener<L, F, C, N> {
         ensures up { IsUp self.new.board.book.state.going }
         ensures follows { Follows self.old.front self.new.front }
         ensures bound { bound_of self.new.front.told ≡ bound_of self.old.front.told }
+        ensures started { self.old.board.book.history ≡ [] → HasStarted self.old self.new }
         ensures watched { IsWatching L.seen self.old.front.told self.old.board.book → IsWatching L.seen self.new.front.told self.new.board.book }
         ensures time { IsInTime (waits_of self.old.front.told) self.old.calls → IsInTime (waits_of self.new.front.told) self.new.calls }
         ensures patient { IsAtStart self.old.front.told self.old.board.book → IsPatientRun self.new.front.told self.new.calls self.new.board.book }
@@ -193,6 +197,7 @@ impl<L: Link + Send, F: Front<L = L>, C: Clock, N: Known> Listener<L, F, C, N> {
         requires passes { 0 < self.old.board.book.passes }
         requires free { row_of 0 self.old.board.book.history ≡ None }
         ensures starts { StartsSome self.old.board.book self.new.board.book }
+        ensures first { OnOk result (IsOpening self.old.board.book → BeginsWithStarts (asked_children self.old.board.book.base) self.new.board.book.history) }
         ensures going { self.new.board.book.state.going ≡ self.old.board.book.state.going }
         ensures rest { LeavesRest self.old.board.book self.new.board.book }
         ensures others { self.new ≡ record self.old { board = self.new.board } }
@@ -200,8 +205,9 @@ impl<L: Link + Send, F: Front<L = L>, C: Clock, N: Known> Listener<L, F, C, N> {
         ensures quiet { IfOk result (λ rest. IsRestful rest.quiet self.new.board.book.state) }
         ensures err { IfErr result (λ fault. MustStop fault self.new.board.book) }
     {
-        start_children(&mut self.board)?;
-        Ok(find_rest(&self.board))
+        let board = &mut self.board;
+        start_children(board)?;
+        Ok(find_rest(board))
     }
 
     /// Waits for the front, and asks the clock for the moment that the wait gave.
@@ -499,10 +505,12 @@ fn start_children<L: Link, N: Known>(board: &mut Board<L, N>) -> Result<(), Boar
     requires free { row_of 0 board.old.book.history ≡ None }
     ensures starts { StartsSome board.old.book board.new.book }
     ensures started { OnOk result (startable board.new.book.state ≡ None) }
+    ensures first { OnOk result (IsOpening board.old.book → BeginsWithStarts (asked_children board.old.book.base) board.new.book.history) }
     ensures going { board.new.book.state.going ≡ board.old.book.state.going }
     ensures rest { LeavesRest board.old.book board.new.book }
     ensures err { IfErr result (λ fault. MustStop fault board.new.book) }
 {
+    show_state(board);
     while let Some(child) = board.can_start() {
         board.show();
         board.start_child(LISTENER, child)?;
@@ -535,7 +543,7 @@ fn halt<L: Link, N: Known>(board: &mut Board<L, N>, turns: Result<End, BoardFaul
     requires free { row_of 0 board.old.book.history ≡ None }
     requires must { MustHalt turns board.old.book }
     requires up { IsUp board.old.book.state.going }
-    ensures acts { Acts 0 (halt_events board.old.book.state.going turns) None board.old.book board.new.book }
+    ensures acts { Acts 0 (halt_events board.old.book turns) None board.old.book board.new.book }
     ensures stopped { HaltsAs turns board.new.book.state.going }
     ensures moment { board.new.book.state.moment ≡ board.old.book.state.moment }
     ensures taken { board.new.book.state.accepted ≡ board.old.book.state.accepted }
@@ -546,13 +554,13 @@ fn halt<L: Link, N: Known>(board: &mut Board<L, N>, turns: Result<End, BoardFaul
     }
 }
 
-/// Stops the server for the fault, unless it was stopped. Takes no memory.
+/// Stops the server for the fault, unless it was stopped: where memory lacks and the history is full, for that. Takes no memory.
 fn stop<L: Link, N: Known>(board: &mut Board<L, N>, fault: BoardFault)
     requires passes { 0 < board.old.book.passes }
     requires free { row_of 0 board.old.book.history ≡ None }
     requires must { MustStop fault board.old.book }
     requires up { IsUp board.old.book.state.going }
-    ensures stops { is_halted board.old.book.state.going ≡ false → Acts 0 (stop_events fault) None board.old.book board.new.book }
+    ensures stops { is_halted board.old.book.state.going ≡ false → Acts 0 (stop_events board.old.book fault) None board.old.book board.new.book }
     ensures stays { is_halted board.old.book.state.going ≡ true → board.new ≡ board.old }
     ensures stopped { IsBrokenOff board.new.book.state.going }
     ensures moment { board.new.book.state.moment ≡ board.old.book.state.moment }
@@ -564,7 +572,18 @@ fn stop<L: Link, N: Known>(board: &mut Board<L, N>, fault: BoardFault)
     match fault {
         BoardFault::Halted => unreachable!(),
         BoardFault::Full => board.halt(LISTENER, Why::Full),
-        BoardFault::NoMemory => board.halt(LISTENER, Why::NoMemory),
+        BoardFault::NoMemory => board.halt(LISTENER, why_without_memory(board)),
+    }
+}
+
+/// Why the server stops where memory lacks: a history that is full comes first.
+fn why_without_memory<L: Link, N: Known>(board: &Board<L, N>) -> Why
+    ensures { result ≡ why_without_memory board.now.book }
+{
+    if board.is_full() {
+        Why::Full
+    } else {
+        Why::NoMemory
     }
 }
 

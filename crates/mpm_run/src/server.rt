@@ -1,15 +1,15 @@
 //! The run of a server over a front and a clock, whichever they are.
-ghost use Rattle.std.specs.Prelude.{◌≡◌, true, Err, None, IfOk, IfSome};
-ghost use Rattle.mpm_base.specs.Front.{Binds};
+ghost use Rattle.std.specs.Prelude.{◌≡◌, true, false, [], IfErr, IfOk, IfSome};
+ghost use Rattle.mpm_base.specs.Front.{Binds, IsUnused};
 ghost use Rattle.conn_machine.specs.Made.{AreOfPasses};
 ghost use Rattle.board.specs.Board.{AreOfClients};
 ghost use Rattle.mpm_run.specs.FirstNumbers.{AreNumbers, opened_book, opened_by};
 ghost use Rattle.mpm_run.specs.Listen.{HasClosedAll, IsClosedDown, IsRunFrom};
-ghost use Rattle.mpm_run.specs.ListenInside.{Follows, HasStopped, IsInTime, IsNamed, IsStarting, LinksTell, waits_of};
+ghost use Rattle.mpm_run.specs.ListenInside.{ComesBack, Follows, HasStopped, IsInTime, IsNamed, LinksTell, waits_of};
 ghost use Rattle.mpm_run.specs.Patient.{IsPatientRun};
+ghost use Rattle.mpm_run.specs.Started.{IsStartedFirst};
 ghost use Rattle.mpm_run.specs.Times.{WasInformed};
-ghost use Rattle.mpm_run.specs.Watched.{AreWatched, CantBind, IsOpenedAndHushed};
-ghost use Rattle.mpm_run.specs.declared.server.OpenFault.TheVariants.{Bind};
+ghost use Rattle.mpm_run.specs.Watched.{AreWatched, IsOpenedAndHushed};
 
 use crate::listen::Listener;
 use crate::run_numbers::RunNumbers;
@@ -32,10 +32,10 @@ pub struct Served<L: Link, F, C> {
 }
 
 /// Why a server did not open.
-#[derive(Clone, Copy, Debug, PartialEq, Eq)]
-pub enum OpenFault {
-    /// The front could not be bound.
-    Bind,
+#[derive(Drop)]
+pub enum OpenFault<F> {
+    /// The front could not be bound. It comes back.
+    Bind(F),
     /// Memory lacks for the table.
     NoMemory,
 }
@@ -49,24 +49,27 @@ pub fn run_server<R: Wait, L: Link + Send, F: Front<L = L> + Drop, C: Clock + Dr
     numbers: RunNumbers,
     front: F,
     clock: C,
-) -> Result<Served<L, F, C>, OpenFault>
+) -> Result<Served<L, F, C>, OpenFault<F>>
     requires numbers { AreNumbers numbers }
     requires named { IsNamed N.known L.seen (F.seen front).told }
-    requires starting { IsStarting (F.seen front).told (C.told clock) }
+    requires unused { IfSome (F.seen front).told IsUnused }
+    requires unasked { IfSome (C.told clock) (λ calls. calls ≡ []) }
     ensures run { IfOk result (λ s. IsRunFrom numbers s.board) }
     ensures closed { IfOk result (λ s. HasClosedAll s.board) }
     ensures clients { IfOk result (λ s. AreOfClients N.known s.board) }
     ensures stopped { IfOk result (λ s. HasStopped (F.seen front) (F.seen s.front) s.board.book.state) }
     ensures follows { IfOk result (λ s. Follows (F.seen front) (F.seen s.front)) }
     ensures front { IfOk result (λ s. IfSome (F.seen s.front).told (IsOpenedAndHushed numbers)) }
+    ensures started { IfOk result (λ s. IfSome (F.seen s.front).told (IsStartedFirst numbers s.board.book.history)) }
     ensures watched { LinksTell L.seen → IfOk result (λ s. IfSome (F.seen s.front).told (AreWatched s.board.book.history)) }
     ensures time { IfOk result (λ s. IsInTime (waits_of (F.seen s.front).told) (C.told s.clock)) }
     ensures informed { IfOk result (λ s. WasInformed (waits_of (F.seen s.front).told) (C.told s.clock) s.board.book) }
     ensures patient { IfOk result (λ s. IsPatientRun (F.seen s.front).told (C.told s.clock) s.board.book) }
-    ensures bind { result ≡ Err Bind → CantBind F.seen front }
+    ensures bind { IfErr result (ComesBack F.seen numbers (F.seen front)) }
 {
-    let Some(front) = bind_front(front, numbers) else {
-        return Err(OpenFault::Bind);
+    let front = match bind_front(front, numbers) {
+        Ok(front) => front,
+        Err(front) => return Err(OpenFault::Bind(front)),
     };
     let Ok(board) = open_board::<L, N>(alloc, numbers) else {
         return Err(OpenFault::NoMemory);
@@ -98,16 +101,16 @@ pub fn run_server<R: Wait, L: Link + Send, F: Front<L = L> + Drop, C: Clock + Dr
     })
 }
 
-/// The front, bound by the numbers. None where it could not be.
-fn bind_front<F: Front + Drop>(front: F, numbers: RunNumbers) -> Option<F>
-    ensures bound { IfSome result (λ bound. Binds (F.seen front) (F.seen bound) numbers.listen numbers.control true) }
-    ensures fault { result ≡ None → CantBind F.seen front }
+/// The front, bound by the numbers. Err where it could not be.
+fn bind_front<F: Front>(front: F, numbers: RunNumbers) -> Result<F, F>
+    ensures bound { IfOk result (λ bound. Binds (F.seen front) (F.seen bound) numbers.listen numbers.control true) }
+    ensures fault { IfErr result (λ back. Binds (F.seen front) (F.seen back) numbers.listen numbers.control false) }
 {
     let mut front = front;
     if front.bind(numbers.listen, numbers.control) {
-        Some(front)
+        Ok(front)
     } else {
-        None
+        Err(front)
     }
 }
 

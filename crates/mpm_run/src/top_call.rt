@@ -9,6 +9,7 @@ ghost use Rattle.script_front.specs.ScriptClock.{AreEchoes};
 ghost use Rattle.script_front.specs.ScriptFront.{IsOfScript};
 ghost use Rattle.mpm_run.specs.FirstNumbers as opening;
 ghost use Rattle.mpm_run.specs.ListenInside.{IsEnd};
+ghost use Rattle.mpm_run.specs.Started.{IsStartedFirst};
 ghost use Rattle.mpm_run.specs.Watched.{AreWatched, IsOpenedAndHushed};
 ghost use Rattle.mpm_run.specs.ExitStatuses.{EndsFor, EndsFull, EndsRefused, EndsUnknown, EndsUnread, EndsUnwritten, EndsWell, HasEnd, HasPlayed, HasRun, IsExitStatus, IsPatient, KeepsTime, Reports, WritesText, board_report, fault_at, seen_call};
 ghost use Rattle.mpm_run.specs.ExitStatusesInside.{IsRefusalOf, IsStoppedStatus, IsPlayedStatus, IsExitStatusOf, ReportsAs, WritesAll};
@@ -76,6 +77,9 @@ pub fn run<R: Threads + Wait + Sync, D: Store, K: Sink>(
 
     // Its front was bound once, and has stopped listening in the end.
     ensures front { IfSome result.scripted (λ s. IsOpenedAndHushed opening.first_numbers s.front.told) }
+
+    // Where its front waited at all, the children that its shape asks for were started before all else, in order of number.
+    ensures started { IfSome result.scripted (λ s. IsStartedFirst opening.first_numbers s.board.book.history s.front.told) }
 
     // It watched each link that the table took, once and in order, under the name of its connection.
     ensures watched { IfSome result.scripted (λ s. AreWatched s.board.book.history s.front.told) }
@@ -203,6 +207,7 @@ fn play_script<R: Wait, K: Sink>(rt: &R, alloc: Global, script: Script, out: &mu
     ensures kept { IfSome result.scripted (λ s. HasRun (clients_of script) s.board) }
     ensures script { IfSome result.scripted (λ s. s.front.script ≡ script) }
     ensures front { IfSome result.scripted (λ s. IsOpenedAndHushed opening.first_numbers s.front.told) }
+    ensures started { IfSome result.scripted (λ s. IsStartedFirst opening.first_numbers s.board.book.history s.front.told) }
     ensures watched { IfSome result.scripted (λ s. AreWatched s.board.book.history s.front.told) }
     ensures time { IfSome result.scripted (λ s. KeepsTime s.board s.front s.clock) }
     ensures patient { IfSome result.scripted (λ s. IsPatient s.board s.front) }
@@ -228,7 +233,7 @@ fn play_script<R: Wait, K: Sink>(rt: &R, alloc: Global, script: Script, out: &mu
     ) {
         Ok(served) => finish(alloc, played(served), out),
         Err(OpenFault::NoMemory) => no_memory(),
-        Err(OpenFault::Bind) => unreachable!(),
+        Err(OpenFault::Bind(_)) => unreachable!(),
     }
 }
 

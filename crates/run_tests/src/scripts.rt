@@ -192,6 +192,20 @@ fn stopped(rt: &impl Abort, outcome: &Outcome) {
     }
 }
 
+/// A run that opened is to have its report, but for one whose status is 6 though its server found memory: nothing is written then.
+fn reported(rt: &impl Abort, outcome: &Outcome, out: &MemSink) {
+    let Some(scripted) = &outcome.scripted else {
+        assert!(rt; out.bytes().is_empty());
+        return;
+    };
+    if outcome.status == 6 && scripted.board.going() != Going::Halted(Why::NoMemory) {
+        assert!(rt; out.bytes().is_empty());
+    } else {
+        assert!(rt; out.bytes().starts_with(b"Generation: 0\nAccepted: "));
+        assert!(rt; out.bytes().ends_with(b"\n"));
+    }
+}
+
 #[test]
 fn the_script_is_served(rt: HostRuntime) -> Result<(), Fail> {
     let alloc = rt.alloc();
@@ -385,13 +399,14 @@ fn an_output_of_single_bytes_gets_the_same(rt: HostRuntime) -> Result<(), Fail> 
     Ok(())
 }
 
-// Tells more with `--fail-alloc N`, for each N: the Nth allocation then fails.
+// Tells more with `--fail-alloc N`, for each N: the Nth allocation then fails, and no other.
 #[test]
-fn a_run_stops_whatever_memory_it_finds(rt: HostRuntime) -> Result<(), Fail> {
+fn a_run_stops_and_reports_whatever_memory_it_finds(rt: HostRuntime) -> Result<(), Fail> {
     let alloc = rt.alloc();
     let mut out = MemSink::make(alloc, Calls::make(alloc));
     if let Ok(outcome) = plays(&rt, alloc, &["--script", "s"], SCRIPT, &mut out) {
         stopped(&rt, &outcome);
+        reported(&rt, &outcome, &out);
     }
     Ok(())
 }

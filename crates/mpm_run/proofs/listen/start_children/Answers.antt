@@ -5,13 +5,19 @@ use Rattle.worker_group.specs.Service.{LeavesRest}
 use Rattle.worker_group.proofs.ActsLemmas.{acts_recorded}
 use Rattle.worker_group.proofs.ExitLemmas.{rest_more, rest_none}
 use Rattle.mpm_run.specs.RoundInside.{StartsSome}
+use Rattle.mpm_run.proofs.ChildrenLemmas.{all-started, opens-in-order, starts-next}
 use Rattle.mpm_run.proofs.ListenLemmas.{may-start_child, fewer-gone}
 use Rattle.mpm_run.proofs.RoundLemmas.{starts-none, starts-more, rest_start}
 use Rattle.mpm_run.proofs.listen.start_children.Goals as goal
 
 pub loop-child-init : goal.loop-child-init
 loop-child-init g c =
-    record { starts = starts-none c.args.board.now.book c.requires.free; rest = rest_none c.args.board.now.book; going = refl }
+    record {
+      starts = starts-none c.args.board.now.book c.requires.free;
+      first = opens-in-order c.args.board.now.book c.show_state.ensures.after;
+      rest = rest_none c.args.board.now.book;
+      going = refl;
+    }
 
 pub start_child-requires-clause-allowed : goal.start_child-requires-clause-allowed
 start_child-requires-clause-allowed g c going =
@@ -29,6 +35,9 @@ loop-child-preserved g c =
           starts-more c.in-Some.child c.args.board.now.book c.loop-child.board.book c.start_child.new.self.book c.loop-child.invariant.starts
           (acts_recorded 0 (event.StartChild c.in-Some.child) None c.loop-child.board c.start_child.new.self c.in_ok-start_child.ensures.ok.new_is
           c.start_child.ensures.entries (c.start_child.ensures.row ∙ c.loop-child.invariant.starts.acts.row));
+      first =
+          λ opening. starts-next c.args.board.now.book.base c.loop-child.board c.start_child.new.self c.in-Some.child (sym c.can_start.ensures ∙ c.in-Some.is)
+          c.in_ok-start_child.ensures.ok.new_is (c.loop-child.invariant.first opening);
       rest =
           rest_more c.args.board.now.book c.loop-child.board.book c.start_child.new.self.book c.loop-child.invariant.rest
           (rest_start c.in-Some.child c.loop-child.board c.start_child.new.self c.in_ok-start_child.ensures.ok.new_is);
@@ -42,3 +51,7 @@ returns-in_err-start_child-clause-starts g c =
 pub returns-in_err-start_child-clause-rest : goal.returns-in_err-start_child-clause-rest
 returns-in_err-start_child-clause-rest g c =
     subst (λ (b : SeenBoard). LeavesRest c.args.board.now.book b.book) (sym c.in_err-start_child.ensures.err) c.loop-child.invariant.rest
+
+pub returns-clause-first : goal.returns-clause-first
+returns-clause-first g c opening =
+    all-started c.args.board.now.book.base c.loop-child.board.book (c.loop-child.invariant.first opening) (sym c.can_start.ensures ∙ c.in_default.is)

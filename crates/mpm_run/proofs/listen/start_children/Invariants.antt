@@ -1,7 +1,9 @@
 use Rattle.std.proofs.Common.{◌≡◌, count_by}
 use Rattle.conn_machine.specs.Children.{is_empty}
 use Rattle.worker_group.specs.Service.{LeavesRest}
+use Rattle.mpm_run.specs.ListenInside.{IsOpening}
 use Rattle.mpm_run.specs.RoundInside.{StartsSome}
+use Rattle.mpm_run.proofs.ChildrenLemmas.{StartsInOrder}
 use Rattle.mpm_run.proofs.listen.start_children.Given as goal
 
 -- children were started, and the server goes on as before
@@ -9,6 +11,7 @@ abbrev pub invariant-loop-child : goal.invariant-loop-child
 invariant-loop-child g l =
     record {
       starts : StartsSome l.fn.board.book l.board.book;
+      first : IsOpening l.fn.board.book → StartsInOrder l.fn.board.book.base l.board.book;
       rest : LeavesRest l.fn.board.book l.board.book;
       going : l.board.book.state.going ≡ l.fn.board.book.state.going;
     }

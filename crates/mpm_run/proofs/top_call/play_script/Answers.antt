@@ -1,4 +1,4 @@
-use Rattle.std.proofs.Common.{◌≡◌, ℕ, List, Err, refl, ap, sym, subst, ◌∙◌, arith}
+use Rattle.std.proofs.Common.{◌≡◌, ℕ, List, refl, ap, sym, subst, arith}
 use Rattle.mpm_script.specs.Clients.{clients_of}
 use Rattle.script_front.specs.ScriptClock.{AreEchoes}
 use Rattle.script_front.specs.ScriptFront.{IsOfScript, SeenFront, comings_of}
@@ -8,6 +8,7 @@ use Rattle.conn_machine.specs.declared.state.Going.TheVariants.{Halted}
 use Rattle.mpm_run.specs.ExitStatuses.{EndsFull, HasEnd, HasRun, IsPatient, KeepsTime}
 use Rattle.mpm_run.specs.FirstNumbers.{first_numbers}
 use Rattle.mpm_run.specs.Listen.{IsRunFrom}
+use Rattle.mpm_run.specs.Started.{IsStartedFirst}
 use Rattle.mpm_run.specs.Tells.{AllReceive}
 use Rattle.mpm_run.specs.Watched.{AreWatched}
 use Rattle.mpm_run.specs.declared.run_numbers.RunNumbers.{RunNumbers}
@@ -53,8 +54,16 @@ returns-in-Ok-run_server-clause-ended g c =
 
 pub unreachable-requires : goal.unreachable-requires
 unreachable-requires g c =
-    let cant = c.run_server.ensures.bind (c.in-Err-Bind.is ∙ ap Err c.in-Err-Bind.field-0-is) in
-    absurd (omega (arith, cant.1.1))
+    let back = rw c.in-Err-Bind.field-0-is at c.in-Err-Bind.ensures.bind in
+    absurd (omega (arith, back.faults))
+
+pub returns-in-Ok-run_server-clause-started : goal.returns-in-Ok-run_server-clause-started
+returns-in-Ok-run_server-clause-started g c =
+    let s = c.in-Ok-run_server.served in
+    left-if c.finish.result.scripted _ (λ s. IsStartedFirst first_numbers s.board.book.history s.front.told) c.finish.ensures.scripted
+    (kept-by s.board s.front s.clock c.played.result (λ b f calls. IsStartedFirst first_numbers b.book.history f.told) c.played.ensures.board c.played.ensures.front
+    c.played.ensures.clock
+    (subst (λ (n : RunNumbers). IsStartedFirst n s.board.book.history s.front.told) c.first_numbers.ensures c.in-Ok-run_server.ensures.started))
 
 pub returns-in-Ok-run_server-clause-watched : goal.returns-in-Ok-run_server-clause-watched
 returns-in-Ok-run_server-clause-watched g c =

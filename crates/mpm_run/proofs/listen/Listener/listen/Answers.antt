@@ -1,7 +1,8 @@
-use Rattle.std.proofs.Common.{◌<◌, None, Option, List, ap, sym, subst, ◌∙◌, arith}
+use Rattle.std.proofs.Common.{◌<◌, inl, inr, None, Option, List, ap, sym, subst, ◌∙◌, arith}
 use Rattle.mpm_base.specs.Front.{FrontSeen, WaitTold}
 use Rattle.mpm_run.specs.ListenInside.{HaltsAs}
 use Rattle.mpm_run.specs.Times.{WasInformed}
+use Rattle.mpm_run.proofs.ChildrenLemmas.{begins-down}
 use Rattle.mpm_run.proofs.FrontLemmas.{follows-hushed, follows-trans, waits-hushed}
 use Rattle.mpm_run.proofs.PaceLemmas.{patience-down}
 use Rattle.mpm_run.proofs.StopLemmas.{free-halted, has-halted, has-stopped, must-halt, was-informed}
@@ -74,3 +75,13 @@ returns-clause-few g c began =
     few-acts passes 0 _ None c.close_all.new.board.book c.retire_all.new.board.book some c.retire_all.ensures.retires.acts
     (few-acts passes 0 _ None c.halt.new.board.book c.close_all.new.board.book some c.close_all.ensures.gone.acts
     (few-acts passes 0 _ None c.self.inside.board.book c.halt.new.board.book some c.halt.ensures.acts (few began)))
+
+pub returns-clause-started : goal.returns-clause-started
+returns-clause-started g c none =
+    let started = rw (← c.self.view_is) at c.take_turns-turns.ensures.started in
+    elim (started none) [
+      | inl same ↦ inl (waits-hushed _ _ c.hush.ensures ∙ same)
+      | inr begins ↦
+          inr (begins-down _ c.take_turns-turns.result c.self.inside.board.book c.halt.new.board.book c.close_all.new.board.book c.retire_all.new.board.book
+          c.halt.ensures.acts c.close_all.ensures.gone c.retire_all.ensures.retires begins)
+    ]

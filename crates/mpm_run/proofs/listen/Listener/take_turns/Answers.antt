@@ -1,6 +1,7 @@
-use Rattle.std.proofs.Common.{ap, ◌∙◌}
+use Rattle.std.proofs.Common.{None, inl, inr, ap, ◌∙◌}
 use Rattle.conn_machine.specs.States.{is_halted}
-use Rattle.mpm_run.specs.ListenInside.{LinksTell}
+use Rattle.mpm_run.specs.ListenInside.{LinksTell, SeenListener, asked_children, waits_of}
+use Rattle.mpm_run.proofs.ChildrenLemmas.{begins-more, begins-round, begins-waited}
 use Rattle.mpm_run.proofs.FrontLemmas.{takes-same}
 use Rattle.mpm_run.proofs.PaceLemmas.{abreast-round, pace-broken, pace-round, pace-served, pace-started, patience-started, patience-waited, served-patience}
 use Rattle.mpm_run.proofs.RoundLemmas.{on-err}
@@ -13,6 +14,7 @@ loop-init g c = record {
       between-started (LinksTell g.L.Link.seen) c.args.self.now c.start.new.self c.requires.passes c.requires.free c.requires.going c.requires.step c.requires.informed c.start.ensures.others
       c.start.ensures.starts c.start.ensures.going c.start.ensures.rest;
   going = ap is_halted c.start.ensures.going ∙ c.requires.going;
+  started = λ none. c.in_ok-first.ensures.first (record { opened = c.requires.opened; none = none });
   paced =
       λ start. pace-started c.in_ok-first.first c.args.self.now c.start.new.self start c.start.ensures.others c.start.ensures.starts c.start.ensures.rest.moment
       c.in_ok-first.ensures.until c.in_ok-first.ensures.quiet;
@@ -221,6 +223,11 @@ loop-preserved g c =
     record {
       between = between-served (LinksTell g.L.Link.seen) c.args.self.now c.take_in.new.self c.serve.new.self between served;
       going = c.in_ok-rest.ensures.going;
+      started =
+          λ none. begins-more 1 c.serve.ensures.acts.0 None (asked_children c.args.self.now.board.book.base) c.take_in.new.self.board.book c.serve.new.self.board.book
+          c.serve.ensures.acts.1
+          (begins-round (asked_children c.args.self.now.board.book.base) c.loop.rest c.pause-pause.result c.loop.self c.pause-pause.new.self c.take_in.new.self
+          _ c.pause-pause.ensures c.in_ok-take_in.ensures.round.acts (c.loop.invariant.started none));
       paced =
           λ start. pace-served c.in_ok-rest.rest c.take_in.new.self c.serve.new.self
           (abreast-round c.loop.rest c.pause-pause.result c.loop.self c.pause-pause.new.self c.take_in.new.self (c.loop.invariant.paced start).abreast c.pause-pause.ensures c.in_ok-take_in.ensures.moment
@@ -252,3 +259,25 @@ returns-in_err-rest-clause-patient g c start =
     served-patience c.take_in.new.self c.serve.new.self
     (pace-round c.loop.rest c.pause-pause.result c.loop.self c.pause-pause.new.self c.take_in.new.self (c.loop.invariant.paced start) c.pause-pause.ensures c.loop.invariant.between.step
     c.in_ok-take_in.ensures.round c.take_in.ensures.front c.take_in.ensures.calls) served
+
+pub returns-in_err-first-clause-started : goal.returns-in_err-first-clause-started
+returns-in_err-first-clause-started g c none = inl (ap (λ (l : SeenListener). waits_of l.front.told) c.start.ensures.others)
+
+pub returns-in-Ended-clause-started : goal.returns-in-Ended-clause-started
+returns-in-Ended-clause-started g c none =
+    inr (begins-waited _ c.loop.rest c.pause-pause.result c.loop.self c.pause-pause.new.self c.pause-pause.ensures (c.loop.invariant.started none))
+
+pub returns-in-Failed-clause-started : goal.returns-in-Failed-clause-started
+returns-in-Failed-clause-started g c none =
+    inr (begins-waited _ c.loop.rest c.pause-pause.result c.loop.self c.pause-pause.new.self c.pause-pause.ensures (c.loop.invariant.started none))
+
+pub returns-in_err-take_in-clause-started : goal.returns-in_err-take_in-clause-started
+returns-in_err-take_in-clause-started g c none =
+    inr (begins-round _ c.loop.rest c.pause-pause.result c.loop.self c.pause-pause.new.self c.take_in.new.self _ c.pause-pause.ensures
+    c.in_err-take_in.ensures.broken.acts (c.loop.invariant.started none))
+
+pub returns-in_err-rest-clause-started : goal.returns-in_err-rest-clause-started
+returns-in_err-rest-clause-started g c none =
+    inr (begins-more 1 c.serve.ensures.acts.0 None _ c.take_in.new.self.board.book c.serve.new.self.board.book c.serve.ensures.acts.1
+    (begins-round _ c.loop.rest c.pause-pause.result c.loop.self c.pause-pause.new.self c.take_in.new.self _ c.pause-pause.ensures
+    c.in_ok-take_in.ensures.round.acts (c.loop.invariant.started none)))
