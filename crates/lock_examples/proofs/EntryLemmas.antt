@@ -9,7 +9,6 @@ use Rattle.conn_machine.specs.declared.event.Entry.{Entry}
 use Rattle.conn_machine.specs.declared.state.State.{State}
 use Rattle.conn_machine.specs.Table.{is_allowed, next, reply}
 use Rattle.conn_machine.specs.Runs.{after, entries_of, has_after, is_of_pass, load, may_make, row_of, AreEntriesOf}
-use Rattle.conn_machine.proofs.RunLemmas.{after-snoc, entries_of-own}
 use Rattle.std.proofs.lemmas.Bool.{eq-eqb}
 use Rattle.table_rule.specs.Histories.{ArePermitted}
 use Rattle.lock_examples.specs.declared.stage.Stage.{Stage}
@@ -54,6 +53,11 @@ all_in v n f l few is folded count =
 
 pub entries_of-append : (p : ℕ) (a b : List Entry) → entries_of p (a ++ b) ≡ entries_of p a ++ entries_of p b
 entries_of-append p a b = filter-append (is_of_pass p) a b
+
+entries_own : (p : ℕ) (history : List Entry) (e : Entry) → e.pass ≡ p → entries_of p (history ++ e ∷ []) ≡ entries_of p history ++ e ∷ []
+entries_own p history e own =
+    let last : entries_of p (e ∷ []) ≡ e ∷ [] = rw (eq-eqb e.pass p own) refl in
+    entries_of-append p history (e ∷ []) ∙ ap (λ l. entries_of p history ++ l) last
 
 pub count_append : (p : ℕ) (a b : List Entry) → length (entries_of p (a ++ b)) ≡ length (entries_of p a) + length (entries_of p b)
 count_append p a b = ap length (entries_of-append p a b) ∙ length-append (entries_of p a) (entries_of p b)
@@ -196,7 +200,7 @@ fold_snoc f z (y ∷ xs) x = fold_snoc f (f z y) xs x
 
 row_own : (p : ℕ) (history : List Entry) (e : Entry) → e.pass ≡ p → row_of p (history ++ e ∷ []) ≡ has_after (row_of p history) e.event e.reply
 row_own p history e own =
-    ap (λ (es : List Entry). fold (λ had x. has_after had x.event x.reply) None es) (entries_of-own p history e (eq-eqb e.pass p own))
+    ap (λ (es : List Entry). fold (λ had x. has_after had x.event x.reply) None es) (entries_own p history e own)
     ∙ fold_snoc (λ had x. has_after had x.event x.reply) None (entries_of p history) e
 
 -- the pass may make these entries, where it made so many and has this connection
@@ -223,8 +227,8 @@ may_follow p s n row start whole (e ∷ es) state number had fine = (
     role = ap (λ o. may_make p o (load whole) e.event) had ∙ fine.4 (load whole);
   },
   may_follow p (next s e.event) (n + 1) (has_after row e.event e.reply) start (whole ++ e ∷ []) es
-      (after-snoc start whole e ∙ ap (λ t. next t e.event) state)
-      (ap length (entries_of-own p whole e (eq-eqb e.pass p fine.0)) ∙ length-append (entries_of p whole) (e ∷ []) ∙ ap (λ m. m + 1) number)
+      (after-append start whole (e ∷ []) ∙ ap (λ t. next t e.event) state)
+      (ap length (entries_own p whole e fine.0) ∙ length-append (entries_of p whole) (e ∷ []) ∙ ap (λ m. m + 1) number)
       (row_own p whole e fine.0 ∙ ap (λ o. has_after o e.event e.reply) had) fine.5,
 )
 
