@@ -173,7 +173,6 @@ fn picture_of(rt: &impl Abort, state: &State) -> Picture {
 }
 
 /// Does the event, which is to be allowed.
-#[tactic(auto, using(conn_machine::proofs::SizeLemmas::sizes_kept))]
 fn does(rt: &impl Abort, alloc: Global, state: &mut State, event: Event) -> Result<Reply, NoMemory>
     requires few_rows { length state.old.rows ≤ 8192 }
     requires few_children { length state.old.children ≤ 32 }
