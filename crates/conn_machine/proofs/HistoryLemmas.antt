@@ -11,16 +11,6 @@ use Rattle.conn_machine.proofs.RunLemmas.{after-snoc, entries_of-own}
 pub entries_of-append : (p : ℕ) (a b : List Entry) → entries_of p (a ++ b) ≡ entries_of p a ++ entries_of p b
 entries_of-append p a b = filter-append (is_of_pass p) a b
 
-pub seen_whole : (p : ℕ) (history : List Entry) → HasSeen p history history
-seen_whole p history = ([], sym (append-nil history), refl)
-
-pub seen_more : (p : ℕ) (seen history added : List Entry) → HasSeen p seen history → entries_of p added ≡ [] → HasSeen p seen (history ++ added)
-seen_more p seen history added f none = (
-  f.0 ++ added,
-  ap (λ l. l ++ added) f.1 ∙ append_assoc seen f.0 added,
-  entries_of-append p f.0 added ∙ ap (λ l. l ++ entries_of p added) f.2 ∙ none,
-)
-
 pub seen_same : (p : ℕ) (seen history : List Entry) → HasSeen p seen history → entries_of p history ≡ entries_of p seen
 seen_same p seen history f =
     ap (entries_of p) f.1 ∙ entries_of-append p seen f.0 ∙ ap (λ l. entries_of p seen ++ l) f.2 ∙ append-nil (entries_of p seen)

@@ -84,9 +84,6 @@ length-children s (event.StartChild k) = length-update s.children k _
 length-children s (event.Command c) = children_of-command s c
 length-children s (event.Retire k) = length-update s.children k _
 
--- no event changes a size
-pub ruleset sizes_kept = (length-rows, length-signals, length-children)
-
 -- moments stay within their range
 moment_of-command : (s : State) (c : Commanded) → (next_command s c).moment ≡ s.moment
 moment_of-command s (Graceful shape) = refl
