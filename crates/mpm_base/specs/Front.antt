@@ -3,7 +3,7 @@
 use Rattle.std.specs.Prelude.{◌≡◌, ◌⊎◌, ℕ, ◌-◌, ◌<◌, ◌≤◌, Bool, true, false, not, List, [], ◌∷◌, ◌++◌, length, find, nat_lt, min, Option, None, Some, option_map, is_some, IfSome, slice_get, slice_index_or, ⊤}
 use Rattle.std.specs.List.{flat_map}
 use Rattle.mpm_base.specs.Count.{next_count, RisesWhere, RisesExactlyWhere}
-use Rattle.mpm_base.specs.Link.{LinkTold, LinkSeen, OnlyFaults, fresh_link}
+use Rattle.mpm_base.specs.Link.{LinkTold, LinkSeen, OnlyFaults, after_close, fresh_link}
 use Rattle.mpm_base.specs.declared.addr.Addr.{Addr}
 use Rattle.mpm_base.specs.declared.conn.ConnName.{ConnName}
 use Rattle.mpm_base.specs.declared.front.Arrival.{Arrival}
@@ -26,10 +26,11 @@ pub record WaitTold : Type 0 where
   pub answer : Woke
   pub passed : Option Waiting
 
--- a watch of a front: the number of the link, and the name under which it was watched
+-- a watch of a front: the number of the link, the name under which it was to be watched, and what the watch answered
 pub record WatchTold : Type 0 where
   pub rank : ℕ
   pub name : ConnName
+  pub answer : Bool
 
 -- what a front was bound to: where connections are taken, and the port where command lines are, if they are
 pub record BoundTold : Type 0 where
@@ -37,15 +38,17 @@ pub record BoundTold : Type 0 where
   pub control : Option ℕ
 
 -- what a front that tells has done and has before it: what the client of each connection sends, of those that have arrived
--- and of those that will; how many have arrived, and how many of these were handed out; its watches, in order; the command
--- lines that have come, and how many of these were read; what it was bound to, and whether listening was stopped; how many
--- things are still to happen; the moment at which it stands; of a patient one the moments at which something comes by itself,
--- in order; whether an accept failed since the last wait; and its waits, in order
+-- and of those that will; how many have arrived, and how many of these were handed out; its watches, in order; the links that
+-- it turned away, in order, each as it was left; the command lines that have come, and how many of these were read; what it was
+-- bound to, and whether listening was stopped; how many things are still to happen; the moment at which it stands; of a patient
+-- one the moments at which something comes by itself, in order; whether an accept failed since the last wait; and its waits, in
+-- order
 pub record FrontTold : Type 0 where
   pub clients : List (List ℕ)
   pub arrived : ℕ
   pub accepted : ℕ
   pub watches : List WatchTold
+  pub turned_away : List LinkTold
   pub lines : List (List ℕ)
   pub read : ℕ
   pub bound : List BoundTold
@@ -81,6 +84,7 @@ pub record IsUnused (t : FrontTold) : Type 0 where
   pub arrived : t.arrived ≡ 0
   pub accepted : t.accepted ≡ 0
   pub watches : t.watches ≡ []
+  pub turned_away : t.turned_away ≡ []
   pub lines : t.lines ≡ []
   pub read : t.read ≡ 0
   pub bound : t.bound ≡ []
@@ -185,6 +189,7 @@ pub record GoesForward (until : Option ℕ) (quiet : Bool) (answer : Woke) (read
   pub within : t'.arrived ≤ length t.clients
   pub accepted : t'.accepted ≡ t.accepted
   pub watches : t'.watches ≡ t.watches
+  pub turned_away : t'.turned_away ≡ t.turned_away
   pub come : List (List ℕ)
   pub lines : t'.lines ≡ t.lines ++ come
   pub read : t'.read ≡ t.read
@@ -291,20 +296,32 @@ pub record Accepts {L : Type 0} (link_seen : L → LinkSeen) (old new : FrontSee
 
 -- ## A watch
 
--- the link was watched under the name once more
-abbrev pub after_watch : ConnName → Option LinkTold → FrontTold → FrontTold
-after_watch name None t = t
-after_watch name (Some link) t = record t { watches = t.watches ++ record { rank = link.rank; name = name } ∷ [] }
+-- what the front tells after a watch of the link under the name, which answered this
+abbrev pub after_watch : ConnName → Bool → Option LinkTold → FrontTold → FrontTold
+after_watch name answer None t = t
+after_watch name answer (Some link) t =
+    record t { watches = t.watches ++ record { rank = link.rank; name = name; answer = answer } ∷ [] }
 
 -- what is seen of a front after a watch
-abbrev pub front_after_watch : ConnName → Option LinkTold → FrontSeen → FrontSeen
-front_after_watch name link f = record f { told = option_map (after_watch name link) f.told }
+abbrev pub front_after_watch : ConnName → Bool → Option LinkTold → FrontSeen → FrontSeen
+front_after_watch name answer link f = record f { told = option_map (after_watch name answer link) f.told }
 
 -- what a watch answered, and left of the front and of the link, which tells the same
 pub record Watches (old new : FrontSeen) (name : ConnName) (link link' : LinkSeen) (answer : Bool) : Type 0 where
-  pub front : new ≡ front_after_watch name link.told old
+  pub front : new ≡ front_after_watch name answer link.told old
   pub link_is : link'.told ≡ link.told
   pub only_faults : OnlyFaults (not answer) link.counts link'.counts
+
+-- ## A link that is turned away
+
+-- the link was closed, and is told as it was left
+abbrev pub after_turning_away : Option LinkTold → FrontTold → FrontTold
+after_turning_away None t = t
+after_turning_away (Some link) t = record t { turned_away = t.turned_away ++ after_close link ∷ [] }
+
+-- what is seen of a front after it turned a link away
+abbrev pub front_after_turning_away : Option LinkTold → FrontSeen → FrontSeen
+front_after_turning_away link f = record f { told = option_map (after_turning_away link) f.told }
 
 -- ## A command line
 

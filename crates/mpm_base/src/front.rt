@@ -35,13 +35,13 @@ pub enum Arrival<L> {
 /// sockets does not. One that tells does so to its end. Its counts are there for every front.
 pub trait Front {
     ghost use Rattle.std.specs.Prelude.{◌≡◌};
-    ghost use Rattle.mpm_base.specs.Front.{FrontSeen, Accepts, Binds, Commands, Waits, Watches, after_hush};
+    ghost use Rattle.mpm_base.specs.Front.{FrontSeen, Accepts, Binds, Commands, Waits, Watches, after_hush, front_after_turning_away};
 
     /// The links that it hands out.
     type L: Link + Send;
 
-    /// The script that it was made of, which no call changes; what it tells: what has come and what will, what was taken, and
-    /// its waits; and its counts of failed binds and waits, of failed accepts, of waits that answered Ended, and of command
+    /// The script that it was made of, which no call changes; what it tells: what has come and what will, what was taken and
+    /// turned away, and its waits; and its counts of failed binds and waits, of failed accepts, of waits that answered Ended, and of command
     /// lines, none of which ever falls.
     ghost seen: { Self → FrontSeen };
 
@@ -69,6 +69,10 @@ pub trait Front {
     /// where the call failed.
     fn watch(&mut self, name: ConnName, link: &mut Self::L) -> bool
         ensures watches { Watches (seen self.old) (seen self.new) name (Self.L.seen link.old) (Self.L.seen link.new) result };
+
+    /// Closes a link that it handed out and that no connection takes.
+    fn turn_away(&mut self, link: Self::L)
+        ensures { seen self.new ≡ front_after_turning_away (Self.L.seen link).told (seen self.old) };
 
     /// Stops listening: no connection is taken any more.
     fn hush(&mut self)

@@ -14,7 +14,7 @@ abbrev pub events_in : List Entry → List Event
 events_in entries = map (λ e. e.event) entries
 
 -- each entry that a pass added is its own
-added-own : (p : ℕ) (base : State) (before added : List Entry) → AreEntriesOf p base before added → entries_of p added ≡ added
+pub added-own : (p : ℕ) (base : State) (before added : List Entry) → AreEntriesOf p base before added → entries_of p added ≡ added
 added-own p base before [] are = refl
 added-own p base before (e ∷ added) are =
     let own : is_of_pass p e ≡ true = eq-eqb e.pass p are.0.pass in

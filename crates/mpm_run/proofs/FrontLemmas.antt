@@ -1,7 +1,7 @@
 -- What the calls of a front leave of it, and whether the table is in step with it.
 use Rattle.std.proofs.Common.{◌≡◌, ◌⊎◌, inl, inr, ℕ, Bool, true, false, not, List, [], ◌∷◌, ◌++◌, map, Option, None, Some, option_map, IfSome, refl, sym, ap, subst, ◌∙◌, arith}
 use Rattle.mpm_base.specs.Count.{next_count, NeverFalls, Rises, RisesWhere, RisesExactlyWhere}
-use Rattle.mpm_base.specs.Front.{FrontTold, FrontSeen, BoundTold, TellsOn, GoesForward, Waits, Binds, HasAllTaken, IsHandedOut, Accepts, WaitTold, after_accept, after_bind, after_hush, after_watch, front_after_watch, hushed_front, is_ended, moments_in, moments_of, wait_failed}
+use Rattle.mpm_base.specs.Front.{FrontTold, FrontSeen, BoundTold, TellsOn, GoesForward, Waits, Binds, HasAllTaken, IsHandedOut, Accepts, WaitTold, after_accept, after_bind, after_hush, after_turning_away, after_watch, front_after_turning_away, front_after_watch, hushed_front, is_ended, moments_in, moments_of, wait_failed}
 use Rattle.mpm_base.specs.Clock.{asked_at}
 use Rattle.mpm_base.specs.declared.addr.Addr.{Addr}
 use Rattle.mpm_base.specs.declared.conn.ConnName.{ConnName}
@@ -88,7 +88,7 @@ follows-accept link_seen old new answer accepts = record {
 
 only-trans : (a b c : FrontTold) → OnlyTakes a b → OnlyTakes b c → OnlyTakes a c
 only-trans a b c first second = record {
-  rest = second.rest ∙ ap (λ (x : FrontTold). record x { accepted = c.accepted; watches = c.watches; failed = c.failed }) first.rest;
+  rest = second.rest ∙ ap (λ (x : FrontTold). record x { accepted = c.accepted; watches = c.watches; turned_away = c.turned_away; failed = c.failed }) first.rest;
 }
 
 -- nothing happened
@@ -117,14 +117,23 @@ pub takes-accept : {L : Type 0} (answer : Arrival L) (told told' : Option FrontT
     → TellsOn OnlyTakes told told'
 takes-accept answer told told' is = takes-mapped told told' (after_accept answer) (after_accept-only answer) is
 
-after_watch-only : (name : ConnName) (link : Option LinkTold) (t : FrontTold) → OnlyTakes t (after_watch name link t)
-after_watch-only name None t = record { rest = refl }
-after_watch-only name (Some l) t = record { rest = refl }
+after_watch-only : (name : ConnName) (answer : Bool) (link : Option LinkTold) (t : FrontTold) → OnlyTakes t (after_watch name answer link t)
+after_watch-only name answer None t = record { rest = refl }
+after_watch-only name answer (Some l) t = record { rest = refl }
 
 -- a link was watched
-pub takes-watch : (name : ConnName) (link : Option LinkTold) (told told' : Option FrontTold) → told' ≡ option_map (after_watch name link) told
+pub takes-watch : (name : ConnName) (answer : Bool) (link : Option LinkTold) (told told' : Option FrontTold)
+    → told' ≡ option_map (after_watch name answer link) told → TellsOn OnlyTakes told told'
+takes-watch name answer link told told' is = takes-mapped told told' (after_watch name answer link) (after_watch-only name answer link) is
+
+after_turning_away-only : (link : Option LinkTold) (t : FrontTold) → OnlyTakes t (after_turning_away link t)
+after_turning_away-only None t = record { rest = refl }
+after_turning_away-only (Some l) t = record { rest = refl }
+
+-- a link was turned away
+pub takes-turned : (link : Option LinkTold) (told told' : Option FrontTold) → told' ≡ option_map (after_turning_away link) told
     → TellsOn OnlyTakes told told'
-takes-watch name link told told' is = takes-mapped told told' (after_watch name link) (after_watch-only name link) is
+takes-turned link told told' is = takes-mapped told told' (after_turning_away link) (after_turning_away-only link) is
 
 -- a part that stays then
 kept-part : {X : Type 0} (part : FrontTold → X) (told told' : Option FrontTold) → ((t t' : FrontTold) → OnlyTakes t t' → part t' ≡ part t)
@@ -235,15 +244,21 @@ time-kept waits waits' calls same time = subst (λ (o : Option (List WaitTold)).
 -- where it took no connection
 pub step-kept : (told : Option FrontTold) (s s' : State) → s'.accepted ≡ s.accepted → IsInStep told s → IsInStep told s'
 step-kept None s s' same step = tt
-step-kept (Some t) s s' same step = record { listens = step.listens; accepted = step.accepted ∙ sym same }
+step-kept (Some t) s s' same step = record { listens = step.listens; taken = record { accepted = step.taken.accepted ∙ sym same; none = step.taken.none } }
+
+waits-step : (until : Option ℕ) (quiet : Bool) (answer : Woke) (ready : List ℕ) (t t' : FrontTold) (s : State) → GoesForward until quiet answer ready t t'
+    → KeepsStep s t → KeepsStep s t'
+waits-step until quiet answer ready t t' s forward step = record {
+  listens = forward.hushed ∙ step.listens;
+  taken = record { accepted = forward.accepted ∙ step.taken.accepted; none = forward.turned_away ∙ step.taken.none };
+}
 
 -- after a wait
 pub step-wait : (until : Option ℕ) (quiet : Bool) (answer : Woke) (ready : List ℕ) (told told' : Option FrontTold) (s : State)
     → TellsOn (GoesForward until quiet answer ready) told told' → IsInStep told s → IsInStep told' s
 step-wait until quiet answer ready None told' s tells step = subst (λ (o : Option FrontTold). IsInStep o s) (sym tells) tt
 step-wait until quiet answer ready (Some t) told' s tells step =
-    subst (λ (o : Option FrontTold). IsInStep o s) (sym tells.1)
-    (record { listens = tells.2.hushed ∙ step.listens; accepted = tells.2.accepted ∙ step.accepted })
+    subst (λ (o : Option FrontTold). IsInStep o s) (sym tells.1) (waits-step until quiet answer ready t tells.0 s tells.2 step)
 
 -- after an accept that handed a link out, whose connection the table took
 pub step-taken : {L : Type 0} (link : L) (told told' : Option FrontTold) (s s' : State) → told' ≡ option_map (after_accept (arrival.Some link)) told
@@ -251,7 +266,7 @@ pub step-taken : {L : Type 0} (link : L) (told told' : Option FrontTold) (s s' :
 step-taken link None told' s s' is taken step = subst (λ (o : Option FrontTold). IsInStep o s') (sym is) tt
 step-taken link (Some t) told' s s' is taken step =
     subst (λ (o : Option FrontTold). IsInStep o s') (sym is)
-    (record { listens = step.listens; accepted = ap next_count step.accepted ∙ sym taken })
+    (record { listens = step.listens; taken = record { accepted = ap next_count step.taken.accepted ∙ sym taken; none = step.taken.none } })
 
 -- after one that handed none out
 step-unhanded : {L : Type 0} (answer : Arrival L) (t : FrontTold) (s : State) → (answer ≡ arrival.None) ⊎ (answer ≡ arrival.Failed) → KeepsStep s t
@@ -259,7 +274,7 @@ step-unhanded : {L : Type 0} (answer : Arrival L) (t : FrontTold) (s : State) �
 step-unhanded (arrival.Some link) t s (inl none) step = absurd (cc none)
 step-unhanded (arrival.Some link) t s (inr failed) step = absurd (cc failed)
 step-unhanded arrival.None t s none step = step
-step-unhanded arrival.Failed t s none step = record { listens = step.listens; accepted = step.accepted }
+step-unhanded arrival.Failed t s none step = record { listens = step.listens; taken = record { accepted = step.taken.accepted; none = step.taken.none } }
 
 pub step-none : {L : Type 0} (told told' : Option FrontTold) (answer : Arrival L) (s : State) → (answer ≡ arrival.None) ⊎ (answer ≡ arrival.Failed)
     → told' ≡ option_map (after_accept answer) told → IsInStep told s → IsInStep told' s
@@ -275,7 +290,7 @@ given-all s t all step = record {
     | inl given ↦ given.1
     | inr hushed ↦ let listens = step.listens in absurd (cc (hushed, listens))
   ];
-  taken = step.accepted;
+  taken = step.taken.accepted;
 }
 
 -- after a wait that answered Ended all was taken
@@ -284,7 +299,7 @@ pub all-taken : (until : Option ℕ) (quiet : Bool) (ready : List ℕ) (told tol
 all-taken until quiet ready None told' s tells step = subst (λ (o : Option FrontTold). IfSome o (HasGivenAll s)) (sym tells) tt
 all-taken until quiet ready (Some t) told' s tells step =
     subst (λ (o : Option FrontTold). IfSome o (HasGivenAll s)) (sym tells.1)
-    (given-all s tells.0 tells.2.answers (record { listens = tells.2.hushed ∙ step.listens; accepted = tells.2.accepted ∙ step.accepted }))
+    (given-all s tells.0 tells.2.answers (waits-step until quiet woke.Ended ready t tells.0 s tells.2 step))
 
 -- ## The link that is handed out
 
@@ -296,7 +311,7 @@ arrives-next told (Some l) s handed step =
     let step_there : KeepsStep s handed.0 = subst (λ (o : Option FrontTold). IsInStep o s) handed.1 step in
     record {
       fresh = subst IsFresh (sym next.fresh) refl;
-      rank = ap (λ (t : LinkTold). t.rank) next.fresh ∙ step_there.accepted;
+      rank = ap (λ (t : LinkTold). t.rank) next.fresh ∙ step_there.taken.accepted;
     }
 
 -- it tells from one of the clients
@@ -333,30 +348,50 @@ named-follows (Some k) link_seen old new follows named = record { front = follow
 
 -- ## A watch
 
-after_watch-clients : (name : ConnName) (link : Option LinkTold) (t : FrontTold) → (after_watch name link t).clients ≡ t.clients
-after_watch-clients name None t = refl
-after_watch-clients name (Some l) t = refl
+after_watch-clients : (name : ConnName) (answer : Bool) (link : Option LinkTold) (t : FrontTold) → (after_watch name answer link t).clients ≡ t.clients
+after_watch-clients name answer None t = refl
+after_watch-clients name answer (Some l) t = refl
 
-after_watch-step : (name : ConnName) (link : Option LinkTold) (t : FrontTold) (s : State) → KeepsStep s t → KeepsStep s (after_watch name link t)
-after_watch-step name None t s step = step
-after_watch-step name (Some l) t s step = record { listens = step.listens; accepted = step.accepted }
+after_watch-step : (name : ConnName) (answer : Bool) (link : Option LinkTold) (t : FrontTold) (s : State) → KeepsStep s t
+    → KeepsStep s (after_watch name answer link t)
+after_watch-step name answer None t s step = step
+after_watch-step name answer (Some l) t s step =
+    record { listens = step.listens; taken = record { accepted = step.taken.accepted; none = step.taken.none } }
 
 -- after it the front is still the one that it was
-pub follows-watch : (old new : FrontSeen) (name : ConnName) (link : Option LinkTold) → new ≡ front_after_watch name link old → Follows old new
-follows-watch old new name link is = record {
+pub follows-watch : (old new : FrontSeen) (name : ConnName) (answer : Bool) (link : Option LinkTold) → new ≡ front_after_watch name answer link old
+    → Follows old new
+follows-watch old new name answer link is = record {
   script = ap (λ (f : FrontSeen). f.script) is;
   clients =
-      λ clients has. clients-mapped clients old.told new.told (after_watch name link) (after_watch-clients name link)
+      λ clients has. clients-mapped clients old.told new.told (after_watch name answer link) (after_watch-clients name answer link)
       (ap (λ (f : FrontSeen). f.told) is) has;
   faults = omega (arith, ap (λ (f : FrontSeen). f.counts.faults) is);
   ends = omega (arith, ap (λ (f : FrontSeen). f.counts.ends) is);
 }
 
 -- and the table in step with it
-pub step-watch : (told told' : Option FrontTold) (name : ConnName) (link : Option LinkTold) (s : State) → told' ≡ option_map (after_watch name link) told
-    → IsInStep told s → IsInStep told' s
-step-watch None told' name link s is step = subst (λ (o : Option FrontTold). IsInStep o s) (sym is) tt
-step-watch (Some t) told' name link s is step = subst (λ (o : Option FrontTold). IsInStep o s) (sym is) (after_watch-step name link t s step)
+pub step-watch : (told told' : Option FrontTold) (name : ConnName) (answer : Bool) (link : Option LinkTold) (s : State)
+    → told' ≡ option_map (after_watch name answer link) told → IsInStep told s → IsInStep told' s
+step-watch None told' name answer link s is step = subst (λ (o : Option FrontTold). IsInStep o s) (sym is) tt
+step-watch (Some t) told' name answer link s is step = subst (λ (o : Option FrontTold). IsInStep o s) (sym is) (after_watch-step name answer link t s step)
+
+-- ## A link that is turned away
+
+after_turning_away-clients : (link : Option LinkTold) (t : FrontTold) → (after_turning_away link t).clients ≡ t.clients
+after_turning_away-clients None t = refl
+after_turning_away-clients (Some l) t = refl
+
+-- the front is still the one that it was
+pub follows-turned : (old new : FrontSeen) (link : Option LinkTold) → new ≡ front_after_turning_away link old → Follows old new
+follows-turned old new link is = record {
+  script = ap (λ (f : FrontSeen). f.script) is;
+  clients =
+      λ clients has. clients-mapped clients old.told new.told (after_turning_away link) (after_turning_away-clients link)
+      (ap (λ (f : FrontSeen). f.told) is) has;
+  faults = omega (arith, ap (λ (f : FrontSeen). f.counts.faults) is);
+  ends = omega (arith, ap (λ (f : FrontSeen). f.counts.ends) is);
+}
 
 -- ## The end of listening
 

@@ -9,6 +9,7 @@ pub mod FrontLemmas
 pub mod HeldLemmas
 pub mod InformLemmas
 pub mod LeavingLemmas
+pub mod LinkLemmas
 pub mod ListenLemmas
 pub mod MeasureLemmas
 pub mod PaceLemmas

@@ -1,9 +1,10 @@
 -- What a board shows of its run.
-use Rattle.std.proofs.Common.{◌≡◌, ℕ, zero, suc, ◌+◌, Bool, true, false, ◌||◌, cond, List, [], ◌∷◌, ◌++◌, length, count_by, replicate, Option, Some, IfSome, refl, sym, ap, subst, ◌∙◌, arith}
+use Rattle.std.proofs.Common.{◌≡◌, ℕ, zero, suc, ◌+◌, ◌<◌, min, Bool, true, false, ◌||◌, cond, List, [], ◌∷◌, ◌++◌, length, count_by, replicate, Option, Some, IfSome, refl, sym, ap, subst, ◌∙◌, arith}
 use Rattle.std.proofs.lemmas.List.{append-nil}
 use Rattle.std.proofs.lemmas.List.Sums.{sum_by-cons}
 use Rattle.std.specs.List.{list_any}
 use Rattle.std.specs.Prelude.{slice_index}
+use Rattle.mpm_base.specs.Count.{greatest_count}
 use Rattle.mpm_base.specs.Front.{client_at}
 use Rattle.mpm_base.specs.Link.{LinkTold}
 use Rattle.conn_machine.specs.declared.row.Row.{Row}
@@ -23,6 +24,8 @@ use Rattle.conn_state.specs.Answered.{SeenEnded, IsAnswered, IsEnded}
 use Rattle.conn_state.specs.Known.{KnownOutside, TellsFrom}
 use Rattle.board.specs.Book.{StopsByLoad, TellsFullStop}
 use Rattle.board.specs.Board.{SeenBoard, Agrees, AreClosed, AreEnded, ClosesFirst, EndedForClients}
+use Rattle.board.specs.Ranks.{AllTell, has_rank}
+use Rattle.mpm_run.specs.Links.{EndsLinks}
 use Rattle.mpm_run.specs.Tells.{Receives, AllReceive}
 use Rattle.mpm_run.specs.FirstNumbers.{opened_by}
 use Rattle.mpm_run.specs.declared.run_numbers.RunNumbers.{RunNumbers}
@@ -134,3 +137,26 @@ receives clients e tells ended =
 pub all-receive : (k : KnownOutside) (ended : List SeenEnded) → AreEnded ended → EndedForClients (Some k) ended → AllReceive k.clients ended
 all-receive k [] are ends = tt
 all-receive k (e ∷ ended) are ends = (receives k.clients e ends.0 are.0, all-receive k ended are.1 ends.1)
+
+-- ## The links of ended connections
+
+-- each tells where the type knows the clients
+pub all-tell : (k : KnownOutside) (ended : List SeenEnded) → EndedForClients (Some k) ended → AllTell ended
+all-tell k [] ends = tt
+all-tell k (e ∷ ended) ends = ((ends.0.t, ends.0.told_is), all-tell k ended ends.1)
+
+-- where no connection is live their links are, each once, those that the table took
+pub ends-links : (n : RunNumbers) (b : SeenBoard) → IsRunFrom n b
+    → ((number : ℕ) → Run (opened_by n) b.book.history → AreClosed (opened_by n) b.book.history b.ended → AllTell b.ended
+    → list_any is_live (after (opened_by n) b.book.history).rows ≡ false → (after (opened_by n) b.book.history).accepted < greatest_count
+    → number < (after (opened_by n) b.book.history).accepted → count_by (has_rank number) b.ended ≡ 1)
+    → (after (opened_by n) b.book.history).accepted ≡ min (count_events is_accept b.book.history) greatest_count
+    → HasClosedAll b → AllTell b.ended → EndsLinks b
+ends-links n b run once counted closed tell few =
+    let few' = subst (λ (s : State). s.accepted < greatest_count) (sym run.state) few in
+    record {
+      each =
+          λ number below. once number run.run (subst (λ (s : State). AreClosed s b.book.history b.ended) run.opened run.agrees.closed) tell
+          (subst HasNoLive (sym run.state) closed.down.live) few' (subst (λ (s : State). number < s.accepted) (sym run.state) below);
+      as_many = omega (arith, closed.ended, counted, few', ap (λ (s : State). s.accepted) run.state);
+    }

@@ -9,7 +9,7 @@ use Rattle.board.specs.Book.{SeenBook}
 use Rattle.mpm_run.specs.FirstNumbers.{AreNumbers, opened_book}
 use Rattle.mpm_run.specs.ListenInside.{Follows, HasStopped, IsAtStart, IsInStep, IsInTime, WatchesAll, bound_of, waits_of}
 use Rattle.mpm_run.specs.Times.{IsInformed, SignalsAre, TicksAre}
-use Rattle.mpm_run.specs.Watched.{AreWatched, IsBoundOnce, IsHushed, IsOpenedAndHushed}
+use Rattle.mpm_run.specs.Watched.{AreClosedAtOnce, AreWatched, IsBoundOnce, IsHushed, IsOpenedAndHushed, link_watched}
 use Rattle.mpm_run.specs.declared.run_numbers.RunNumbers.{RunNumbers}
 use Rattle.mpm_run.proofs.FrontLemmas.{rises-after}
 
@@ -55,7 +55,7 @@ pub step-opened : (n : RunNumbers) (told : Option FrontTold) (calls : Option (Li
 step-opened n None calls b opened starting = tt
 step-opened n (Some t) calls b opened starting = record {
   listens = starting.front.hushed;
-  accepted = starting.front.accepted ∙ sym (ap (λ (x : SeenBook). x.state.accepted) opened);
+  taken = record { accepted = starting.front.accepted ∙ sym (ap (λ (x : SeenBook). x.state.accepted) opened); none = starting.front.turned_away };
 }
 
 -- ## A front that was bound
@@ -69,6 +69,7 @@ unused-bound listen control (Some t) told' is unused =
       arrived = unused.arrived;
       accepted = unused.accepted;
       watches = unused.watches;
+      turned_away = unused.turned_away;
       lines = unused.lines;
       read = unused.read;
       bound = refl;
@@ -136,7 +137,14 @@ pub watching-opened : (n : RunNumbers) (told : Option FrontTold) (calls : Option
     → IfSome told (WatchesAll b)
 watching-opened n None calls b opened idle = tt
 watching-opened n (Some t) calls b opened idle =
-    subst (λ (x : SeenBook). WatchesAll x t) (sym opened) (record { watches = idle.front.watches; count = refl })
+    subst (λ (x : SeenBook). WatchesAll x t) (sym opened) (record {
+      watches =
+          record {
+            watches = ap (map link_watched) idle.front.watches;
+            failed = subst (AreClosedAtOnce []) (sym idle.front.watches) tt;
+          };
+      count = refl;
+    })
 
 -- and in the end each link that the table took
 pub are-watched : (told : Option FrontTold) (b : SeenBook) → IfSome told (WatchesAll b) → IfSome told (AreWatched b.history)

@@ -25,7 +25,7 @@ use Rattle.mpm_run.proofs.FrontLemmas.{WaitsMore, all-taken, bound-kept, bound-w
 use Rattle.mpm_run.proofs.InformLemmas.{informed-as, informed-broken, informed-idle, informed-round, informed-so_far, tells-same, tells-silent}
 use Rattle.mpm_run.proofs.PassLemmas.{up-served}
 use Rattle.mpm_run.proofs.RoundLemmas.{none-has}
-use Rattle.mpm_run.proofs.WatchLemmas.{names-served, names-started, watched-as, watched-wait}
+use Rattle.mpm_run.proofs.WatchLemmas.{nobody-served, nobody-started, watched-as, watched-wait}
 
 -- the front watches each link that the table took, where this holds
 abbrev pub Watching : Type 0 → SeenListener → Type 0
@@ -72,7 +72,7 @@ between-started tells l m some free going step informed is starts same rest =
       follows = follows-same l.front;
       bound = refl;
       watched =
-          λ before holds. watched-as l.front.told l.board.book m.board.book (names-started l.board.book m.board.book starts) rest.accepted (before holds);
+          λ before holds. watched-as l.front.told l.board.book m.board.book (nobody-started l.board.book m.board.book starts) rest.accepted (before holds);
       time = λ time. time;
       informed =
           informed-as (waits_of l.front.told) l.calls l.board.book m.board.book
@@ -286,7 +286,7 @@ served-informed tells first a b before served =
 served-watched : (tells : Type 0) (first a b : SeenListener) → IsBetween tells first a → HasServed a b → Watching tells first → tells
     → IfSome a.front.told (WatchesAll b.board.book)
 served-watched tells first a b before served began holds =
-    watched-as a.front.told a.board.book b.board.book (names-served 1 served.events None a.board.book b.board.book (λ (same : 1 ≡ 0). cc) served.acts)
+    watched-as a.front.told a.board.book b.board.book (nobody-served 1 served.events None a.board.book b.board.book (λ (same : 1 ≡ 0). cc) served.acts)
     served.serves.accepted (before.watched began holds)
 
 -- after it

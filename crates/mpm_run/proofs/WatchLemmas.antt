@@ -1,13 +1,17 @@
--- That each link that the table took is watched under the name of its connection.
-use Rattle.std.proofs.Common.{◌≡◌, ◌≢◌, ◌==◌, ℕ, Bool, true, false, if◌then◌else◌, List, [], ◌∷◌, ◌++◌, length, map, Option, None, Some, option_map, is_none, Result, Ok, Err, IfErr, IfSome, OnOk, refl, sym, ap, subst, ◌∙◌, append-nil, eqb-true}
+-- That each link that the table took is watched under the name of its connection, which is closed where that failed.
+use Rattle.std.proofs.Common.{◌≡◌, ◌≢◌, ◌==◌, ℕ, Bool, true, false, if◌then◌else◌, List, [], ◌∷◌, ◌++◌, length, map, Option, None, Some, option_map, is_none, Result, Ok, Err, IfErr, IfSome, OnOk, refl, sym, ap, subst, ◌∙◌, append-nil, append_assoc, eqb-true}
 use Rattle.std.proofs.lemmas.Bool.{and_parts}
 use Rattle.std.proofs.lemmas.Grind.{flat_map-append}
+use Rattle.std.proofs.lemmas.List.{map-append}
+use Rattle.std.proofs.lemmas.List.Elements.{filter-append}
 use Rattle.std.specs.List.{flat_map}
 use Rattle.mpm_base.specs.Count.{next_count}
-use Rattle.mpm_base.specs.Front.{FrontTold, GoesForward, TellsOn, WatchTold, after_accept, after_watch, hushed_front}
+use Rattle.mpm_base.specs.Front.{FrontTold, GoesForward, TellsOn, WatchTold, after_accept, after_turning_away, after_watch, hushed_front}
 use Rattle.mpm_base.specs.Link.{LinkTold}
 use Rattle.mpm_base.specs.declared.conn.Cause.{Cause}
+use Rattle.mpm_base.specs.declared.conn.Cause.TheVariants.{LinkFailed}
 use Rattle.mpm_base.specs.declared.conn.ConnName.{ConnName}
+use Rattle.mpm_base.specs.declared.conn.Tail.TheVariants.{Direct}
 use Rattle.mpm_base.specs.declared.front.Arrival.{Arrival}
 use Rattle.mpm_base.specs.declared.front.Arrival.TheVariants as arrival
 use Rattle.mpm_base.specs.declared.front.Woke.{Woke}
@@ -17,7 +21,7 @@ use Rattle.conn_machine.specs.declared.event.Event.TheVariants as event
 use Rattle.conn_machine.specs.declared.event.Reply.{Reply}
 use Rattle.conn_machine.specs.declared.state.State.{State}
 use Rattle.conn_machine.specs.States.{is_halted}
-use Rattle.conn_machine.specs.Runs.{AreEntriesOf, has_after, may_make, row_of, taken_name}
+use Rattle.conn_machine.specs.Runs.{AreEntriesOf, entries_of, has_after, is_of_pass, may_make, row_of, taken_name}
 use Rattle.conn_machine.proofs.PassRows.{row_own}
 use Rattle.board.specs.declared.faults.BoardFault.{BoardFault}
 use Rattle.board.specs.declared.faults.BoardFault.TheVariants as fault
@@ -29,10 +33,10 @@ use Rattle.mpm_run.specs.ListenInside.{WatchesAll, number_after}
 use Rattle.mpm_run.specs.declared.listen.End.{End}
 use Rattle.worker_group.specs.Service.{left_events}
 use Rattle.mpm_run.specs.ClosingInside.{IsHaltedWay, LetsGo, LettingGo, RefusedWait, letting_events, lingering_given_up, refused_events}
-use Rattle.mpm_run.specs.RoundInside.{GivesUp, LetsGoOfConns, Lettings, PassesTime, RetiresSome, StartsSome, end_events, gone_events, halt_events, lettings_events, signal_events}
+use Rattle.mpm_run.specs.RoundInside.{GivesUp, LetsGoOfConns, Lettings, PassesTime, RetiresSome, StartsSome, end_events, gone_events, halt_events, lettings_events, signal_events, way_of}
 use Rattle.mpm_run.specs.Times.{known_slots, ticks_to}
-use Rattle.mpm_run.specs.Watched.{accepted_names, names_given, names_of, watches_from}
-use Rattle.mpm_run.proofs.AddedLemmas.{added-events, events_in}
+use Rattle.mpm_run.specs.Watched.{AreClosedAtOnce, IsClosedAtOnce, accepted_names, link_watched, links_from, name_in, names_given}
+use Rattle.mpm_run.proofs.AddedLemmas.{added-events, added-own, events_in}
 
 -- ## Events that take no connection
 
@@ -135,14 +139,45 @@ names-added : (who : ℕ) (es : List Event) (has : Option ConnName) (a b : SeenB
 names-added who es has a b acts =
     ap accepted_names acts.entries.1 ∙ flat_map-append (λ (e : Entry). names_given e.event e.reply) a.history acts.entries.0
 
--- they stay where no connection was taken
-pub names-kept : (who : ℕ) (es : List Event) (has : Option ConnName) (a b : SeenBook) → Acts who es has a b → TakesNone es
-    → accepted_names b.history ≡ accepted_names a.history
-names-kept who es has a b acts none =
-    names-added who es has a b acts
-    ∙ ap (λ (names : List ConnName). accepted_names a.history ++ names)
-    (unnamed acts.entries.0 (subst TakesNone (sym (added-events who es has a b acts)) none))
+-- the history went on, and no connection was taken
+pub record TakesNobody (a b : SeenBook) : Type 0 where
+  pub more : List Entry
+  pub history : b.history ≡ a.history ++ more
+  pub none : accepted_names more ≡ []
+
+-- then the names stay
+nobody-named : (a b : SeenBook) → TakesNobody a b → accepted_names b.history ≡ accepted_names a.history
+nobody-named a b nobody =
+    ap accepted_names nobody.history
+    ∙ flat_map-append (λ (e : Entry). names_given e.event e.reply) a.history nobody.more
+    ∙ ap (λ (names : List ConnName). accepted_names a.history ++ names) nobody.none
     ∙ append-nil (accepted_names a.history)
+
+-- and so it is in two steps
+pub nobody-more : (a b c : SeenBook) → TakesNobody a b → TakesNobody b c → TakesNobody a c
+nobody-more a b c first second = record {
+  more = first.more ++ second.more;
+  history = second.history ∙ ap (λ (es : List Entry). es ++ second.more) first.history ∙ append_assoc a.history first.more second.more;
+  none =
+      flat_map-append (λ (e : Entry). names_given e.event e.reply) first.more second.more
+      ∙ ap (λ (names : List ConnName). names ++ accepted_names second.more) first.none ∙ second.none;
+}
+
+-- it is so where nothing was done
+pub nobody-same : (a b : SeenBook) → b ≡ a → TakesNobody a b
+nobody-same a b same = record {
+  more = [];
+  history = ap (λ (x : SeenBook). x.history) same ∙ sym (append-nil a.history);
+  none = refl;
+}
+
+-- and where no event took one
+pub nobody-acts : (who : ℕ) (es : List Event) (has : Option ConnName) (a b : SeenBook) → Acts who es has a b → TakesNone es → TakesNobody a b
+nobody-acts who es has a b acts none = record {
+  more = acts.entries.0;
+  history = acts.entries.1;
+  none = unnamed acts.entries.0 (subst TakesNone (sym (added-events who es has a b acts)) none);
+}
 
 serves-none : (p : ℕ) (had : Option ConnName) (weight : ℕ) (e : Event) → p ≢ 0 → may_make p had weight e ≡ true → accepts_in e ≡ []
 serves-none p had weight (event.Accept slot) other may = absurd (other (eqb-true p 0 (and_parts (p == 0) (is_none had) may).0))
@@ -166,18 +201,18 @@ serves-added p base before (e ∷ added) other are =
     ∙ serves-added p base (before ++ e ∷ []) added other are.1
 
 -- and where another pass than the listener added what it did
-pub names-served : (who : ℕ) (es : List Event) (has : Option ConnName) (a b : SeenBook) → who ≢ 0 → Acts who es has a b
-    → accepted_names b.history ≡ accepted_names a.history
-names-served who es has a b other acts =
-    names-added who es has a b acts
-    ∙ ap (λ (names : List ConnName). accepted_names a.history ++ names) (unnamed acts.entries.0 (serves-added who a.base a.history acts.entries.0 other acts.entries.2))
-    ∙ append-nil (accepted_names a.history)
+pub nobody-served : (who : ℕ) (es : List Event) (has : Option ConnName) (a b : SeenBook) → who ≢ 0 → Acts who es has a b → TakesNobody a b
+nobody-served who es has a b other acts = record {
+  more = acts.entries.0;
+  history = acts.entries.1;
+  none = unnamed acts.entries.0 (serves-added who a.base a.history acts.entries.0 other acts.entries.2);
+}
 
 took-name : (e : Event) (answer : Reply) (slot : ℕ) (had : Option ConnName) (name : ConnName) → e ≡ event.Accept slot → has_after had e answer ≡ Some name
     → names_given e answer ≡ name ∷ []
 took-name e answer slot had name is has =
     let took : taken_name answer ≡ Some name = subst (λ (x : Event). has_after had x answer ≡ Some name) is has in
-    ap (λ (x : Event). names_given x answer) is ∙ ap names_of took
+    ap (λ (x : Event). names_given x answer) is ∙ ap name_in took
 
 took-added : (slot : ℕ) (name : ConnName) (base : State) (before after' added : List Entry) → events_in added ≡ event.Accept slot ∷ [] → after' ≡ before ++ added
     → AreEntriesOf 0 base before added → row_of 0 after' ≡ Some name → accepted_names added ≡ name ∷ []
@@ -189,44 +224,158 @@ took-added slot name base before after' (e ∷ []) events is are row =
 took-added slot name base before after' (e ∷ f ∷ added) events is are row = absurd (cc events)
 
 -- a connection that was taken is named last
-pub names-took : (slot : ℕ) (name : ConnName) (a b : SeenBook) → Acts 0 (event.Accept slot ∷ []) (Some name) a b
+names-took : (slot : ℕ) (name : ConnName) (a b : SeenBook) → Acts 0 (event.Accept slot ∷ []) (Some name) a b
     → accepted_names b.history ≡ accepted_names a.history ++ name ∷ []
 names-took slot name a b acts =
     names-added 0 _ (Some name) a b acts
     ∙ ap (λ (names : List ConnName). accepted_names a.history ++ names)
     (took-added slot name a.base a.history b.history acts.entries.0 (added-events 0 _ (Some name) a b acts) acts.entries.1 acts.entries.2 acts.row)
 
+-- ## A connection that was taken, and left
+
+-- what was added for one event is one entry
+one-entry : (es : List Entry) (e : Event) → events_in es ≡ e ∷ [] → (x : Entry) × (es ≡ x ∷ []) × (x.event ≡ e)
+one-entry [] e is = absurd (cc is)
+one-entry (x ∷ []) e is = (x, refl, cc is)
+one-entry (x ∷ y ∷ es) e is = absurd (cc is)
+
+-- what the listener added stands behind its entries
+entries-added : (es : List Event) (has : Option ConnName) (a b : SeenBook) (acts : Acts 0 es has a b)
+    → entries_of 0 b.history ≡ entries_of 0 a.history ++ acts.entries.0
+entries-added es has a b acts =
+    ap (entries_of 0) acts.entries.1
+    ∙ filter-append (is_of_pass 0) a.history acts.entries.0
+    ∙ ap (λ (xs : List Entry). entries_of 0 a.history ++ xs) (added-own 0 a.base a.history acts.entries.0 acts.entries.2)
+
+-- a connection that was taken, and closed by the next entry of the listener
+closed-at-once : (slot : ℕ) (name : ConnName) (a m b : SeenBook) → Acts 0 (event.Accept slot ∷ []) (Some name) a m
+    → Acts 0 (event.Close name LinkFailed Direct ∷ []) None m b → IsClosedAtOnce b.history name
+closed-at-once slot name a m b took left =
+    let first = one-entry took.entries.0 (event.Accept slot) (added-events 0 _ (Some name) a m took) in
+    let second = one-entry left.entries.0 (event.Close name LinkFailed Direct) (added-events 0 _ None m b left) in
+    let named = took-added slot name a.base a.history m.history took.entries.0 (added-events 0 _ (Some name) a m took) took.entries.1 took.entries.2 took.row in
+    record {
+      before = entries_of 0 a.history;
+      took = first.0;
+      closed = second.0;
+      rest = [];
+      stand =
+          entries-added _ None m b left
+          ∙ ap (λ (xs : List Entry). entries_of 0 m.history ++ xs) second.1
+          ∙ ap (λ (xs : List Entry). xs ++ second.0 ∷ [])
+          (entries-added _ (Some name) a m took ∙ ap (λ (xs : List Entry). entries_of 0 a.history ++ xs) first.1)
+          ∙ append_assoc (entries_of 0 a.history) (first.0 ∷ []) (second.0 ∷ []);
+      takes = sym (append-nil (names_given first.0.event first.0.reply)) ∙ ap accepted_names (sym first.1) ∙ named;
+      closes = second.2;
+    }
+
+-- a connection was taken, and the history went on; where its watch failed it was closed at once
+pub record TakesOne (name : ConnName) (watched : Bool) (a b : SeenBook) : Type 0 where
+  pub more : List Entry
+  pub history : b.history ≡ a.history ++ more
+  pub names : accepted_names b.history ≡ accepted_names a.history ++ name ∷ []
+  pub failed : watched ≡ false → IsClosedAtOnce b.history name
+
+takes-left : (name : ConnName) (watched : Bool) (a m b : SeenBook) → Acts 0 (event.Accept name.slot ∷ []) (Some name) a m → TakesNobody m b
+    → (watched ≡ false → IsClosedAtOnce b.history name) → TakesOne name watched a b
+takes-left name watched a m b took nobody closed = record {
+  more = took.entries.0 ++ nobody.more;
+  history =
+      nobody.history ∙ ap (λ (es : List Entry). es ++ nobody.more) took.entries.1 ∙ append_assoc a.history took.entries.0 nobody.more;
+  names = nobody-named m b nobody ∙ names-took name.slot name a m took;
+  failed = closed;
+}
+
+-- how it was left names none
+nobody-left : {T : Type 0} (r : Result T BoardFault) (way : Exit) (name name' : ConnName) (a b : SeenBook) → OnOk r (Acts 0 (left_events way name) None a b)
+    → IfErr r (λ f. GivesUp f name' a b) → TakesNobody a b
+nobody-left (Ok x) way name name' a b left given = nobody-acts 0 _ None a b left (none-left way name)
+nobody-left (Err f) way name name' a b left given = nobody-acts 0 _ None a b given (none-left (exit.GiveUp f) name')
+
+-- so it is of a connection that was taken and left
+pub takes-one-left : {T : Type 0} (r : Result T BoardFault) (name name' : ConnName) (watched : Bool) (a m b : SeenBook)
+    → Acts 0 (event.Accept name.slot ∷ []) (Some name) a m → name' ≡ name → OnOk r (Acts 0 (left_events (way_of watched) name') None m b)
+    → IfErr r (λ f. GivesUp f name' m b) → (watched ≡ false → Acts 0 (left_events (way_of false) name') None m b) → TakesOne name watched a b
+takes-one-left r name name' watched a m b took same left given closed =
+    takes-left name watched a m b took (nobody-left r (way_of watched) name' name' m b left given)
+    (λ failed. closed-at-once name.slot name a m b took
+    (subst (λ (n : ConnName). Acts 0 (left_events (way_of false) n) None m b) same (closed failed)))
+
+-- ## Connections that were closed at once
+
+-- it stays so while the history goes on
+closed-on : (before more after' : List Entry) (name : ConnName) → after' ≡ before ++ more → IsClosedAtOnce before name → IsClosedAtOnce after' name
+closed-on before more after' name is closed = record {
+  before = closed.before;
+  took = closed.took;
+  closed = closed.closed;
+  rest = closed.rest ++ entries_of 0 more;
+  stand =
+      ap (entries_of 0) is
+      ∙ filter-append (is_of_pass 0) before more
+      ∙ ap (λ (es : List Entry). es ++ entries_of 0 more) closed.stand
+      ∙ append_assoc closed.before (closed.took ∷ closed.closed ∷ closed.rest) (entries_of 0 more);
+  takes = closed.takes;
+  closes = closed.closes;
+}
+
+all-closed-on : (before more after' : List Entry) (watches : List WatchTold) → after' ≡ before ++ more → AreClosedAtOnce before watches
+    → AreClosedAtOnce after' watches
+all-closed-on before more after' [] is all = tt
+all-closed-on before more after' (w ∷ watches) is all =
+    (λ failed. closed-on before more after' w.name is (all.0 failed), all-closed-on before more after' watches is all.1)
+
+-- and with one watch more
+all-closed-more : (history : List Entry) (watches : List WatchTold) (w : WatchTold) → AreClosedAtOnce history watches
+    → (w.answer ≡ false → IsClosedAtOnce history w.name) → AreClosedAtOnce history (watches ++ w ∷ [])
+all-closed-more history [] w all one = (one, tt)
+all-closed-more history (x ∷ watches) w all one = (all.0, all-closed-more history watches w all.1 one)
+
 -- ## Watches
 
-watches-more : (number : ℕ) (names : List ConnName) (name : ConnName)
-    → watches_from number (names ++ name ∷ []) ≡ watches_from number names ++ record { rank = number_after number names; name = name } ∷ []
-watches-more number [] name = refl
-watches-more number (n ∷ names) name =
-    ap (λ (xs : List WatchTold). record { rank = number; name = n } ∷ xs) (watches-more (next_count number) names name)
+links-more : (number : ℕ) (names : List ConnName) (name : ConnName)
+    → links_from number (names ++ name ∷ []) ≡ links_from number names ++ (number_after number names, name) ∷ []
+links-more number [] name = refl
+links-more number (n ∷ names) name = ap (λ (xs : List (ℕ × ConnName)). (number, n) ∷ xs) (links-more (next_count number) names name)
 
 number-more : (number : ℕ) (names : List ConnName) (name : ConnName) → number_after number (names ++ name ∷ []) ≡ next_count (number_after number names)
 number-more number [] name = refl
 number-more number (n ∷ names) name = number-more (next_count number) names name
 
--- books that agree in what was taken
-watches-as : (a b : SeenBook) (t : FrontTold) → accepted_names b.history ≡ accepted_names a.history → b.state.accepted ≡ a.state.accepted → WatchesAll a t
-    → WatchesAll b t
-watches-as a b t names accepted all = record {
-  watches = all.watches ∙ ap (watches_from 0) (sym names);
-  count = accepted ∙ all.count ∙ ap (number_after 0) (sym names);
-}
+-- a book whose history went on, and took no connection
+watches-as : (a b : SeenBook) (t : FrontTold) → TakesNobody a b → b.state.accepted ≡ a.state.accepted → WatchesAll a t → WatchesAll b t
+watches-as a b t nobody accepted all =
+    let names = nobody-named a b nobody in
+    record {
+      watches =
+          record {
+            watches = all.watches.watches ∙ ap (links_from 0) (sym names);
+            failed = all-closed-on a.history nobody.more b.history t.watches nobody.history all.watches.failed;
+          };
+      count = accepted ∙ all.count ∙ ap (number_after 0) (sym names);
+    }
 
-pub watched-as : (told : Option FrontTold) (a b : SeenBook) → accepted_names b.history ≡ accepted_names a.history → b.state.accepted ≡ a.state.accepted
-    → IfSome told (WatchesAll a) → IfSome told (WatchesAll b)
-watched-as None a b names accepted all = tt
-watched-as (Some t) a b names accepted all = watches-as a b t names accepted all
+pub watched-as : (told : Option FrontTold) (a b : SeenBook) → TakesNobody a b → b.state.accepted ≡ a.state.accepted → IfSome told (WatchesAll a)
+    → IfSome told (WatchesAll b)
+watched-as None a b nobody accepted all = tt
+watched-as (Some t) a b nobody accepted all = watches-as a b t nobody accepted all
 
 -- a change of the front that leaves its watches
+watches-still : (t t' : FrontTold) (b : SeenBook) → t'.watches ≡ t.watches → WatchesAll b t → WatchesAll b t'
+watches-still t t' b same all = record {
+  watches =
+      record {
+        watches = ap (map link_watched) same ∙ all.watches.watches;
+        failed = subst (AreClosedAtOnce b.history) (sym same) all.watches.failed;
+      };
+  count = all.count;
+}
+
 watched-mapped : (told told' : Option FrontTold) (change : FrontTold → FrontTold) (b : SeenBook) → ((t : FrontTold) → (change t).watches ≡ t.watches)
     → told' ≡ option_map change told → IfSome told (WatchesAll b) → IfSome told' (WatchesAll b)
 watched-mapped None told' change b keeps is all = subst (λ (o : Option FrontTold). IfSome o (WatchesAll b)) (sym is) tt
 watched-mapped (Some t) told' change b keeps is all =
-    subst (λ (o : Option FrontTold). IfSome o (WatchesAll b)) (sym is) (record { watches = keeps t ∙ all.watches; count = all.count })
+    subst (λ (o : Option FrontTold). IfSome o (WatchesAll b)) (sym is) (watches-still t (change t) b (keeps t) all)
 
 accept-watches : {L : Type 0} (answer : Arrival L) (t : FrontTold) → (after_accept answer t).watches ≡ t.watches
 accept-watches (arrival.Some link) t = refl
@@ -237,6 +386,14 @@ pub watched-accept : {L : Type 0} (answer : Arrival L) (told told' : Option Fron
     → IfSome told (WatchesAll b) → IfSome told' (WatchesAll b)
 watched-accept answer told told' b is all = watched-mapped told told' (after_accept answer) b (accept-watches answer) is all
 
+turned-watches : (link : Option LinkTold) (t : FrontTold) → (after_turning_away link t).watches ≡ t.watches
+turned-watches None t = refl
+turned-watches (Some l) t = refl
+
+pub watched-turned : (link : Option LinkTold) (told told' : Option FrontTold) (b : SeenBook) → told' ≡ option_map (after_turning_away link) told
+    → IfSome told (WatchesAll b) → IfSome told' (WatchesAll b)
+watched-turned link told told' b is all = watched-mapped told told' (after_turning_away link) b (turned-watches link) is all
+
 pub watched-hushed : (told told' : Option FrontTold) (b : SeenBook) → told' ≡ option_map hushed_front told → IfSome told (WatchesAll b)
     → IfSome told' (WatchesAll b)
 watched-hushed told told' b is all = watched-mapped told told' hushed_front b (λ t. refl) is all
@@ -246,61 +403,77 @@ pub watched-wait : (until : Option ℕ) (quiet : Bool) (answer : Woke) (ready : 
     → TellsOn (GoesForward until quiet answer ready) told told' → IfSome told (WatchesAll b) → IfSome told' (WatchesAll b)
 watched-wait until quiet answer ready None told' b tells all = subst (λ (o : Option FrontTold). IfSome o (WatchesAll b)) (sym tells) tt
 watched-wait until quiet answer ready (Some t) told' b tells all =
-    subst (λ (o : Option FrontTold). IfSome o (WatchesAll b)) (sym tells.1) (record { watches = tells.2.watches ∙ all.watches; count = all.count })
+    subst (λ (o : Option FrontTold). IfSome o (WatchesAll b)) (sym tells.1) (watches-still t tells.0 b tells.2.watches all)
+
+-- one watch more
+watches-took : (w : WatchTold) (t : FrontTold) (a b : SeenBook) → w.rank ≡ a.state.accepted → TakesOne w.name w.answer a b
+    → b.state.accepted ≡ next_count a.state.accepted → WatchesAll a t → WatchesAll b (record t { watches = t.watches ++ w ∷ [] })
+watches-took w t a b rank one accepted all =
+    let names = one.names in
+    record {
+      watches =
+          record {
+            watches =
+                map-append link_watched t.watches (w ∷ [])
+                ∙ ap (λ (n : ℕ). map link_watched t.watches ++ (n, w.name) ∷ []) (rank ∙ all.count)
+                ∙ ap (λ (xs : List (ℕ × ConnName)). xs ++ (number_after 0 (accepted_names a.history), w.name) ∷ []) all.watches.watches
+                ∙ sym (links-more 0 (accepted_names a.history) w.name)
+                ∙ ap (links_from 0) (sym names);
+            failed =
+                all-closed-more b.history t.watches w (all-closed-on a.history one.more b.history t.watches one.history all.watches.failed) one.failed;
+          };
+      count = accepted ∙ ap next_count all.count ∙ sym (number-more 0 (accepted_names a.history) w.name) ∙ ap (number_after 0) (sym names);
+    }
 
 -- a connection was taken, and its link watched under its name
-pub watched-took : (name : ConnName) (link : Option LinkTold) (l : LinkTold) (told told' : Option FrontTold) (a b : SeenBook) → link ≡ Some l
-    → l.rank ≡ a.state.accepted → told' ≡ option_map (after_watch name link) told → accepted_names b.history ≡ accepted_names a.history ++ name ∷ []
+pub watched-took : (name : ConnName) (answer : Bool) (link : Option LinkTold) (l : LinkTold) (told told' : Option FrontTold) (a b : SeenBook) → link ≡ Some l
+    → l.rank ≡ a.state.accepted → told' ≡ option_map (after_watch name answer link) told → TakesOne name answer a b
     → b.state.accepted ≡ next_count a.state.accepted → IfSome told (WatchesAll a) → IfSome told' (WatchesAll b)
-watched-took name link l None told' a b told_is rank is names accepted all = subst (λ (o : Option FrontTold). IfSome o (WatchesAll b)) (sym is) tt
-watched-took name link l (Some t) told' a b told_is rank is names accepted all =
-    let one : told' ≡ Some (record t { watches = t.watches ++ record { rank = l.rank; name = name } ∷ [] }) =
-    is ∙ ap (λ (o : Option LinkTold). Some (after_watch name o t)) told_is in
-    subst (λ (o : Option FrontTold). IfSome o (WatchesAll b)) (sym one)
-    (record {
-      watches =
-          ap (λ (n : ℕ). t.watches ++ record { rank = n; name = name } ∷ []) (rank ∙ all.count)
-          ∙ ap (λ (xs : List WatchTold). xs ++ record { rank = number_after 0 (accepted_names a.history); name = name } ∷ []) all.watches
-          ∙ sym (watches-more 0 (accepted_names a.history) name)
-          ∙ ap (watches_from 0) (sym names);
-      count =
-          accepted ∙ ap next_count all.count ∙ sym (number-more 0 (accepted_names a.history) name) ∙ ap (number_after 0) (sym names);
-    })
-
--- how it was left names none
-pub names-left : {T : Type 0} (r : Result T BoardFault) (way : Exit) (name name' : ConnName) (a b : SeenBook) → OnOk r (Acts 0 (left_events way name) None a b)
-    → IfErr r (λ f. GivesUp f name' a b) → accepted_names b.history ≡ accepted_names a.history
-names-left (Ok x) way name name' a b left given = names-kept 0 _ None a b left (none-left way name)
-names-left (Err f) way name name' a b left given = names-kept 0 _ None a b given (none-left (exit.GiveUp f) name')
+watched-took name answer link l None told' a b told_is rank is one accepted all = subst (λ (o : Option FrontTold). IfSome o (WatchesAll b)) (sym is) tt
+watched-took name answer link l (Some t) told' a b told_is rank is one accepted all =
+    let w : WatchTold = record { rank = l.rank; name = name; answer = answer } in
+    let more : told' ≡ Some (record t { watches = t.watches ++ w ∷ [] }) =
+    is ∙ ap (λ (o : Option LinkTold). Some (after_watch name answer o t)) told_is in
+    subst (λ (o : Option FrontTold). IfSome o (WatchesAll b)) (sym more) (watches-took w t a b rank one accepted all)
 
 -- ## The parts of a round
 
--- connections that are let go of name none
-pub names-gone : (Way : Exit → Type 0) (a b : SeenBook) → LetsGo Way a b → accepted_names b.history ≡ accepted_names a.history
-names-gone Way a b lets = names-kept 0 _ None a b lets.acts (none-gone lets.gone)
+-- no connection is taken where some are let go of
+pub nobody-gone : (Way : Exit → Type 0) (a b : SeenBook) → LetsGo Way a b → TakesNobody a b
+nobody-gone Way a b lets = nobody-acts 0 _ None a b lets.acts (none-gone lets.gone)
 
 -- nor does time that passes
-pub names-passed : (to : ℕ) (a b : SeenBook) → PassesTime to a b → accepted_names b.history ≡ accepted_names a.history
-names-passed to a b passes =
-    names-kept 0 _ None a b passes.acts
+pub nobody-passed : (to : ℕ) (a b : SeenBook) → PassesTime to a b → TakesNobody a b
+nobody-passed to a b passes =
+    nobody-acts 0 _ None a b passes.acts
     (none-both (gone_events passes.early ++ map event.Tick (ticks_to a.state.moment to)) (gone_events passes.late)
     (none-both (gone_events passes.early) (map event.Tick (ticks_to a.state.moment to)) (none-gone passes.early)
     (none-ticks (ticks_to a.state.moment to))) (none-gone passes.late))
 
 -- nor do those that retire or linger, and the children behind them
-pub names-let_go : (refused : List RefusedWait) (a b : SeenBook) → LetsGoOfConns refused a b → accepted_names b.history ≡ accepted_names a.history
-names-let_go refused a b lets = names-kept 0 _ None a b lets.acts (none-lettings lets.lettings refused)
+pub nobody-let_go : (refused : List RefusedWait) (a b : SeenBook) → LetsGoOfConns refused a b → TakesNobody a b
+nobody-let_go refused a b lets = nobody-acts 0 _ None a b lets.acts (none-lettings lets.lettings refused)
 
-pub names-retired : (a b : SeenBook) → RetiresSome a b → accepted_names b.history ≡ accepted_names a.history
-names-retired a b retires = names-kept 0 _ None a b retires.acts (none-retires retires.children)
+pub nobody-retired : (a b : SeenBook) → RetiresSome a b → TakesNobody a b
+nobody-retired a b retires = nobody-acts 0 _ None a b retires.acts (none-retires retires.children)
 
 -- nor do signals
-pub names-signalled : (slots : List ℕ) (a b : SeenBook) → Acts 0 (signal_events a slots) None a b → accepted_names b.history ≡ accepted_names a.history
-names-signalled slots a b signals = names-kept 0 _ None a b signals (none-signals (known_slots (length a.base.rows) slots))
+pub nobody-signalled : (slots : List ℕ) (a b : SeenBook) → Acts 0 (signal_events a slots) None a b → TakesNobody a b
+nobody-signalled slots a b signals = nobody-acts 0 _ None a b signals (none-signals (known_slots (length a.base.rows) slots))
 
 -- nor do starts
-pub names-started : (a b : SeenBook) → StartsSome a b → accepted_names b.history ≡ accepted_names a.history
-names-started a b starts = names-kept 0 _ None a b starts.acts (none-starts starts.children)
+pub nobody-started : (a b : SeenBook) → StartsSome a b → TakesNobody a b
+nobody-started a b starts = nobody-acts 0 _ None a b starts.acts (none-starts starts.children)
+
+-- nor does any part of a round before connections are taken
+pub nobody-before-takes : (a b c d e f : SeenBook) (to : ℕ) (slots : List ℕ) → PassesTime to a b → Acts 0 (signal_events b slots) None b c
+    → LetsGoOfConns [] c d → RetiresSome d e → StartsSome e f → TakesNobody a f
+nobody-before-takes a b c d e f to slots passes signals lets retires starts =
+    nobody-more a e f
+    (nobody-more a d e
+    (nobody-more a c d
+    (nobody-more a b c (nobody-passed to a b passes) (nobody-signalled slots b c signals)) (nobody-let_go [] c d lets)) (nobody-retired d e retires))
+    (nobody-started e f starts)
 
 -- ## The stop
 
@@ -315,9 +488,8 @@ none-halts true b turns = refl
 none-halts false b turns = none-ends b turns
 
 -- the server was stopped, each connection that waited closed, and each child let go of
-pub names-down : (turns : Result End BoardFault) (a b c d : SeenBook) → Acts 0 (halt_events a turns) None a b → LetsGo IsHaltedWay b c
-    → RetiresSome c d → accepted_names d.history ≡ accepted_names a.history
-names-down turns a b c d halts closes retires =
-    names-kept 0 _ None c d retires.acts (none-retires retires.children)
-    ∙ names-gone IsHaltedWay b c closes
-    ∙ names-kept 0 _ None a b halts (none-halts (is_halted a.state.going) a turns)
+pub nobody-down : (turns : Result End BoardFault) (a b c d : SeenBook) → Acts 0 (halt_events a turns) None a b → LetsGo IsHaltedWay b c
+    → RetiresSome c d → TakesNobody a d
+nobody-down turns a b c d halts closes retires =
+    nobody-more a b d (nobody-acts 0 _ None a b halts (none-halts (is_halted a.state.going) a turns))
+    (nobody-more b c d (nobody-gone IsHaltedWay b c closes) (nobody-acts 0 _ None c d retires.acts (none-retires retires.children)))

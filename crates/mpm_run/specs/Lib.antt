@@ -3,6 +3,7 @@ pub mod ExitStatuses
 pub mod ExitStatusesInside
 pub mod FirstNumbers
 pub mod Invocations
+pub mod Links
 pub mod Listen
 pub mod ListenInside
 pub mod Patient

@@ -30,6 +30,7 @@ use Rattle.mpm_run.specs.declared.listen.End.TheVariants as end
 use Rattle.mpm_run.specs.declared.run_numbers.RunNumbers.{RunNumbers}
 use Rattle.mpm_run.specs.declared.server.OpenFault.{OpenFault}
 use Rattle.mpm_run.specs.declared.server.OpenFault.TheVariants as opening
+use Rattle.mpm_run.specs.Links.{HandsOutTaken, TakesLinks, TurnsOneAway}
 use Rattle.mpm_run.specs.Listen.{HasNoLive, IsClosedDown}
 use Rattle.mpm_run.specs.Patient.{IsAtRest}
 use Rattle.mpm_run.specs.Started.{BeginsWithStarts}
@@ -43,9 +44,9 @@ waits_of told = option_map (λ t. t.waits) told
 abbrev pub bound_of : Option FrontTold → Option (List BoundTold)
 bound_of told = option_map (λ t. t.bound) told
 
--- links were handed out and watched, or an accept failed, and nothing else happened to the front
+-- links were handed out, watched and turned away, or an accept failed, and nothing else happened to the front
 pub record OnlyTakes (t t' : FrontTold) : Type 0 where
-  pub rest : t' ≡ record t { accepted = t'.accepted; watches = t'.watches; failed = t'.failed }
+  pub rest : t' ≡ record t { accepted = t'.accepted; watches = t'.watches; turned_away = t'.turned_away; failed = t'.failed }
 
 -- a clock that tells was told the moments that the waits of a front that tells gave, in order, and no others
 abbrev pub IsInTime : Option (List WaitTold) → Option (List (ℕ × ℕ)) → Type 0
@@ -90,10 +91,10 @@ pub record Follows (old new : FrontSeen) : Type 0 where
   pub faults : NeverFalls old.counts.faults new.counts.faults
   pub ends : NeverFalls old.counts.ends new.counts.ends
 
--- the front listens, and handed out as many links as the table took connections
+-- the front listens, handed out as many links as the table took connections, and turned none away
 pub record KeepsStep (s : State) (t : FrontTold) : Type 0 where
   pub listens : t.hushed ≡ false
-  pub accepted : t.accepted ≡ s.accepted
+  pub taken : HandsOutTaken s t
 
 -- the same of a front that tells
 abbrev pub IsInStep : Option FrontTold → State → Type 0
@@ -114,6 +115,10 @@ HasStarted old new =
     (waits_of new.front.told ≡ waits_of old.front.told)
     ⊎ BeginsWithStarts (asked_children old.board.book.base) new.board.book.history
 
+-- where its links tell, the table took each link that it handed out, or it turned the last one away
+abbrev pub HandsOut : {L : Type 0} → (L → LinkSeen) → Option FrontTold → State → Type 0
+HandsOut link_seen told s = LinksTell link_seen → IfSome told (λ t. HandsOutTaken s t ⊎ TurnsOneAway s t)
+
 -- the number at which a count from this one stands behind the names
 abbrev pub number_after : ℕ → List ConnName → ℕ
 number_after number [] = number
@@ -127,6 +132,10 @@ pub record WatchesAll (b : SeenBook) (t : FrontTold) : Type 0 where
 -- the same of a front that tells, whose links tell
 abbrev pub IsWatching : {L : Type 0} → (L → LinkSeen) → Option FrontTold → SeenBook → Type 0
 IsWatching link_seen told b = LinksTell link_seen → IfSome told (WatchesAll b)
+
+-- the same once the server has stopped, so that it turned one away only where the server was broken off
+abbrev pub HandedOut : {L : Type 0} → (L → LinkSeen) → Option FrontTold → State → Type 0
+HandedOut link_seen told s = LinksTell link_seen → IfSome told (TakesLinks s)
 
 -- nothing has come of a front that tells, and of the table nothing was asked: no time has passed, that a patient one tells
 pub record IsAtStart (told : Option FrontTold) (b : SeenBook) : Type 0 where

@@ -1,7 +1,8 @@
 -- The events that the listener adds, by the parts of its round.
 use Rattle.std.specs.Prelude.{◌≡◌, ◌⊎◌, ℕ, Bool, true, false, List, [], ◌∷◌, ◌++◌, length, map, nat_le, if◌then◌else◌, Option, None, option_map, Result, Ok, Err, ⊤}
 use Rattle.std.specs.List.{flat_map}
-use Rattle.mpm_base.specs.Front.{Waits, after_watch}
+use Rattle.mpm_base.specs.Front.{Waits, after_turning_away, after_watch}
+use Rattle.mpm_base.specs.Count.{next_count}
 use Rattle.mpm_base.specs.Link.{LinkTold}
 use Rattle.mpm_base.specs.declared.conn.ConnName.{ConnName}
 use Rattle.mpm_base.specs.declared.conn.Cause.TheVariants as cause
@@ -24,7 +25,7 @@ use Rattle.worker_group.specs.declared.service.Exit.TheVariants as exit
 use Rattle.worker_group.specs.Acts.{Acts}
 use Rattle.worker_group.specs.Service.{given_up, left_events}
 use Rattle.mpm_run.specs.ClosingInside.{AllLeftBy, IsDrainedWay, IsLateWay, IsRetiringWay, LettingGo, RefusedWait, letting_events, refused_events}
-use Rattle.mpm_run.specs.ListenInside.{AsksFor, NoneOverdue, SeenListener, why_of}
+use Rattle.mpm_run.specs.ListenInside.{AsksFor, IsInStep, NoneOverdue, SeenListener, why_of}
 use Rattle.mpm_run.specs.Patient.{IsAtRest}
 use Rattle.mpm_run.specs.declared.listen.End.{End}
 use Rattle.mpm_run.specs.declared.listen.Pause.{Pause}
@@ -77,12 +78,27 @@ AllLeft (t ∷ takes) = IsLeft t.way × AllLeft takes
 abbrev pub GivesUp : BoardFault → ConnName → SeenBook → SeenBook → Type 0
 GivesUp fault name old new = Acts 0 (given_up fault name) None old new
 
--- the connection of the link was taken, the front watches the link under its name, and it was left by that
+-- the connection of the link was taken, the link watched under its name, and the connection left by what that answered
 pub record IsTaking (link : Option LinkTold) (old new : SeenListener) : Type 0 where
-  pub taking : Taking
-  pub left : IsLeft taking.way
-  pub watched : new.front.told ≡ option_map (after_watch taking.name link) old.front.told
-  pub acts : Acts 0 (taking_events taking) None old.board.book new.board.book
+  pub name : ConnName
+  pub watched : Bool
+  pub told : new.front.told ≡ option_map (after_watch name watched link) old.front.told
+  pub acts : Acts 0 (taking_events (record { name = name; way = way_of watched })) None old.board.book new.board.book
+
+-- the table counts one connection more, and is in step with the front, where it was so with the link handed out
+pub record IsTakenStill (old new : SeenListener) : Type 0 where
+  pub accepted : new.board.book.state.accepted ≡ next_count old.board.book.state.accepted
+  pub step : IsInStep old.front.told new.board.book.state → IsInStep new.front.told new.board.book.state
+
+-- the table counts no connection more, and the front turned the link away
+pub record IsRefused (link : Option LinkTold) (old new : SeenListener) : Type 0 where
+  pub accepted : new.board.book.state.accepted ≡ old.board.book.state.accepted
+  pub told : new.front.told ≡ option_map (after_turning_away link) old.front.told
+
+-- a connection that could not be taken so: the table took it, and it was given up; or the table refused its link, which the front
+-- turned away
+abbrev pub EndsTaking : Option LinkTold → SeenListener → SeenListener → Type 0
+EndsTaking link old new = IsTakenStill old new ⊎ IsRefused link old new
 
 -- connections were taken, each left so, and nothing else was done
 pub record TakesSome (old new : SeenBook) : Type 0 where

@@ -1,14 +1,16 @@
 -- What a run did with its front.
-use Rattle.std.specs.Prelude.{◌≡◌, ℕ, true, List, [], ◌∷◌, Option, None, Some}
+use Rattle.std.specs.Prelude.{◌≡◌, ℕ, true, false, List, [], ◌∷◌, ◌++◌, map, Option, None, Some, ⊤}
 use Rattle.std.specs.List.{flat_map}
 use Rattle.mpm_base.specs.Count.{next_count}
 use Rattle.mpm_base.specs.Front.{FrontTold, WatchTold}
+use Rattle.mpm_base.specs.declared.conn.Cause.TheVariants.{LinkFailed}
 use Rattle.mpm_base.specs.declared.conn.ConnName.{ConnName}
+use Rattle.mpm_base.specs.declared.conn.Tail.TheVariants.{Direct}
 use Rattle.conn_machine.specs.declared.event.Entry.{Entry}
 use Rattle.conn_machine.specs.declared.event.Event.{Event}
 use Rattle.conn_machine.specs.declared.event.Event.TheVariants as event
 use Rattle.conn_machine.specs.declared.event.Reply.{Reply}
-use Rattle.conn_machine.specs.Runs.{taken_name}
+use Rattle.conn_machine.specs.Runs.{entries_of, taken_name}
 use Rattle.mpm_run.specs.declared.run_numbers.RunNumbers.{RunNumbers}
 
 -- ## Opening and closing
@@ -29,13 +31,13 @@ pub record IsOpenedAndHushed (n : RunNumbers) (t : FrontTold) : Type 0 where
 -- ## Watches
 
 -- the name, where there is one
-abbrev pub names_of : Option ConnName → List ConnName
-names_of None = []
-names_of (Some name) = name ∷ []
+abbrev pub name_in : Option ConnName → List ConnName
+name_in None = []
+name_in (Some name) = name ∷ []
 
 -- the name that the event gave to a connection that was taken
 abbrev pub names_given : Event → Reply → List ConnName
-names_given (event.Accept slot) answer = names_of (taken_name answer)
+names_given (event.Accept slot) answer = name_in (taken_name answer)
 names_given (event.Park name kind) answer = []
 names_given (event.Hold name) answer = []
 names_given (event.Queue name) answer = []
@@ -53,11 +55,32 @@ names_given (event.Retire k) answer = []
 abbrev pub accepted_names : List Entry → List ConnName
 accepted_names history = flat_map (λ e. names_given e.event e.reply) history
 
--- watches under these names, of links whose numbers count on from this one
-abbrev pub watches_from : ℕ → List ConnName → List WatchTold
-watches_from number [] = []
-watches_from number (name ∷ names) = record { rank = number; name = name } ∷ watches_from (next_count number) names
+-- the link that was to be watched, by its number, and under which name
+abbrev pub link_watched : WatchTold → ℕ × ConnName
+link_watched w = (w.rank, w.name)
 
--- each link that the table took was watched once, in order, under the name of its connection, and no other link was
-abbrev pub AreWatched : List Entry → FrontTold → Type 0
-AreWatched history t = t.watches ≡ watches_from 0 (accepted_names history)
+-- links whose numbers count on from this one, each with one of the names
+abbrev pub links_from : ℕ → List ConnName → List (ℕ × ConnName)
+links_from number [] = []
+links_from number (name ∷ names) = (number, name) ∷ links_from (next_count number) names
+
+-- the listener took the connection of that name, and its next entry closed it, as its link failed
+pub record IsClosedAtOnce (history : List Entry) (name : ConnName) : Type 0 where
+  pub before : List Entry
+  pub took : Entry
+  pub closed : Entry
+  pub rest : List Entry
+  pub stand : entries_of 0 history ≡ before ++ took ∷ closed ∷ rest
+  pub takes : names_given took.event took.reply ≡ name ∷ []
+  pub closes : closed.event ≡ event.Close name LinkFailed Direct
+
+-- so it was with the connection of each watch that failed
+abbrev pub AreClosedAtOnce : List Entry → List WatchTold → Type 0
+AreClosedAtOnce history [] = ⊤
+AreClosedAtOnce history (w ∷ watches) = (w.answer ≡ false → IsClosedAtOnce history w.name) × AreClosedAtOnce history watches
+
+-- each link that the table took was watched once, in order, under the name of its connection, and no other link was; and where
+-- the watch failed the connection was closed at once
+pub record AreWatched (history : List Entry) (t : FrontTold) : Type 0 where
+  pub watches : map link_watched t.watches ≡ links_from 0 (accepted_names history)
+  pub failed : AreClosedAtOnce history t.watches

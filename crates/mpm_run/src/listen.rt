@@ -27,9 +27,9 @@ ghost use Rattle.worker_group.specs.InHand.{IsClosable, IsInHand};
 ghost use Rattle.worker_group.specs.Service.{IsUp, LeavesRest, left_events};
 ghost use Rattle.mpm_run.specs.ClosingInside.{IsLateWay, LetsGo};
 ghost use Rattle.mpm_run.specs.Listen.{HasNoLive, IsClosedDown};
-ghost use Rattle.mpm_run.specs.ListenInside.{AsksFor, Follows, HaltsAs, HasStarted, HasStopped, HasTaken, IsArrival, IsAtStart, IsInStep, IsInTime, IsOpening, IsRestful, IsWatching, MustHalt, MustStop, NoneOverdue, NoneParked, OnlyTakes, TookAll, TurnsEnd, asked_children, bound_of, waits_of, why_of};
+ghost use Rattle.mpm_run.specs.ListenInside.{AsksFor, Follows, HaltsAs, HandedOut, HandsOut, HasStarted, HasStopped, HasTaken, IsArrival, IsAtStart, IsInStep, IsInTime, IsOpening, IsRestful, IsWatching, MustHalt, MustStop, NoneOverdue, NoneParked, OnlyTakes, TookAll, TurnsEnd, asked_children, bound_of, waits_of, why_of};
 ghost use Rattle.mpm_run.specs.Patient.{IsPatientRun, NoneDue};
-ghost use Rattle.mpm_run.specs.RoundInside.{BreaksOff, GivesUp, GoesRound, HasWaited, IsSettledBy, IsTaking, LetsGoOfConns, LetsGoUntil, NoneHas, PassesTime, RetiresSome, SignalsFirst, StartsSome, TakesSome, TakesUntil, halt_events, signal_events, stop_events, way_of, why_without_memory};
+ghost use Rattle.mpm_run.specs.RoundInside.{BreaksOff, EndsTaking, GivesUp, GoesRound, HasWaited, IsSettledBy, IsTaking, LetsGoOfConns, LetsGoUntil, NoneHas, PassesTime, RetiresSome, SignalsFirst, StartsSome, TakesSome, TakesUntil, halt_events, signal_events, stop_events, way_of, why_without_memory};
 ghost use Rattle.mpm_run.specs.Started.{BeginsWithStarts};
 ghost use Rattle.mpm_run.specs.Times.{IsBrokenOff, IsInformed, IsInformedSoFar, WasInformed, moment_for};
 ghost use Rattle.mpm_run.specs.Watched.{IsHushed};
@@ -142,6 +142,7 @@ impl<L: Link + Send, F: Front<L = L>, C: Clock, N: Known> Listener<L, F, C, N> {
         ensures hushed { IfSome self.new.front.told IsHushed }
         ensures started { self.old.board.book.history ≡ [] → HasStarted self.old self.new }
         ensures watched { IsWatching L.seen self.old.front.told self.old.board.book → IsWatching L.seen self.new.front.told self.new.board.book }
+        ensures links { HandedOut L.seen self.new.front.told self.new.board.book.state }
         ensures time { IsInTime (waits_of self.old.front.told) self.old.calls → IsInTime (waits_of self.new.front.told) self.new.calls }
         ensures patient { IsAtStart self.old.front.told self.old.board.book → IsPatientRun self.new.front.told self.new.calls self.new.board.book }
         ensures informed { WasInformed (waits_of self.new.front.told) self.new.calls self.new.board.book }
@@ -171,6 +172,8 @@ impl<L: Link + Send, F: Front<L = L>, C: Clock, N: Known> Listener<L, F, C, N> {
         ensures bound { bound_of self.new.front.told ≡ bound_of self.old.front.told }
         ensures started { self.old.board.book.history ≡ [] → HasStarted self.old self.new }
         ensures watched { IsWatching L.seen self.old.front.told self.old.board.book → IsWatching L.seen self.new.front.told self.new.board.book }
+        ensures step { OnOk result (IsInStep self.new.front.told self.new.board.book.state) }
+        ensures links { OnErr result (HandsOut L.seen self.new.front.told self.new.board.book.state) }
         ensures time { IsInTime (waits_of self.old.front.told) self.old.calls → IsInTime (waits_of self.new.front.told) self.new.calls }
         ensures patient { IsAtStart self.old.front.told self.old.board.book → IsPatientRun self.new.front.told self.new.calls self.new.board.book }
         ensures ends { TurnsEnd result self.old.front self.new.front self.new.board.book }
@@ -265,6 +268,7 @@ impl<L: Link + Send, F: Front<L = L>, C: Clock, N: Known> Listener<L, F, C, N> {
         ensures follows { Follows self.old.front self.new.front }
         ensures front { TellsOn OnlyTakes self.old.front.told self.new.front.told }
         ensures watched { IsWatching L.seen self.old.front.told self.old.board.book → IsWatching L.seen self.new.front.told self.new.board.book }
+        ensures links { OnErr result (HandsOut L.seen self.new.front.told self.new.board.book.state) }
         ensures calls { self.new.calls ≡ self.old.calls }
         ensures err { IfErr result (λ fault. MustStop fault self.new.board.book) }
     {
@@ -291,6 +295,7 @@ impl<L: Link + Send, F: Front<L = L>, C: Clock, N: Known> Listener<L, F, C, N> {
         ensures follows { Follows self.old.front self.new.front }
         ensures front { TellsOn OnlyTakes self.old.front.told self.new.front.told }
         ensures watched { IsWatching L.seen self.old.front.told self.old.board.book → IsWatching L.seen self.new.front.told self.new.board.book }
+        ensures links { OnErr result (HandsOut L.seen self.new.front.told self.new.board.book.state) }
         ensures calls { self.new.calls ≡ self.old.calls }
         ensures ready { self.new.ready ≡ self.old.ready }
         ensures err { IfErr result (λ fault. MustStop fault self.new.board.book) }
@@ -307,8 +312,8 @@ impl<L: Link + Send, F: Front<L = L>, C: Clock, N: Known> Listener<L, F, C, N> {
         unreachable!()
     }
 
-    /// Takes the connection of the link into the table, and has the front watch it under its name. Where the table refuses it,
-    /// or the front can't watch it, it is closed.
+    /// Takes the connection of the link into the table, and has the front watch it under its name. Where the table refuses the
+    /// link the front turns it away, and where the front can't watch it its connection is closed.
     fn take(&mut self, link: L) -> Result<(), BoardFault>
         requires passes { 0 < self.old.board.book.passes }
         requires free { row_of 0 self.old.board.book.history ≡ None }
@@ -322,10 +327,11 @@ impl<L: Link + Send, F: Front<L = L>, C: Clock, N: Known> Listener<L, F, C, N> {
         ensures up { IsUp self.new.board.book.state.going }
         ensures moment { self.new.board.book.state.moment ≡ self.old.board.book.state.moment }
         ensures taken { OnOk result (self.new.board.book.state.accepted ≡ next_count self.old.board.book.state.accepted) }
-        ensures step { IsInStep self.old.front.told self.new.board.book.state → IsInStep self.new.front.told self.new.board.book.state }
+        ensures step { OnOk result (IsInStep self.old.front.told self.new.board.book.state → IsInStep self.new.front.told self.new.board.book.state) }
         ensures follows { Follows self.old.front self.new.front }
         ensures front { TellsOn OnlyTakes self.old.front.told self.new.front.told }
         ensures watched { IsWatching L.seen self.old.front.told self.old.board.book → IsWatching L.seen self.new.front.told self.new.board.book }
+        ensures links { OnErr result (EndsTaking (L.seen link).told self.old self.new) }
         ensures calls { self.new.calls ≡ self.old.calls }
         ensures ready { self.new.ready ≡ self.old.ready }
         ensures err { IfErr result (λ fault. MustStop fault self.new.board.book) }
@@ -334,7 +340,7 @@ impl<L: Link + Send, F: Front<L = L>, C: Clock, N: Known> Listener<L, F, C, N> {
         let taken = match accept(&mut self.board) {
             Ok(taken) => taken,
             Err(fault) => {
-                link.close();
+                self.front.turn_away(link);
                 return Err(fault);
             }
         };
@@ -358,6 +364,7 @@ fn settle<L: Link, N: Known>(
     requires settled { watched ≡ true → IsSettled Reading None conn }
     requires closable { watched ≡ false → IsClosable board.old.book.state cause.LinkFailed Direct conn }
     ensures left { OnOk result (Acts 0 (left_events (way_of watched) conn.name) None board.old.book board.new.book) }
+    ensures closed { watched ≡ false → Acts 0 (left_events (way_of false) conn.name) None board.old.book board.new.book }
     ensures given_up { IfErr result (λ fault. GivesUp fault conn.name board.old.book board.new.book) }
     ensures rest { LeavesRest board.old.book board.new.book }
     ensures err { IfErr result (λ fault. MustStop fault board.new.book) }

@@ -3,7 +3,9 @@ ghost use Rattle.std.specs.Prelude.{◌≡◌, true, false, [], IfErr, IfOk, IfS
 ghost use Rattle.mpm_base.specs.Front.{Binds, IsUnused};
 ghost use Rattle.conn_machine.specs.Made.{AreOfPasses};
 ghost use Rattle.board.specs.Board.{AreOfClients};
+ghost use Rattle.board.specs.Ranks.{AllTell};
 ghost use Rattle.mpm_run.specs.FirstNumbers.{AreNumbers, opened_book, opened_by};
+ghost use Rattle.mpm_run.specs.Links.{EndsLinks, TakesLinks};
 ghost use Rattle.mpm_run.specs.Listen.{HasClosedAll, IsClosedDown, IsRunFrom};
 ghost use Rattle.mpm_run.specs.ListenInside.{ComesBack, Follows, HasStopped, IsInTime, IsNamed, LinksTell, waits_of};
 ghost use Rattle.mpm_run.specs.Patient.{IsPatientRun};
@@ -14,6 +16,7 @@ ghost use Rattle.mpm_run.specs.Watched.{AreWatched, IsOpenedAndHushed};
 use crate::listen::Listener;
 use crate::run_numbers::RunNumbers;
 use board::Board;
+use board::laws::ended_links_are_of_closed_connections;
 use conn_machine::laws::{accepted_connections_are_closed_or_live, events_keep_states_sound};
 use conn_state::{Known, Nothing};
 use mpm_base::{Clock, Front, Link, NoMemory, Ready};
@@ -62,6 +65,8 @@ pub fn run_server<R: Wait, L: Link + Send, F: Front<L = L> + Drop, C: Clock + Dr
     ensures front { IfOk result (λ s. IfSome (F.seen s.front).told (IsOpenedAndHushed numbers)) }
     ensures started { IfOk result (λ s. IfSome (F.seen s.front).told (IsStartedFirst numbers s.board.book.history)) }
     ensures watched { LinksTell L.seen → IfOk result (λ s. IfSome (F.seen s.front).told (AreWatched s.board.book.history)) }
+    ensures links { LinksTell L.seen → IfOk result (λ s. IfSome (F.seen s.front).told (TakesLinks s.board.book.state)) }
+    ensures ended { IfOk result (λ s. AllTell s.board.ended → EndsLinks s.board) }
     ensures time { IfOk result (λ s. IsInTime (waits_of (F.seen s.front).told) (C.told s.clock)) }
     ensures informed { IfOk result (λ s. WasInformed (waits_of (F.seen s.front).told) (C.told s.clock) s.board.book) }
     ensures patient { IfOk result (λ s. IsPatientRun (F.seen s.front).told (C.told s.clock) s.board.book) }
@@ -132,15 +137,17 @@ fn open_board<L: Link, N: Known>(
 }
 
 /// What a board shows of its run: each state on the way was sound, and where no connection is live each one that was taken
-/// ended. Does nothing.
+/// ended, and the links that tell are, each once, those that were taken. Does nothing.
 fn show_run<L: Link, N: Known>(board: &Board<L, N>, numbers: RunNumbers)
     requires base { board.now.book.base ≡ opened_by numbers }
     requires few { AreOfPasses numbers.passes board.now.book.history }
     ensures run { IsRunFrom numbers board.now }
     ensures closed { IsClosedDown board.now.book.state → HasClosedAll board.now }
+    ensures links { IsClosedDown board.now.book.state → AllTell board.now.ended → EndsLinks board.now }
     ensures clients { AreOfClients N.known board.now }
 {
     events_keep_states_sound();
     accepted_connections_are_closed_or_live();
+    ended_links_are_of_closed_connections();
     board.show();
 }

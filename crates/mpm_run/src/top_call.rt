@@ -8,6 +8,7 @@ ghost use Rattle.conn_machine.specs.declared.state.Going.TheVariants.{Halted};
 ghost use Rattle.script_front.specs.ScriptClock.{AreEchoes};
 ghost use Rattle.script_front.specs.ScriptFront.{IsOfScript};
 ghost use Rattle.mpm_run.specs.FirstNumbers as opening;
+ghost use Rattle.mpm_run.specs.Links.{KeepsLinks};
 ghost use Rattle.mpm_run.specs.ListenInside.{IsEnd};
 ghost use Rattle.mpm_run.specs.Started.{IsStartedFirst};
 ghost use Rattle.mpm_run.specs.Watched.{AreWatched, IsOpenedAndHushed};
@@ -81,8 +82,13 @@ pub fn run<R: Threads + Wait + Sync, D: Store, K: Sink>(
     // Where its front waited at all, the children that its shape asks for were started before all else, in order of number.
     ensures started { IfSome result.scripted (λ s. IsStartedFirst opening.first_numbers s.board.book.history s.front.told) }
 
-    // It watched each link that the table took, once and in order, under the name of its connection.
+    // It watched each link that the table took, once and in order, under the name of its connection, which was closed at once where
+    // the watch failed.
     ensures watched { IfSome result.scripted (λ s. AreWatched s.board.book.history s.front.told) }
+
+    // The table took each link that it handed out, and each is that of one connection that ended; or the server was broken off, and
+    // the last one was turned away.
+    ensures links { IfSome result.scripted (λ s. KeepsLinks s.board s.front.told) }
 
     // Its clock was told what the waits of its front gave, all of which the front tells, and answered that; and the ticks and signals
     // of its history come from them.
@@ -209,6 +215,7 @@ fn play_script<R: Wait, K: Sink>(rt: &R, alloc: Global, script: Script, out: &mu
     ensures front { IfSome result.scripted (λ s. IsOpenedAndHushed opening.first_numbers s.front.told) }
     ensures started { IfSome result.scripted (λ s. IsStartedFirst opening.first_numbers s.board.book.history s.front.told) }
     ensures watched { IfSome result.scripted (λ s. AreWatched s.board.book.history s.front.told) }
+    ensures links { IfSome result.scripted (λ s. KeepsLinks s.board s.front.told) }
     ensures time { IfSome result.scripted (λ s. KeepsTime s.board s.front s.clock) }
     ensures patient { IfSome result.scripted (λ s. IsPatient s.board s.front) }
     ensures ended { IfSome result.scripted (λ s. s.board.book.state.going ≡ Halted why.FrontEnded → HasEnd s.board s.front) }

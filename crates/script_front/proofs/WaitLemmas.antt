@@ -166,6 +166,7 @@ waits old mid new until quiet answer ready passed was now taken passed_so is pla
           within = rw (now.arrived, was.clients, went.script) (arrived-within old.script new.happened);
           accepted = ap (λ (t : FrontTold). t.accepted) kept;
           watches = ap (λ (t : FrontTold). t.watches) kept;
+          turned_away = ap (λ (t : FrontTold). t.turned_away) kept;
           come = [];
           lines = ap (λ (t : FrontTold). t.lines) kept ∙ sym (append-nil old.told.lines);
           read = ap (λ (t : FrontTold). t.read) kept;

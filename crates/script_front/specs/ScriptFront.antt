@@ -3,6 +3,7 @@ use Rattle.std.specs.Prelude.{◌≡◌, ℕ, suc, ◌+◌, ◌<◌, ◌≤◌, 
 use Rattle.std.specs.List.{flat_map}
 use Rattle.mpm_script.specs.Clients.{clients_of, fails_of, is_dropped, name_at, names_of}
 use Rattle.mpm_base.specs.Front.{BoundTold, FrontSeen, FrontTold, HasAllTaken, WaitTold, Waiting, WatchTold, client_at, earlier, next_coming}
+use Rattle.mpm_base.specs.Link.{LinkTold}
 use Rattle.stand_ins.specs.ScriptLink.{SeenScriptLink, new_paced_link}
 use Rattle.script_front.specs.Signals.{SeenClient, Gives, client_after_lines, all_closed, new_client}
 use Rattle.script_front.specs.declared.wait_end.WaitEnd.{WaitEnd}
@@ -42,9 +43,13 @@ wait_told wait =
       passed = option_map only_arrivals wait.1.passed;
     }
 
--- a watch of it, from the number of the link and the name
+-- a watch of it, from the number of the link and the name: none fails
 abbrev pub watch_told : ℕ × ConnName → WatchTold
-watch_told watch = record { rank = watch.0; name = watch.1 }
+watch_told watch = record { rank = watch.0; name = watch.1; answer = true }
+
+-- a link that it turned away, from its number and the link
+abbrev pub turned_told : ℕ × SeenScriptLink → LinkTold
+turned_told turned = turned.1.told
 
 -- what it was bound to, from the address and the port for command lines
 abbrev pub bound_told : Addr × Option ℕ → BoundTold
@@ -91,6 +96,7 @@ new_front lines =
         arrived = 0;
         accepted = 0;
         watches = [];
+        turned_away = [];
         lines = [];
         read = 0;
         bound = [];

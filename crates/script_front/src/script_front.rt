@@ -1,7 +1,7 @@
 //! The front that plays a script.
 ghost use Rattle.std.specs.Prelude.{◌≡◌, ◌<◌, ◌≤◌, ◌&&◌, max, nat_lt, not, true, false, None, Some, [], take, drop, length, slice_set, IfOk};
 ghost use Rattle.mpm_base.specs.Count.{Rises};
-ghost use Rattle.mpm_base.specs.Front.{Accepts, Binds, Commands, HasAllTaken, StandsStill, Waits, Watches, accept_failed, after_bind, after_hush, hushed_front, is_handed, next_coming};
+ghost use Rattle.mpm_base.specs.Front.{Accepts, Binds, Commands, HasAllTaken, StandsStill, Waits, Watches, accept_failed, after_bind, after_hush, after_turning_away, front_after_turning_away, hushed_front, is_handed, next_coming};
 ghost use Rattle.mpm_base.specs.Link.{telling_link};
 ghost use Rattle.script_front.specs.PlayedFrontInside.{KeepsRest, arrivals_waiting, gone_to, with_begun, with_clients, with_end, with_lines, with_moment, with_wait};
 ghost use Rattle.script_front.specs.ScriptFront.{HandsPaced, IsOfScript, Plays, comings_of, front_seen, lines_now, new_front, taken_closed, to_come};
@@ -12,7 +12,9 @@ use crate::coming_lines::{arrivals, earlier, lines_by, lines_now, next_lines, ne
 use crate::script_clients::ScriptClients;
 use crate::wait_end::{WaitEnd, passed_between};
 use http_server::Log;
-use mpm_base::{Addr, Arrival, ConnName, Front, Line, Moment, NoMemory, Ready, ScriptLine, Woke};
+use mpm_base::{
+    Addr, Arrival, ConnName, Front, Line, Link, Moment, NoMemory, Ready, ScriptLine, Woke,
+};
 use mpm_script::Script;
 use stand_ins::ScriptLink;
 use std::alloc::Global;
@@ -35,12 +37,13 @@ pub struct ScriptFront {
     // Kept for clauses alone: they take no memory.
     binds: Log<Addr, Option<u16>>,
     watches: Log<u64, ConnName>,
+    turned_away: Log<u64, ScriptLink>,
     waits: Log<Ready, WaitEnd>,
 }
 
 impl Model for ScriptFront {
     ghost use Rattle.std.specs.Prelude.{◌-◌, false, Some, [], length, map};
-    ghost use Rattle.script_front.specs.ScriptFront.{SeenFront, bound_told, comings_of, wait_told, watch_told};
+    ghost use Rattle.script_front.specs.ScriptFront.{SeenFront, bound_told, comings_of, turned_told, wait_told, watch_told};
 
     ghost Value = { SeenFront };
 
@@ -58,6 +61,7 @@ impl Model for ScriptFront {
         arrived = f.arrived;
         accepted = f.accepted;
         watches = map watch_told f.watches.items;
+        turned_away = map turned_told f.turned_away.items;
         lines = [];
         read = 0;
         bound = map bound_told f.binds.items;
@@ -95,6 +99,7 @@ impl ScriptFront {
             ends: 0,
             binds: Log::new(),
             watches: Log::new(),
+            turned_away: Log::new(),
             waits: Log::new(),
         })
     }
@@ -334,6 +339,16 @@ impl Front for ScriptFront {
         self.clients.watch(link.rank() as usize, name);
         self.watches = self.watches.and(&link.rank(), &name);
         true
+    }
+
+    /// The front finds such a link closed as it finds any other.
+    fn turn_away(&mut self, link: ScriptLink)
+        ensures seen { front_seen self.new ≡ front_after_turning_away (Some link.told) (front_seen self.old) }
+        ensures rest { self.new ≡ record self.old { told = after_turning_away (Some link.told) self.old.told } }
+    {
+        let mut link = link;
+        link.close();
+        self.turned_away = self.turned_away.and(&link.rank(), &link);
     }
 
     /// No further link is handed out.

@@ -446,6 +446,26 @@ fn a_hushed_front_ends_without_its_last_connection(rt: HostRuntime) -> Result<()
     Ok(())
 }
 
+#[test]
+fn a_front_ends_once_it_turned_its_link_away(rt: HostRuntime) -> Result<(), Fail> {
+    let mut ready = Ready::make(rt.alloc())?;
+    let mut front = ScriptFront::make(rt.alloc(), script_of(rt.alloc(), &[Row::Conn(b"a")])?)?;
+    let still: [Turn; 1] = [(None, true, Woke::Woke(0), &[], 2)];
+    waits(&rt, &mut front, &mut ready, &still);
+    let Arrival::Some(link) = front.accept() else {
+        panic!(rt; "no link waits");
+    };
+    waits(&rt, &mut front, &mut ready, &still);
+    front.turn_away(link);
+    waits(
+        &rt,
+        &mut front,
+        &mut ready,
+        &[(None, true, Woke::Ended, &[], 2)],
+    );
+    Ok(())
+}
+
 /// The script of so many clients who end at once.
 fn script_of_many(alloc: Global, count: u8) -> Result<Script, NoMemory> {
     let mut script = Script::make(alloc);

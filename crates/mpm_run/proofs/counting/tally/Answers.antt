@@ -1,4 +1,3 @@
-use Rattle.std.proofs.Common.{refl}
 use Rattle.mpm_run.proofs.ReportLemmas.{tally-opening}
 use Rattle.mpm_run.proofs.counting.tally.Goals as goal
 

@@ -4,6 +4,7 @@ use Rattle.conn_machine.specs.declared.state.State.{State}
 use Rattle.board.specs.Board.{SeenBoard}
 use Rattle.board.specs.Book.{SeenBook}
 use Rattle.mpm_run.specs.FirstNumbers.{opened_by}
+use Rattle.mpm_run.specs.Links.{TakesLinks}
 use Rattle.mpm_run.specs.ListenInside.{Follows, HasStopped, SeenListener, IsInTime, asked_children, waits_of}
 use Rattle.mpm_run.specs.Patient.{IsPatientRun}
 use Rattle.mpm_run.specs.Started.{BeginsWithStarts, IsStartedFirst}
@@ -97,3 +98,8 @@ returns-clause-started g c =
     subst (λ (b : SeenBoard). IfSome (g.F.Front.seen c.listener.inside.front).told (IsStartedFirst c.args.numbers b.book.history)) (sym c.forget.ensures.same)
     (subst (λ (l : SeenListener). IfSome l.front.told (IsStartedFirst c.args.numbers l.board.book.history)) (sym c.listener.view_is)
     (started-first c.args.numbers (g.F.Front.seen c.in-Ok.front).told c.listen.new.self.front.told c.listen.new.self.board.book.history (unwaited _ _ idle) here))
+
+pub returns-clause-links : goal.returns-clause-links
+returns-clause-links g c tells =
+    subst (λ (b : SeenBoard). IfSome (g.F.Front.seen c.listener.inside.front).told (TakesLinks b.book.state)) (sym c.forget.ensures.same)
+    (subst (λ (l : SeenListener). IfSome l.front.told (TakesLinks l.board.book.state)) (sym c.listener.view_is) (c.listen.ensures.links tells))

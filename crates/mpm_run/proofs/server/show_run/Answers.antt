@@ -1,4 +1,4 @@
-use Rattle.mpm_run.proofs.RunLemmas.{run-from, closed-all}
+use Rattle.mpm_run.proofs.RunLemmas.{closed-all, ends-links, run-from}
 use Rattle.mpm_run.proofs.server.show_run.Goals as goal
 
 pub returns-clause-run : goal.returns-clause-run
@@ -15,3 +15,16 @@ returns-clause-closed g c down =
     closed-all n b run
     (c.accepted_connections_are_closed_or_live.ensures.closed_or_live n.slots n.children n.shape b.book.history run.run)
     down
+
+pub returns-clause-links : goal.returns-clause-links
+returns-clause-links g c down tell =
+    let n = c.args.numbers in
+    let b = c.args.board.now in
+    let run = run-from n b c.requires.base c.requires.few c.events_keep_states_sound.ensures.run
+    c.show.ensures.history c.show.ensures.made c.show.ensures.state c.show.ensures.opened c.show.ensures.stops c.show.ensures.full c.show.ensures.agrees in
+    let closed = closed-all n b run
+    (c.accepted_connections_are_closed_or_live.ensures.closed_or_live n.slots n.children n.shape b.book.history run.run)
+    down in
+    ends-links n b run
+    (λ number. c.ended_links_are_of_closed_connections.ensures.once n.slots n.children n.shape b.book.history b.ended number)
+    (c.accepted_connections_are_closed_or_live.ensures.accepted n.slots n.children n.shape b.book.history) closed tell

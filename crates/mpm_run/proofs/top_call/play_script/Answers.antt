@@ -7,6 +7,7 @@ use Rattle.conn_machine.specs.declared.event.Why.TheVariants as why
 use Rattle.conn_machine.specs.declared.state.Going.TheVariants.{Halted}
 use Rattle.mpm_run.specs.ExitStatuses.{EndsFull, HasEnd, HasRun, IsPatient, KeepsTime}
 use Rattle.mpm_run.specs.FirstNumbers.{first_numbers}
+use Rattle.mpm_run.specs.Links.{KeepsLinks}
 use Rattle.mpm_run.specs.Listen.{IsRunFrom}
 use Rattle.mpm_run.specs.Started.{IsStartedFirst}
 use Rattle.mpm_run.specs.Tells.{AllReceive}
@@ -14,7 +15,7 @@ use Rattle.mpm_run.specs.Watched.{AreWatched}
 use Rattle.mpm_run.specs.declared.run_numbers.RunNumbers.{RunNumbers}
 use Rattle.mpm_run.proofs.EndLemmas.{has-end, keeps-time, kept-by, left-and, left-if}
 use Rattle.mpm_run.proofs.PaceLemmas.{patience-of}
-use Rattle.mpm_run.proofs.RunLemmas.{all-receive}
+use Rattle.mpm_run.proofs.RunLemmas.{all-receive, all-tell}
 use Rattle.mpm_run.proofs.top_call.play_script.Goals as goal
 
 pub run_server-requires-clause-named : goal.run_server-requires-clause-named
@@ -85,3 +86,14 @@ returns-in-Ok-run_server-clause-patient g c =
     (kept-by s.board s.front s.clock c.played.result (λ b f calls. IsPatient b f) c.played.ensures.board c.played.ensures.front c.played.ensures.clock
     (patience-of (comings_of s.front.script) s.front.told s.clock s.board.book of_script.comings (subst AreEchoes c.played.ensures.clock c.played.ensures.echoes)
     c.in-Ok-run_server.ensures.patient))
+
+pub returns-in-Ok-run_server-clause-links : goal.returns-in-Ok-run_server-clause-links
+returns-in-Ok-run_server-clause-links g c =
+    let s = c.in-Ok-run_server.served in
+    left-if c.finish.result.scripted _ (λ s. KeepsLinks s.board s.front.told) c.finish.ensures.scripted
+    (kept-by s.board s.front s.clock c.played.result (λ b f calls. KeepsLinks b f.told) c.played.ensures.board c.played.ensures.front
+    c.played.ensures.clock
+    (record {
+      taken = c.in-Ok-run_server.ensures.links (record { each = λ link. (link.told, refl) });
+      ended = c.in-Ok-run_server.ensures.ended (all-tell (record { clients = c.in-Ok.front.told.clients }) s.board.ended c.in-Ok-run_server.ensures.clients.ended);
+    }))

@@ -7,7 +7,8 @@ use Rattle.mpm_run.proofs.FrontLemmas.{follows-hushed, follows-trans, waits-hush
 use Rattle.mpm_run.proofs.PaceLemmas.{patience-down}
 use Rattle.mpm_run.proofs.StopLemmas.{free-halted, has-halted, has-stopped, must-halt, was-informed}
 use Rattle.mpm_run.proofs.TurnLemmas.{few-acts}
-use Rattle.mpm_run.proofs.WatchLemmas.{names-down, watched-as, watched-hushed}
+use Rattle.mpm_run.proofs.LinkLemmas.{handed-out}
+use Rattle.mpm_run.proofs.WatchLemmas.{nobody-down, watched-as, watched-hushed}
 use Rattle.mpm_run.proofs.listen.Listener.listen.Goals as goal
 
 pub halt-requires-clause-must : goal.halt-requires-clause-must
@@ -56,7 +57,7 @@ returns-clause-watched g c began tells =
     watched-hushed (g.F.Front.seen c.self.inside.front).told (g.F.Front.seen c.hush.new.self).told c.retire_all.new.board.book
     (ap (λ (f : FrontSeen). f.told) c.hush.ensures)
     (watched-as (g.F.Front.seen c.self.inside.front).told c.self.inside.board.book c.retire_all.new.board.book
-    (names-down c.take_turns-turns.result c.self.inside.board.book c.halt.new.board.book c.close_all.new.board.book c.retire_all.new.board.book c.halt.ensures.acts
+    (nobody-down c.take_turns-turns.result c.self.inside.board.book c.halt.new.board.book c.close_all.new.board.book c.retire_all.new.board.book c.halt.ensures.acts
     c.close_all.ensures.gone c.retire_all.ensures.retires)
     (c.retire_all.ensures.rest.accepted ∙ c.close_all.ensures.rest.accepted ∙ c.halt.ensures.taken) (watched began tells))
 
@@ -85,3 +86,12 @@ returns-clause-started g c none =
           inr (begins-down _ c.take_turns-turns.result c.self.inside.board.book c.halt.new.board.book c.close_all.new.board.book c.retire_all.new.board.book
           c.halt.ensures.acts c.close_all.ensures.gone c.retire_all.ensures.retires begins)
     ]
+
+pub returns-clause-links : goal.returns-clause-links
+returns-clause-links g c =
+    let step = rw (← c.self.view_is) at c.take_turns-turns.ensures.step in
+    let links = rw (← c.self.view_is) at c.take_turns-turns.ensures.links in
+    let turns = c.take_turns-turns.result in
+    handed-out g.L.Link.seen turns (g.F.Front.seen c.self.inside.front).told (g.F.Front.seen c.hush.new.self).told c.self.inside.board.book.state
+    c.retire_all.new.board.book.state (subst (HaltsAs turns) (sym (c.retire_all.ensures.going ∙ c.close_all.ensures.going)) c.halt.ensures.stopped)
+    (c.retire_all.ensures.rest.accepted ∙ c.close_all.ensures.rest.accepted ∙ c.halt.ensures.taken) (ap (λ (f : FrontSeen). f.told) c.hush.ensures) step links

@@ -1,4 +1,4 @@
-use Rattle.std.proofs.Common.{Option, None, Some, IfSome, ap, subst, sym, refl, ◌∙◌}
+use Rattle.std.proofs.Common.{Option, None, Some, IfSome, inl, inr, ap, subst, sym, refl, ◌∙◌}
 use Rattle.std.proofs.lemmas.Result.{on_ok_weaker}
 use Rattle.mpm_base.specs.Front.{FrontSeen}
 use Rattle.mpm_base.specs.Link.{LinkTold}
@@ -11,9 +11,9 @@ use Rattle.worker_group.proofs.ActsLemmas.{acts_as}
 use Rattle.mpm_run.specs.ListenInside.{IsArrival, WatchesAll}
 use Rattle.worker_group.specs.Service.{left_events}
 use Rattle.mpm_run.specs.RoundInside.{GivesUp, TakesUntil, way_of}
-use Rattle.mpm_run.proofs.FrontLemmas.{follows-same, follows-watch, step-watch, takes-same, takes-watch}
-use Rattle.mpm_run.proofs.RoundLemmas.{err-on, takes-given_up, takes-one, until-none}
-use Rattle.mpm_run.proofs.WatchLemmas.{names-left, names-took, watched-took}
+use Rattle.mpm_run.proofs.FrontLemmas.{follows-turned, follows-watch, step-watch, takes-turned, takes-watch}
+use Rattle.mpm_run.proofs.RoundLemmas.{err-on, on-err, on-ok, takes-given_up, takes-one, until-none}
+use Rattle.mpm_run.proofs.WatchLemmas.{takes-one-left, watched-took, watched-turned}
 use Rattle.mpm_run.proofs.listen.Listener.take.Goals as goal
 
 pub accept-requires-clause-passes : goal.accept-requires-clause-passes
@@ -38,14 +38,19 @@ returns-in-Err-clause-until g c =
     (subst (λ (b : SeenBoard). TakesUntil c.self.inside.board.book b.book) (sym c.in-Err.ensures.refused)
     (until-none c.self.inside.board.book (rw (← c.self.view_is) at c.requires.free)))
 
-pub returns-in-Err-clause-step : goal.returns-in-Err-clause-step
-returns-in-Err-clause-step g c = rw (← c.self.view_is) (λ step. step)
-
 pub returns-in-Err-clause-follows : goal.returns-in-Err-clause-follows
-returns-in-Err-clause-follows g c = rw (← c.self.view_is) (follows-same _)
+returns-in-Err-clause-follows g c = rw (← c.self.view_is) (follows-turned _ _ _ c.turn_away.ensures)
 
 pub returns-in-Err-clause-front : goal.returns-in-Err-clause-front
-returns-in-Err-clause-front g c = rw (← c.self.view_is) (takes-same _)
+returns-in-Err-clause-front g c = rw (← c.self.view_is) (takes-turned _ _ _ (ap (λ (f : FrontSeen). f.told) c.turn_away.ensures))
+
+pub returns-in-Err-clause-links : goal.returns-in-Err-clause-links
+returns-in-Err-clause-links g c =
+    rw (← c.self.view_is)
+    (inr (record {
+      accepted = ap (λ (b : SeenBoard). b.book.state.accepted) c.in-Err.ensures.refused;
+      told = ap (λ (f : FrontSeen). f.told) c.turn_away.ensures;
+    }))
 
 pub returns-clause-takes : goal.returns-clause-takes
 returns-clause-takes g c =
@@ -53,9 +58,9 @@ returns-clause-takes g c =
     (on_ok_weaker c.settle.result
     (λ (left : Acts 0 (left_events (way_of c.watch-watched.result) c.new-conn.result.name) None c.accept.new.board.book c.settle.new.board.book).
     record {
-      taking = record { name = c.in-Ok.taken.name; way = way_of c.watch-watched.result };
-      left = record { watched = c.watch-watched.result; way_is = refl };
-      watched = ap (λ (f : FrontSeen). f.told) c.watch-watched.ensures.watches.front;
+      name = c.in-Ok.taken.name;
+      watched = c.watch-watched.result;
+      told = ap (λ (f : FrontSeen). f.told) c.watch-watched.ensures.watches.front;
       acts =
           takes-one c.in-Ok.taken.name (way_of c.watch-watched.result) c.self.inside.board.book c.accept.new.board.book c.settle.new.board.book
           c.in-Ok.ensures.acts
@@ -76,16 +81,28 @@ returns-clause-until g c =
 pub returns-clause-step : goal.returns-clause-step
 returns-clause-step g c =
     rw (← c.self.view_is)
-    (λ step. step-watch (g.F.Front.seen c.self.inside.front).told (g.F.Front.seen c.watch-watched.new.self).told _ _ c.settle.new.board.book.state
-    (ap (λ (f : FrontSeen). f.told) c.watch-watched.ensures.watches.front) step)
+    (on-ok c.settle.result _
+    (λ step. step-watch (g.F.Front.seen c.self.inside.front).told (g.F.Front.seen c.watch-watched.new.self).told _ _ _ c.settle.new.board.book.state
+    (ap (λ (f : FrontSeen). f.told) c.watch-watched.ensures.watches.front) step))
+
+pub returns-clause-links : goal.returns-clause-links
+returns-clause-links g c =
+    rw (← c.self.view_is)
+    (on-err c.settle.result _
+    (inl (record {
+      accepted = c.settle.ensures.rest.accepted ∙ c.in-Ok.ensures.taken;
+      step =
+          λ step. step-watch (g.F.Front.seen c.self.inside.front).told (g.F.Front.seen c.watch-watched.new.self).told _ _ _ c.settle.new.board.book.state
+          (ap (λ (f : FrontSeen). f.told) c.watch-watched.ensures.watches.front) step;
+    })))
 
 pub returns-clause-follows : goal.returns-clause-follows
 returns-clause-follows g c =
     rw (← c.self.view_is)
-    (follows-watch _ _ _ _ c.watch-watched.ensures.watches.front)
+    (follows-watch _ _ _ _ _ c.watch-watched.ensures.watches.front)
 
 pub returns-clause-front : goal.returns-clause-front
-returns-clause-front g c = rw (← c.self.view_is) (takes-watch _ _ _ _ (ap (λ (f : FrontSeen). f.told) c.watch-watched.ensures.watches.front))
+returns-clause-front g c = rw (← c.self.view_is) (takes-watch _ _ _ _ _ (ap (λ (f : FrontSeen). f.told) c.watch-watched.ensures.watches.front))
 
 pub returns-clause-up : goal.returns-clause-up
 returns-clause-up g c = c.settle.ensures.rest.up (rw (c.in-Ok.ensures.going) (rw (← c.self.view_is) at c.requires.up))
@@ -93,7 +110,8 @@ returns-clause-up g c = c.settle.ensures.rest.up (rw (c.in-Ok.ensures.going) (rw
 pub returns-in-Err-clause-watched : goal.returns-in-Err-clause-watched
 returns-in-Err-clause-watched g c =
     rw (← c.self.view_is)
-    (λ before tells. subst (λ (b : SeenBoard). IfSome (g.F.Front.seen c.self.inside.front).told (WatchesAll b.book)) (sym c.in-Err.ensures.refused) (before tells))
+    (λ before tells. subst (λ (b : SeenBoard). IfSome (g.F.Front.seen c.turn_away.new.self).told (WatchesAll b.book)) (sym c.in-Err.ensures.refused)
+    (watched-turned _ _ _ _ (ap (λ (f : FrontSeen). f.told) c.turn_away.ensures) (before tells)))
 
 pub returns-clause-watched : goal.returns-clause-watched
 returns-clause-watched g c =
@@ -102,10 +120,10 @@ returns-clause-watched g c =
     (λ before tells.
     let link = tells.each c.args.link in
     let arrives = subst (IsArrival c.self.inside.board.book.state.accepted) link.1 arrival in
-    watched-took c.in-Ok.taken.name (g.L.Link.seen c.args.link).told link.0 (g.F.Front.seen c.self.inside.front).told
+    watched-took c.in-Ok.taken.name c.watch-watched.result (g.L.Link.seen c.args.link).told link.0 (g.F.Front.seen c.self.inside.front).told
     (g.F.Front.seen c.watch-watched.new.self).told c.self.inside.board.book c.settle.new.board.book link.1 arrives.rank
     (ap (λ (f : FrontSeen). f.told) c.watch-watched.ensures.watches.front)
-    (names-left c.settle.result (way_of c.watch-watched.result) _ _ c.accept.new.board.book c.settle.new.board.book c.settle.ensures.left
-    c.settle.ensures.given_up
-    ∙ names-took c.in-Ok.taken.name.slot c.in-Ok.taken.name c.self.inside.board.book c.accept.new.board.book c.in-Ok.ensures.acts)
+    (takes-one-left c.settle.result c.in-Ok.taken.name c.new-conn.result.name c.watch-watched.result c.self.inside.board.book c.accept.new.board.book
+    c.settle.new.board.book c.in-Ok.ensures.acts (ap (λ (x : SeenConn). x.name) c.new-conn.ensures) c.settle.ensures.left c.settle.ensures.given_up
+    c.settle.ensures.closed)
     (c.settle.ensures.rest.accepted ∙ c.in-Ok.ensures.taken) (before tells))

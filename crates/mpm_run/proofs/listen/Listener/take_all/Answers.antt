@@ -1,5 +1,7 @@
 use Rattle.std.proofs.Common.{ℕ, ◌<◌, refl, sym, subst, ◌∙◌}
+use Rattle.mpm_run.specs.RoundInside.{way_of}
 use Rattle.mpm_run.proofs.FrontLemmas.{arrives-next, follows-accept, follows-same, follows-trans, handed-known, step-none, step-taken, takes-accept, takes-same, takes-trans}
+use Rattle.mpm_run.proofs.LinkLemmas.{hands-ended}
 use Rattle.mpm_run.proofs.RoundLemmas.{on-err, takes-more, takes-none, takes-until}
 use Rattle.mpm_run.proofs.TakeLemmas.{took-none}
 use Rattle.mpm_run.proofs.WatchLemmas.{watched-accept}
@@ -46,11 +48,12 @@ loop-preserved g c =
     let taking = c.in_ok-take-in-Some-accept.ensures.takes in
     record {
       takes =
-          takes-more taking.taking c.args.self.now.board.book c.self.inside.board.book c.take.new.self.board.book before.takes taking.left taking.acts;
+          takes-more (record { name = taking.name; way = way_of taking.watched }) c.args.self.now.board.book c.self.inside.board.book
+          c.take.new.self.board.book before.takes (record { watched = taking.watched; way_is = refl }) taking.acts;
       up = c.take.ensures.up;
       moment = c.take.ensures.moment ∙ before.moment;
       step =
-          c.take.ensures.step
+          c.in_ok-take-in-Some-accept.ensures.step
           (step-taken c.in-Some-accept.link (g.F.Front.seen c.self.inside.front).told (g.F.Front.seen c.accept.new.self).told c.self.inside.board.book.state
           c.take.new.self.board.book.state c.in-Some-accept.ensures.accepts.told_is c.in_ok-take-in-Some-accept.ensures.taken before.step);
       follows =
@@ -120,6 +123,7 @@ returns-in-None-accept g c =
           (follows-accept g.L.Link.seen _ _ _ c.accept.ensures.accepts);
       front = takes-trans _ _ _ before.front (takes-accept _ _ _ c.accept.ensures.accepts.told_is);
       watched = λ first tells. watched-accept _ _ _ _ c.accept.ensures.accepts.told_is (before.watched first tells);
+      links = tt;
       calls = before.calls;
       ready = before.ready;
       err = tt;
@@ -129,3 +133,10 @@ pub returns-in_err-take-in-Some-accept-clause-watched : goal.returns-in_err-take
 returns-in_err-take-in-Some-accept-clause-watched g c =
     let before = rw (← c.self.view_is) at c.loop.invariant.watched in
     λ first. c.take.ensures.watched (λ tells. watched-accept _ _ _ _ c.accept.ensures.accepts.told_is (before first tells))
+
+pub returns-in_err-take-in-Some-accept-clause-links : goal.returns-in_err-take-in-Some-accept-clause-links
+returns-in_err-take-in-Some-accept-clause-links g c =
+    let step = rw (← c.self.view_is) at c.loop.invariant.step in
+    on-err c.from_residual.result _
+    (hands-ended g.L.Link.seen c.in-Some-accept.link (g.F.Front.seen c.self.inside.front).told c.self.inside.board.book.state _ c.take.new.self
+    c.in-Some-accept.ensures.accepts.hands.1 step c.in-Some-accept.ensures.accepts.told_is refl c.in_err-take-in-Some-accept.ensures.links)

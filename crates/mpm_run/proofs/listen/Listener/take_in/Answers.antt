@@ -5,8 +5,9 @@ use Rattle.mpm_run.specs.ClosingInside.{IsLateWay}
 use Rattle.mpm_run.specs.RoundInside.{SignalsFirst, TakesSome, TakesUntil, signal_events}
 use Rattle.mpm_run.specs.Times.{moment_for}
 use Rattle.mpm_run.proofs.FrontLemmas.{step-kept}
+use Rattle.mpm_run.proofs.LinkLemmas.{hands-step}
 use Rattle.mpm_run.proofs.RoundLemmas.{breaks-behind, breaks-early, goes-round, lets-go-none, on-err, on-ok, retires-none, signals-all, starts-none, until-none}
-use Rattle.mpm_run.proofs.WatchLemmas.{names-gone, names-kept, names-let_go, names-passed, names-retired, names-signalled, names-started, none-signals, watched-as}
+use Rattle.mpm_run.proofs.WatchLemmas.{nobody-acts, nobody-gone, nobody-let_go, nobody-before-takes, nobody-more, nobody-passed, nobody-signalled, none-signals, watched-as}
 use Rattle.mpm_run.proofs.listen.Listener.take_in.Goals as goal
 
 pub pass_time-requires-clause-passes : goal.pass_time-requires-clause-passes
@@ -168,34 +169,35 @@ pub returns-in_err-pass_time-clause-watched : goal.returns-in_err-pass_time-clau
 returns-in_err-pass_time-clause-watched g c =
     rw (← c.self.view_is)
     (λ before tells. watched-as (g.F.Front.seen c.self.inside.front).told c.self.inside.board.book c.pass_time.new.board.book
-    (names-gone IsLateWay c.self.inside.board.book c.pass_time.new.board.book c.in_err-pass_time.ensures.refused) c.pass_time.ensures.taken (before tells))
+    (nobody-gone IsLateWay c.self.inside.board.book c.pass_time.new.board.book c.in_err-pass_time.ensures.refused) c.pass_time.ensures.taken (before tells))
 
 pub returns-in_err-signal_all-clause-watched : goal.returns-in_err-signal_all-clause-watched
 returns-in_err-signal_all-clause-watched g c =
     rw (← c.self.view_is)
     (λ before tells. watched-as (g.F.Front.seen c.self.inside.front).told c.self.inside.board.book c.signal_all.new.board.book
-    (names-kept 0 _ None c.pass_time.new.board.book c.signal_all.new.board.book c.in_err-signal_all.ensures.first.acts (none-signals c.in_err-signal_all.ensures.first.first)
-    ∙ names-passed _ c.self.inside.board.book c.pass_time.new.board.book c.in_ok-pass_time.ensures.passes)
+    (nobody-more c.self.inside.board.book c.pass_time.new.board.book c.signal_all.new.board.book
+    (nobody-passed _ c.self.inside.board.book c.pass_time.new.board.book c.in_ok-pass_time.ensures.passes)
+    (nobody-acts 0 _ None c.pass_time.new.board.book c.signal_all.new.board.book c.in_err-signal_all.ensures.first.acts (none-signals c.in_err-signal_all.ensures.first.first)))
     (c.signal_all.ensures.rest.accepted ∙ c.pass_time.ensures.taken) (before tells))
 
 pub returns-in_err-let_go_of_conns-clause-watched : goal.returns-in_err-let_go_of_conns-clause-watched
 returns-in_err-let_go_of_conns-clause-watched g c =
     rw (← c.self.view_is)
     (λ before tells. watched-as (g.F.Front.seen c.self.inside.front).told c.self.inside.board.book c.let_go_of_conns.new.board.book
-    (names-let_go _ c.signal_all.new.board.book c.let_go_of_conns.new.board.book c.in_err-let_go_of_conns.ensures.until.1
-    ∙ names-signalled c.slots.result.now c.pass_time.new.board.book c.signal_all.new.board.book c.in_ok-signal_all.ensures.signals
-    ∙ names-passed _ c.self.inside.board.book c.pass_time.new.board.book c.in_ok-pass_time.ensures.passes)
+    (nobody-more c.self.inside.board.book c.signal_all.new.board.book c.let_go_of_conns.new.board.book
+    (nobody-more c.self.inside.board.book c.pass_time.new.board.book c.signal_all.new.board.book
+    (nobody-passed _ c.self.inside.board.book c.pass_time.new.board.book c.in_ok-pass_time.ensures.passes)
+    (nobody-signalled c.slots.result.now c.pass_time.new.board.book c.signal_all.new.board.book c.in_ok-signal_all.ensures.signals))
+    (nobody-let_go _ c.signal_all.new.board.book c.let_go_of_conns.new.board.book c.in_err-let_go_of_conns.ensures.until.1))
     (c.let_go_of_conns.ensures.rest.accepted ∙ c.signal_all.ensures.rest.accepted ∙ c.pass_time.ensures.taken) (before tells))
 
 pub returns-in_err-start_children-clause-watched : goal.returns-in_err-start_children-clause-watched
 returns-in_err-start_children-clause-watched g c =
     rw (← c.self.view_is)
     (λ before tells. watched-as (g.F.Front.seen c.self.inside.front).told c.self.inside.board.book c.start_children.new.board.book
-    (names-started c.retire_all.new.board.book c.start_children.new.board.book c.start_children.ensures.starts
-    ∙ names-retired c.let_go_of_conns.new.board.book c.retire_all.new.board.book c.retire_all.ensures.retires
-    ∙ names-let_go [] c.signal_all.new.board.book c.let_go_of_conns.new.board.book c.in_ok-let_go_of_conns.ensures.gone
-    ∙ names-signalled c.slots.result.now c.pass_time.new.board.book c.signal_all.new.board.book c.in_ok-signal_all.ensures.signals
-    ∙ names-passed _ c.self.inside.board.book c.pass_time.new.board.book c.in_ok-pass_time.ensures.passes)
+    (nobody-before-takes c.self.inside.board.book c.pass_time.new.board.book c.signal_all.new.board.book c.let_go_of_conns.new.board.book
+    c.retire_all.new.board.book c.start_children.new.board.book _ c.slots.result.now c.in_ok-pass_time.ensures.passes c.in_ok-signal_all.ensures.signals
+    c.in_ok-let_go_of_conns.ensures.gone c.retire_all.ensures.retires c.start_children.ensures.starts)
     (c.start_children.ensures.rest.accepted ∙ c.retire_all.ensures.rest.accepted ∙ c.let_go_of_conns.ensures.rest.accepted ∙ c.signal_all.ensures.rest.accepted ∙ c.pass_time.ensures.taken) (before tells))
 
 pub returns-clause-watched : goal.returns-clause-watched
@@ -203,9 +205,35 @@ returns-clause-watched g c =
     rw (← c.self.view_is)
     (λ before. c.take_all.ensures.watched
     (λ tells. watched-as (g.F.Front.seen c.self.inside.front).told c.self.inside.board.book c.start_children.new.board.book
-    (names-started c.retire_all.new.board.book c.start_children.new.board.book c.start_children.ensures.starts
-    ∙ names-retired c.let_go_of_conns.new.board.book c.retire_all.new.board.book c.retire_all.ensures.retires
-    ∙ names-let_go [] c.signal_all.new.board.book c.let_go_of_conns.new.board.book c.in_ok-let_go_of_conns.ensures.gone
-    ∙ names-signalled c.slots.result.now c.pass_time.new.board.book c.signal_all.new.board.book c.in_ok-signal_all.ensures.signals
-    ∙ names-passed _ c.self.inside.board.book c.pass_time.new.board.book c.in_ok-pass_time.ensures.passes)
+    (nobody-before-takes c.self.inside.board.book c.pass_time.new.board.book c.signal_all.new.board.book c.let_go_of_conns.new.board.book
+    c.retire_all.new.board.book c.start_children.new.board.book _ c.slots.result.now c.in_ok-pass_time.ensures.passes c.in_ok-signal_all.ensures.signals
+    c.in_ok-let_go_of_conns.ensures.gone c.retire_all.ensures.retires c.start_children.ensures.starts)
     (c.start_children.ensures.rest.accepted ∙ c.retire_all.ensures.rest.accepted ∙ c.let_go_of_conns.ensures.rest.accepted ∙ c.signal_all.ensures.rest.accepted ∙ c.pass_time.ensures.taken) (before tells)))
+
+pub returns-in_err-pass_time-clause-links : goal.returns-in_err-pass_time-clause-links
+returns-in_err-pass_time-clause-links g c =
+    let step = rw (← c.self.view_is) at c.requires.step in
+    on-err c.from_residual.result _
+    (hands-step g.L.Link.seen (g.F.Front.seen c.self.inside.front).told c.pass_time.new.board.book.state
+    (step-kept (g.F.Front.seen c.self.inside.front).told c.self.inside.board.book.state c.pass_time.new.board.book.state c.pass_time.ensures.taken step))
+
+pub returns-in_err-signal_all-clause-links : goal.returns-in_err-signal_all-clause-links
+returns-in_err-signal_all-clause-links g c =
+    let step = rw (← c.self.view_is) at c.requires.step in
+    on-err c.from_residual-in_err-signal_all.result _
+    (hands-step g.L.Link.seen (g.F.Front.seen c.self.inside.front).told c.signal_all.new.board.book.state
+    (step-kept (g.F.Front.seen c.self.inside.front).told c.self.inside.board.book.state c.signal_all.new.board.book.state (c.signal_all.ensures.rest.accepted ∙ c.pass_time.ensures.taken) step))
+
+pub returns-in_err-let_go_of_conns-clause-links : goal.returns-in_err-let_go_of_conns-clause-links
+returns-in_err-let_go_of_conns-clause-links g c =
+    let step = rw (← c.self.view_is) at c.requires.step in
+    on-err c.from_residual-in_err-let_go_of_conns.result _
+    (hands-step g.L.Link.seen (g.F.Front.seen c.self.inside.front).told c.let_go_of_conns.new.board.book.state
+    (step-kept (g.F.Front.seen c.self.inside.front).told c.self.inside.board.book.state c.let_go_of_conns.new.board.book.state (c.let_go_of_conns.ensures.rest.accepted ∙ c.signal_all.ensures.rest.accepted ∙ c.pass_time.ensures.taken) step))
+
+pub returns-in_err-start_children-clause-links : goal.returns-in_err-start_children-clause-links
+returns-in_err-start_children-clause-links g c =
+    let step = rw (← c.self.view_is) at c.requires.step in
+    on-err c.from_residual-in_err-start_children.result _
+    (hands-step g.L.Link.seen (g.F.Front.seen c.self.inside.front).told c.start_children.new.board.book.state
+    (step-kept (g.F.Front.seen c.self.inside.front).told c.self.inside.board.book.state c.start_children.new.board.book.state (c.start_children.ensures.rest.accepted ∙ c.retire_all.ensures.rest.accepted ∙ c.let_go_of_conns.ensures.rest.accepted ∙ c.signal_all.ensures.rest.accepted ∙ c.pass_time.ensures.taken) step))

@@ -3,6 +3,7 @@ use Rattle.conn_machine.specs.States.{is_halted}
 use Rattle.mpm_run.specs.ListenInside.{LinksTell, SeenListener, asked_children, waits_of}
 use Rattle.mpm_run.proofs.ChildrenLemmas.{begins-more, begins-round, begins-waited}
 use Rattle.mpm_run.proofs.FrontLemmas.{takes-same}
+use Rattle.mpm_run.proofs.LinkLemmas.{hands-step}
 use Rattle.mpm_run.proofs.PaceLemmas.{abreast-round, pace-broken, pace-round, pace-served, pace-started, patience-started, patience-waited, served-patience}
 use Rattle.mpm_run.proofs.RoundLemmas.{on-err}
 use Rattle.mpm_run.proofs.TurnLemmas.{HasServed, IsBetween, between-ended, between-failed, between-round, between-served, between-started, broken-between, broken-round, broken-served}
@@ -281,3 +282,33 @@ returns-in_err-rest-clause-started g c none =
     inr (begins-more 1 c.serve.ensures.acts.0 None _ c.take_in.new.self.board.book c.serve.new.self.board.book c.serve.ensures.acts.1
     (begins-round _ c.loop.rest c.pause-pause.result c.loop.self c.pause-pause.new.self c.take_in.new.self _ c.pause-pause.ensures
     c.in_ok-take_in.ensures.round.acts (c.loop.invariant.started none)))
+
+pub returns-in-Ended-clause-step : goal.returns-in-Ended-clause-step
+returns-in-Ended-clause-step g c =
+    (between-ended (LinksTell g.L.Link.seen) c.loop.rest c.pause-pause.result c.args.self.now c.loop.self c.pause-pause.new.self c.loop.invariant.between c.pause-pause.ensures c.in-Ended.is).step
+
+pub returns-in-Failed-clause-step : goal.returns-in-Failed-clause-step
+returns-in-Failed-clause-step g c =
+    (between-failed (LinksTell g.L.Link.seen) c.loop.rest c.pause-pause.result c.args.self.now c.loop.self c.pause-pause.new.self c.loop.invariant.between c.pause-pause.ensures c.in-Failed.is).step
+
+pub returns-in_err-first-clause-links : goal.returns-in_err-first-clause-links
+returns-in_err-first-clause-links g c =
+    on-err c.from_residual.result _
+    (hands-step g.L.Link.seen c.start.new.self.front.told c.start.new.self.board.book.state
+    (between-started (LinksTell g.L.Link.seen) c.args.self.now c.start.new.self c.requires.passes c.requires.free c.requires.going c.requires.step c.requires.informed c.start.ensures.others
+    c.start.ensures.starts c.start.ensures.going c.start.ensures.rest).step)
+
+pub returns-in_err-take_in-clause-links : goal.returns-in_err-take_in-clause-links
+returns-in_err-take_in-clause-links g c = on-err c.from_residual-in_err-take_in.result _ c.in_err-take_in.ensures.links
+
+pub returns-in_err-rest-clause-links : goal.returns-in_err-rest-clause-links
+returns-in_err-rest-clause-links g c =
+    let between : IsBetween (LinksTell g.L.Link.seen) c.args.self.now c.take_in.new.self =
+    between-round (LinksTell g.L.Link.seen) c.loop.rest c.pause-pause.result c.args.self.now c.loop.self c.pause-pause.new.self c.take_in.new.self c.loop.invariant.between c.pause-pause.ensures
+    c.in_ok-take_in.ensures.round c.in_ok-take_in.ensures.moment c.in_ok-take_in.ensures.step c.take_in.ensures.up c.take_in.ensures.follows
+    c.take_in.ensures.front c.take_in.ensures.watched c.take_in.ensures.calls in
+    let served : HasServed c.take_in.new.self c.serve.new.self =
+    record { events = c.serve.ensures.acts.0; acts = c.serve.ensures.acts.1; serves = c.serve.ensures.serves; others = c.serve.ensures.others } in
+    on-err c.from_residual-in_err-rest.result _
+    (hands-step g.L.Link.seen c.serve.new.self.front.told c.serve.new.self.board.book.state
+    (between-served (LinksTell g.L.Link.seen) c.args.self.now c.take_in.new.self c.serve.new.self between served).step)
