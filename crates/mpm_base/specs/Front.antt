@@ -37,12 +37,18 @@ pub record BoundTold : Type 0 where
   pub listen : Addr
   pub control : Option ℕ
 
+-- a dial of a front: the port of this machine, the word that was to be sent there, and what the dial answered
+pub record DialTold : Type 0 where
+  pub port : ℕ
+  pub word : List ℕ
+  pub answer : Bool
+
 -- what a front that tells has done and has before it: what the client of each connection sends, of those that have arrived
--- and of those that will; how many have arrived, and how many of these were handed out; its watches, in order; the links that
--- it turned away, in order, each as it was left; the command lines that have come, and how many of these were read; what it was
--- bound to, and whether listening was stopped; how many things are still to happen; the moment at which it stands; of a patient
--- one the moments at which something comes by itself, in order; whether an accept failed since the last wait; and its waits, in
--- order
+-- and of those that will; how many have arrived, and how many of these were handed out; its watches, in order; the links
+-- that it turned away, in order, each as it was left; the command lines that have come, and how many of these were read;
+-- what it was bound to, its dials, in order, and whether listening was stopped; how many things are still to happen; the
+-- moment at which it stands; of a patient one the moments at which something comes by itself, in order; whether an accept
+-- failed since the last wait; and its waits, in order
 pub record FrontTold : Type 0 where
   pub clients : List (List ℕ)
   pub arrived : ℕ
@@ -52,6 +58,7 @@ pub record FrontTold : Type 0 where
   pub lines : List (List ℕ)
   pub read : ℕ
   pub bound : List BoundTold
+  pub dialled : List DialTold
   pub hushed : Bool
   pub left : ℕ
   pub moment : ℕ
@@ -88,6 +95,7 @@ pub record IsUnused (t : FrontTold) : Type 0 where
   pub lines : t.lines ≡ []
   pub read : t.read ≡ 0
   pub bound : t.bound ≡ []
+  pub dialled : t.dialled ≡ []
   pub hushed : t.hushed ≡ false
   pub waits : t.waits ≡ []
   pub failed : t.failed ≡ false
@@ -194,6 +202,7 @@ pub record GoesForward (until : Option ℕ) (quiet : Bool) (answer : Woke) (read
   pub lines : t'.lines ≡ t.lines ++ come
   pub read : t'.read ≡ t.read
   pub bound : t'.bound ≡ t.bound
+  pub dialled : t'.dialled ≡ t.dialled
   pub hushed : t'.hushed ≡ t.hushed
   pub left : t'.left ≤ t.left
   pub moment : t.moment ≤ t'.moment

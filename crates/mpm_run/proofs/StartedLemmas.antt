@@ -73,6 +73,7 @@ unused-bound listen control (Some t) told' is unused =
       lines = unused.lines;
       read = unused.read;
       bound = refl;
+      dialled = unused.dialled;
       hushed = unused.hushed;
       waits = unused.waits;
       failed = unused.failed;

@@ -171,6 +171,7 @@ waits old mid new until quiet answer ready passed was now taken passed_so is pla
           lines = ap (λ (t : FrontTold). t.lines) kept ∙ sym (append-nil old.told.lines);
           read = ap (λ (t : FrontTold). t.read) kept;
           bound = ap (λ (t : FrontTold). t.bound) kept;
+          dialled = ap (λ (t : FrontTold). t.dialled) kept;
           hushed = ap (λ (t : FrontTold). t.hushed) kept;
           left = omega (arith, was.left, now.left, went.happened, ap length went.script);
           moment = went.moment_is;

@@ -100,6 +100,7 @@ new_front lines =
         lines = [];
         read = 0;
         bound = [];
+        dialled = [];
         hushed = false;
         left = length lines;
         moment = 0;

@@ -65,6 +65,7 @@ impl Model for ScriptFront {
         lines = [];
         read = 0;
         bound = map bound_told f.binds.items;
+        dialled = [];
         hushed = f.hushed;
         left = length f.script - f.happened;
         moment = f.moment;
