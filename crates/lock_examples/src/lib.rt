@@ -19,7 +19,7 @@ mod turns;
 pub use idles::{credits, reserves, reserves_once};
 pub use opening::{last_of, opened, opened_plain};
 pub use player::{Player, players};
-pub use resting::rests_one;
+pub use resting::{last_looks, rests_one};
 pub use seats::last_seat;
 pub use stage::Stage;
 pub use texts::{Texts, folds_texts, writes};

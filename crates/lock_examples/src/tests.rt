@@ -6,7 +6,7 @@ mod permits;
 mod travels;
 mod turns;
 
-use crate::{Toy, credits, goes_on, last_of, looks, opened};
+use crate::{Toy, credits, goes_on, last_looks, last_of, looks, opened};
 use board_lock::{Pass, Shared, number};
 use idle_workers::{idle, release, reserve, uncredit};
 use recycle_perch::Perch;
@@ -103,19 +103,29 @@ fn a_perch_of_two_carriers_hands_both_out(rt: HostRuntime) -> Result<(), Fail> {
         panic!(rt; "a carrier is pass 0");
     }
     let mut perch = Perch::make(rt.alloc(), &shared, 2)?;
-    assert!(rt; perch.take().is_none());
-    assert!(rt; perch.admit(one).is_ok());
-    assert!(rt; perch.admit(two).is_ok());
-    let Some(first) = perch.take() else {
+    let mut all = perch.looks(rt.alloc(), 1)?;
+    let Ok(one) = perch.admit(&mut all, one) else {
+        panic!(rt; "there is no room for a place")
+    };
+    let Ok(two) = perch.admit(&mut all, two) else {
+        panic!(rt; "there is no room for a place")
+    };
+    let Some(mut found) = last_looks(&perch, &mut all) else {
+        panic!(rt; "the looks are missing")
+    };
+    assert!(rt; perch.take(&mut found).is_none());
+    assert!(rt; perch.give(&mut found, one).is_ok());
+    assert!(rt; perch.give(&mut found, two).is_ok());
+    let Some(first) = perch.take(&mut found) else {
         panic!(rt; "no carrier rests")
     };
-    let Some(second) = perch.take() else {
+    let Some(second) = perch.take(&mut found) else {
         panic!(rt; "no carrier rests")
     };
     assert_eq!(rt; (number(&first), number(&second)), (1, 2));
-    assert!(rt; perch.take().is_none());
-    assert!(rt; perch.give(second).is_ok());
-    let Some(again) = perch.take() else {
+    assert!(rt; perch.take(&mut found).is_none());
+    assert!(rt; perch.give(&mut found, second).is_ok());
+    let Some(again) = perch.take(&mut found) else {
         panic!(rt; "no carrier rests")
     };
     assert_eq!(rt; number(&again), 2);

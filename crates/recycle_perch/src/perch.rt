@@ -1,7 +1,10 @@
 //! A row of places.
-ghost use Rattle.std.specs.Prelude.{◌≡◌, ◌≤◌, All, IfOk, IfSome, IfErr};
+ghost use Rattle.std.specs.Prelude.{◌≡◌, ◌≤◌, ◌<◌, ◌==◌, [], ◌∷◌, ◌++◌, All, IfOk, IfSome, IfErr, OnOk, OnErr, MatchOption, MatchResult, length, slice_index, vec_len, vec_capacity, if◌then◌else◌};
+ghost use Rattle.recycle_perch.specs.Looking.{AllAreOf, AllLookAt, AreOf, HasPlaceMore, WasLaidDown, WasTaken, found_none, found_taken, numbers_of, steps_of, with_step_at, words_of};
 ghost use Rattle.recycle_perch.specs.Resting.{IsFreeCarrier, IsWokenCarrier};
+ghost use Rattle.recycle_perch.specs.Words.{give_step, take_step};
 
+use crate::looks::Looks;
 use crate::place::Place;
 use board_lock::{Carrier, Shared, number};
 use conn_machine::Kept;
@@ -21,6 +24,7 @@ impl<'a, K: Kept> Perch<'a, K> {
     pub fn make(alloc: Global, shared: &'a Shared<K>, places: u32) -> Result<Perch<'a, K>, NoMemory>
         requires places { (1 ≤ places) × (places ≤ 4099) }
         ensures own { IfOk result (λ perch. perch.shared.now.table.shared.table_id ≡ shared.now.table.shared.table_id) }
+        ensures room { IfOk result (λ perch. (perch.places.items ≡ []) × (vec_capacity perch.places ≡ places)) }
     {
         match Vec::with_capacity(alloc, places as usize) {
             Ok(places) => Ok(Perch { shared, places }),
@@ -28,50 +32,139 @@ impl<'a, K: Kept> Perch<'a, K> {
         }
     }
 
-    /// Makes the place of a carrier that has nothing, and lays it down there. It comes back where there is no room for a place.
-    pub fn admit(&mut self, carrier: Carrier<K>) -> Result<(), Carrier<K>>
+    /// The looks of so many callers, before the first carrier is admitted.
+    pub fn looks(&self, alloc: Global, callers: u32) -> Result<Vec<Looks>, NoMemory>
+        requires { self.now.places.items ≡ [] }
+        ensures looks { IfOk result (λ all. AllAreOf self.now.places all.items) }
+        ensures count { IfOk result (λ all. vec_len all ≡ callers) }
+    {
+        let Ok(mut all) = Vec::with_capacity(alloc, callers as usize) else {
+            return Err(NoMemory);
+        };
+        for _ in 0..callers {
+            let looks = Looks::make(alloc, self.places.capacity())?;
+            all.push_reserved(looks);
+        }
+        Ok(all)
+    }
+
+    /// Makes the place of a carrier that has nothing, to which all looks come too, and hands the carrier back: none rests there
+    /// yet. There is an Err only where there is no room for a place, and then nothing changes.
+    pub fn admit(
+        &mut self,
+        all: &mut Vec<Looks>,
+        carrier: Carrier<K>,
+    ) -> Result<Carrier<K>, Carrier<K>>
         requires own { carrier.seat.table_id ≡ self.old.shared.now.table.shared.table_id }
         requires free { IsFreeCarrier carrier.seat.me }
+        requires looks { AllAreOf self.old.places all.old.items }
         ensures shared { self.new.shared.now.table.shared.table_id ≡ self.old.shared.now.table.shared.table_id }
+        ensures looks { AllAreOf self.new.places all.new.items }
+        ensures count { vec_len all.new ≡ vec_len all.old }
+        ensures room { vec_capacity self.new.places ≡ vec_capacity self.old.places }
+        ensures placed { OnOk result (HasPlaceMore carrier.seat.me.0.who.number self.old.places.items self.new.places.items) }
+        ensures own { IfOk result (λ woken. woken.seat.table_id ≡ self.old.shared.now.table.shared.table_id) }
+        ensures free { IfOk result (λ woken. IsFreeCarrier woken.seat.me) }
+        ensures woken { IfOk result (λ woken. IsWokenCarrier woken.seat.me) }
+        ensures number { IfOk result (λ woken. woken.seat.me.0.who.number ≡ carrier.seat.me.0.who.number) }
+        ensures full { OnErr result (vec_capacity self.old.places ≤ vec_len self.old.places) }
+        ensures same { OnErr result ((self.new.places ≡ self.old.places) × (all.new.items ≡ all.old.items)) }
         ensures back { IfErr result (λ back. back ≡ carrier) }
     {
         if self.places.len() == self.places.capacity() {
             return Err(carrier);
         }
-        let place = Place::make(self.shared, carrier);
+        let (place, woken) = Place::make(self.shared, carrier);
+        self.show(all, &place);
         self.places.push_reserved(place);
-        Ok(())
+        Ok(woken)
     }
 
-    /// A carrier that has nothing: the first that rests. There is none only where none rested at the moment when its place was
-    /// looked at.
-    pub fn take(&self) -> Option<Carrier<K>>
+    /// All looks come to one place more.
+    fn show(&self, all: &mut Vec<Looks>, place: &Place<K>)
+        requires room { vec_len self.now.places < vec_capacity self.now.places }
+        requires looks { AllAreOf self.now.places all.old.items }
+        ensures looks { AllLookAt (words_of self.now.places.items ++ place.now.perch.name ∷ []) (vec_capacity self.now.places) all.new.items }
+        ensures count { vec_len all.new ≡ vec_len all.old }
+    {
+        for i in 0..all.len() {
+            all[i].add(&place.perch);
+        }
+    }
+
+    /// A carrier that has nothing: the first that rests. There is none only where none rested at each place at the moment of
+    /// this call when the place was looked at.
+    pub fn take(&self, looks: &mut Looks) -> Option<Carrier<K>>
+        requires looks { AreOf self.now.places looks.old }
+        ensures looks { AreOf self.now.places looks.new }
+        ensures steps { MatchOption result (steps_of looks.new ≡ found_none (numbers_of self.now.places.items) (steps_of looks.old)) (λ carrier. WasTaken carrier.seat.me.0.who.number (numbers_of self.now.places.items) (steps_of looks.old) (steps_of looks.new)) }
         ensures own { IfSome result (λ carrier. carrier.seat.table_id ≡ self.now.shared.now.table.shared.table_id) }
         ensures free { IfSome result (λ carrier. IsFreeCarrier carrier.seat.me) }
         ensures woken { IfSome result (λ carrier. IsWokenCarrier carrier.seat.me) }
     {
-        for place in &self.places {
-            if let Some(carrier) = place.take(self.shared) {
+        for i in 0..self.places.len() {
+            if let Some(carrier) = self.take_at(looks, i) {
                 return Some(carrier);
             }
         }
         None
     }
 
-    /// Lays a carrier that has nothing down on its place. It comes back where it has none.
-    pub fn give(&self, carrier: Carrier<K>) -> Result<(), Carrier<K>>
+    /// The carrier that rests at a place.
+    fn take_at(&self, looks: &mut Looks, i: usize) -> Option<Carrier<K>>
+        requires looks { AreOf self.now.places looks.old }
+        requires place { i < vec_len self.now.places }
+        ensures looks { AreOf self.now.places looks.new }
+        ensures step { MatchOption result (steps_of looks.new ≡ with_step_at i (take_step 0) (steps_of looks.old)) (λ _. steps_of looks.new ≡ with_step_at i (take_step 2) (steps_of looks.old)) }
+        ensures own { IfSome result (λ carrier. carrier.seat.table_id ≡ self.now.shared.now.table.shared.table_id) }
+        ensures free { IfSome result (λ carrier. IsFreeCarrier carrier.seat.me) }
+        ensures woken { IfSome result (λ carrier. IsWokenCarrier carrier.seat.me) }
+        ensures number { IfSome result (λ carrier. slice_index (numbers_of self.now.places.items) i ≡ carrier.seat.me.0.who.number) }
+    {
+        let place = &self.places[i];
+        let mark = &mut looks.marks[i];
+        place.take(self.shared, mark)
+    }
+
+    /// Lays a carrier that has nothing down on its place. It comes back only where at each place that is for it another one
+    /// rested at a moment of this call, so also where it has none.
+    pub fn give(&self, looks: &mut Looks, carrier: Carrier<K>) -> Result<(), Carrier<K>>
         requires own { carrier.seat.table_id ≡ self.now.shared.now.table.shared.table_id }
         requires free { IsFreeCarrier carrier.seat.me }
+        requires looks { AreOf self.now.places looks.old }
+        ensures looks { AreOf self.now.places looks.new }
+        ensures steps { MatchResult result (λ _. WasLaidDown carrier.seat.me.0.who.number (numbers_of self.now.places.items) (steps_of looks.old) (steps_of looks.new)) (λ _. steps_of looks.new ≡ found_taken carrier.seat.me.0.who.number (numbers_of self.now.places.items) (steps_of looks.old)) }
         ensures own { IfErr result (λ back. back.seat.table_id ≡ self.now.shared.now.table.shared.table_id) }
         ensures free { IfErr result (λ back. IsFreeCarrier back.seat.me) }
         ensures number { IfErr result (λ back. back.seat.me.0.who.number ≡ carrier.seat.me.0.who.number) }
     {
-        let number = number(&carrier);
-        for place in &self.places {
-            if place.number == number {
-                return place.give(self.shared, carrier);
+        let mut back = carrier;
+        for place in 0..self.places.len() {
+            match self.give_at(looks, place, back) {
+                Ok(()) => return Ok(()),
+                Err(carrier) => back = carrier,
             }
         }
-        Err(carrier)
+        Err(back)
+    }
+
+    /// Lays the carrier down where the place is for it. Else it comes back.
+    fn give_at(&self, looks: &mut Looks, i: usize, carrier: Carrier<K>) -> Result<(), Carrier<K>>
+        requires own { carrier.seat.table_id ≡ self.now.shared.now.table.shared.table_id }
+        requires free { IsFreeCarrier carrier.seat.me }
+        requires looks { AreOf self.now.places looks.old }
+        requires place { i < vec_len self.now.places }
+        ensures looks { AreOf self.now.places looks.new }
+        ensures step { MatchResult result (λ _. (slice_index (numbers_of self.now.places.items) i ≡ carrier.seat.me.0.who.number) × (steps_of looks.new ≡ with_step_at i (give_step 0) (steps_of looks.old))) (λ _. steps_of looks.new ≡ (if slice_index (numbers_of self.now.places.items) i == carrier.seat.me.0.who.number then with_step_at i (give_step 2) (steps_of looks.old) else steps_of looks.old)) }
+        ensures own { IfErr result (λ back. back.seat.table_id ≡ self.now.shared.now.table.shared.table_id) }
+        ensures free { IfErr result (λ back. IsFreeCarrier back.seat.me) }
+        ensures number { IfErr result (λ back. back.seat.me.0.who.number ≡ carrier.seat.me.0.who.number) }
+    {
+        let place = &self.places[i];
+        if place.number != number(&carrier) {
+            return Err(carrier);
+        }
+        let mark = &mut looks.marks[i];
+        place.give(self.shared, mark, carrier)
     }
 }

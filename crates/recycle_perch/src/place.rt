@@ -1,30 +1,20 @@
 //! A place for the carrier of one number.
-ghost use Rattle.std.specs.Prelude.{◌≡◌, ◌≢◌, [], IfSome, IfErr};
+ghost use Rattle.std.specs.Prelude.{◌≡◌, ◌≢◌, [], ◌∷◌, ◌++◌, IfSome, IfErr, MatchOption, MatchResult};
 ghost use Rattle.recycle_perch.specs.Resting.{IsFreeCarrier, IsWokenCarrier};
+ghost use Rattle.recycle_perch.specs.Words.{give_step, take_step};
 ghost use Rattle.table_rule.specs.Views.{resting_view};
 
-use atomic_table::{PerchPlay, PerchRule, RuledPerch, Seat};
+use crate::word::{AnyStep, RestRule, Step};
+use atomic_table::{Mark, RuledPerch, Seat};
 use board_lock::{Carrier, Shared, number};
 use conn_machine::Kept;
+use std::collections::LinkedList;
 use table_rule::{RestStep, View, WakeStep, laws};
-
-/// The rule of a place, which asks nothing.
-pub struct Any;
-
-impl PerchRule<()> for Any {
-    ghost holds = { λ word views. Unit {0} };
-
-    ghost first = { tt };
-}
-
-impl PerchPlay<()> for Any {
-    ghost then = { λ _ _ _ _ _. Unit {0} };
-}
 
 /// A place for the carrier of one number.
 #[derive(Drop)]
 pub struct Place<K> {
-    pub perch: RuledPerch<Option<K>, View, (), Any>,
+    pub perch: RuledPerch<Option<K>, View, LinkedList<Step>, RestRule>,
     pub number: u32,
     ghost view: { perch.view ≡ resting_view number },
     ghost other: { number ≢ 0 },
@@ -59,52 +49,61 @@ fn wake_up<K: Kept>(shared: &Shared<K>, mut seat: Seat<Option<K>, View>, number:
 }
 
 impl<K: Kept> Place<K> {
-    /// A place on which this carrier rests.
-    pub fn make(shared: &Shared<K>, carrier: Carrier<K>) -> Place<K>
+    /// A place for this carrier. None rests there yet, and the carrier comes back.
+    pub fn make(shared: &Shared<K>, carrier: Carrier<K>) -> (Place<K>, Carrier<K>)
         requires own { carrier.seat.table_id ≡ shared.now.table.shared.table_id }
         requires free { IsFreeCarrier carrier.seat.me }
-        ensures own { result.perch.table_id ≡ shared.now.table.shared.table_id }
-        ensures number { result.number ≡ carrier.seat.me.0.who.number }
+        ensures place { (result.0.perch.table_id ≡ shared.now.table.shared.table_id) × (result.0.number ≡ carrier.seat.me.0.who.number) }
+        ensures own { result.1.seat.table_id ≡ shared.now.table.shared.table_id }
+        ensures free { IsFreeCarrier result.1.seat.me }
+        ensures woken { IsWokenCarrier result.1.seat.me }
+        ensures number { result.1.seat.me.0.who.number ≡ carrier.seat.me.0.who.number }
     {
         let number = number(&carrier);
         let seat = lay_down(shared, carrier);
-        let (perch, mut mark) = RuledPerch::new(&seat, 0);
-        let _ = perch.give::<Any>(&mut mark, seat, 0, 2);
-        Place { perch, number }
+        let (perch, _) = RuledPerch::new(&seat, 0);
+        (Place { perch, number }, wake_up(shared, seat, number))
     }
 
     /// The carrier, where it rests here.
-    pub fn take(&self, shared: &Shared<K>) -> Option<Carrier<K>>
+    pub fn take(&self, shared: &Shared<K>, mark: &mut Mark<LinkedList<Step>>) -> Option<Carrier<K>>
         requires own { self.now.perch.table_id ≡ shared.now.table.shared.table_id }
+        requires mark { mark.old.perch ≡ self.now.perch.name }
+        ensures mark { mark.new.perch ≡ mark.old.perch }
+        ensures step { MatchOption result (mark.new.view ≡ mark.old.view ++ take_step 0 ∷ []) (λ _. mark.new.view ≡ mark.old.view ++ take_step 2 ∷ []) }
         ensures own { IfSome result (λ carrier. carrier.seat.table_id ≡ shared.now.table.shared.table_id) }
         ensures free { IfSome result (λ carrier. IsFreeCarrier carrier.seat.me) }
         ensures woken { IfSome result (λ carrier. IsWokenCarrier carrier.seat.me) }
         ensures number { IfSome result (λ carrier. carrier.seat.me.0.who.number ≡ self.now.number) }
     {
-        let (_, _, seat) = self.perch.swap_new_mark::<Any>(0);
+        let (_, seat) = self.perch.swap::<AnyStep>(mark, 0);
         match seat {
             Some(seat) => Some(wake_up(shared, seat, self.number)),
             None => None,
         }
     }
 
-    /// Lays the carrier of this number down.
-    pub fn give(&self, shared: &Shared<K>, carrier: Carrier<K>) -> Result<(), Carrier<K>>
+    /// Lays the carrier of this number down. It comes back where another one rests here.
+    pub fn give(
+        &self,
+        shared: &Shared<K>,
+        mark: &mut Mark<LinkedList<Step>>,
+        carrier: Carrier<K>,
+    ) -> Result<(), Carrier<K>>
         requires own { self.now.perch.table_id ≡ shared.now.table.shared.table_id }
+        requires mark { mark.old.perch ≡ self.now.perch.name }
         requires same { carrier.seat.table_id ≡ shared.now.table.shared.table_id }
         requires free { IsFreeCarrier carrier.seat.me }
         requires number { carrier.seat.me.0.who.number ≡ self.now.number }
+        ensures mark { mark.new.perch ≡ mark.old.perch }
+        ensures step { MatchResult result (λ _. mark.new.view ≡ mark.old.view ++ give_step 0 ∷ []) (λ _. mark.new.view ≡ mark.old.view ++ give_step 2 ∷ []) }
         ensures own { IfErr result (λ back. back.seat.table_id ≡ shared.now.table.shared.table_id) }
         ensures free { IfErr result (λ back. IsFreeCarrier back.seat.me) }
         ensures woken { IfErr result (λ back. IsWokenCarrier back.seat.me) }
         ensures number { IfErr result (λ back. back.seat.me.0.who.number ≡ self.now.number) }
     {
         let seat = lay_down(shared, carrier);
-        let (_, mut mark, other) = self.perch.swap_new_mark::<Any>(0);
-        if other.is_some() {
-            return Err(wake_up(shared, seat, self.number));
-        }
-        match self.perch.give::<Any>(&mut mark, seat, 0, 2) {
+        match self.perch.give::<AnyStep>(mark, seat, 0, 2) {
             Ok(()) => Ok(()),
             Err(seat) => Err(wake_up(shared, seat, self.number)),
         }

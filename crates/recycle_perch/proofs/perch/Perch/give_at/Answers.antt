@@ -1,0 +1,21 @@
+use Rattle.std.proofs.Common.{◌∙◌, arith}
+use Rattle.recycle_perch.proofs.LookLemmas.{image_at, same_at, tried, words_at}
+use Rattle.recycle_perch.proofs.perch.Perch.give_at.Goals as goal
+
+pub give-requires-clause-mark : goal.give-requires-clause-mark
+give-requires-clause-mark g c =
+    same_at _ _ c.args.looks.now.marks.items c.args.self.now.places.items c.args.i _ _ c.requires.looks.words
+    (omega (arith, c.requires.place, c.args.self.now.places.ok.0)) c.index_mut-mark.ensures.value c.index-place.ensures
+
+pub returns-clause-looks : goal.returns-clause-looks
+returns-clause-looks g c = record {
+  words = words_at c.args.looks.now.marks.items c.args.i _ _ c.index_mut-mark.ensures.value c.give.ensures.mark ∙ c.requires.looks.words;
+  room = c.requires.looks.room;
+}
+
+pub returns-clause-step : goal.returns-clause-step
+returns-clause-step g c =
+    let its = image_at (λ place. place.number) c.args.self.now.places.items c.args.i _ (omega (arith, c.requires.place, c.args.self.now.places.ok.0)) c.index-place.ensures
+    in
+    tried c.give.result c.args.looks.now.marks.items c.args.i _ _ _ _ c.index_mut-mark.ensures.value
+    (its ∙ (c.if-place-number.false ∙ c.number.ensures)) c.give.ensures.step

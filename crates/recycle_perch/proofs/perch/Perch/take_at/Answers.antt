@@ -1,0 +1,18 @@
+use Rattle.std.proofs.Common.{◌∙◌, arith}
+use Rattle.recycle_perch.proofs.LookLemmas.{looked, same_at, words_at}
+use Rattle.recycle_perch.proofs.perch.Perch.take_at.Goals as goal
+
+pub take-requires-clause-mark : goal.take-requires-clause-mark
+take-requires-clause-mark g c =
+    same_at _ _ c.args.looks.now.marks.items c.args.self.now.places.items c.args.i _ _ c.requires.looks.words
+    (omega (arith, c.requires.place, c.args.self.now.places.ok.0)) c.index_mut-mark.ensures.value c.index-place.ensures
+
+pub returns-clause-looks : goal.returns-clause-looks
+returns-clause-looks g c = record {
+  words = words_at c.args.looks.now.marks.items c.args.i _ _ c.index_mut-mark.ensures.value c.take.ensures.mark ∙ c.requires.looks.words;
+  room = c.requires.looks.room;
+}
+
+pub returns-clause-step : goal.returns-clause-step
+returns-clause-step g c =
+    looked c.take.result c.args.looks.now.marks.items c.args.i _ _ c.index_mut-mark.ensures.value c.take.ensures.step

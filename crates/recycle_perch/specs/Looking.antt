@@ -1,0 +1,78 @@
+-- What the steps of one caller found, place by place.
+use Rattle.std.specs.Prelude.{◌≡◌, ℕ, zero, suc, ◌<◌, ◌==◌, Bool, true, List, [], ◌∷◌, ◌++◌, map, length, take, slice_get, slice_index, Some, Vec, vec_capacity, if◌then◌else◌}
+use Rattle.recycle_perch.specs.declared.looks.Looks.{Looks}
+use Rattle.recycle_perch.specs.declared.place.Place.{Place}
+use Rattle.recycle_perch.specs.declared.word.Step.{Step}
+use Rattle.recycle_perch.specs.Words.{give_step, take_step}
+
+-- ## The places, and looks at them
+
+-- the names of the words of the places
+abbrev pub words_of : {K : Type 0} → List (Place K) → List ℕ
+words_of places = map (λ place. place.perch.name) places
+
+-- the numbers of the carriers that the places are for
+abbrev pub numbers_of : {K : Type 0} → List (Place K) → List ℕ
+numbers_of places = map (λ place. place.number) places
+
+-- there is one place more behind all others, for the carrier of that number
+abbrev pub HasPlaceMore : {K : Type 0} → ℕ → List (Place K) → List (Place K) → Type 0
+HasPlaceMore {K} carrier before after = (place : Place K) × (after ≡ before ++ place ∷ []) × (place.number ≡ carrier)
+
+-- the steps at each place
+abbrev pub steps_of : Looks → List (List Step)
+steps_of looks = map (λ mark. mark.view) looks.marks.items
+
+-- the looks are at the words of these names, in their order, and have room for so many
+pub record LookAt (names : List ℕ) (most : ℕ) (looks : Looks) : Type 0 where
+  pub words : map (λ mark. mark.perch) looks.marks.items ≡ names
+  pub room : vec_capacity looks.marks ≡ most
+
+-- each of them is at the words of these names
+abbrev pub AllLookAt : List ℕ → ℕ → List Looks → Type 0
+AllLookAt names most all = (i : ℕ) (looks : Looks) → slice_get all i ≡ Some looks → LookAt names most looks
+
+-- the looks are at these places
+abbrev pub AreOf : {K Z : Type 0} → Vec (Place K) Z → Looks → Type 0
+AreOf places looks = LookAt (words_of places.items) (vec_capacity places) looks
+
+-- each of them is at these places
+abbrev pub AllAreOf : {K Z : Type 0} → Vec (Place K) Z → List Looks → Type 0
+AllAreOf places all = AllLookAt (words_of places.items) (vec_capacity places) all
+
+-- ## The steps of one call
+
+-- one step more at a place
+abbrev pub with_step_at : ℕ → Step → List (List Step) → List (List Step)
+with_step_at place step [] = []
+with_step_at zero step (before ∷ others) = (before ++ step ∷ []) ∷ others
+with_step_at (suc place) step (before ∷ others) = before ∷ with_step_at place step others
+
+-- one step more at each place whose number passes the test
+abbrev pub with_steps : Step → (ℕ → Bool) → List ℕ → List (List Step) → List (List Step)
+with_steps step test [] all = all
+with_steps step test (number ∷ numbers) [] = []
+with_steps step test (number ∷ numbers) (before ∷ others) =
+    (if test number then before ++ step ∷ [] else before) ∷ with_steps step test numbers others
+
+-- one step more at each of the places, which would have taken a carrier and found none
+abbrev pub found_none : List ℕ → List (List Step) → List (List Step)
+found_none numbers all = with_steps (take_step 0) (λ _. true) numbers all
+
+-- one step more at each place of this carrier, which would have laid it down and found another one there
+abbrev pub found_taken : ℕ → List ℕ → List (List Step) → List (List Step)
+found_taken carrier numbers all = with_steps (give_step 2) (λ number. number == carrier) numbers all
+
+-- the carrier of that number was taken from its place; at each place before that one none was found
+pub record WasTaken (carrier : ℕ) (numbers : List ℕ) (before after : List (List Step)) : Type 0 where
+  pub place : ℕ
+  pub within : place < length numbers
+  pub its : slice_index numbers place ≡ carrier
+  pub steps : after ≡ with_step_at place (take_step 2) (found_none (take place numbers) before)
+
+-- the carrier of that number was laid down on a place of its own, where none rested
+pub record WasLaidDown (carrier : ℕ) (numbers : List ℕ) (before after : List (List Step)) : Type 0 where
+  pub place : ℕ
+  pub within : place < length numbers
+  pub its : slice_index numbers place ≡ carrier
+  pub steps : after ≡ with_step_at place (give_step 0) (found_taken carrier (take place numbers) before)

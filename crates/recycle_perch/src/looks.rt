@@ -1,0 +1,36 @@
+//! What the steps of one caller found.
+ghost use Rattle.std.specs.Prelude.{◌≡◌, ◌<◌, [], ◌∷◌, ◌++◌, IfOk, vec_len, vec_capacity};
+ghost use Rattle.recycle_perch.specs.Looking.{LookAt};
+
+use crate::word::{AnyStep, RestRule, Step};
+use atomic_table::{Mark, RuledPerch};
+use mpm_base::NoMemory;
+use std::alloc::Global;
+use std::collections::LinkedList;
+
+/// What the steps of one caller on the words of a perch found: a mark of the word of each place, in their order.
+#[derive(Drop)]
+pub struct Looks {
+    pub(crate) marks: Vec<Mark<LinkedList<Step>>>,
+}
+
+impl Looks {
+    /// Looks at no place yet, with room for so many.
+    pub(crate) fn make(alloc: Global, places: usize) -> Result<Looks, NoMemory>
+        ensures { IfOk result (λ looks. LookAt [] places looks) }
+    {
+        match Vec::with_capacity(alloc, places) {
+            Ok(marks) => Ok(Looks { marks }),
+            Err(_) => Err(NoMemory),
+        }
+    }
+
+    /// Looks at one place more.
+    pub(crate) fn add<S: Drop, V>(&mut self, perch: &RuledPerch<S, V, LinkedList<Step>, RestRule>)
+        requires { vec_len self.old.marks < vec_capacity self.old.marks }
+        ensures words { (words : _) (room : _) → LookAt words room self.old → LookAt (words ++ perch.now.name ∷ []) room self.new }
+    {
+        let (_, mark, _) = perch.swap_new_mark::<AnyStep>(0);
+        self.marks.push_reserved(mark);
+    }
+}
