@@ -163,15 +163,7 @@ nobody-more a b c first second = record {
       ∙ ap (λ (names : List ConnName). names ++ accepted_names second.more) first.none ∙ second.none;
 }
 
--- it is so where nothing was done
-pub nobody-same : (a b : SeenBook) → b ≡ a → TakesNobody a b
-nobody-same a b same = record {
-  more = [];
-  history = ap (λ (x : SeenBook). x.history) same ∙ sym (append-nil a.history);
-  none = refl;
-}
-
--- and where no event took one
+-- it is so where no event took one
 pub nobody-acts : (who : ℕ) (es : List Event) (has : Option ConnName) (a b : SeenBook) → Acts who es has a b → TakesNone es → TakesNobody a b
 nobody-acts who es has a b acts none = record {
   more = acts.entries.0;
