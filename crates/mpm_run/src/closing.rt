@@ -22,7 +22,8 @@ ghost use Rattle.mpm_run.specs.Patient.{NoneToDrain, NoneToLetGo};
 ghost use Rattle.mpm_run.specs.ListenInside.{MustStop, NoneOverdue, NoneParked};
 ghost use Rattle.mpm_run.specs.RoundInside.{NoneHas};
 
-use crate::listen::{LISTENER, show_none_live};
+use crate::listen::LISTENER;
+use crate::round::show_none_live;
 use board::{Board, BoardFault};
 use conn_machine::Why;
 use conn_state::laws::lingering_connections_keep_their_cause;

@@ -16,6 +16,7 @@ mod exit_status;
 mod invocation;
 mod listen;
 mod report;
+mod round;
 mod run_numbers;
 mod server;
 mod texts;

@@ -2,7 +2,7 @@ use Rattle.std.proofs.Common.{take, None}
 use Rattle.worker_group.specs.Acts.{Acts}
 use Rattle.worker_group.specs.Service.{LeavesRest}
 use Rattle.mpm_run.specs.RoundInside.{signal_events}
-use Rattle.mpm_run.proofs.listen.signal_all.Given as goal
+use Rattle.mpm_run.proofs.round.signal_all.Given as goal
 
 -- the slots so far were signalled
 abbrev pub invariant-loop-slot : goal.invariant-loop-slot

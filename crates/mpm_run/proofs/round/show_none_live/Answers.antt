@@ -1,7 +1,7 @@
 use Rattle.std.proofs.Common.{subst}
 use Rattle.conn_machine.specs.Passes.{HasNoneInHand}
 use Rattle.mpm_run.proofs.PassLemmas.{none-left}
-use Rattle.mpm_run.proofs.listen.show_none_live.Goals as goal
+use Rattle.mpm_run.proofs.round.show_none_live.Goals as goal
 
 pub returns : goal.returns
 returns g c none parked =

@@ -3,7 +3,7 @@ use Rattle.conn_machine.specs.declared.event.Event.TheVariants as event
 use Rattle.board.specs.Board.{SeenBoard}
 use Rattle.worker_group.proofs.ActsLemmas.{acts_recorded}
 use Rattle.mpm_run.proofs.TakeLemmas.{takes-child, takes-slot, accept-allowed, has-taken}
-use Rattle.mpm_run.proofs.listen.accept.Goals as goal
+use Rattle.mpm_run.proofs.round.accept.Goals as goal
 
 pub unreachable-requires : goal.unreachable-requires
 unreachable-requires g c =

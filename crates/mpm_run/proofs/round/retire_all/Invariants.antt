@@ -2,7 +2,7 @@ use Rattle.std.proofs.Common.{◌≡◌, count_by}
 use Rattle.conn_machine.specs.Children.{is_stopping}
 use Rattle.worker_group.specs.Service.{LeavesRest}
 use Rattle.mpm_run.specs.RoundInside.{RetiresSome}
-use Rattle.mpm_run.proofs.listen.retire_all.Given as goal
+use Rattle.mpm_run.proofs.round.retire_all.Given as goal
 
 -- the server stays stopped, with the rows that it had
 abbrev pub invariant-loop-child : goal.invariant-loop-child

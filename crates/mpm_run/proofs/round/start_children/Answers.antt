@@ -8,7 +8,7 @@ use Rattle.mpm_run.specs.RoundInside.{StartsSome}
 use Rattle.mpm_run.proofs.ChildrenLemmas.{all-started, opens-in-order, starts-next}
 use Rattle.mpm_run.proofs.ListenLemmas.{may-start_child, fewer-gone}
 use Rattle.mpm_run.proofs.RoundLemmas.{starts-none, starts-more, rest_start}
-use Rattle.mpm_run.proofs.listen.start_children.Goals as goal
+use Rattle.mpm_run.proofs.round.start_children.Goals as goal
 
 pub loop-child-init : goal.loop-child-init
 loop-child-init g c =

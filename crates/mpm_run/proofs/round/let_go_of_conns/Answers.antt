@@ -2,7 +2,7 @@ use Rattle.std.proofs.lemmas.Result.{on_err_weaker, on_ok_weaker}
 use Rattle.worker_group.proofs.ExitLemmas.{rest_more}
 use Rattle.mpm_run.specs.ClosingInside.{DrainsSome, DrainsUntil}
 use Rattle.mpm_run.proofs.RoundLemmas.{lets-go-conns, lets-go-until}
-use Rattle.mpm_run.proofs.listen.let_go_of_conns.Goals as goal
+use Rattle.mpm_run.proofs.round.let_go_of_conns.Goals as goal
 
 pub returns-clause-gone : goal.returns-clause-gone
 returns-clause-gone g c =

@@ -4,7 +4,7 @@ use Rattle.conn_machine.specs.Passes.{asking_count}
 use Rattle.conn_machine.specs.Runs.{after}
 use Rattle.worker_group.specs.Acts.{Acts}
 use Rattle.mpm_run.specs.Patient.{NoneDue}
-use Rattle.mpm_run.proofs.listen.serve_all.Given as goal
+use Rattle.mpm_run.proofs.round.serve_all.Given as goal
 
 -- the pass that serves did something, and has no connection
 abbrev pub invariant-loop-name : goal.invariant-loop-name

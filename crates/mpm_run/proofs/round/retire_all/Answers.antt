@@ -8,7 +8,7 @@ use Rattle.worker_group.proofs.ActsLemmas.{acts_recorded}
 use Rattle.worker_group.proofs.ExitLemmas.{rest_more, rest_none}
 use Rattle.mpm_run.proofs.ListenLemmas.{fewer-stopping, all-gone}
 use Rattle.mpm_run.proofs.RoundLemmas.{retires-none, retires-more, rest_retire}
-use Rattle.mpm_run.proofs.listen.retire_all.Goals as goal
+use Rattle.mpm_run.proofs.round.retire_all.Goals as goal
 
 pub loop-child-init : goal.loop-child-init
 loop-child-init g c =

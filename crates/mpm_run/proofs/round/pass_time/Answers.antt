@@ -4,7 +4,7 @@ use Rattle.conn_machine.specs.declared.event.Event.TheVariants as event
 use Rattle.worker_group.proofs.ActsLemmas.{acts_recorded}
 use Rattle.mpm_run.specs.Times.{moment_for}
 use Rattle.mpm_run.proofs.RoundLemmas.{gone-none, is-below, not-below, passes-later, passes-none}
-use Rattle.mpm_run.proofs.listen.pass_time.Goals as goal
+use Rattle.mpm_run.proofs.round.pass_time.Goals as goal
 
 pub returns-in_ok-tick-clause-passes : goal.returns-in_ok-tick-clause-passes
 returns-in_ok-tick-clause-passes g c =

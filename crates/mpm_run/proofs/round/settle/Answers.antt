@@ -5,7 +5,7 @@ use Rattle.mpm_base.specs.declared.conn.Cause.TheVariants as cause
 use Rattle.mpm_base.specs.declared.conn.Tail.TheVariants.{Direct}
 use Rattle.mpm_run.specs.ListenInside.{MustStop}
 use Rattle.mpm_run.proofs.RoundLemmas.{if-err, must-stop}
-use Rattle.mpm_run.proofs.listen.settle.Goals as goal
+use Rattle.mpm_run.proofs.round.settle.Goals as goal
 
 pub returns-then-watched-clause-left : goal.returns-then-watched-clause-left
 returns-then-watched-clause-left g c = rw c.if-watched.true c.park.ensures.parked

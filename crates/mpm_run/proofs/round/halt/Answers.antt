@@ -1,7 +1,7 @@
 use Rattle.std.proofs.Common.{ap}
 use Rattle.board.specs.Board.{SeenBoard}
 use Rattle.mpm_run.proofs.StopLemmas.{acts-stopped, halts-as, may-halt}
-use Rattle.mpm_run.proofs.listen.halt.Goals as goal
+use Rattle.mpm_run.proofs.round.halt.Goals as goal
 
 pub halt-requires-clause-allowed : goal.halt-requires-clause-allowed
 halt-requires-clause-allowed g c =

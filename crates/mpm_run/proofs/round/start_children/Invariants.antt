@@ -4,7 +4,7 @@ use Rattle.worker_group.specs.Service.{LeavesRest}
 use Rattle.mpm_run.specs.ListenInside.{IsOpening}
 use Rattle.mpm_run.specs.RoundInside.{StartsSome}
 use Rattle.mpm_run.proofs.ChildrenLemmas.{StartsInOrder}
-use Rattle.mpm_run.proofs.listen.start_children.Given as goal
+use Rattle.mpm_run.proofs.round.start_children.Given as goal
 
 -- children were started, and the server goes on as before
 abbrev pub invariant-loop-child : goal.invariant-loop-child

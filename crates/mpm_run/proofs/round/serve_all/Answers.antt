@@ -5,7 +5,7 @@ use Rattle.worker_group.specs.Acts.{Acts}
 use Rattle.worker_group.proofs.ActsLemmas.{acts_more, acts_none}
 use Rattle.mpm_run.specs.Patient.{NoneDue}
 use Rattle.mpm_run.proofs.PassLemmas.{due-none, fewer-asking, only-serves}
-use Rattle.mpm_run.proofs.listen.serve_all.Goals as goal
+use Rattle.mpm_run.proofs.round.serve_all.Goals as goal
 
 pub loop-name-init : goal.loop-name-init
 loop-name-init g c = record { still = λ none. refl; acts = ([], acts_none 1 None c.args.board.now.book c.requires.free); state = c.show_state.ensures.after }

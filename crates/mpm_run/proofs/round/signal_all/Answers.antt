@@ -5,7 +5,7 @@ use Rattle.worker_group.proofs.ActsLemmas.{acts_as}
 use Rattle.worker_group.proofs.ExitLemmas.{rest_more}
 use Rattle.mpm_run.specs.RoundInside.{SignalsFirst, signal_events}
 use Rattle.mpm_run.proofs.RoundLemmas.{on-err, signals-begun, signals-more}
-use Rattle.mpm_run.proofs.listen.signal_all.Goals as goal
+use Rattle.mpm_run.proofs.round.signal_all.Goals as goal
 
 pub returns-in_err-signal-clause-first : goal.returns-in_err-signal-clause-first
 returns-in_err-signal-clause-first g c =

@@ -6,7 +6,7 @@ use Rattle.worker_group.proofs.ActsLemmas.{acts_as, acts_none, acts_recorded}
 use Rattle.board.specs.Events.{IsAdded}
 use Rattle.mpm_run.proofs.PassLemmas.{rows-kept}
 use Rattle.mpm_run.proofs.RoundLemmas.{is-below, known-none, known-one, not-below}
-use Rattle.mpm_run.proofs.listen.signal.Goals as goal
+use Rattle.mpm_run.proofs.round.signal.Goals as goal
 
 pub returns-then-slot-len-clause-signals : goal.returns-then-slot-len-clause-signals
 returns-then-slot-len-clause-signals g c =

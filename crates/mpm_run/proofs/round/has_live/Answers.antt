@@ -1,5 +1,5 @@
 use Rattle.mpm_run.proofs.ListenLemmas.{busy-live, found-live}
-use Rattle.mpm_run.proofs.listen.has_live.Goals as goal
+use Rattle.mpm_run.proofs.round.has_live.Goals as goal
 
 pub returns-then-not-quiet : goal.returns-then-not-quiet
 returns-then-not-quiet g c = busy-live c.args.board.now.book.state c.quiet.result c.quiet.ensures c.if-not-quiet.true

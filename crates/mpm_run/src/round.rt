@@ -1,0 +1,323 @@
+//! The parts of the listener's round: a connection that comes is taken and waits, time passes, slots are signalled, connections
+//! are let go of and served, children are started and let go of, and the server stops.
+ghost use Rattle.std.specs.Prelude.{◌≡◌, ◌<◌, List, [], ◌∷◌, None, Some, true, false, is_some, max, IfOk, IfErr, OnErr, OnOk};
+ghost use Rattle.std.specs.List.{list_any};
+ghost use Rattle.mpm_base.specs.Count.{next_count};
+ghost use Rattle.mpm_base.specs.declared.conn.Cause.TheVariants as cause;
+ghost use Rattle.mpm_base.specs.declared.conn.Kind.TheVariants.{Reading};
+ghost use Rattle.mpm_base.specs.declared.conn.Tail.TheVariants.{Direct};
+ghost use Rattle.conn_machine.specs.Made.{IsOpened};
+ghost use Rattle.conn_machine.specs.Passes.{OnlyServes};
+ghost use Rattle.conn_machine.specs.Rows.{is_live};
+ghost use Rattle.conn_machine.specs.Runs.{after, row_of};
+ghost use Rattle.conn_machine.specs.Sound.{IsSound};
+ghost use Rattle.conn_machine.specs.States.{is_halted};
+ghost use Rattle.conn_machine.specs.Table.{is_allowed};
+ghost use Rattle.conn_machine.specs.declared.event.Event.{Event};
+ghost use Rattle.conn_machine.specs.declared.event.Event.TheVariants as event;
+ghost use Rattle.board.specs.Fits.{IsSettled};
+ghost use Rattle.board.specs.Finds.{acceptable, next_deadline_of, startable};
+ghost use Rattle.worker_group.specs.Acts.{Acts};
+ghost use Rattle.worker_group.specs.InHand.{IsClosable, IsInHand};
+ghost use Rattle.worker_group.specs.Service.{IsUp, LeavesRest, left_events};
+ghost use Rattle.mpm_run.specs.ClosingInside.{IsLateWay, LetsGo};
+ghost use Rattle.mpm_run.specs.Listen.{HasNoLive, IsClosedDown};
+ghost use Rattle.mpm_run.specs.ListenInside.{AsksFor, HaltsAs, HasTaken, IsOpening, IsRestful, MustHalt, MustStop, NoneOverdue, NoneParked, asked_children};
+ghost use Rattle.mpm_run.specs.Patient.{NoneDue};
+ghost use Rattle.mpm_run.specs.RoundInside.{GivesUp, LetsGoOfConns, LetsGoUntil, NoneHas, PassesTime, RetiresSome, SignalsFirst, StartsSome, halt_events, signal_events, stop_events, way_of, why_without_memory};
+ghost use Rattle.mpm_run.specs.Started.{BeginsWithStarts};
+ghost use Rattle.mpm_run.specs.Times.{IsBrokenOff, moment_for};
+
+use crate::closing::{drain_all, let_go_late, let_go_retiring};
+use crate::listen::{End, LISTENER, Rest, SERVER};
+use board::{AcceptFault, Board, BoardFault, Taken};
+use conn_machine::Why;
+use conn_machine::laws::{each_pass_has_its_own_connection, passes_leave_the_rest_to_the_listener};
+use conn_state::{Conn, Known};
+use mpm_base::{Cause, Clock, GREATEST_MOMENT, Kind, Link, Moment, Tail, Woke};
+use worker_group::{close, park, serve};
+
+/// A connection that was just taken waits for its first request, where the front watches it; else it is closed.
+pub fn settle<L: Link, N: Known>(
+    board: &mut Board<L, N>,
+    conn: Conn<L, N>,
+    watched: bool,
+) -> Result<(), BoardFault>
+    requires passes { 0 < board.old.book.passes }
+    requires row { row_of 0 board.old.book.history ≡ Some conn.name }
+    requires hand { IsInHand board.old.book.state conn }
+    requires allowed { is_halted board.old.book.state.going ≡ false → is_allowed board.old.book.state (event.Park conn.name Reading) ≡ true }
+    requires settled { watched ≡ true → IsSettled Reading None conn }
+    requires closable { watched ≡ false → IsClosable board.old.book.state cause.LinkFailed Direct conn }
+    ensures left { OnOk result (Acts 0 (left_events (way_of watched) conn.name) None board.old.book board.new.book) }
+    ensures closed { watched ≡ false → Acts 0 (left_events (way_of false) conn.name) None board.old.book board.new.book }
+    ensures given_up { IfErr result (λ fault. GivesUp fault conn.name board.old.book board.new.book) }
+    ensures rest { LeavesRest board.old.book board.new.book }
+    ensures err { IfErr result (λ fault. MustStop fault board.new.book) }
+{
+    if watched {
+        park(board, LISTENER, conn, Kind::Reading)
+    } else {
+        close(board, LISTENER, conn, Cause::LinkFailed, Tail::Direct);
+        Ok(())
+    }
+}
+
+/// Takes a connection into a slot, for the child that takes one. Where it is refused nothing changes.
+pub fn accept<L: Link, N: Known>(board: &mut Board<L, N>) -> Result<Taken, BoardFault>
+    requires passes { 0 < board.old.book.passes }
+    requires free { row_of 0 board.old.book.history ≡ None }
+    requires acceptable { is_some (acceptable board.old.book.state) ≡ true }
+    ensures acts { IfOk result (λ taken. Acts 0 (event.Accept taken.name.slot ∷ []) (Some taken.name) board.old.book board.new.book) }
+    ensures refused { OnErr result (board.new ≡ board.old) }
+    ensures going { board.new.book.state.going ≡ board.old.book.state.going }
+    ensures taken { OnOk result (board.new.book.state.accepted ≡ next_count board.old.book.state.accepted) }
+    ensures held { IfOk result (λ taken. HasTaken board.new.book.state taken.name taken.child taken.generation board.old.book.state.accepted) }
+    ensures moment { board.new.book.state.moment ≡ board.old.book.state.moment }
+    ensures err { IfErr result (λ fault. MustStop fault board.new.book) }
+{
+    board.show();
+    match board.accept(LISTENER) {
+        Ok(taken) => {
+            board.show();
+            Ok(taken)
+        }
+        Err(AcceptFault::Halted) => Err(BoardFault::Halted),
+        Err(AcceptFault::Full) => Err(BoardFault::Full),
+        Err(AcceptFault::NoMemory) => Err(BoardFault::NoMemory),
+        Err(AcceptFault::NoChild) => unreachable!(),
+        Err(AcceptFault::NoSlot) => unreachable!(),
+    }
+}
+
+/// The moment behind a wait: what the clock says where the wait gave one, and else the present one.
+pub fn moment_of<L: Link, N: Known, C: Clock>(
+    board: &Board<L, N>,
+    clock: &mut C,
+    woke: Woke,
+) -> Moment
+    ensures { AsksFor woke board.now.book.state.moment (C.told clock.old) (C.told clock.new) result }
+{
+    match woke {
+        Woke::Woke(at) => clock.now(at),
+        Woke::Ended | Woke::Failed => board.moment(),
+    }
+}
+
+/// What the next wait is told: until when it may take, and whether nothing is left to do.
+pub fn find_rest<L: Link, N: Known>(board: &Board<L, N>) -> Rest
+    ensures until { result.until ≡ next_deadline_of board.now.book.state }
+    ensures quiet { IsRestful result.quiet board.now.book.state }
+{
+    Rest {
+        until: board.next_deadline(),
+        quiet: board.quiet()
+            && board.signalled().is_none()
+            && board.signalled_linger().is_none()
+            && board.retiring().is_none()
+            && board.can_retire().is_none()
+            && board.can_start().is_none(),
+    }
+}
+
+/// Whether a connection is live: one in hand, or one that waits.
+pub fn has_live<L: Link, N: Known>(board: &Board<L, N>) -> bool
+    ensures { result ≡ list_any is_live board.now.book.state.rows }
+{
+    !board.quiet() || board.parked().is_some()
+}
+
+/// Lets time pass to the moment, where it is later than the present one. Connections that are late are let go of before and after.
+pub fn pass_time<L: Link, N: Known>(
+    board: &mut Board<L, N>,
+    moment: Moment,
+) -> Result<(), BoardFault>
+    requires passes { 0 < board.old.book.passes }
+    requires free { row_of 0 board.old.book.history ≡ None }
+    requires up { IsUp board.old.book.state.going }
+    ensures passes { OnOk result (PassesTime (moment_for moment) board.old.book board.new.book) }
+    ensures refused { OnErr result (LetsGo IsLateWay board.old.book board.new.book) }
+    ensures none { OnOk result (NoneOverdue board.new.book.state) }
+    ensures up { IsUp board.new.book.state.going }
+    ensures moment { OnOk result (board.new.book.state.moment ≡ max board.old.book.state.moment (moment_for moment)) }
+    ensures taken { board.new.book.state.accepted ≡ board.old.book.state.accepted }
+    ensures err { IfErr result (λ fault. MustStop fault board.new.book) }
+{
+    let_go_late(board);
+    let moment = moment.min(GREATEST_MOMENT);
+    if moment > board.moment() {
+        board.show();
+        board.tick(LISTENER, moment)?;
+        let_go_late(board);
+    }
+    Ok(())
+}
+
+/// Signals each of the slots that the table has.
+pub fn signal_all<L: Link, N: Known>(
+    board: &mut Board<L, N>,
+    slots: &[u32],
+) -> Result<(), BoardFault>
+    requires passes { 0 < board.old.book.passes }
+    requires free { row_of 0 board.old.book.history ≡ None }
+    ensures signals { OnOk result (Acts 0 (signal_events board.old.book slots.now) None board.old.book board.new.book) }
+    ensures first { OnErr result (SignalsFirst slots.now board.old.book board.new.book) }
+    ensures rest { LeavesRest board.old.book board.new.book }
+    ensures err { IfErr result (λ fault. MustStop fault board.new.book) }
+{
+    for slot in slots {
+        signal(board, *slot)?;
+    }
+    Ok(())
+}
+
+/// Signals the slot, where the table has it. Where it is refused nothing changes.
+fn signal<L: Link, N: Known>(board: &mut Board<L, N>, slot: u32) -> Result<(), BoardFault>
+    requires passes { 0 < board.old.book.passes }
+    requires free { row_of 0 board.old.book.history ≡ None }
+    ensures signals { OnOk result (Acts 0 (signal_events board.old.book (slot ∷ [])) None board.old.book board.new.book) }
+    ensures rest { LeavesRest board.old.book board.new.book }
+    ensures refused { OnErr result (board.new ≡ board.old) }
+    ensures err { IfErr result (λ fault. MustStop fault board.new.book) }
+{
+    board.show();
+    if slot as usize >= board.state().rows.len() {
+        return Ok(());
+    }
+    board.ready(LISTENER, slot)
+}
+
+/// Lets go of each connection that is kept alive by a child that stops, and drains those that linger. One that begins to linger is
+/// late at once where moments end.
+pub fn let_go_of_conns<L: Link, N: Known>(board: &mut Board<L, N>) -> Result<(), BoardFault>
+    requires passes { 0 < board.old.book.passes }
+    requires free { row_of 0 board.old.book.history ≡ None }
+    ensures gone { OnOk result (LetsGoOfConns [] board.old.book board.new.book) }
+    ensures until { OnErr result (LetsGoUntil board.old.book board.new.book) }
+    ensures rest { LeavesRest board.old.book board.new.book }
+    ensures err { IfErr result (λ fault. MustStop fault board.new.book) }
+{
+    let_go_retiring(board);
+    let_go_late(board);
+    drain_all(board)
+}
+
+/// Starts children, while fewer run than should.
+pub fn start_children<L: Link, N: Known>(board: &mut Board<L, N>) -> Result<(), BoardFault>
+    requires passes { 0 < board.old.book.passes }
+    requires free { row_of 0 board.old.book.history ≡ None }
+    ensures starts { StartsSome board.old.book board.new.book }
+    ensures started { OnOk result (startable board.new.book.state ≡ None) }
+    ensures first { OnOk result (IsOpening board.old.book → BeginsWithStarts (asked_children board.old.book.base) board.new.book.history) }
+    ensures going { board.new.book.state.going ≡ board.old.book.state.going }
+    ensures rest { LeavesRest board.old.book board.new.book }
+    ensures err { IfErr result (λ fault. MustStop fault board.new.book) }
+{
+    show_state(board);
+    while let Some(child) = board.can_start() {
+        board.show();
+        board.start_child(LISTENER, child)?;
+    }
+    Ok(())
+}
+
+/// Serves each connection that is signalled and that a worker of its child is free for.
+pub fn serve_all<L: Link, N: Known>(board: &mut Board<L, N>) -> Result<(), BoardFault>
+    requires passes { 1 < board.old.book.passes }
+    requires free { row_of 1 board.old.book.history ≡ None }
+    ensures acts { (events : List Event) × Acts 1 events None board.old.book board.new.book }
+    ensures serves { OnlyServes board.old.book.state board.new.book.state }
+    ensures served { OnOk result (NoneDue board.new.book.state) }
+    ensures still { NoneDue board.old.book.state → board.new ≡ board.old }
+    ensures err { IfErr result (λ fault. MustStop fault board.new.book) }
+{
+    passes_leave_the_rest_to_the_listener();
+    show_state(board);
+    while let Some(name) = board.signalled() {
+        serve(board, SERVER, name)?;
+        board.show();
+    }
+    Ok(())
+}
+
+/// Stops the server for what ended the listener's turns, unless it was stopped. Takes no memory.
+pub fn halt<L: Link, N: Known>(board: &mut Board<L, N>, turns: Result<End, BoardFault>)
+    requires passes { 0 < board.old.book.passes }
+    requires free { row_of 0 board.old.book.history ≡ None }
+    requires must { MustHalt turns board.old.book }
+    requires up { IsUp board.old.book.state.going }
+    ensures acts { Acts 0 (halt_events board.old.book turns) None board.old.book board.new.book }
+    ensures stopped { HaltsAs turns board.new.book.state.going }
+    ensures moment { board.new.book.state.moment ≡ board.old.book.state.moment }
+    ensures taken { board.new.book.state.accepted ≡ board.old.book.state.accepted }
+{
+    match turns {
+        Ok(end) => board.halt(LISTENER, end.why()),
+        Err(fault) => stop(board, fault),
+    }
+}
+
+/// Stops the server for the fault, unless it was stopped: where memory lacks and the history is full, for that. Takes no memory.
+fn stop<L: Link, N: Known>(board: &mut Board<L, N>, fault: BoardFault)
+    requires passes { 0 < board.old.book.passes }
+    requires free { row_of 0 board.old.book.history ≡ None }
+    requires must { MustStop fault board.old.book }
+    requires up { IsUp board.old.book.state.going }
+    ensures stops { is_halted board.old.book.state.going ≡ false → Acts 0 (stop_events board.old.book fault) None board.old.book board.new.book }
+    ensures stays { is_halted board.old.book.state.going ≡ true → board.new ≡ board.old }
+    ensures stopped { IsBrokenOff board.new.book.state.going }
+    ensures moment { board.new.book.state.moment ≡ board.old.book.state.moment }
+    ensures taken { board.new.book.state.accepted ≡ board.old.book.state.accepted }
+{
+    if board.going().is_halted() {
+        return;
+    }
+    match fault {
+        BoardFault::Halted => unreachable!(),
+        BoardFault::Full => board.halt(LISTENER, Why::Full),
+        BoardFault::NoMemory => board.halt(LISTENER, why_without_memory(board)),
+    }
+}
+
+/// Why the server stops where memory lacks: a history that is full comes first.
+fn why_without_memory<L: Link, N: Known>(board: &Board<L, N>) -> Why
+    ensures { result ≡ why_without_memory board.now.book }
+{
+    if board.is_full() {
+        Why::Full
+    } else {
+        Why::NoMemory
+    }
+}
+
+/// Shows that no connection is live where no pass has one and none waits. Does nothing.
+pub fn show_none_live<L: Link, N: Known>(board: &Board<L, N>)
+    requires { IsOpened board.now.book.base }
+    ensures { NoneHas board.now.book → NoneParked board.now.book.state → HasNoLive board.now.book.state }
+{
+    each_pass_has_its_own_connection();
+    board.show();
+}
+
+/// Shows that the state is that after the history, and sound. Does nothing.
+pub fn show_state<L: Link, N: Known>(board: &Board<L, N>)
+    ensures after { after board.now.book.base board.now.book.history ≡ board.now.book.state }
+    ensures sound { IsSound board.now.book.state }
+{
+    board.show();
+}
+
+/// Lets go of each child that may be let go of: of each one that stops, and where no connection is live. Takes no memory.
+pub fn retire_all<L: Link, N: Known>(board: &mut Board<L, N>)
+    requires passes { 0 < board.old.book.passes }
+    requires free { row_of 0 board.old.book.history ≡ None }
+    ensures retires { RetiresSome board.old.book board.new.book }
+    ensures down { is_halted board.old.book.state.going ≡ true → HasNoLive board.old.book.state → IsClosedDown board.new.book.state }
+    ensures going { board.new.book.state.going ≡ board.old.book.state.going }
+    ensures rest { LeavesRest board.old.book board.new.book }
+{
+    while let Some(child) = board.can_retire() {
+        board.retire(LISTENER, child);
+    }
+    board.show();
+}
