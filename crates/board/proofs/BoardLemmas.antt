@@ -10,8 +10,6 @@ use Rattle.conn_machine.specs.Lists.{update}
 use Rattle.conn_machine.specs.Rows.{is_live, is_live_as, live_row, lives_and}
 use Rattle.conn_machine.specs.States.{is_halted}
 use Rattle.conn_machine.specs.Table.{is_allowed}
-use Rattle.conn_machine.proofs.SizeLemmas.{length-update}
-use Rattle.conn_machine.proofs.UpdateLemmas.{get_changed}
 use Rattle.timeout_queues.specs.Waiting.{ParkedName}
 use Rattle.conn_state.specs.Conn.{SeenConn}
 use Rattle.conn_state.specs.Answered.{SeenEnded}
@@ -19,18 +17,10 @@ use Rattle.conn_state.specs.Known.{KnownOutside}
 use Rattle.board.specs.Book.{SeenBook}
 use Rattle.board.specs.Board.{SeenBoard, IsHome, AreHome, IsBoard, conn_at}
 use Rattle.board.specs.QueuesInside.{waits_in, queues_of}
+use Rattle.board.specs.RowsInside.{RowsChangeAlone}
 use Rattle.board.proofs.QueueLemmas.{queued-set}
 
 -- ## One item
-
--- the other items stay
-pub get-update_other : {X : Type 0} (xs : List X) (i j : ℕ) (change : X → X) → (j ≡ i → ⊥)
-    → slice_get (update xs i change) j ≡ slice_get xs j
-get-update_other [] i j change differs = refl
-get-update_other (y ∷ xs) zero zero change differs = absurd (differs refl)
-get-update_other (y ∷ xs) zero (suc j) change differs = refl
-get-update_other (y ∷ xs) (suc i) zero change differs = refl
-get-update_other (y ∷ xs) (suc i) (suc j) change differs = get-update_other xs i j change (λ e. differs (ap suc e))
 
 -- an item stands below the length
 pub get-below : {X : Type 0} (xs : List X) (i : ℕ) (x : X) → slice_get xs i ≡ Some x → i < length xs
@@ -117,34 +107,34 @@ pub there_of : (known : Option KnownOutside) (book : SeenBook) (conns : List (Op
 there_of known book conns ended queues room is = record { waiting = is.agrees.waiting; queued = is.queued; has_room = is.has_room }
 
 -- the connection of a slot, once that of this slot was set
-homes_by : (rows : List Row) (conns : List (Option SeenConn)) (slot : ℕ) (r : Row) (change : Row → Row) (c : Option SeenConn)
+homes_by : RowsChangeAlone → (rows : List Row) (conns : List (Option SeenConn)) (slot : ℕ) (r : Row) (change : Row → Row) (c : Option SeenConn)
     → AreHome rows conns → slice_get rows slot ≡ Some r → IsHome slot (change r) c
     → (j : ℕ) (r' : Row) (same : Bool) → (j == slot) ≡ same → slice_get (update rows slot change) j ≡ Some r'
     → IsHome j r' (conn_at (set conns slot c) j)
-homes_by rows conns slot r change c are at home j r' true is_same at' =
+homes_by law rows conns slot r change c are at home j r' true is_same at' =
     let e : j ≡ slot = eqb-true j slot is_same in
-    let here : slice_get (update rows slot change) slot ≡ Some (change r) = get_changed rows slot r change at in
+    let here : slice_get (update rows slot change) slot ≡ Some (change r) = law.there rows slot r change at in
     let there : slice_get (update rows slot change) slot ≡ Some r' =
     subst (λ (k : ℕ). slice_get (update rows slot change) k ≡ Some r') e at' in
     let row_is : change r ≡ r' = cc in
     let below : slot < length conns = omega (arith, get-below rows slot r at, are.slots) in
     subst (λ (k : ℕ). IsHome k r' (conn_at (set conns slot c) k)) (sym e)
     (rw (get_or-set_same conns slot c None below) (subst (λ (x : Row). IsHome slot x c) row_is home))
-homes_by rows conns slot r change c are at home j r' false other at' =
+homes_by law rows conns slot r change c are at home j r' false other at' =
     let differs : (j ≡ slot → ⊥) = (λ (e : j ≡ slot). let eq : (j == slot) ≡ true = eq-eqb j slot e in cc) in
-    let before : slice_get rows j ≡ Some r' = sym (get-update_other rows slot j change differs) ∙ at' in
+    let before : slice_get rows j ≡ Some r' = sym (law.others rows slot j change differs) ∙ at' in
     rw (get_or-set_other conns slot j c None differs) (are.homes j r' before)
 
 -- one row, the connection of its slot and what the queues have there change together
-pub there_set : (rows : List Row) (conns : List (Option SeenConn)) (queues : List (Option ParkedName)) (slot : ℕ) (r : Row) (change : Row → Row)
+pub there_set : RowsChangeAlone → (rows : List Row) (conns : List (Option SeenConn)) (queues : List (Option ParkedName)) (slot : ℕ) (r : Row) (change : Row → Row)
     (c : Option SeenConn) (q : Option ParkedName) (ended ended' room room' : ℕ)
     → AreThere rows conns queues ended room → slice_get rows slot ≡ Some r → IsHome slot (change r) c → waits_in (change r) ≡ q
     → ended' + count_by is_live (update rows slot change) ≤ room'
     → AreThere (update rows slot change) (set conns slot c) (set queues slot q) ended' room'
-there_set rows conns queues slot r change c q ended ended' room room' there at home waits space = record {
+there_set law rows conns queues slot r change c q ended ended' room room' there at home waits space = record {
   waiting = record {
-    slots = length-set conns slot c ∙ there.waiting.slots ∙ sym (length-update rows slot change);
-    homes = λ j r' at'. homes_by rows conns slot r change c there.waiting at home j r' (j == slot) refl at';
+    slots = length-set conns slot c ∙ there.waiting.slots ∙ sym (law.as_many rows slot change);
+    homes = λ j r' at'. homes_by law rows conns slot r change c there.waiting at home j r' (j == slot) refl at';
   };
   queued = queued-set queues rows slot r change q there.queued at waits;
   has_room = space;

@@ -1,5 +1,6 @@
 -- What each event does to the connections that wait, and to the room for those that live.
 use Rattle.std.proofs.Common.{◌≡◌, ◌==◌, ℕ, zero, suc, ◌+◌, ◌<◌, ◌≤◌, Bool, true, false, not, ◌&&◌, ◌||◌, cond, if◌then◌else◌, nat_lt, is_some, List, ◌∷◌, length, Option, None, Some, slice_get, get_or, count_by, replicate, refl, sym, ap, subst, ◌∙◌, arith}
+use Rattle.std.specs.Option.{option_map_or}
 use Rattle.std.proofs.Math.ListN.{set}
 use Rattle.std.proofs.lemmas.Bool.{and_parts}
 use Rattle.std.proofs.lemmas.List.{length-replicate, set-get_or}
@@ -22,13 +23,12 @@ use Rattle.conn_machine.specs.Rows.{is_vacant, is_unused, is_held, is_parked, is
 use Rattle.conn_machine.specs.States.{is_signalled, is_halted, is_serving, pick_child, child_of, unused_row}
 use Rattle.conn_machine.specs.Table.{is_allowed, next, is_vacant_at, may_wait, may_be_held, may_be_queued, linger_cause_fits, taken_row, parked_row, held_row, queued_row, served_row, answered_row, lingering_row, closed_row, greatest_life, end_fits, is_last_for}
 use Rattle.conn_machine.specs.Sound.{KindFits}
-use Rattle.conn_machine.proofs.SizeLemmas.{length-update}
-use Rattle.conn_machine.proofs.RowLemmas.{row_of_slot}
 use Rattle.timeout_queues.specs.Waiting.{ParkedName}
 use Rattle.conn_state.specs.Conn.{SeenConn, IsConn}
 use Rattle.board.specs.Fits.{Fits, IsSettled, IsSettledFrom, LingersFor}
 use Rattle.board.specs.Board.{IsHeldHere, is_home, IsAtHome, IsHome, AreHome, conn_at}
 use Rattle.board.specs.QueuesInside.{waits_in, queues_of}
+use Rattle.board.specs.RowsInside.{RowsChangeAlone}
 use Rattle.board.proofs.QueueLemmas.{away-waits, queues-away}
 use Rattle.board.proofs.BoardLemmas.{AreThere, LivesAs, count-update, lives_as, there_set}
 
@@ -122,17 +122,17 @@ parked-settled p r c at fits here = absurd (cc)
 -- ## Rows that change
 
 -- a row that is not at home changes, and is not at home
-there_away : (rows : List Row) (conns : List (Option SeenConn)) (queues : List (Option ParkedName)) (slot : ℕ) (r : Row) (change : Row → Row) (ended ended' room room' : ℕ)
+there_away : RowsChangeAlone → (rows : List Row) (conns : List (Option SeenConn)) (queues : List (Option ParkedName)) (slot : ℕ) (r : Row) (change : Row → Row) (ended ended' room room' : ℕ)
     → AreThere rows conns queues ended room → slice_get rows slot ≡ Some r → is_home r.place ≡ false → is_home (change r).place ≡ false
     → ended' + count_by is_live (update rows slot change) ≤ room'
     → AreThere (update rows slot change) conns queues ended' room'
-there_away rows conns queues slot r change ended ended' room room' there at away away' space =
+there_away law rows conns queues slot r change ended ended' room room' there at away away' space =
     let none : conn_at conns slot ≡ None = homeless slot r (conn_at conns slot) (there.waiting.homes slot r at) away in
     let same : set conns slot None ≡ conns = ap (λ (c : Option SeenConn). set conns slot c) (sym none) ∙ set-get_or conns slot None in
     let same' : set queues slot None ≡ queues = queues-away queues rows slot r there.queued at away in
     subst (λ (qs : List (Option ParkedName)). AreThere (update rows slot change) conns qs ended' room') same'
     (subst (λ (cs : List (Option SeenConn)). AreThere (update rows slot change) cs (set queues slot None) ended' room') same
-    (there_set rows conns queues slot r change None None ended ended' room room' there at away' (away-waits (change r).place (change r) away') space))
+    (there_set law rows conns queues slot r change None None ended ended' room room' there at away' (away-waits (change r).place (change r) away') space))
 
 -- what a row counts for
 abbrev weight : Bool → ℕ
@@ -168,31 +168,36 @@ live-less rows slot r change at live dead =
 
 -- ## The events
 
+-- a slot whose row passes a test has a row
+row_at : (test : Row → Bool) (o : Option Row) → option_map_or test o false ≡ true → (r : Row) × (o ≡ Some r) × (test r ≡ true)
+row_at test None passes = absurd (cc)
+row_at test (Some r) passes = (r, refl, passes)
+
 -- a connection is taken into a vacant slot, once there is room for the end of each
-pub accept-there : (s : State) (slot : ℕ) (conns : List (Option SeenConn)) (queues : List (Option ParkedName)) (ended room room' : ℕ)
+pub accept-there : RowsChangeAlone → (s : State) (slot : ℕ) (conns : List (Option SeenConn)) (queues : List (Option ParkedName)) (ended room room' : ℕ)
     → is_allowed s (event.Accept slot) ≡ true → AreThere s.rows conns queues ended room → ended + length s.rows ≤ room'
     → AreThere (next s (event.Accept slot)).rows conns queues ended room'
-accept-there s slot conns queues ended room room' may there space =
+accept-there law s slot conns queues ended room room' may there space =
     let both = and_parts (is_serving s.going && is_vacant_at s slot) (is_some (pick_child s)) may in
     let vacant : is_vacant_at s slot ≡ true = (and_parts (is_serving s.going) (is_vacant_at s slot) both.0).1 in
-    let found = row_of_slot (λ (r : Row). is_vacant r.place) s.rows slot vacant in
+    let found = row_at (λ (r : Row). is_vacant r.place) (slice_get s.rows slot) vacant in
     let few : count_by is_live (update s.rows slot (taken_row s)) ≤ length s.rows =
-    omega (arith, count_by-le-length is_live (update s.rows slot (taken_row s)), length-update s.rows slot (taken_row s)) in
-    there_away s.rows conns queues slot found.row (taken_row s) ended ended room room' there found.found (vacant-away found.row.place found.passes) refl
+    omega (arith, count_by-le-length is_live (update s.rows slot (taken_row s)), law.as_many s.rows slot (taken_row s)) in
+    there_away law s.rows conns queues slot found.0 (taken_row s) ended ended room room' there found.1 (vacant-away found.0.place found.2) refl
     (omega (arith, few, space))
 
 -- a connection waits, and is as one that waits so
-pub park-there : (s : State) (name : ConnName) (kind : Kind) (conns : List (Option SeenConn)) (queues : List (Option ParkedName)) (c : SeenConn) (r : Row) (ended room : ℕ)
+pub park-there : RowsChangeAlone → (s : State) (name : ConnName) (kind : Kind) (conns : List (Option SeenConn)) (queues : List (Option ParkedName)) (c : SeenConn) (r : Row) (ended room : ℕ)
     → is_allowed s (event.Park name kind) ≡ true → AreThere s.rows conns queues ended room → live_row s.rows name ≡ Some r → c.name ≡ name
     → Fits c r → IsSettled kind r.cause c
     → AreThere (next s (event.Park name kind)).rows (set conns name.slot (Some c)) (set queues name.slot (waits_in (parked_row s kind r))) ended room
-park-there s name kind conns queues c r ended room may there found name_is fits settled =
+park-there law s name kind conns queues c r ended room may there found name_is fits settled =
     let lives = lives_as s.rows name (may_wait s.moment kind) (and_parts (not (is_halted s.going)) (lives_and (may_wait s.moment kind) s.rows name) may).1 in
     let same : r ≡ lives.row = cc (lives.found, found) in
     let count = live-same s.rows name.slot lives.row (parked_row s kind) lives.at lives.live refl in
     let fits' : Fits c lives.row = subst (λ (x : Row). Fits c x) same fits in
     let named : c.name ≡ record { slot = name.slot; life = lives.row.life } = name_is ∙ ap (λ (n : ℕ). record { slot = name.slot; life = n }) (sym lives.life) in
-    there_set s.rows conns queues name.slot lives.row (parked_row s kind) (Some c) (waits_in (parked_row s kind r)) ended ended room room there lives.at
+    there_set law s.rows conns queues name.slot lives.row (parked_row s kind) (Some c) (waits_in (parked_row s kind r)) ended ended room room there lives.at
     (record {
       name = named;
       fits = record { child = fits'.child; generation = fits'.generation; notes = fits'.notes; rank = fits'.rank };
@@ -213,17 +218,17 @@ pub linger-lives : (s : State) (name : ConnName) (why : Cause) → is_allowed s 
 linger-lives s name why may = lives_as s.rows name (λ r. not (is_lingering r) && linger_cause_fits s why (is_signalled s name.slot) r) may
 
 -- a connection lingers, for a cause that it shows
-pub linger-there : (s : State) (name : ConnName) (why : Cause) (conns : List (Option SeenConn)) (queues : List (Option ParkedName)) (c : SeenConn) (r : Row) (ended room : ℕ)
+pub linger-there : RowsChangeAlone → (s : State) (name : ConnName) (why : Cause) (conns : List (Option SeenConn)) (queues : List (Option ParkedName)) (c : SeenConn) (r : Row) (ended room : ℕ)
     → is_allowed s (event.Linger name why) ≡ true → AreThere s.rows conns queues ended room → live_row s.rows name ≡ Some r → c.name ≡ name
     → Fits c r → LingersFor why c → IsConn c
     → AreThere (next s (event.Linger name why)).rows (set conns name.slot (Some c)) (set queues name.slot (waits_in (lingering_row s why r))) ended room
-linger-there s name why conns queues c r ended room may there found name_is fits waits is =
+linger-there law s name why conns queues c r ended room may there found name_is fits waits is =
     let lives = linger-lives s name why may in
     let same : r ≡ lives.row = cc (lives.found, found) in
     let count = live-same s.rows name.slot lives.row (lingering_row s why) lives.at lives.live refl in
     let fits' : Fits c lives.row = subst (λ (x : Row). Fits c x) same fits in
     let named : c.name ≡ record { slot = name.slot; life = lives.row.life } = name_is ∙ ap (λ (n : ℕ). record { slot = name.slot; life = n }) (sym lives.life) in
-    there_set s.rows conns queues name.slot lives.row (lingering_row s why) (Some c) (waits_in (lingering_row s why r)) ended ended room room there lives.at
+    there_set law s.rows conns queues name.slot lives.row (lingering_row s why) (Some c) (waits_in (lingering_row s why r)) ended ended room room there lives.at
     (record {
       name = named;
       fits = record { child = fits'.child; generation = fits'.generation; notes = fits'.notes; rank = fits'.rank };
@@ -233,13 +238,13 @@ linger-there s name why conns queues c r ended room may there found name_is fits
     (omega (arith, count, there.has_room))
 
 -- the listener takes a connection that waits
-pub hold-there : (s : State) (name : ConnName) (conns : List (Option SeenConn)) (queues : List (Option ParkedName)) (ended room : ℕ)
+pub hold-there : RowsChangeAlone → (s : State) (name : ConnName) (conns : List (Option SeenConn)) (queues : List (Option ParkedName)) (ended room : ℕ)
     → is_allowed s (event.Hold name) ≡ true → AreThere s.rows conns queues ended room
     → AreThere (next s (event.Hold name)).rows (set conns name.slot None) (set queues name.slot None) ended room
-hold-there s name conns queues ended room may there =
+hold-there law s name conns queues ended room may there =
     let lives = lives_as s.rows name (may_be_held s (is_signalled s name.slot)) may in
     let count = live-same s.rows name.slot lives.row held_row lives.at lives.live refl in
-    there_set s.rows conns queues name.slot lives.row held_row None None ended ended room room there lives.at refl refl
+    there_set law s.rows conns queues name.slot lives.row held_row None None ended ended room room there lives.at refl refl
     (omega (arith, count, there.has_room))
 
 -- what may be handed to the workers waits for something
@@ -249,24 +254,24 @@ queue-parked s r may =
     (and_parts (is_parked r.place) (not (is_lingering r)) parts.0).0
 
 -- a connection that waits is handed to the workers of its child
-pub queue-there : (s : State) (name : ConnName) (conns : List (Option SeenConn)) (queues : List (Option ParkedName)) (ended room : ℕ)
+pub queue-there : RowsChangeAlone → (s : State) (name : ConnName) (conns : List (Option SeenConn)) (queues : List (Option ParkedName)) (ended room : ℕ)
     → is_allowed s (event.Queue name) ≡ true → AreThere s.rows conns queues ended room
     → AreThere (next s (event.Queue name)).rows (set conns name.slot None) (set queues name.slot None) ended room
-queue-there s name conns queues ended room may there =
+queue-there law s name conns queues ended room may there =
     let lives = lives_as s.rows name (may_be_queued s)
     (and_parts (not (is_halted s.going) && is_signalled s name.slot) (lives_and (may_be_queued s) s.rows name) may).1 in
     let count = live-same s.rows name.slot lives.row queued_row lives.at lives.live refl in
-    there_set s.rows conns queues name.slot lives.row queued_row None None ended ended room room there lives.at refl refl
+    there_set law s.rows conns queues name.slot lives.row queued_row None None ended ended room room there lives.at refl refl
     (omega (arith, count, there.has_room))
 
 -- a worker begins to serve a connection that was handed out
-pub start-there : (s : State) (name : ConnName) (conns : List (Option SeenConn)) (queues : List (Option ParkedName)) (ended room : ℕ)
+pub start-there : RowsChangeAlone → (s : State) (name : ConnName) (conns : List (Option SeenConn)) (queues : List (Option ParkedName)) (ended room : ℕ)
     → is_allowed s (event.Start name) ≡ true → AreThere s.rows conns queues ended room
     → AreThere (next s (event.Start name)).rows conns queues ended room
-start-there s name conns queues ended room may there =
+start-there law s name conns queues ended room may there =
     let lives = lives_as s.rows name (λ (r : Row). is_queued r.place) may in
     let count = live-same s.rows name.slot lives.row (served_row s) lives.at lives.live refl in
-    there_away s.rows conns queues name.slot lives.row (served_row s) ended ended room room there lives.at (queued-away lives.row.place lives.passes) refl
+    there_away law s.rows conns queues name.slot lives.row (served_row s) ended ended room room there lives.at (queued-away lives.row.place lives.passes) refl
     (omega (arith, count, there.has_room))
 
 -- the phase of the worker that sends the response
@@ -274,30 +279,30 @@ abbrev pub answer_phase : State → Ask → Row → Phase
 answer_phase s ask r = if is_last_for s ask r then phase.Close else phase.Write
 
 -- a response is decided
-pub answer-there : (s : State) (name : ConnName) (ask : Ask) (conns : List (Option SeenConn)) (queues : List (Option ParkedName)) (ended room : ℕ)
+pub answer-there : RowsChangeAlone → (s : State) (name : ConnName) (ask : Ask) (conns : List (Option SeenConn)) (queues : List (Option ParkedName)) (ended room : ℕ)
     → is_allowed s (event.Answer name ask) ≡ true → AreThere s.rows conns queues ended room
     → AreThere (next s (event.Answer name ask)).rows conns queues ended room
-answer-there s name ask conns queues ended room may there =
+answer-there law s name ask conns queues ended room may there =
     let lives = lives_as s.rows name (λ (r : Row). is_working r.place && not r.last)
     (and_parts (not (is_halted s.going)) (lives_and (λ (r : Row). is_working r.place && not r.last) s.rows name) may).1 in
     let r = lives.row in
     let away = working-away r.place (and_parts (is_working r.place) (not r.last) lives.passes).0 in
     let count = live-same s.rows name.slot r (answered_row s ask) lives.at lives.live
     (ap not (in_phase-unused (answer_phase s ask r) r.place) ∙ lives.live) in
-    there_away s.rows conns queues name.slot r (answered_row s ask) ended ended room room there lives.at away
+    there_away law s.rows conns queues name.slot r (answered_row s ask) ended ended room room there lives.at away
     (in_phase-home (answer_phase s ask r) r.place ∙ away) (omega (arith, count, there.has_room))
 
 -- a connection ends, which takes the room that was left for it
-pub close-there : (s : State) (name : ConnName) (why : Cause) (how : Tail) (conns : List (Option SeenConn)) (queues : List (Option ParkedName)) (ended room room' : ℕ)
+pub close-there : RowsChangeAlone → (s : State) (name : ConnName) (why : Cause) (how : Tail) (conns : List (Option SeenConn)) (queues : List (Option ParkedName)) (ended room room' : ℕ)
     → is_allowed s (event.Close name why how) ≡ true → AreThere s.rows conns queues ended room → room ≤ room'
     → AreThere (next s (event.Close name why how)).rows conns queues (ended + 1) room'
-close-there s name why how conns queues ended room room' may there more =
+close-there law s name why how conns queues ended room room' may there more =
     let lives = lives_as s.rows name (λ (r : Row). (is_held r.place || is_working r.place) && end_fits s why how r) may in
     let r = lives.row in
     let in_hand = (and_parts (is_held r.place || is_working r.place) (end_fits s why how r) lives.passes).0 in
     let dead = closed-away r in
     let count = live-less s.rows name.slot r closed_row lives.at lives.live dead.1 in
-    there_away s.rows conns queues name.slot r closed_row ended (ended + 1) room room' there lives.at (in_hand-away r.place in_hand)
+    there_away law s.rows conns queues name.slot r closed_row ended (ended + 1) room room' there lives.at (in_hand-away r.place in_hand)
     dead.0 (omega (arith, count, there.has_room, more))
 
 -- before a close there is room for the one that ends

@@ -22,7 +22,6 @@ use Rattle.conn_machine.specs.Children.{is_stopping}
 use Rattle.conn_machine.specs.States.{is_signalled, is_halted, child_of}
 use Rattle.conn_machine.specs.Table.{is_allowed, next, may_wait, may_be_held, may_be_queued, linger_cause_fits, parked_row, lingering_row, held_row, queued_row, served_row, is_last_for, noted_at}
 use Rattle.conn_machine.specs.Sound.{IsSound}
-use Rattle.conn_machine.proofs.UpdateLemmas.{get_changed}
 use Rattle.timeout_queues.specs.Waiting.{ParkedName, IsFree, parked_of, without_name}
 use Rattle.conn_state.specs.declared.turn.LastLinger.TheVariants as linger
 use Rattle.conn_state.specs.Conn.{SeenConn}
@@ -34,20 +33,21 @@ use Rattle.board.specs.Finds.{cause_of}
 use Rattle.board.specs.Fits.{Fits, IsOnItsWay, IsTakenUp, IsSettledFrom}
 use Rattle.board.specs.Board.{SeenBoard, AreHome, IsAtHome, IsHeldHere, conn_at, is_home}
 use Rattle.board.specs.QueuesInside.{waits_in, queues_of, waits_under}
+use Rattle.board.specs.RowsInside.{RowsChangeAlone}
 use Rattle.board.specs.Events.{IsDecided}
 use Rattle.board.specs.EventsInside.{decided_note}
-use Rattle.board.proofs.BoardLemmas.{LivesAs, get-below, get-update_other, lives_as}
+use Rattle.board.proofs.BoardLemmas.{LivesAs, get-below, lives_as}
 use Rattle.board.proofs.QueueLemmas.{is-free, is-parked}
 use Rattle.board.proofs.EventLemmas.{parked-home, home-of, linger-lives, parked-settled, queue-parked}
 
 -- ## A connection that is handed out
 
 -- the row of the name, once it was changed and is still live
-pub live_row-update : (rows : List Row) (name : ConnName) (r : Row) (change : Row → Row) → slice_get rows name.slot ≡ Some r
+pub live_row-update : RowsChangeAlone → (rows : List Row) (name : ConnName) (r : Row) (change : Row → Row) → slice_get rows name.slot ≡ Some r
     → is_live (change r) ≡ true → (change r).life ≡ name.life → live_row (update rows name.slot change) name ≡ Some (change r)
-live_row-update rows name r change at live life =
+live_row-update law rows name r change at live life =
     let named : is_live_as name (change r) ≡ true = rw (live, eq-eqb (change r).life name.life life) refl in
-    rw (get_changed rows name.slot r change at) (rw named refl)
+    rw (law.there rows name.slot r change at) (rw named refl)
 
 -- the connection of a slot of that name is there, and leaves the board as the one of the changed row
 pub record IsGiven (s s' : State) (conns : List (Option SeenConn)) (name : ConnName) : Type 0 where
@@ -58,14 +58,14 @@ pub record IsGiven (s s' : State) (conns : List (Option SeenConn)) (name : ConnN
   pub handed : IsTakenUp s' conn
 
 -- a connection that waits is handed out, where its row stays what it was but for its place
-given : (s s' : State) (conns : List (Option SeenConn)) (name : ConnName) (r : Row) (change : Row → Row) (x : SeenConn)
+given : RowsChangeAlone → (s s' : State) (conns : List (Option SeenConn)) (name : ConnName) (r : Row) (change : Row → Row) (x : SeenConn)
     → AreHome s.rows conns → slice_get s.rows name.slot ≡ Some r → r.life ≡ name.life → conn_at conns name.slot ≡ Some x
     → IsAtHome name.slot r x → s'.rows ≡ update s.rows name.slot change → is_live (change r) ≡ true → (change r).life ≡ r.life
     → Fits x (change r) → IsSettledFrom (change r).from (change r).cause x → IsGiven s s' conns name
-given s s' conns name r change x are at life has home rows_is live life' fits settled =
+given law s s' conns name r change x are at life has home rows_is live life' fits settled =
     let name_is : x.name ≡ name = home.name ∙ ap (λ (n : ℕ). (let m : ConnName = record { slot = name.slot; life = n } in m)) life in
     let found : live_row s'.rows name ≡ Some (change r) =
-    ap (λ (rows : List Row). live_row rows name) rows_is ∙ live_row-update s.rows name r change at live (life' ∙ life) in
+    ap (λ (rows : List Row). live_row rows name) rows_is ∙ live_row-update law s.rows name r change at live (life' ∙ life) in
     record {
       conn = x;
       below = omega (arith, get-below s.rows name.slot r at, are.slots);
@@ -104,29 +104,29 @@ hold-parked s signalled r may =
     || is_halted s.going) may).0
 
 -- the listener is given the connection
-pub hold-given : (s : State) (name : ConnName) (conns : List (Option SeenConn)) → IsSound s → is_allowed s (event.Hold name) ≡ true
+pub hold-given : RowsChangeAlone → (s : State) (name : ConnName) (conns : List (Option SeenConn)) → IsSound s → is_allowed s (event.Hold name) ≡ true
     → AreHome s.rows conns → IsGiven s (next s (event.Hold name)) conns name
-hold-given s name conns sound may are =
+hold-given law s name conns sound may are =
     let lives = lives_as s.rows name (may_be_held s (is_signalled s name.slot)) may in
     let r = lives.row in
     let parked = hold-parked s (is_signalled s name.slot) r lives.passes in
     let here = home-of s.rows conns name.slot r are lives.at (parked-home r.place parked) in
     let fits = here.2.fits in
-    given s (next s (event.Hold name)) conns name r held_row here.0 are lives.at lives.life here.1 here.2 refl refl refl
+    given law s (next s (event.Hold name)) conns name r held_row here.0 are lives.at lives.life here.1 here.2 refl refl refl
     (record { child = fits.child; generation = fits.generation; notes = fits.notes; rank = fits.rank })
     (parked-settled r.place r here.0 parked (sound.kinds name.slot r lives.at lives.live) here.2.here)
 
 -- the worker of a queue is given the connection
-pub queue-given : (s : State) (name : ConnName) (conns : List (Option SeenConn)) → IsSound s → is_allowed s (event.Queue name) ≡ true
+pub queue-given : RowsChangeAlone → (s : State) (name : ConnName) (conns : List (Option SeenConn)) → IsSound s → is_allowed s (event.Queue name) ≡ true
     → AreHome s.rows conns → IsGiven s (next s (event.Queue name)) conns name
-queue-given s name conns sound may are =
+queue-given law s name conns sound may are =
     let lives = lives_as s.rows name (may_be_queued s)
     (and_parts (not (is_halted s.going) && is_signalled s name.slot) (lives_and (may_be_queued s) s.rows name) may).1 in
     let r = lives.row in
     let parked = queue-parked s r lives.passes in
     let here = home-of s.rows conns name.slot r are lives.at (parked-home r.place parked) in
     let fits = here.2.fits in
-    given s (next s (event.Queue name)) conns name r queued_row here.0 are lives.at lives.life here.1 here.2 refl refl refl
+    given law s (next s (event.Queue name)) conns name r queued_row here.0 are lives.at lives.life here.1 here.2 refl refl refl
     (record { child = fits.child; generation = fits.generation; notes = fits.notes; rank = fits.rank })
     (parked-settled r.place r here.0 parked (sound.kinds name.slot r lives.at lives.live) here.2.here)
 
@@ -179,12 +179,12 @@ park-free s name kind queues may queued =
     is-free queues s.rows name.slot lives.row queued lives.at (wait-away s.moment kind lives.row lives.row.place refl lives.passes)
 
 -- once it waits, its row says what stands there
-pub park-parked : (s : State) (name : ConnName) (kind : Kind) (r : Row) → is_allowed s (event.Park name kind) ≡ true
+pub park-parked : RowsChangeAlone → (s : State) (name : ConnName) (kind : Kind) (r : Row) → is_allowed s (event.Park name kind) ≡ true
     → live_row s.rows name ≡ Some r → waits_under (next s (event.Park name kind)).rows name ≡ waits_in (parked_row s kind r)
-park-parked s name kind r may found =
+park-parked law s name kind r may found =
     let lives = lives_as s.rows name (may_wait s.moment kind) (and_parts (not (is_halted s.going)) (lives_and (may_wait s.moment kind) s.rows name) may).1 in
     let same : lives.row ≡ r = cc (lives.found, found) in
-    ap (option_and_then waits_in) (live_row-update s.rows name lives.row (parked_row s kind) lives.at refl lives.life)
+    ap (option_and_then waits_in) (live_row-update law s.rows name lives.row (parked_row s kind) lives.at refl lives.life)
     ∙ ap (λ (x : Row). waits_in (parked_row s kind x)) same
 
 -- what may linger doesn't wait yet
@@ -215,12 +215,12 @@ linger-free s name why queues may queued =
     (linger-away s why (is_signalled s name.slot) lives.row lives.row.place refl fits)
 
 -- once it lingers, its row says what stands there
-pub linger-parked : (s : State) (name : ConnName) (why : Cause) (r : Row) → is_allowed s (event.Linger name why) ≡ true
+pub linger-parked : RowsChangeAlone → (s : State) (name : ConnName) (why : Cause) (r : Row) → is_allowed s (event.Linger name why) ≡ true
     → live_row s.rows name ≡ Some r → waits_under (next s (event.Linger name why)).rows name ≡ waits_in (lingering_row s why r)
-linger-parked s name why r may found =
+linger-parked law s name why r may found =
     let lives = linger-lives s name why may in
     let same : lives.row ≡ r = cc (lives.found, found) in
-    ap (option_and_then waits_in) (live_row-update s.rows name lives.row (lingering_row s why) lives.at refl lives.life)
+    ap (option_and_then waits_in) (live_row-update law s.rows name lives.row (lingering_row s why) lives.at refl lives.life)
     ∙ ap (λ (x : Row). waits_in (lingering_row s why x)) same
 
 -- why a row lingers is told under its name
@@ -271,10 +271,10 @@ hold-way s name conns x may are has =
 -- ## A connection that was handed out
 
 -- what the row of a name was, and is after one row was changed to another live one of that life
-changed_row : (rows : List Row) (name : ConnName) (r : Row) (change : Row → Row) (other : ConnName) (row : Row) → slice_get rows name.slot ≡ Some r
+changed_row : RowsChangeAlone → (rows : List Row) (name : ConnName) (r : Row) (change : Row → Row) (other : ConnName) (row : Row) → slice_get rows name.slot ≡ Some r
     → is_live (change r) ≡ true → (change r).life ≡ r.life → live_row rows other ≡ Some row → (same : Bool) → (other.slot == name.slot) ≡ same
     → ((row ≡ r) × (live_row (update rows name.slot change) other ≡ Some (change r))) ⊎ (live_row (update rows name.slot change) other ≡ Some row)
-changed_row rows name r change other row at live life found true is =
+changed_row law rows name r change other row at live life found true is =
     let slot : other.slot ≡ name.slot = eqb-true other.slot name.slot is in
     let there : LivesAs rows other (λ (x : Row). true) = lives_as rows other (λ (x : Row). true) (ap (λ (o : Option Row). option_map_or (λ (x : Row). true) o false) found) in
     let row_is : there.row ≡ row = cc (there.found, found) in
@@ -284,18 +284,18 @@ changed_row rows name r change other row at live life found true is =
     inl (
       sym row_is ∙ r_is,
       subst (λ (n : ℕ). live_row (update rows n change) other ≡ Some (change r)) slot
-          (live_row-update rows other r change at' live life'),
+          (live_row-update law rows other r change at' live life'),
     )
-changed_row rows name r change other row at live life found false is =
+changed_row law rows name r change other row at live life found false is =
     let differs : (other.slot ≡ name.slot → ⊥) = (λ (e : other.slot ≡ name.slot). let eq : (other.slot == name.slot) ≡ true = eq-eqb other.slot name.slot e in cc) in
-    inr (ap (row_where (is_live_as other)) (get-update_other rows name.slot other.slot change differs) ∙ found)
+    inr (ap (row_where (is_live_as other)) (law.others rows name.slot other.slot change differs) ∙ found)
 
 -- a connection that was handed out stays so while a worker begins to serve one
-pub start-taken : (s : State) (name : ConnName) (c : SeenConn) → is_allowed s (event.Start name) ≡ true → IsTakenUp s c
+pub start-taken : RowsChangeAlone → (s : State) (name : ConnName) (c : SeenConn) → is_allowed s (event.Start name) ≡ true → IsTakenUp s c
     → IsTakenUp (next s (event.Start name)) c
-start-taken s name c may taken =
+start-taken law s name c may taken =
     let lives = lives_as s.rows name (λ (r : Row). is_queued r.place) may in
-    elim (changed_row s.rows name lives.row (served_row s) c.name taken.row lives.at refl refl taken.found (c.name.slot == name.slot) refl) [
+    elim (changed_row law s.rows name lives.row (served_row s) c.name taken.row lives.at refl refl taken.found (c.name.slot == name.slot) refl) [
       | inl own ↦
           let fits = subst (Fits c) own.0 taken.fits in
           record {

@@ -1,3 +1,4 @@
+pub mod AnsweredLemmas
 pub mod BoardLemmas
 pub mod BookLemmas
 pub mod ClientLemmas
@@ -11,4 +12,3 @@ pub mod RankLemmas
 pub mod RoomLemmas
 pub mod SlotLemmas
 pub mod StopLemmas
-pub mod TestLemmas

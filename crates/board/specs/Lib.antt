@@ -12,3 +12,4 @@ pub mod QueuesInside
 pub mod Ranks
 pub mod ReportLine
 pub mod RoomInside
+pub mod RowsInside

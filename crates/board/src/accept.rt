@@ -8,6 +8,7 @@ ghost use Rattle.board.specs.FaultsInside.{FindsVacant};
 use crate::book::Book;
 use crate::faults::AcceptFault;
 use conn_machine::State;
+use conn_machine::laws::connections_go_to_the_chosen_child;
 
 /// A vacant slot for the next connection, where one may be taken. Wants no memory.
 pub(crate) fn slot_for_accept(book: &Book) -> Result<u32, AcceptFault>
@@ -15,6 +16,7 @@ pub(crate) fn slot_for_accept(book: &Book) -> Result<u32, AcceptFault>
     ensures allowed { IfOk result (λ slot. is_allowed book.now.state (event.Accept slot) ≡ true) }
     ensures why { IfErr result (λ fault. IsNotTakenFor fault book.now) }
 {
+    connections_go_to_the_chosen_child();
     book.show();
     let state = book.state();
     if state.going.is_halted() {

@@ -27,6 +27,7 @@ ghost use Rattle.board.specs.Fits.{FoundNoMore, IsClosing, IsOnItsWay, IsTakenUp
 use crate::accept::slot_for_accept;
 use crate::book::Book;
 use crate::faults::{AcceptFault, BoardFault};
+use crate::laws::one_row_changes;
 use crate::waits::wait_in_queue;
 use conn_machine::{Commanded, Entry, Event, Kept, Reply, State, Why};
 use conn_state::{Conn, Ended, Known, Nothing};
@@ -191,6 +192,7 @@ impl<L: Link, N: Known> Board<L, N> {
         ensures entries { Adds who self.old.book.base self.old.book.history self.new.book.history }
         ensures row { IfOk result (λ taken. row_of who self.new.book.history ≡ Some taken.name) }
     {
+        one_row_changes();
         let slot = slot_for_accept(&self.book)?;
         let slots = self.conns.len();
         if self.ended.reserve(slots).is_err() {
@@ -231,6 +233,7 @@ impl<L: Link, N: Known> Board<L, N> {
         ensures entries { Adds who self.old.book.base self.old.book.history self.new.book.history }
         ensures row { OnOk result (row_of who self.new.book.history ≡ None) }
     {
+        one_row_changes();
         conn.show();
         let name = conn.name();
         match self.book.record(who, Event::Park(name, kind)) {
@@ -257,6 +260,7 @@ impl<L: Link, N: Known> Board<L, N> {
         ensures entries { Adds who self.old.book.base self.old.book.history self.new.book.history }
         ensures row { row_of who self.new.book.history ≡ Some name }
     {
+        one_row_changes();
         self.book.show();
         let _ = self.book.record_sure(who, Event::Hold(name));
         let _ = self.queues.unpark(name);
@@ -280,6 +284,7 @@ impl<L: Link, N: Known> Board<L, N> {
         ensures entries { Adds who self.old.book.base self.old.book.history self.new.book.history }
         ensures row { OnOk result (row_of who self.new.book.history ≡ Some name) }
     {
+        one_row_changes();
         self.book.show();
         self.book.record(who, Event::Queue(name))?;
         let _ = self.queues.unpark(name);
@@ -297,6 +302,7 @@ impl<L: Link, N: Known> Board<L, N> {
         ensures entries { Adds who self.old.book.base self.old.book.history self.new.book.history }
         ensures row { row_of who self.new.book.history ≡ Some name }
     {
+        one_row_changes();
         self.book.show();
         let Reply::Cell(cell) = self.book.record_sure(who, Event::Start(name)) else {
             unreachable!()
@@ -317,6 +323,7 @@ impl<L: Link, N: Known> Board<L, N> {
         ensures entries { Adds who self.old.book.base self.old.book.history self.new.book.history }
         ensures row { row_of who self.new.book.history ≡ Some name }
     {
+        one_row_changes();
         self.book.show();
         let Reply::Noted(last) = self.book.record(who, Event::Answer(name, ask))? else {
             unreachable!()
@@ -337,6 +344,7 @@ impl<L: Link, N: Known> Board<L, N> {
         ensures entries { Adds who self.old.book.base self.old.book.history self.new.book.history }
         ensures row { row_of who self.new.book.history ≡ None }
     {
+        one_row_changes();
         conn.show();
         let name = conn.name();
         let _ = self.book.record_sure(who, Event::Linger(name, cause));
@@ -356,6 +364,7 @@ impl<L: Link, N: Known> Board<L, N> {
         ensures entries { Adds who self.old.book.base self.old.book.history self.new.book.history }
         ensures row { row_of who self.new.book.history ≡ None }
     {
+        one_row_changes();
         self.book.show();
         let _ = self
             .book

@@ -1,19 +1,30 @@
-//! Laws of a board's connections that ended. Each is the contract of a function that does nothing.
+//! Laws of a board's connections, and what its proofs take of the machine's law of rows. Each is the contract of a function that
+//! does nothing.
 ghost use Rattle.std.specs.Prelude.{◌≡◌, ◌<◌, ◌≤◌, ℕ, false, List, count_by};
 ghost use Rattle.std.specs.List.{list_any};
 ghost use Rattle.mpm_base.specs.Count.{greatest_count};
+ghost use Rattle.mpm_base.specs.declared.conn.Ask.{Ask};
+ghost use Rattle.mpm_base.specs.declared.note.Note.{Note};
 ghost use Rattle.mpm_base.specs.declared.shape.Shape.{Shape};
 ghost use Rattle.conn_machine.specs.declared.event.Entry.{Entry};
+ghost use Rattle.conn_machine.specs.declared.event.Event.TheVariants as event;
 ghost use Rattle.conn_machine.specs.declared.state.State.{State};
 ghost use Rattle.conn_machine.specs.Arrivals.{closed_arrivals};
 ghost use Rattle.conn_machine.specs.Rows.{is_live};
 ghost use Rattle.conn_machine.specs.States.{opening_state};
 ghost use Rattle.conn_machine.specs.Runs.{Run, after};
+ghost use Rattle.conn_machine.specs.Table.{next};
 ghost use Rattle.conn_state.specs.Answered.{SeenEnded};
+ghost use Rattle.conn_state.specs.Conn.{SeenConn};
+ghost use Rattle.conn_state.specs.Turns.{TakesNote};
 ghost use Rattle.board.specs.Board.{AreClosed};
+ghost use Rattle.board.specs.Events.{IsDecided};
+ghost use Rattle.board.specs.Fits.{IsOf};
 ghost use Rattle.board.specs.Ranks.{AllTell, has_rank, ranks_of};
+ghost use Rattle.board.specs.RowsInside.{RowsChangeAlone};
 
 use conn_machine::laws::arrivals_are_taken_once;
+use conn_machine::laws_of_runs::rows_change_one_at_a_time;
 
 /// The links of the connections that ended, where they tell, are those of the connections that the history closed, in order. In
 /// a run from the opening state to one without a live connection they are, each once, those of the connections that were taken:
@@ -25,4 +36,18 @@ pub fn ended_links_are_of_closed_connections()
     ensures no_other { (slots children : ℕ) (shape : Shape) (history : List Entry) (ended : List SeenEnded) (rank : ℕ) → Run (opening_state slots children shape) history → AreClosed (opening_state slots children shape) history ended → AllTell ended → (after (opening_state slots children shape) history).accepted < greatest_count → (after (opening_state slots children shape) history).accepted ≤ rank → count_by (has_rank rank) ended ≡ 0 }
 {
     arrivals_are_taken_once();
+}
+
+/// A connection that took the note of the response that was decided for it still fits its row.
+pub fn answered_connections_fit_their_rows()
+    ensures { (s : State) (c c' : SeenConn) (ask : Ask) (note : Note) → IsOf s c → IsDecided s c.name ask note → TakesNote note c c' → IsOf (next s (event.Answer c.name ask)) c' }
+{
+    one_row_changes();
+}
+
+/// Where a row changes, it alone does: the machine's law, as one fact.
+pub(crate) fn one_row_changes()
+    ensures { RowsChangeAlone }
+{
+    rows_change_one_at_a_time();
 }

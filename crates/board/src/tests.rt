@@ -17,6 +17,7 @@ mod lives;
 
 use crate::board::Board;
 use crate::faults::{AcceptFault, BoardFault};
+use crate::laws::answered_connections_fit_their_rows;
 use conn_machine::{Commanded, Event, Going, Why, may};
 use conn_state::{Conn, Nothing, ReadTurn, WriteTurn};
 use mpm_base::{Ask, Cause, ConnName, Kind, Moment, Octets, Shape, Tail};
@@ -238,6 +239,7 @@ fn answers(
     ensures not_shut { OnOk result (conn.new.linger ≡ linger.Open) }
     ensures row { OnOk result (row_of 0 board.new.book.history ≡ Some conn.new.name) }
 {
+    answered_connections_fit_their_rows();
     reads(rt, board, conn, ReadTurn::Asked(FOUND));
     let name = conn.name();
     allow(rt, board, Event::Answer(name, FOUND));

@@ -9,4 +9,4 @@ returns-in-Some-clause-allowed c =
     let s = c.args.book.now.state in
     let some : is_none (pick_child s) ≡ false = search rules in
     let vacant : is_vacant_at s c.in-Some.slot ≡ true = search rules in
-    slot-allowed s c.in-Some.slot c.show.ensures.sound some vacant
+    slot-allowed s c.in-Some.slot (c.connections_go_to_the_chosen_child.ensures.picked s) c.show.ensures.sound some vacant

@@ -19,7 +19,7 @@ invariant_of-self-2 g c =
     let slots = c.self.invariant.agrees.waiting.slots in
     rw (c.in-Ok.ensures.ok.new_is, c.reserve.ensures.items)
     (board_on _ inside.book conns conns ended inside.queues inside.queues room room' c.args.who (event.Accept slot) c.self.invariant (λ s. refl)
-    (accept-there inside.book.state slot conns inside.queues (length ended) room room' c.in_ok-slot.ensures.allowed
+    (accept-there c.one_row_changes.ensures inside.book.state slot conns inside.queues (length ended) room room' c.in_ok-slot.ensures.allowed
     (there_of _ inside.book conns ended inside.queues room c.self.invariant) (omega (arith, space, slots))) c.self.invariant.clients.conns)
 
 pub returns-clause-entries : goal.returns-clause-entries

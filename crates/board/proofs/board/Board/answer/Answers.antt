@@ -24,7 +24,7 @@ invariant_of-self-2 g c =
     let may = may_while _ c.args.self.now e c.self.view_is c.requires.allowed ok.was_open.going in
     rw (ok.new_is)
     (board_on _ inside.book conns conns ended inside.queues inside.queues room room c.args.who e c.self.invariant (λ s. refl)
-    (answer-there inside.book.state c.args.name c.args.ask conns inside.queues (length ended) room may (there_of _ inside.book conns ended inside.queues room c.self.invariant)) c.self.invariant.clients.conns)
+    (answer-there c.one_row_changes.ensures inside.book.state c.args.name c.args.ask conns inside.queues (length ended) room may (there_of _ inside.book conns ended inside.queues room c.self.invariant)) c.self.invariant.clients.conns)
 
 pub returns-clause-note : goal.returns-clause-note
 returns-clause-note g c =

@@ -37,7 +37,7 @@ invariant_of-self g c =
     (subst (λ (v : SeenEnded). IsBoard _ (record { book = book_with_entry c.args.who (event.Close v.name v.cause v.tail) inside.book; conns = conns; ended = ended ++ e ∷ [] }) inside.queues (vec_capacity c.push.new.self))
     (sym c.ended.view_is)
     (board_closed _ inside.book conns ended e inside.queues room (vec_capacity c.push.new.self) c.args.who c.self.invariant c.show.ensures.state closing c.requires.answered c.requires.client
-    (close-there inside.book.state e.name e.cause e.tail conns inside.queues (length ended) room (vec_capacity c.push.new.self) may
+    (close-there c.one_row_changes.ensures inside.book.state e.name e.cause e.tail conns inside.queues (length ended) room (vec_capacity c.push.new.self) may
     (there_of _ inside.book conns ended inside.queues room c.self.invariant) c.push.ensures.capacity)))
 
 pub record_sure-requires-clause-role : goal.record_sure-requires-clause-role

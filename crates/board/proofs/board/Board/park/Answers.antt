@@ -46,11 +46,11 @@ invariant_of-self g c =
     let cause_is : cause_of c.args.self.now.book.state c.args.conn.name ≡ c.requires.fits.row.cause =
     cause-found c.args.self.now.book.state c.args.conn.name c.requires.fits.row c.requires.fits.found in
     let settled = subst (λ (why : Option Cause). IsSettled c.args.kind why c.args.conn) cause_is c.requires.settled in
-    let parked = park-parked inside.book.state name c.args.kind c.requires.fits.row may found in
+    let parked = park-parked c.one_row_changes.ensures inside.book.state name c.args.kind c.requires.fits.row may found in
     let queued : c.wait_in_queue.new.queues ≡ slice_set inside.queues name.slot (waits_in (parked_row inside.book.state c.args.kind c.requires.fits.row)) = search rules in
     rw (ok.new_is, c.forget.ensures.same, queued)
     (board_on _ inside.book conns _ ended inside.queues _ room room c.args.who e c.self.invariant (λ s. refl)
-    (park-there inside.book.state name c.args.kind conns inside.queues c.args.conn c.requires.fits.row (length ended) room may
+    (park-there c.one_row_changes.ensures inside.book.state name c.args.kind conns inside.queues c.args.conn c.requires.fits.row (length ended) room may
     (there_of _ inside.book conns ended inside.queues room c.self.invariant) found (sym c.name-name.ensures) c.requires.fits.fits settled)
     (clients_put _ conns name.slot c.args.conn c.show.ensures.client c.self.invariant.clients.conns))
 
@@ -71,7 +71,7 @@ wait_in_queue-requires-clause-waits g c =
     let may : is_allowed inside.book.state (event.Park name c.args.kind) ≡ true =
     subst (λ (n : ConnName). is_allowed inside.book.state (event.Park n c.args.kind) ≡ true) (sym c.name-name.ensures)
     (may_while _ c.args.self.now (event.Park c.args.conn.name c.args.kind) c.self.view_is c.requires.allowed c.in-Ok.ensures.ok.was_open.going) in
-    let parked = park-parked inside.book.state name c.args.kind c.requires.fits.row may found in
+    let parked = park-parked c.one_row_changes.ensures inside.book.state name c.args.kind c.requires.fits.row may found in
     let some : is_some (waits_under (next inside.book.state (event.Park name c.args.kind)).rows name) ≡ true = ap is_some parked in
     search (rules, some)
 

@@ -15,7 +15,7 @@ pub take_out-requires-clause-there : goal.take_out-requires-clause-there
 take_out-requires-clause-there g c =
     let inside = c.self.inside in
     let may = may_while _ c.args.self.now (event.Queue c.args.name) c.self.view_is c.requires.allowed c.in_ok-record.ensures.ok.was_open.going in
-    let given = queue-given inside.book.state c.args.name inside.conns.items c.show.ensures.sound may c.self.invariant.agrees.waiting in
+    let given = queue-given c.one_row_changes.ensures inside.book.state c.args.name inside.conns.items c.show.ensures.sound may c.self.invariant.agrees.waiting in
     (given.conn, given.has)
 
 pub invariant_of-self-2 : goal.invariant_of-self-2
@@ -29,14 +29,14 @@ invariant_of-self-2 g c =
     c.unpark.ensures.found c.unpark.ensures.unparked in
     rw (c.in_ok-record.ensures.ok.new_is, c.take_out.ensures.emptied, unparked)
     (board_on _ inside.book conns _ ended inside.queues _ room room c.args.who (event.Queue c.args.name) c.self.invariant (λ s. refl)
-    (queue-there inside.book.state c.args.name conns inside.queues (length ended) room may (there_of _ inside.book conns ended inside.queues room c.self.invariant))
+    (queue-there c.one_row_changes.ensures inside.book.state c.args.name conns inside.queues (length ended) room may (there_of _ inside.book conns ended inside.queues room c.self.invariant))
     (clients_taken _ conns c.args.name.slot c.self.invariant.clients.conns))
 
 pub returns-clause-name : goal.returns-clause-name
 returns-clause-name g c =
     let inside = c.self.inside in
     let may = may_while _ c.args.self.now (event.Queue c.args.name) c.self.view_is c.requires.allowed c.in_ok-record.ensures.ok.was_open.going in
-    let given = queue-given inside.book.state c.args.name inside.conns.items c.show.ensures.sound may c.self.invariant.agrees.waiting in
+    let given = queue-given c.one_row_changes.ensures inside.book.state c.args.name inside.conns.items c.show.ensures.sound may c.self.invariant.agrees.waiting in
     let same = given_is _ _ inside.conns.items c.args.name c.take_out.result given c.take_out.ensures.conn in
     ap (λ (x : SeenConn). x.name) (sym same) ∙ given.name_is
 
@@ -44,7 +44,7 @@ pub returns-clause-handed : goal.returns-clause-handed
 returns-clause-handed g c =
     let inside = c.self.inside in
     let may = may_while _ c.args.self.now (event.Queue c.args.name) c.self.view_is c.requires.allowed c.in_ok-record.ensures.ok.was_open.going in
-    let given = queue-given inside.book.state c.args.name inside.conns.items c.show.ensures.sound may c.self.invariant.agrees.waiting in
+    let given = queue-given c.one_row_changes.ensures inside.book.state c.args.name inside.conns.items c.show.ensures.sound may c.self.invariant.agrees.waiting in
     let same = given_is _ _ inside.conns.items c.args.name c.take_out.result given c.take_out.ensures.conn in
     subst (λ (b : SeenBook). IsTakenUp b.state c.take_out.result) (sym c.in_ok-record.ensures.ok.new_is)
     (subst (IsTakenUp _) same given.handed)

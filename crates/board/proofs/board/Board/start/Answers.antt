@@ -22,14 +22,14 @@ invariant_of-self g c =
     let room = vec_capacity inside.ended in
     rw (c.record_sure.ensures.is)
     (board_on _ inside.book conns conns ended inside.queues inside.queues room room c.args.who (event.Start c.args.name) c.self.invariant (λ s. refl)
-    (start-there inside.book.state c.args.name conns inside.queues (length ended) room may (there_of _ inside.book conns ended inside.queues room c.self.invariant)) c.self.invariant.clients.conns)
+    (start-there c.one_row_changes.ensures inside.book.state c.args.name conns inside.queues (length ended) room may (there_of _ inside.book conns ended inside.queues room c.self.invariant)) c.self.invariant.clients.conns)
 
 pub returns-clause-handed : goal.returns-clause-handed
 returns-clause-handed g c x taken =
     let inside = c.self.inside in
     let may = may_inside _ c.args.self.now (event.Start c.args.name) c.self.view_is c.requires.allowed in
     subst (λ (b : SeenBook). IsTakenUp b.state x) (sym c.record_sure.ensures.is)
-    (start-taken inside.book.state c.args.name x may (subst (λ (v : SeenBoard). IsTakenUp v.book.state x) (sym c.self.view_is) taken))
+    (start-taken c.one_row_changes.ensures inside.book.state c.args.name x may (subst (λ (v : SeenBoard). IsTakenUp v.book.state x) (sym c.self.view_is) taken))
 
 pub returns-clause-entries : goal.returns-clause-entries
 returns-clause-entries g c = adds_inside c.args.who _ c.args.self.now _ c.self.view_is c.record_sure.ensures.entries

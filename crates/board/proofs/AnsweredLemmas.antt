@@ -1,4 +1,4 @@
--- What the tests of the board need of a connection that is answered.
+-- A connection that is answered, and its row.
 use Rattle.std.proofs.Common.{◌≡◌, true, false, not, List, ◌∷◌, [], ◌++◌, Option, Some, sym, ap, subst, ◌∙◌}
 use Rattle.std.specs.Option.{option_map_or}
 use Rattle.mpm_base.specs.declared.conn.ConnName.{ConnName}
@@ -13,6 +13,7 @@ use Rattle.conn_state.specs.Conn.{SeenConn}
 use Rattle.conn_state.specs.Turns.{TakesNote}
 use Rattle.board.specs.Events.{IsDecided}
 use Rattle.board.specs.Fits.{IsOf}
+use Rattle.board.specs.RowsInside.{RowsChangeAlone}
 use Rattle.board.proofs.BoardLemmas.{LivesAs, lives_as}
 use Rattle.board.proofs.EventLemmas.{in_phase-unused, answer_phase}
 use Rattle.board.proofs.HandLemmas.{live_row-update}
@@ -23,14 +24,14 @@ found-lives rows name row found =
     lives_as rows name (λ (r : Row). true) (ap (λ (o : Option Row). option_map_or (λ (r : Row). true) o false) found)
 
 -- it is found after the response was decided
-answered-found : (s : State) (name : ConnName) (ask : Ask) (row : Row) → live_row s.rows name ≡ Some row
+answered-found : RowsChangeAlone → (s : State) (name : ConnName) (ask : Ask) (row : Row) → live_row s.rows name ≡ Some row
     → live_row (next s (event.Answer name ask)).rows name ≡ Some (answered_row s ask row)
-answered-found s name ask row found =
+answered-found law s name ask row found =
     let lives = found-lives s.rows name row found in
     let same : lives.row ≡ row = cc (lives.found, found) in
     let live : is_live (answered_row s ask lives.row) ≡ true =
     ap not (in_phase-unused (answer_phase s ask lives.row) lives.row.place) ∙ lives.live in
-    live_row-update s.rows name lives.row (answered_row s ask) lives.at live lives.life
+    live_row-update law s.rows name lives.row (answered_row s ask) lives.at live lives.life
     ∙ ap (λ (r : Row). Some (answered_row s ask r)) same
 
 -- the note is that of the row
@@ -41,19 +42,15 @@ decided-note s name ask note row found decided =
     ap (note_for s ask) same ∙ sym decided.note_is
 
 -- a connection that took the note is still the one of its row
-pub of-answered : (s s' : State) (c c' : SeenConn) (name : ConnName) (ask : Ask) (note : Note) → IsOf s c → name ≡ c.name
-    → IsDecided s name ask note → s' ≡ next s (event.Answer name ask) → TakesNote note c c' → IsOf s' c'
-of-answered s s' c c' name ask note of named decided is answers =
-    let found : live_row s.rows name ≡ Some of.row = ap (live_row s.rows) named ∙ of.found in
-    let found' : live_row (next s (event.Answer name ask)).rows c.name ≡ Some (answered_row s ask of.row) =
-    ap (live_row (next s (event.Answer name ask)).rows) (sym named) ∙ answered-found s name ask of.row found in
+pub of-answered : RowsChangeAlone → (s : State) (c c' : SeenConn) (ask : Ask) (note : Note) → IsOf s c → IsDecided s c.name ask note
+    → TakesNote note c c' → IsOf (next s (event.Answer c.name ask)) c'
+of-answered law s c c' ask note of decided takes =
     let notes : c.notes ++ note ∷ [] ≡ of.row.notes ++ note_for s ask of.row ∷ [] =
     ap (λ (ns : List Note). ns ++ note ∷ []) of.fits.notes
-    ∙ ap (λ (n : Note). of.row.notes ++ n ∷ []) (sym (decided-note s name ask note of.row found decided)) in
-    subst (λ (t : State). IsOf t c') (sym is)
-    (subst (IsOf (next s (event.Answer name ask))) (sym answers.new_is)
+    ∙ ap (λ (n : Note). of.row.notes ++ n ∷ []) (sym (decided-note s c.name ask note of.row of.found decided)) in
+    subst (IsOf (next s (event.Answer c.name ask))) (sym takes.new_is)
     (record {
       row = answered_row s ask of.row;
-      found = found';
+      found = answered-found law s c.name ask of.row of.found;
       fits = record { child = of.fits.child; generation = of.fits.generation; notes = notes; rank = of.fits.rank };
-    }))
+    })
