@@ -1,5 +1,5 @@
 //! What the steps of one caller found.
-ghost use Rattle.std.specs.Prelude.{◌≡◌, ◌<◌, [], ◌∷◌, ◌++◌, IfOk, vec_len, vec_capacity};
+ghost use Rattle.std.specs.Prelude.{◌<◌, [], ◌∷◌, ◌++◌, IfOk, vec_len, vec_capacity};
 ghost use Rattle.recycle_perch.specs.Looking.{LookAt};
 
 use crate::word::{AnyStep, RestRule, Step};

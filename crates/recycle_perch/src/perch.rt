@@ -1,5 +1,5 @@
 //! A row of places.
-ghost use Rattle.std.specs.Prelude.{◌≡◌, ◌≤◌, ◌<◌, ◌==◌, [], ◌∷◌, ◌++◌, All, IfOk, IfSome, IfErr, OnOk, OnErr, MatchOption, MatchResult, length, slice_index, vec_len, vec_capacity, if◌then◌else◌};
+ghost use Rattle.std.specs.Prelude.{◌≡◌, ◌≤◌, ◌<◌, ◌==◌, [], ◌∷◌, ◌++◌, All, IfOk, IfSome, IfErr, OnOk, OnErr, MatchOption, MatchResult, slice_index, vec_len, vec_capacity, if◌then◌else◌};
 ghost use Rattle.recycle_perch.specs.Looking.{AllAreOf, AllLookAt, AreOf, HasPlaceMore, WasLaidDown, WasTaken, found_none, found_taken, numbers_of, steps_of, with_step_at, words_of};
 ghost use Rattle.recycle_perch.specs.Resting.{IsFreeCarrier, IsWokenCarrier};
 ghost use Rattle.recycle_perch.specs.Words.{give_step, take_step};

@@ -8,7 +8,7 @@ ghost use Rattle.lock_examples.specs.Toy.{IsReadyPass};
 
 use crate::tests::begins;
 use crate::{Toy, last_looks, last_of, last_seat, opened, reserves_once};
-use board_lock::{Carrier, Pass, Shared, number};
+use board_lock::{Carrier, Pass, number};
 use fd_queue::{FdQueue, FdSeat, Item};
 use idle_workers::{idle, uncredit};
 use mpm_base::NoMemory;
