@@ -14,9 +14,6 @@ mod board;
 mod book;
 mod faults;
 mod finds;
-pub mod laws;
-#[cfg(test)]
-mod tests;
 mod waits;
 
 pub use board::{Board, Taken};

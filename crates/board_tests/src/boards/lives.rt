@@ -6,12 +6,11 @@ ghost use Rattle.conn_state.specs.Conn.{is_usable};
 ghost use Rattle.conn_machine.specs.Runs.{row_of};
 ghost use Rattle.board.specs.Fits.{IsOf};
 
-use crate::board::Board;
-use crate::faults::AcceptFault;
-use crate::tests::{
+use crate::boards::{
     FIRST, REQUEST, SHAPE, allow, answers, arrives, ends, opened, reads, refuses, retires, serves,
     stops, ticks, waits,
 };
+use board::{AcceptFault, Board};
 use conn_machine::Event;
 use conn_state::{Conn, Nothing, ReadTurn};
 use mpm_base::{Cause, Kind, Tail};

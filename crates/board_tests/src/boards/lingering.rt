@@ -7,10 +7,10 @@ ghost use Rattle.conn_state.specs.Answered.{MayLinger};
 ghost use Rattle.conn_state.specs.Turns.{after_linger};
 ghost use Rattle.board.specs.Fits.{IsOf, LingersFor};
 
-use crate::board::Board;
-use crate::tests::{
+use crate::boards::{
     FIRST, REQUEST, allow, answers, arrives, ends, opened, retires, serves, stops, ticks, waits,
 };
+use board::Board;
 use conn_machine::Event;
 use conn_state::laws::lingering_connections_keep_their_cause;
 use conn_state::{Conn, LingerTurn, Nothing};

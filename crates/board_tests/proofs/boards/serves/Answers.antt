@@ -1,4 +1,4 @@
-use Rattle.board.proofs.tests.serves.Goals as goal
+use Rattle.board_tests.proofs.boards.serves.Goals as goal
 
 pub returns-clause-fits : goal.returns-clause-fits
 returns-clause-fits g c =

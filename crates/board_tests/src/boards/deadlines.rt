@@ -2,8 +2,8 @@
 ghost use Rattle.std.specs.Prelude.{◌≡◌, ◌<◌, None, IfOk, OnOk};
 ghost use Rattle.conn_machine.specs.Runs.{row_of};
 
-use crate::board::Board;
-use crate::tests::{FIRST, REQUEST, SHAPE, allow, arrives, ends, opened, ticks};
+use crate::boards::{FIRST, REQUEST, SHAPE, allow, arrives, ends, opened, ticks};
+use board::Board;
 use conn_machine::Event;
 use conn_state::Nothing;
 use mpm_base::{Cause, ConnName, Kind, Moment, Tail};

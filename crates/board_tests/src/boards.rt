@@ -15,9 +15,7 @@ mod deadlines;
 mod lingering;
 mod lives;
 
-use crate::board::Board;
-use crate::faults::{AcceptFault, BoardFault};
-use crate::laws::answered_connections_fit_their_rows;
+use board::{AcceptFault, Board, BoardFault};
 use conn_machine::{Commanded, Event, Going, Why, may};
 use conn_state::{Conn, Nothing, ReadTurn, WriteTurn};
 use mpm_base::{Ask, Cause, ConnName, Kind, Moment, Octets, Shape, Tail};
