@@ -15,7 +15,7 @@ use Rattle.std.proofs.lemmas.List.Sorted.{searchable_from_sorted, ranks_by, sort
 use Rattle.std.proofs.lemmas.List.Sums.{position_or_len_is}
 use Rattle.std.proofs.lemmas.List.Folds.{list_any_at, list_any_none}
 use Rattle.std.proofs.lemmas.Slice.Eq.{bytes_eq-Decides}
-use Rattle.file_table.specs.OrderInside.{name_goes_before}
+use Rattle.file_table.specs.Order.{name_goes_before}
 
 then_assoc : (a b c : Ordering) → ordering_then (ordering_then a b) c ≡ ordering_then a (ordering_then b c)
 then_assoc Less b c = refl

@@ -2,7 +2,6 @@ pub mod ContentType
 pub mod Load
 pub mod LoadInside
 pub mod Order
-pub mod OrderInside
 pub mod Path
 pub mod PathInside
 pub mod Resource

@@ -3,7 +3,8 @@
 //! `load` takes the files under a folder of a store, and answers their site, or for each refusal its cause
 //! (`specs/Site.antt`, `Load.antt`). `find` answers exactly what a path names (`specs/Path.antt`, `Resource.antt`): it
 //! searches the names by halves (`specs/Order.antt`), and takes memory only where the path is no plain one or names a
-//! folder without its slash. `bytes` and `content_type` (`specs/ContentType.antt`) hand out what the site holds.
+//! folder without its slash. `count_before` is that search, of anything that has a name. `bytes` and `content_type`
+//! (`specs/ContentType.antt`) hand out what the site holds.
 #![tactic(auto)]
 
 mod extension;
@@ -20,7 +21,5 @@ pub use found::Found;
 pub use load_fault::LoadFault;
 pub use loading::load;
 pub use resource::find;
+pub use search::{Named, count_before};
 pub use site::{Site, SiteOrder, bytes};
-
-#[cfg(test)]
-mod tests;

@@ -5,8 +5,7 @@ ghost use Rattle.std.specs.List.Sorted.{IsPartitionPoint, IsSortedByKey};
 ghost use Rattle.std.specs.List.{starts_with};
 ghost use Rattle.std.specs.Ordering.{nat_cmp};
 ghost use Rattle.std.specs.Str.{bytes_eq};
-ghost use Rattle.file_table.specs.Order.{IsInOrder};
-ghost use Rattle.file_table.specs.OrderInside.{name_goes_before};
+ghost use Rattle.file_table.specs.Order.{IsInOrder, name_goes_before};
 ghost use Rattle.file_table.specs.Resource.{has_files_under, place_of_file};
 
 use mpm_base::File;

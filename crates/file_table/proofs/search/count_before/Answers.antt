@@ -1,6 +1,6 @@
 use Rattle.std.proofs.Common.{◌++◌, rules, tests}
 use Rattle.std.proofs.lemmas.List.Sorted.{IsPartitionPoint-from_clause}
-use Rattle.file_table.specs.OrderInside.{name_goes_before}
+use Rattle.file_table.specs.Order.{name_goes_before}
 use Rattle.file_table.proofs.OrderLemmas.{partitioned}
 use Rattle.file_table.proofs.search.count_before.Goals as goal
 

@@ -1,8 +1,9 @@
 //! Sites by example.
 ghost use Rattle.std.specs.Prelude.{◌<◌, None, IfOk, IsUtf8};
 
-use crate::search::{Named, count_before};
-use crate::{Found, LoadFault, Site, SiteOrder, bytes, content_type, find, load};
+use file_table::{
+    Found, LoadFault, Named, Site, SiteOrder, bytes, content_type, count_before, find, load,
+};
 use mpm_base::{File, Names, NoMemory, Octets, Store, StoreFault};
 use stand_ins::{Calls, Files, MemStore};
 use std::alloc::Global;
