@@ -28,8 +28,6 @@ mod sequence;
 mod shape;
 mod sink;
 mod store;
-#[cfg(test)]
-mod tests;
 mod words;
 
 pub use addr::Addr;

@@ -14,8 +14,6 @@ mod mem_store;
 mod plain_link;
 mod plain_store;
 mod script_link;
-#[cfg(test)]
-mod tests;
 mod wire;
 
 pub use calls::Calls;

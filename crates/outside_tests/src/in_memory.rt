@@ -1,13 +1,8 @@
 //! What the stand-ins answer and keep, by hand-made sequences of calls.
-use crate::calls::Calls;
-use crate::files::Files;
-use crate::mem_sink::{MemSink, PlainSink};
-use crate::mem_store::MemStore;
-use crate::plain_link::PlainLink;
-use crate::plain_store::PlainStore;
-use crate::script_link::ScriptLink;
-use crate::wire::Wire;
 use mpm_base::{Got, Link, LinkCall, Names, NoMemory, Octets, Put, Sent, Sink, Store, StoreFault};
+use stand_ins::{
+    Calls, Files, MemSink, MemStore, PlainLink, PlainSink, PlainStore, ScriptLink, Wire,
+};
 use std::alloc::Global;
 use std::process::Abort;
 use std::sync::Arc;

@@ -1,5 +1,5 @@
-//! What lists keep, by hand-made sequences of calls.
-use crate::note::{Note, Notes};
+//! What notes say, by a hand-made sequence of calls.
+use mpm_base::{Note, Notes};
 use std::test::Fail;
 
 #[test]
