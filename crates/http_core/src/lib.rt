@@ -19,6 +19,3 @@ pub use planning::ask_of;
 pub use range::{Range, Selection};
 pub use reply::{Body, Reply, refusal, response};
 pub use status::continue_text;
-
-#[cfg(test)]
-mod tests;

@@ -66,6 +66,16 @@ impl BodyReader {
         BodyReader { place }
     }
 
+    /// How many bytes of a line that isn't whole it has looked at; it looks at none of them again.
+    pub fn begun(&self) -> usize
+        ensures { result ≡ begun_len self.now }
+    {
+        match self.place {
+            BodyPlace::Plain(_) => 0,
+            BodyPlace::Chunked(place) => place.begun(),
+        }
+    }
+
     /// Reads on: the bytes are all that came behind those that were taken.
     pub fn feed(&mut self, bytes: &[u8]) -> BodyAnswer
         requires { begun_len self.old ≤ length bytes.now }

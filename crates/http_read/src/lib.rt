@@ -30,8 +30,6 @@ mod request;
 mod request_fields;
 mod requests;
 mod root_head;
-#[cfg(test)]
-mod tests;
 mod whole_head;
 mod words;
 

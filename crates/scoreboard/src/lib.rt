@@ -6,9 +6,6 @@
 ghost use Rattle.std.specs.Prelude.{◌≡◌, ◌++◌, decimal, OnOk, IfOk};
 ghost use Rattle.scoreboard.specs.Page.{line, text_page, html_page};
 
-#[cfg(test)]
-mod tests;
-
 use mpm_base::{NoMemory, Octets, Snapshot};
 use std::alloc::Global;
 

@@ -1,7 +1,7 @@
 //! Heads as clients send them, and what RFC 9110 and RFC 9112 say of them.
 ghost use Rattle.std.specs.Prelude.{◌<◌, length};
 
-use crate::{BodyKind, HeadAnswer, HeadReader, Limits, Request, next_head};
+use http_read::{BodyKind, HeadAnswer, HeadReader, Limits, Request, next_head};
 use std::alloc::{AllocError, Global};
 use std::process::Abort;
 use std::test::Fail;

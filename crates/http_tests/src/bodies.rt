@@ -1,8 +1,7 @@
 //! Bodies as clients send them, whole and cut, at the bounds of each rule (RFC 9112, sections 6 and 7.1).
 ghost use Rattle.std.specs.Prelude.{◌<◌, ◌≤◌, length};
 
-use crate::chunked::{ChunkedMove, ChunkedPlace, read_chunked};
-use crate::{BodyAnswer, BodyKind, BodyReader};
+use http_read::{BodyAnswer, BodyKind, BodyReader};
 use std::alloc::{AllocError, Global};
 use std::process::Abort;
 use std::test::Fail;
@@ -228,19 +227,18 @@ fn read_many(kind: BodyKind, front: &[u8], piece: &[u8], times: usize) -> BodyAn
 
 /// How many bytes are looked at where a chunked body comes byte by byte.
 fn looked_at(text: &[u8]) -> usize {
-    let mut place = ChunkedPlace::first();
+    let mut reader = BodyReader::start(BodyKind::Chunked);
     let mut taken = 0;
     let mut looked = 0;
     for end in 0..text.len() {
-        let unread = &text[taken..end + 1];
-        let (next, at) = read_chunked(place, unread);
-        looked += at - place.begun();
-        match next {
-            ChunkedMove::On(further) => {
-                place = further;
-                taken += unread.len() - further.begun();
+        let begun = reader.begun();
+        match reader.feed(&text[taken..end + 1]) {
+            BodyAnswer::Took(more) => {
+                taken += more as usize;
+                looked += more as usize + reader.begun() - begun;
             }
-            _ => return looked,
+            BodyAnswer::Done(more) => return looked + more as usize - begun,
+            BodyAnswer::Bad(_) => return looked,
         }
     }
     looked

@@ -1,5 +1,5 @@
 //! Heads as clients send them, and the answers that RFC 9112 gives them as far as the one form goes.
-use crate::{BodyKind, RootAnswer, RootHead, next_root_head};
+use http_read::{BodyKind, RootAnswer, RootHead, next_root_head};
 use std::alloc::{AllocError, Global};
 use std::process::Abort;
 use std::test::Fail;

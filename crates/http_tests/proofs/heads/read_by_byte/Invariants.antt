@@ -1,6 +1,6 @@
 use Rattle.std.proofs.Common.{◌≤◌, take}
 use Rattle.http_read.specs.LookedAt.{HasLookedAt}
-use Rattle.http_read.proofs.tests.heads.read_by_byte.Given as goal
+use Rattle.http_tests.proofs.heads.read_by_byte.Given as goal
 
 abbrev pub invariant-loop-end : goal.invariant-loop-end
 invariant-loop-end l = record {

@@ -1,4 +1,6 @@
-use super::*;
+//! The status pages, whole.
+use mpm_base::{Octets, Snapshot};
+use scoreboard::{page_auto, page_html};
 use std::test::Fail;
 
 const TEXT: &str = "\

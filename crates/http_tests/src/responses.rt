@@ -4,8 +4,8 @@ ghost use Rattle.mpm_base.specs.Moment.{IsSecond};
 ghost use Rattle.http_core.specs.Ask.{IsServedOf};
 ghost use Rattle.http_core.specs.Status.{refuses_head};
 
-use crate::{Body, Plan, ask_of, continue_text, refusal, response};
 use file_table::{LoadFault, Site, SiteOrder, bytes, load};
+use http_core::{Body, Plan, ask_of, continue_text, refusal, response};
 use http_read::{HeadAnswer, Limits, Request, next_head};
 use mpm_base::{Ask, NoMemory, Note, Octets};
 use stand_ins::{Calls, Files, MemStore};
