@@ -1,27 +1,13 @@
--- The slots that entries stand for, after a read, a write and a search.
-use Rattle.std.proofs.Common.{◌≡◌, ◌≢◌, ℕ, ◌<◌, ◌≤◌, Bool, true, false, cond, List, ◌∷◌, length, map, Some, None, IsSome, All, get_or, set, replicate, zero, suc, nat_lt, refl, sym, ◌∙◌, ap, arith, slice_get, is_some}
-use Rattle.std.specs.List.{position, position_or_len}
-use Rattle.std.proofs.lemmas.List.{length-set, length-map, get_or-map}
-use Rattle.std.proofs.lemmas.List.Elements.{All-set, All-map}
-use Rattle.std.proofs.lemmas.List.Quantifiers.{position-Some}
-use Rattle.std.proofs.lemmas.List.Sums.{sum_by-le, fails_before_first, get_or-le-sum_by}
-use Rattle.std.proofs.lemmas.Option.{same_Some, slice_get-map, slice_get-get_or, slice_get_within}
-use Rattle.std.proofs.lemmas.Bool.{eq-eqb}
-use Rattle.std.proofs.lemmas.Bool.Decides.{nat_tests}
+-- The slots that entries stand for, after a read.
+use Rattle.std.proofs.Common.{◌≡◌, ℕ, ◌<◌, nat_lt, ◌&&◌, true, false, List, length, map, Option, Some, None, is_none, is_some, IsSome, get_or, refl, sym, ◌∙◌, ap, slice_get}
+use Rattle.std.proofs.lemmas.List.{length-map}
+use Rattle.std.proofs.lemmas.Option.{same_Some, slice_get-map, slice_get-get_or, slice_get_within, slice_get_read}
+use Rattle.std.proofs.lemmas.Bool.{eq-eqb, ltb-true}
 use Rattle.mpm_base.specs.declared.conn.ConnName.{ConnName}
-use Rattle.conn_slots.specs.Slots.{Slot, is_vacant_slot, vacant_count, IsLive, item_of, unused_slot}
-use Rattle.conn_slots.specs.Layout.{seen_slot, IsWithinLives, IsTable}
+use Rattle.conn_slots.specs.Slots.{Slot, most_lives, is_vacant_slot, IsLive, item_of, name_in}
+use Rattle.conn_slots.specs.Layout.{seen_slot}
 use Rattle.conn_slots.specs.declared.Entry.{Entry}
 use Rattle.conn_slots.proofs.LawLemmas.{live_slot, item_at}
-
--- a search that found nothing went past the end
-past_end : {X : Type 0} (p : X → Bool) (xs : List X) → position p xs ≡ None → length xs ≤ position_or_len p xs
-past_end p xs h = on (nat_lt (position_or_len p xs) (length xs)) refl h
-  where
-    on : (b : Bool) → nat_lt (position_or_len p xs) (length xs) ≡ b →
-        cond b (Some (position_or_len p xs)) None ≡ None → length xs ≤ position_or_len p xs
-    on true e h = absurd (cc)
-    on false e h = grind (arith, nat_tests)
 
 module _ {T : Type 0} where
   -- the slot of an entry that was read
@@ -44,39 +30,30 @@ module _ {T : Type 0} where
       let entry = live_entry es name e live r in
       item_at (map seen_slot es) name (seen_slot e) (seen_at es name.slot e entry.0 r) ∙ rw (eq-eqb e.life name.life entry.1) refl
 
-  -- a write of an entry that is within its use
-  pub table_set : (es : List (Entry T)) (i : ℕ) (e : Entry T) → IsTable es → IsWithinLives e → IsTable (set es i e)
-  table_set es i e t w = record { few = rw length-set t.few; within = All-set (IsWithinLives {T = T}) es i e w t.within }
+  -- an entry that has an item isn't vacant
+  taken : (item : Option T) (life : ℕ) → IsSome item → (is_none item && nat_lt life most_lives) ≡ false
+  taken None life some = absurd (cc)
+  taken (Some x) life some = refl
 
-  -- where no entry is vacant
-  pub none_vacant : (es : List (Entry T)) → position (λ (e : Entry T). is_vacant_slot (seen_slot e)) es ≡ None → vacant_count (map seen_slot es) ≡ 0
-  none_vacant es h =
-      let past = past_end (λ (e : Entry T). is_vacant_slot (seen_slot e)) es h in
-      let none : All (λ (e : Entry T). cond (is_vacant_slot (seen_slot e)) 1 0 ≤ 0) es =
-      λ k d within. rw (fails_before_first (λ (e : Entry T). is_vacant_slot (seen_slot e)) es k d (omega arith)) (omega arith) in
-      let all = All-map (λ (s : Slot T). cond (is_vacant_slot s) 1 0 ≤ 0) seen_slot es none in
-      omega (arith, sum_by-le (λ (s : Slot T). cond (is_vacant_slot s) 1 0) 0 (map seen_slot es) all)
+  pub item_taken : (e : Entry T) → IsSome e.item → is_vacant_slot (seen_slot e) ≡ false
+  item_taken e some = taken e.item e.life some
 
-  -- the entry that a search found
-  pub vacant_at : (es : List (Entry T)) (i : ℕ) (e : Entry T) → position (λ (e : Entry T). is_vacant_slot (seen_slot e)) es ≡ Some i → e ≡ get_or es i e →
-      (i < length es) × (is_vacant_slot (seen_slot e) ≡ true)
-  vacant_at es i e h r =
-      let found = position-Some (λ (e : Entry T). is_vacant_slot (seen_slot e)) es i e h in
-      (found.0, rw r found.1)
+  -- the entry of a live name is the one that was read
+  pub live_read : (es : List (Entry T)) (name : ConnName) (e : Entry T) → IsLive (map seen_slot es) name → e ≡ get_or es name.slot e →
+      slice_get es name.slot ≡ Some e
+  live_read es name e live r = slice_get_read es (length es) name.slot e refl (live_entry es name e live r).0 r
 
-  pub some_vacant : (es : List (Entry T)) (i : ℕ) (e : Entry T) → i < length es → e ≡ get_or es i e → is_vacant_slot (seen_slot e) ≡ true →
-      vacant_count (map seen_slot es) ≢ 0
-  some_vacant es i e h r v none =
-      let read : get_or (map seen_slot es) i (seen_slot e) ≡ seen_slot e = get_or-map seen_slot es i e (seen_slot e) h ∙ ap seen_slot (sym r) in
-      let within : i < length (map seen_slot es) = rw length-map h in
-      let one = get_or-le-sum_by (λ (s : Slot T). cond (is_vacant_slot s) 1 0) (map seen_slot es) i (seen_slot e) within in
-      omega (arith, none, rw (read, v) at one)
+  -- the name that an entry of a slot is given
+  pub name_at : (es : List (Entry T)) (i : ℕ) (e : Entry T) → slice_get es i ≡ Some e →
+      name_in (map seen_slot es) i ≡ Some (record { slot = i; life = e.life })
+  name_at es i e at = rw (slice_get-map seen_slot es i, at) refl
 
-  -- entries that were never used
-  map-replicate : (n : ℕ) (e : Entry T) → map seen_slot (replicate n e) ≡ replicate n (seen_slot e)
-  map-replicate zero e = refl
-  map-replicate (suc n) e = ap (λ (ss : List (Slot T)). seen_slot e ∷ ss) (map-replicate n e)
+  -- a vacant entry has no item, and its life is one that a slot has
+  vacant_parts : (item : Option T) (life : ℕ) → (is_none item && nat_lt life most_lives) ≡ true → (item ≡ None) × (life < most_lives)
+  vacant_parts None life h = (refl, ltb-true life most_lives h)
+  vacant_parts (Some x) life h = absurd (cc)
 
-  pub seen_unused : (n m : ℕ) (es : List (Entry T)) → es ≡ replicate m (record { life = 0; item = None }) → m ≡ n →
-      map seen_slot es ≡ unused_slot n
-  seen_unused n m es h e = rw (h, e) (map-replicate n _)
+  -- a vacant entry's slot has no item
+  pub next_at : (es : List (Entry T)) (i : ℕ) (e : Entry T) → slice_get es i ≡ Some e → is_vacant_slot (seen_slot e) ≡ true →
+      slice_get (map seen_slot es) i ≡ Some (record { life = e.life; item = None })
+  next_at es i e at vacant = rw (slice_get-map seen_slot es i, at, (vacant_parts e.item e.life vacant).0) refl

@@ -1,3 +1,5 @@
 pub mod EntryLemmas
+pub mod FreshLemmas
 pub mod LawLemmas
 pub mod MapLemmas
+pub mod VacantLemmas

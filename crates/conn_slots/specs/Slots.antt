@@ -2,7 +2,7 @@
 --
 -- Each slot has a life, the use number in the name of its item. It rises each time that an item is taken
 -- from the slot, so a name whose life lies below that of its slot is used up for ever.
-use Rattle.std.specs.Prelude.{◌≡◌, ◌≢◌, ℕ, ◌+◌, nat_lt, Bool, ◌&&◌, ◌==◌, if◌then◌else◌, List, Option, Some, None, is_none, IsSome, slice_get, slice_set, count_by, option_and_then, replicate}
+use Rattle.std.specs.Prelude.{◌≡◌, ◌≢◌, ℕ, ◌+◌, nat_lt, Bool, ◌&&◌, ◌==◌, if◌then◌else◌, List, Option, Some, None, is_none, IsSome, slice_get, slice_set, count_by, option_map, option_and_then, replicate}
 use Rattle.mpm_base.specs.declared.conn.ConnName.{ConnName}
 
 -- how many lives a slot has: one for each number of 32 bits, from 0 on
@@ -13,6 +13,11 @@ most_lives = 4294967296
 pub record Slot (T : Type 0) : Type 0 where
   pub life : ℕ
   pub item : Option T
+
+-- a table: its slots, and which of them is given the next item
+pub record SeenSlots (T : Type 0) : Type 0 where
+  pub slots : List (Slot T)
+  pub next : Option ℕ
 
 module _ {T : Type 0} where
   -- the slot has no item, and a life for one more
@@ -42,6 +47,14 @@ module _ {T : Type 0} where
   -- the name is the next one of a slot that has no item
   abbrev pub IsNextName : List (Slot T) → ConnName → Type 0
   IsNextName slots name = slice_get slots name.slot ≡ Some (record { life = name.life; item = None })
+
+  -- the name that an item of a slot has in its life
+  abbrev pub name_in : List (Slot T) → ℕ → Option ConnName
+  name_in slots slot = option_map (λ (s : Slot T). record { slot = slot; life = s.life }) (slice_get slots slot)
+
+  -- the name that the next item is given
+  abbrev pub next_name : SeenSlots T → Option ConnName
+  next_name table = option_and_then (name_in table.slots) table.next
 
   -- the table with this item under the name
   abbrev pub with_item : List (Slot T) → ConnName → T → List (Slot T)

@@ -1,19 +1,22 @@
 //! The slots of the connections: a table of items, each under a name that is given once.
 //!
-//! Contracts see a table as the list of its slots, and read it as a map from the live names to their items.
-//! A name that was taken is never live again: `take` and `put` say so of whatever calls come after and
-//! came before. What a table holds stands in `specs/Slots.antt`, and what sequences of calls make of it in
-//! `specs/Changes.antt`.
+//! Contracts see a table as the list of its slots, with the one that is given next, and read it as a map from
+//! the live names to their items. A name that was taken is never live again: `take` and `put` say so of
+//! whatever calls come after and came before. The vacant slots are a list through their entries, so no call
+//! but `make` goes over the slots. What a table holds stands in `specs/Slots.antt`, and what sequences of
+//! calls make of it in `specs/Changes.antt`.
 #![tactic(auto)]
 
-ghost use Rattle.std.specs.Prelude.{◌≡◌, ◌+◌, ◌≤◌, ◌↔◌, Some, None, is_some, IsTrue, IsSome, IfSome, OnSome, IfNone, IsErr, IfOk, IfErr, OnErr, position};
+ghost use Rattle.std.specs.Prelude.{◌≡◌, ◌+◌, ◌≤◌, ◌<◌, ◌↔◌, Some, None, is_some, IsTrue, IsSome, IsNone, IfSome, OnSome, IfNone, IsErr, IfOk, IfErr, OnErr};
 ghost use Rattle.std.specs.Option.{option_copied_mut};
 ghost use Rattle.std.specs.Borrow.{sem};
-ghost use Rattle.conn_slots.specs.Slots.{vacant_count, is_vacant_slot, item_of, IsLive, IsNextName, with_item, without_item, unused_slot, UpdatesItem};
-ghost use Rattle.conn_slots.specs.Layout.{seen_slot, IsWithinLives};
-ghost use Rattle.conn_slots.specs.declared.Entry.{Entry};
+ghost use Rattle.conn_slots.specs.Slots.{vacant_count, is_vacant_slot, item_of, IsLive, IsNextName, next_name, with_item, without_item, unused_slot, UpdatesItem};
+ghost use Rattle.conn_slots.specs.Layout.{seen_slot};
+ghost use Rattle.conn_slots.specs.TableInside.{IsWithinLives, place_below};
 ghost use Rattle.conn_slots.specs.Changes.{NeverLiveAgain, WasNeverLive};
 
+#[cfg(test)]
+mod plain;
 #[cfg(test)]
 mod tests;
 
@@ -22,41 +25,48 @@ use std::alloc::Global;
 use std::marker::Model;
 use std::mem;
 
-// How many lives a slot has: one for each number of 32 bits.
-const MOST_LIVES: u64 = 1 << 32;
-
-/// A table of slots, as contracts see it: of each slot its life, and the item that it has.
+/// A table of slots, as contracts see it: of each slot its life, and the item that it has; and which slot is
+/// given next.
 #[derive(Debug, Drop)]
 pub struct Slots<T> {
     entries: Vec<Entry<T>>,
+    // The first of the list of vacant entries, and how many there are.
+    head: Option<u32>,
+    free: u32,
 }
 
 #[derive(Debug, Drop)]
 struct Entry<T> {
+    // Up to 2^32, where the slot had its last life.
     life: u64,
     item: Option<T>,
+    // Of a vacant entry the one behind it in their list.
+    next: Option<u32>,
 }
 
 impl<T> Model for Slots<T> {
     ghost use Rattle.std.specs.Prelude.{List, map};
-    ghost use Rattle.conn_slots.specs.Slots.{Slot};
+    ghost use Rattle.conn_slots.specs.Slots.{SeenSlots};
 
-    ghost Value = { List (Slot T) };
+    ghost Value = { SeenSlots T };
 
-    ghost use Rattle.conn_slots.specs.Layout.{seen_slot, IsTable};
+    ghost use Rattle.conn_slots.specs.Layout.{seen_slot};
+    ghost use Rattle.conn_slots.specs.TableInside.{IsTable};
 
-    ghost view = { λ s. map seen_slot s.entries.items };
+    ghost view = { λ s. record { slots = map seen_slot s.entries.items; next = s.head } };
 
-    ghost invariant = { λ s. IsTable s.entries.items };
+    ghost invariant = { λ s. IsTable s.entries.items s.head s.free };
 }
 
 impl<T> Entry<T> {
     ghost use Rattle.conn_slots.specs.Lending.{lends_entry};
 
-    fn is_vacant(&self) -> bool
-        ensures { result ≡ is_vacant_slot (seen_slot self.now) }
+    // The life of the vacant entry's next item.
+    fn next_life(&self) -> u32
+        requires { IsTrue (is_vacant_slot (seen_slot self.now)) }
+        ensures { result ≡ self.now.life }
     {
-        self.item.is_none() && self.life < MOST_LIVES
+        self.life as u32
     }
 
     // Puts an item into the vacant entry, and answers its life.
@@ -72,14 +82,15 @@ impl<T> Entry<T> {
         }
     }
 
-    // Takes the entry's item, and begins its next life.
-    fn empty(&mut self) -> T
+    // Takes the entry's item, begins its next life, and names the vacant entry behind it.
+    fn empty(&mut self, next: Option<u32>) -> T
         requires some { IsSome self.old.item }
         requires within { IsWithinLives self.old }
         ensures item { self.old.item ≡ Some result }
-        ensures emptied { self.new ≡ record self.old { life = self.old.life + 1; item = None } }
+        ensures emptied { self.new ≡ record { life = self.old.life + 1; item = None; next = next } }
     {
         self.life += 1;
+        self.next = next;
         match self.item.take() {
             Some(item) => item,
             None => unreachable!(),
@@ -98,11 +109,12 @@ impl<T> Entry<T> {
     }
 }
 
-// The place of the first vacant entry.
-fn vacant_place<T>(entries: &[Entry<T>]) -> Option<usize>
-    ensures { result ≡ position (λ (e : Entry T). is_vacant_slot (seen_slot e)) entries.now }
+// The slot behind this one, where the table of n slots has one more.
+fn slot_behind(slot: u32, n: u32) -> Option<u32>
+    requires { slot < n }
+    ensures { result ≡ place_below n (slot + 1) }
 {
-    entries.iter().position(|entry| entry.is_vacant())
+    if slot + 1 < n { Some(slot + 1) } else { None }
 }
 
 impl<T> Slots<T> {
@@ -112,60 +124,87 @@ impl<T> Slots<T> {
     pub fn make(alloc: Global, n: u32) -> Result<Slots<T>, NoMemory>
         requires some { 1 ≤ n }
         requires few { n ≤ 8192 }
-        ensures { IfOk result (λ slots. slots ≡ unused_slot n) }
+        ensures unused { IfOk result (λ slots. slots.slots ≡ unused_slot n) }
+        ensures first { IfOk result (λ slots. slots.next ≡ Some 0) }
     {
         let Ok(mut entries) = Vec::with_capacity(alloc, n as usize) else {
             return Err(NoMemory);
         };
-        for _ in 0..n {
+        for slot in 0..n {
             entries.push_reserved(Entry {
                 life: 0,
                 item: None,
+                next: slot_behind(slot, n),
             });
         }
-        Ok(Slots { entries })
+        Ok(Slots {
+            entries,
+            head: Some(0),
+            free: n,
+        })
+    }
+
+    /// The name that the next `put` gives, where a slot is vacant.
+    pub fn next(&self) -> Option<ConnName>
+        ensures name { result ≡ next_name self.now }
+        ensures next { IfSome result (IsNextName self.now.slots) }
+        ensures full { IsNone result ↔ (vacant_count self.now.slots ≡ 0) }
+    {
+        match self.head {
+            Some(slot) => Some(ConnName {
+                slot,
+                life: self.entries[slot as usize].next_life(),
+            }),
+            None => None,
+        }
     }
 
     /// Puts the item into a vacant slot, and answers its name, which no item had before. Where no slot is
     /// vacant the item comes back.
     pub fn put(&mut self, item: T) -> Result<ConnName, T>
-        ensures next { IfOk result (λ name. IsNextName self.old name) }
-        ensures stored { IfOk result (λ name. self.new ≡ with_item self.old name item) }
-        ensures updates { IfOk result (λ name. UpdatesItem self.old self.new name (Some item)) }
-        ensures never_before { IfOk result (λ name. WasNeverLive self.old name) }
+        ensures name { IfOk result (λ name. next_name self.old ≡ Some name) }
+        ensures next { IfOk result (λ name. IsNextName self.old.slots name) }
+        ensures stored { IfOk result (λ name. self.new.slots ≡ with_item self.old.slots name item) }
+        ensures updates { IfOk result (λ name. UpdatesItem self.old.slots self.new.slots name (Some item)) }
+        ensures never_before { IfOk result (λ name. WasNeverLive self.old.slots name) }
 
-        ensures full { IsErr result ↔ (vacant_count self.old ≡ 0) }
+        ensures full { IsErr result ↔ (vacant_count self.old.slots ≡ 0) }
         ensures given_back { IfErr result (λ back. back ≡ item) }
         ensures unchanged { OnErr result (self.new ≡ self.old) }
     {
-        let Some(index) = vacant_place(&self.entries) else {
+        let Some(slot) = self.head else {
             return Err(item);
         };
-        let life = self.entries[index].fill(item);
-        Ok(ConnName {
-            slot: index as u32,
-            life,
-        })
+        self.head = self.entries[slot as usize].next;
+        self.free -= 1;
+        let life = self.entries[slot as usize].fill(item);
+        Ok(ConnName { slot, life })
     }
 
     /// Takes the item of a live name, which is never live again.
     pub fn take(&mut self, name: ConnName) -> Option<T>
-        ensures item { result ≡ item_of self.old name }
-        ensures emptied { OnSome result (self.new ≡ without_item self.old name) }
-        ensures updates { UpdatesItem self.old self.new name None }
-        ensures never_again { OnSome result (NeverLiveAgain self.new name) }
+        ensures item { result ≡ item_of self.old.slots name }
+        ensures emptied { OnSome result (self.new.slots ≡ without_item self.old.slots name) }
+        ensures updates { UpdatesItem self.old.slots self.new.slots name None }
+        ensures never_again { OnSome result (NeverLiveAgain self.new.slots name) }
         ensures unchanged { IfNone result (self.new ≡ self.old) }
     {
         if !self.is_live(name) {
             return None;
         }
-        Some(self.entries[name.slot as usize].empty())
+        let next = self.head;
+        let item = self.entries[name.slot as usize].empty(next);
+        if name.life < u32::MAX {
+            self.head = Some(name.slot);
+            self.free += 1;
+        }
+        Some(item)
     }
 
     /// The item of a live name, to be changed in place.
     pub fn get_mut(&mut self, name: ConnName) -> Option<&mut T>
         ensures* writes_back { sem 𝓛 (lends_live T.row self.entry name result) }
-        ensures item { option_copied_mut result ≡ item_of self.old name }
+        ensures item { option_copied_mut result ≡ item_of self.old.slots name }
     {
         if self.is_live(name) {
             Some(self.item_mut(name))
@@ -176,16 +215,13 @@ impl<T> Slots<T> {
 
     /// How many slots can be given an item.
     pub fn free(&self) -> u32
-        ensures { result ≡ vacant_count self.now }
+        ensures { result ≡ vacant_count self.now.slots }
     {
-        self.entries
-            .iter()
-            .filter(|entry| entry.is_vacant())
-            .count() as u32
+        self.free
     }
 
     fn is_live(&self, name: ConnName) -> bool
-        ensures { result ≡ is_some (item_of self.now name) }
+        ensures { result ≡ is_some (item_of self.now.slots name) }
     {
         match self.entries.get(name.slot as usize) {
             Some(entry) => entry.life == u64::from(name.life) && entry.item.is_some(),
@@ -194,9 +230,9 @@ impl<T> Slots<T> {
     }
 
     fn item_mut(&mut self, name: ConnName) -> &mut T
-        requires { IsLive self.old name }
+        requires { IsLive self.old.slots name }
         ensures* writes_back { sem 𝓛 (lends_item T.row self.entry name result) }
-        ensures item { item_of self.old name ≡ Some result.now }
+        ensures item { item_of self.old.slots name ≡ Some result.now }
     {
         self.entries[name.slot as usize].item_mut()
     }

@@ -1,10 +1,11 @@
-use Rattle.std.proofs.Common.{◌≡◌, ◌≤◌, None, replicate, vec_len, vec_capacity}
+use Rattle.std.proofs.Common.{◌≡◌, ◌≤◌, vec_len, vec_capacity}
+use Rattle.conn_slots.proofs.FreshLemmas.{fresh_entries}
 use Rattle.conn_slots.proofs.Slots.make.Given as goal
 
--- as many unused entries as there were turns, and room for all
-abbrev pub invariant-loop : goal.invariant-loop
-invariant-loop g l = record {
-  unused : l.entries.items ≡ replicate l.counter (record { life = 0; item = None });
-  count : vec_len l.entries ≡ l.counter;
+-- an unused entry for each slot so far, and room for all
+abbrev pub invariant-loop-slot : goal.invariant-loop-slot
+invariant-loop-slot g l = record {
+  fresh : l.entries.items ≡ fresh_entries g.row.T.Denot l.n l.slot;
+  count : vec_len l.entries ≡ l.slot;
   room : l.n ≤ vec_capacity l.entries;
 }

@@ -1,16 +1,52 @@
-use Rattle.std.proofs.Common.{refl, sym, ◌∙◌}
+use Rattle.std.proofs.Common.{◌+◌, arith, refl, sym, ◌∙◌}
+use Rattle.std.proofs.lemmas.Bool.{lt-ltb, le-ltb}
 use Rattle.std.proofs.lemmas.List.{map-set}
-use Rattle.conn_slots.proofs.EntryLemmas.{live_entry}
+use Rattle.conn_slots.proofs.EntryLemmas.{live_entry, live_item, live_read, item_taken}
 use Rattle.conn_slots.proofs.MapLemmas.{take_updates}
 use Rattle.conn_slots.proofs.LawLemmas.{taken_never_live}
+use Rattle.conn_slots.proofs.VacantLemmas.{table_vacate, table_replace}
 use Rattle.conn_slots.proofs.Slots.take.Goals as goal
+use Rattle.conn_slots.proofs.Slots.take.Goals.{then-name-lt4294967295, else-name-lt4294967295}
+
+pub invariant_of-self : goal.invariant_of-self
+invariant_of-self g c =
+    let es = c.self.inside.entries.items in
+    let e = c.index_mut.result.now in
+    let live = rw (← c.self.view_is) at (sym c.is_live.ensures ∙ c.if-not-is_live.false) in
+    let entry = live_entry {T = g.row.T.Denot} es c.args.name e live c.index_mut.ensures.value in
+    table_vacate {T = g.row.T.Denot} es c.args.name.slot c.self.inside.free c.self.inside.head e c.empty-item.new.self c.self.invariant
+    (live_read es c.args.name e live c.index_mut.ensures.value) (item_taken e entry.2)
+    (rw c.empty-item.ensures.emptied (omega (arith, entry.1), λ some. absurd (cc)))
+    (rw c.empty-item.ensures.emptied (lt-ltb (e.life + 1) 4294967296 (omega (arith, entry.1))))
+    (rw c.empty-item.ensures.emptied refl)
+
+pub invariant_of-self-else-name-lt4294967295 : goal.invariant_of-self-else-name-lt4294967295
+invariant_of-self-else-name-lt4294967295 g c =
+    let es = c.self.inside.entries.items in
+    let e = c.index_mut.result.now in
+    let live = rw (← c.self.view_is) at (sym c.is_live.ensures ∙ c.if-not-is_live.false) in
+    let entry = live_entry {T = g.row.T.Denot} es c.args.name e live c.index_mut.ensures.value in
+    table_replace {T = g.row.T.Denot} es c.args.name.slot c.self.inside.free c.self.inside.head e c.empty-item.new.self c.self.invariant
+    (live_read es c.args.name e live c.index_mut.ensures.value) (item_taken e entry.2)
+    (rw c.empty-item.ensures.emptied (omega (arith, entry.1), λ some. absurd (cc)))
+    (rw c.empty-item.ensures.emptied (le-ltb (e.life + 1) 4294967296 (omega (arith, entry.1))))
+
+pub returns-clause-item : goal.returns-clause-item
+returns-clause-item g c =
+    let es = c.self.inside.entries.items in
+    let live = rw (← c.self.view_is) at (sym c.is_live.ensures ∙ c.if-not-is_live.false) in
+    let item = live_item {T = g.row.T.Denot} es c.args.name c.index_mut.result.now live c.index_mut.ensures.value in
+    rw (← c.self.view_is) (sym c.empty-item.ensures.item ∙ sym item)
 
 pub returns-clause-emptied : goal.returns-clause-emptied
 returns-clause-emptied g c =
-    let live = sym c.is_live.ensures ∙ c.if-not-is_live.false in
-    let entry = live_entry {T = g.row.T.Denot} c.self.inside.entries.items c.args.name c.index_mut.result.now
-    (rw c.self.view_is live) c.index_mut.ensures.value in
-    rw (map-set, c.empty.ensures.emptied, entry.1, c.self.view_is) refl
+    let es = c.self.inside.entries.items in
+    let live = rw (← c.self.view_is) at (sym c.is_live.ensures ∙ c.if-not-is_live.false) in
+    let entry = live_entry {T = g.row.T.Denot} es c.args.name c.index_mut.result.now live c.index_mut.ensures.value in
+    elim c.if-name-lt4294967295.branch [
+      | then-name-lt4294967295 w ↦ rw (w.self-is, map-set, c.empty-item.ensures.emptied, entry.1, ← c.self.view_is) refl
+      | else-name-lt4294967295 w ↦ rw (w.self-is, map-set, c.empty-item.ensures.emptied, entry.1, ← c.self.view_is) refl
+    ]
 
 pub returns-clause-never_again : goal.returns-clause-never_again
 returns-clause-never_again g c = rw (returns-clause-emptied g c) (taken_never_live _ _ (sym c.is_live.ensures ∙ c.if-not-is_live.false))
