@@ -1,18 +1,9 @@
 -- The least of some numbers, and of the deadlines of what is parked.
-use Rattle.std.proofs.Common.{◌≡◌, ◌≢◌, ℕ, ◌<◌, ◌≤◌, min, Bool, true, false, cond, List, [], ◌∷◌, ◌++◌, map, filter, Option, Some, None, nat_le, refl, ap, arith}
+use Rattle.std.proofs.Common.{◌≡◌, ◌≢◌, ℕ, ◌<◌, ◌≤◌, min, Bool, true, false, cond, List, [], ◌∷◌, map, filter, Option, Some, None, nat_le, refl, arith}
 use Rattle.std.specs.Option.{option_map_or, IfSome}
 use Rattle.std.proofs.lemmas.Bool.{lt-leb, leb-false}
 use Rattle.std.proofs.lemmas.Option.{same_Some}
 use Rattle.timeout_queues.specs.Waiting.{ParkedName, earliest}
-
-pub least_push : (ns : List ℕ) (n : ℕ) → earliest (ns ++ n ∷ []) ≡ Some (option_map_or (λ m. min m n) (earliest ns) n)
-least_push [] n = refl
-least_push (m ∷ ms) n = on (earliest ms) (least_push ms n)
-  where
-    on : (o : Option ℕ) → earliest (ms ++ n ∷ []) ≡ Some (option_map_or (λ k. min k n) o n) →
-        Some (option_map_or (min m) (earliest (ms ++ n ∷ [])) m) ≡ Some (min (option_map_or (min m) o m) n)
-    on None e = rw e refl
-    on (Some k) e = rw e (ap Some (omega arith))
 
 abbrev deadlines : List ParkedName → List ℕ
 deadlines ps = map (λ (p : ParkedName). p.deadline) ps

@@ -23,7 +23,7 @@ in_other p life false e differ = refl
 IsOnly : ℕ → Option ParkedName → Type 0
 IsOnly life kept = (other : ℕ) → other ≢ life → option_and_then (in_life other) kept ≡ None
 
-get_or_some : (slots : List (Option ParkedName)) (i : ℕ) (p : ParkedName) → get_or slots i None ≡ Some p → slice_get slots i ≡ Some (Some p)
+pub get_or_some : (slots : List (Option ParkedName)) (i : ℕ) (p : ParkedName) → get_or slots i None ≡ Some p → slice_get slots i ≡ Some (Some p)
 get_or_some [] i p e = absurd (cc)
 get_or_some (x ∷ xs) zero p e = ap Some e
 get_or_some (x ∷ xs) (suc i) p e = get_or_some xs i p e
@@ -66,11 +66,18 @@ parked_in (Some p) life h = on (nat_eq p.life life) refl h
     on true e s = (p, refl, eqb-true p.life life e)
     on false e s = absurd (cc)
 
+-- so its slot has it
+pub parked_slot : (slots : List (Option ParkedName)) (name : ConnName) → is_some (parked_of slots name) ≡ true →
+    (p : ParkedName) × (slice_get slots name.slot ≡ Some (Some p))
+parked_slot slots name parked =
+    let there = parked_in (get_or slots name.slot None) name.life parked in
+    (there.0, get_or_some slots name.slot there.0 there.1)
+
 pub unpark_updates : (slots : List (Option ParkedName)) (name : ConnName) → is_some (parked_of slots name) ≡ true →
     Updates slots (without_name slots name) name None
 unpark_updates slots name parked =
     let there = parked_in (get_or slots name.slot None) name.life parked in
-    let within : name.slot < length slots = slice_get_within slots name.slot (Some there.0) (get_or_some slots name.slot there.0 there.1) in record {
+    let within : name.slot < length slots = slice_get_within slots name.slot _ (parked_slot slots name parked).1 in record {
       changed = rw (get_or-set_same slots name.slot None None within) refl;
       others = others_kept slots name None within
           (λ life ne. rw there.1 (in_other there.0 life (nat_eq there.0.life life) refl (λ e. ne (sym e ∙ there.2))))

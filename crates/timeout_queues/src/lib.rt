@@ -2,23 +2,33 @@
 //!
 //! Contracts see the queues as a map from the parked names to kind and deadline. The name that `overdue`
 //! answers is late, and none has an earlier deadline. All memory is taken by `make`, so that a connection
-//! in hand can always be parked. The definitions stand in `specs/Waiting.antt`.
+//! in hand can always be parked. The names of each kind stand in a ring, in the order of their deadlines, so
+//! no call but `make` goes over the slots. The definitions stand in `specs/Waiting.antt`.
 #![tactic(auto)]
 
-ghost use Rattle.std.specs.Prelude.{◌≡◌, ◌≤◌, ◌↔◌, ◌⊎◌, [], min, Some, None, option_map, is_some, IsNone, IfSome, MatchOption, IfOk};
+ghost use Rattle.std.specs.Prelude.{◌≡◌, ◌+◌, ◌<◌, ◌≤◌, ◌↔◌, ◌⊎◌, [], map, length, Some, None, option_map, is_some, IsTrue, IsNone, IfSome, IsSomeAnd, IfOk, slice_index_or};
 ghost use Rattle.std.specs.Bool.{OnTrue, OnFalse};
-ghost use Rattle.std.specs.Option.{option_map_or};
 ghost use Rattle.timeout_queues.specs.declared.Due.{Due};
+ghost use Rattle.timeout_queues.specs.Entries.{parked_in};
+ghost use Rattle.timeout_queues.specs.RingsInside.{ring_number, due_at, IsRings, IsLastBefore, IsFirstOf};
 ghost use Rattle.timeout_queues.specs.Waiting.{nothing_parked, IsFree, parked_of, parked_as, with_parked, without_name, Updates, overdue_at, least_deadline, IsOverdue, deadline_of};
 
+mod rings;
+
 use mpm_base::{ConnName, Kind, Moment, NoMemory};
+use rings::Rings;
 use std::alloc::Global;
 use std::marker::Model;
+
+// How many kinds there are, each with a ring of its own.
+const KINDS: u32 = 5;
 
 /// The timeout queues, as contracts see them: of each slot what is parked in it.
 #[derive(Debug, Drop)]
 pub struct Queues {
     slots: Vec<Option<Entry>>,
+    // The places are the slots, and behind them the heads of the rings.
+    rings: Rings,
 }
 
 #[derive(Clone, Copy, Debug)]
@@ -36,16 +46,17 @@ struct Due {
 }
 
 impl Model for Queues {
-    ghost use Rattle.std.specs.Prelude.{List, Option, ◌≤◌, map, length};
+    ghost use Rattle.std.specs.Prelude.{List, Option, map};
     ghost use Rattle.timeout_queues.specs.Waiting.{ParkedName};
 
     ghost Value = { List (Option ParkedName) };
 
     ghost use Rattle.timeout_queues.specs.Entries.{parked_in};
+    ghost use Rattle.timeout_queues.specs.RingsInside.{IsRings};
 
     ghost view = { λ q. map parked_in q.slots.items };
 
-    ghost invariant = { λ q. length q.slots.items ≤ 8192 };
+    ghost invariant = { λ q. IsRings (map parked_in q.slots.items) q.rings.before.items q.rings.behind.items };
 }
 
 impl Queues {
@@ -61,7 +72,17 @@ impl Queues {
         for _ in 0..slots {
             kept.push_reserved(None);
         }
-        Ok(Queues { slots: kept })
+        Ok(Queues {
+            slots: kept,
+            rings: Rings::make(alloc, slots + KINDS)?,
+        })
+    }
+
+    /// Whether no name of the slot is parked, so that one can be.
+    pub fn is_free(&self, slot: u32) -> bool
+        ensures { IsTrue result ↔ IsFree self.now slot }
+    {
+        matches!(self.slots.get(slot as usize), Some(None))
     }
 
     /// Parks the name until the deadline.
@@ -70,6 +91,9 @@ impl Queues {
         ensures parked { self.new ≡ with_parked self.old name kind deadline }
         ensures updates { Updates self.old self.new name (Some (parked_as name kind deadline)) }
     {
+        let head = head_of(self.slots.len() as u32, kind);
+        let place = last_before(&self.slots, &self.rings, head, deadline);
+        self.rings.insert(place, name.slot);
         self.slots[name.slot as usize] = Some(Entry {
             life: name.life,
             kind,
@@ -87,6 +111,7 @@ impl Queues {
         if !self.is_parked(name) {
             return false;
         }
+        self.rings.remove(name.slot);
         self.slots[name.slot as usize] = None;
         true
     }
@@ -122,37 +147,94 @@ impl Queues {
         }
     }
 
-    // The parked name with the least deadline, of the lowest slot where several have it.
+    // A parked name with the least deadline: the first of its ring.
     fn first(&self) -> Option<Due>
         ensures least { option_map (λ (due : Due). due.deadline) result ≡ least_deadline self.now }
         ensures parked { IfSome result (λ (due : Due). deadline_of self.now due.name ≡ Some due.deadline) }
     {
         let mut first: Option<Due> = None;
-        for (slot, kept) in self.slots.iter().enumerate() {
-            if let Some(entry) = kept {
-                let name = ConnName {
-                    slot: slot as u32,
-                    life: entry.life,
-                };
-                let due = Due {
-                    name,
-                    deadline: entry.deadline,
-                };
-                first = Some(earlier(first, due));
-            }
+        for number in 0..KINDS {
+            first = earlier(first, self.first_in(number));
         }
         first
     }
+
+    // The first of the ring of this number.
+    fn first_in(&self, number: u32) -> Option<Due>
+        requires { number < 5 }
+        ensures { IsFirstOf self.now (λ n. n ≡ number) result }
+    {
+        let head = self.slots.len() as u32 + number;
+        let slot = self.rings.behind[head as usize];
+        match kept_at(&self.slots, slot) {
+            Some(entry) => Some(Due {
+                name: ConnName {
+                    slot,
+                    life: entry.life,
+                },
+                deadline: entry.deadline,
+            }),
+            None => None,
+        }
+    }
+}
+
+// The head of a kind's ring, where there are so many slots.
+fn head_of(slots: u32, kind: Kind) -> u32
+    requires { slots ≤ 8192 }
+    ensures { result ≡ slots + ring_number kind }
+{
+    match kind {
+        Kind::Reading => slots,
+        Kind::KeepAlive => slots + 1,
+        Kind::Writing => slots + 2,
+        Kind::Linger => slots + 3,
+        Kind::ShortLinger => slots + 4,
+    }
+}
+
+// What is parked in a slot, and nothing at the head of a ring.
+fn kept_at(slots: &[Option<Entry>], place: u32) -> Option<Entry>
+    ensures { result ≡ slice_index_or slots.now place None }
+{
+    match slots.get(place as usize) {
+        Some(kept) => *kept,
+        None => None,
+    }
+}
+
+// The deadline of what is parked in a slot, and 0 at the head of a ring.
+fn deadline_at(slots: &[Option<Entry>], place: u32) -> Moment
+    ensures { result ≡ due_at (map parked_in slots.now) place }
+{
+    match kept_at(slots, place) {
+        Some(entry) => entry.deadline,
+        None => 0,
+    }
+}
+
+// The last of a ring whose deadline is at or before this one, found by going back from the end.
+fn last_before(slots: &[Option<Entry>], rings: &Rings, head: u32, deadline: Moment) -> u32
+    requires rings { IsRings (map parked_in slots.now) rings.now.before.items rings.now.behind.items }
+    requires head { (length slots.now ≤ head) × (head < length slots.now + 5) }
+    ensures { IsLastBefore (map parked_in slots.now) rings.now.behind.items head deadline result }
+{
+    let mut place = rings.before[head as usize];
+    while deadline_at(slots, place) > deadline {
+        place = rings.before[place as usize];
+    }
+    place
 }
 
 // The due of the two that comes first; the former where both have one deadline.
-fn earlier(former: Option<Due>, other: Due) -> Due
-    ensures deadline { result.deadline
-        ≡ option_map_or (λ (due : Due). min due.deadline other.deadline) former other.deadline }
-    ensures either { MatchOption former (result ≡ other) (λ (due : Due). (result ≡ due) ⊎ (result ≡ other)) }
+fn earlier(former: Option<Due>, other: Option<Due>) -> Option<Due>
+    ensures former { IfSome former (λ (due : Due). IsSomeAnd result (λ (first : Due). first.deadline ≤ due.deadline)) }
+    ensures other { IfSome other (λ (due : Due). IsSomeAnd result (λ (first : Due). first.deadline ≤ due.deadline)) }
+    ensures either { (result ≡ former) ⊎ (result ≡ other) }
 {
-    match former {
-        Some(due) if due.deadline <= other.deadline => due,
-        _ => other,
+    match (former, other) {
+        (Some(former), Some(other)) if other.deadline < former.deadline => Some(other),
+        (None, other) => other,
+        (former, _) => former,
     }
 }

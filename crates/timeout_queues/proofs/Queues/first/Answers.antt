@@ -1,12 +1,13 @@
-use Rattle.timeout_queues.proofs.KeptLemmas.{first_more_none, first_more_some}
+use Rattle.std.proofs.Common.{◌≡◌, arith}
+use Rattle.timeout_queues.proofs.FirstLemmas.{first_more, first_least}
 use Rattle.timeout_queues.proofs.Queues.first.Goals as goal
-use Rattle.timeout_queues.proofs.Queues.first.Goals.{in-Some, in_default}
 
-pub loop-slot-preserved : goal.loop-slot-preserved
-loop-slot-preserved c = elim c.match-kept.branch [
-  | in-Some w ↦ rw w.first-is
-      (first_more_some _ _ w.in-Some.entry c.loop-slot.first w.earlier.result c.loop-slot.invariant c.loop-slot-test.true w.in-Some.is
-      w.earlier.ensures.deadline w.earlier.ensures.either)
-  | in_default w ↦ rw w.first-is
-      (first_more_none _ _ c.loop-slot.first c.loop-slot.invariant c.loop-slot-test.true w.in_default.is)
-]
+pub loop-number-preserved : goal.loop-number-preserved
+loop-number-preserved c =
+    first_more c.args.self.now c.loop-number.number c.loop-number.first c.first_in.result c.earlier-first.result c.loop-number.invariant c.first_in.ensures
+    c.earlier-first.ensures.former c.earlier-first.ensures.other c.earlier-first.ensures.either
+
+pub returns-clause-least : goal.returns-clause-least
+returns-clause-least c =
+    let all : c.loop-number.number ≡ 5 = omega arith in
+    first_least c.args.self.now c.loop-number.first (rw all at c.loop-number.invariant)
