@@ -5,6 +5,10 @@
 #[cfg(test)]
 mod admitting;
 #[cfg(test)]
+mod plain_queues;
+#[cfg(test)]
 mod queues;
+#[cfg(test)]
+mod rings;
 #[cfg(test)]
 mod table;
