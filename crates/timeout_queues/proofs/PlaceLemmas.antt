@@ -115,11 +115,6 @@ rings_unpark slots before behind s p r parked =
     }
 
 -- the slots of queues in which nothing was ever parked
-nothing_at : (n i : ℕ) → i < n → slice_get (replicate {A = Option ParkedName} n None) i ≡ Some None
-nothing_at zero i h = absurd (omega arith)
-nothing_at (suc n) zero h = refl
-nothing_at (suc n) (suc i) h = nothing_at n i (omega arith)
-
 never_parked : (n i : ℕ) (p : ParkedName) → slice_get (replicate n None) i ≡ Some (Some p) → ⊥
 never_parked zero i p e = absurd (cc)
 never_parked (suc n) zero p e = absurd (cc)

@@ -94,9 +94,6 @@ module _ (old new : List (Option ParkedName)) (b f b' f' : ℕ → ℕ) (rank : 
   next_within : f a < length old + 5
   next_within = let l = linked a within in l.behind_within
 
-  next_differs : f a ≢ s
-  next_differs e = place_differs (lone_behind old b f rank linked a s within slot lone e)
-
   ring_new : ring_at new s ≡ Some (length old + ring_number p.kind)
   ring_new = ap (λ o. ring_of new s o) c.here ∙ ap (λ n. Some (n + ring_number p.kind)) c.count
 
@@ -217,9 +214,6 @@ module _ (old new : List (Option ParkedName)) (b f b' f' : ℕ → ℕ) (rank : 
 
   last_differs : b s ≢ s
   last_differs e = let r : rank (b s) ≡ rank s = ap rank e in omega (arith, own_order.1, r)
-
-  after_differs : f s ≢ s
-  after_differs e = let l = linked s slot in last_differs (sym (ap b e) ∙ l.back)
 
   taken_here : IsLinked new b' f' rank s
   taken_here = record {

@@ -1,5 +1,5 @@
 //! Rings of places: each place stands between the one before it and the one behind it.
-ghost use Rattle.std.specs.Prelude.{◌≡◌, ◌+◌, ◌<◌, length, slice_set, IfOk};
+ghost use Rattle.std.specs.Prelude.{◌≡◌, ◌<◌, length, slice_set, IfOk};
 ghost use Rattle.timeout_queues.specs.RingsInside.{place_at, IsAlone};
 
 use mpm_base::NoMemory;
