@@ -31,7 +31,7 @@ use Rattle.mpm_run.specs.declared.listen.Pause.{Pause}
 use Rattle.mpm_run.specs.declared.listen.Rest.{Rest}
 use Rattle.mpm_run.specs.declared.run_numbers.RunNumbers.{RunNumbers}
 use Rattle.mpm_run.specs.ClosingInside.{IsHaltedWay, LetsGo}
-use Rattle.mpm_run.specs.FirstNumbers.{opened_by}
+use Rattle.mpm_run.specs.FirstNumbers.{folded_by, opened_by}
 use Rattle.mpm_run.specs.ListenInside.{IsOpening, SeenListener, asked_children, waits_of}
 use Rattle.mpm_run.specs.RoundInside.{HasWaited, RetiresSome, halt_events}
 use Rattle.mpm_run.specs.Started.{BeginsWithStarts, IsStartedFirst, starts_of}
@@ -305,15 +305,15 @@ begins-down n turns a b c d halts closes retires begins =
 
 -- where the front waited the children of the run were started before all else
 started-by : (n : RunNumbers) (told : Option FrontTold) (t' : FrontTold) (history : List Entry) → IfSome told (λ t. t.waits ≡ [])
-    → (waits_of (Some t') ≡ waits_of told) ⊎ BeginsWithStarts (asked_children (opened_by n)) history → IsStartedFirst n history t'
-started-by n told t' history unused (inr begins) waited =
+    → (waits_of (Some t') ≡ waits_of told) ⊎ BeginsWithStarts (asked_children (opened_by n)) history → IsStartedFirst (folded_by n) n history t'
+started-by n told t' history unused (inr begins) none waited =
     subst (λ (m : ℕ). BeginsWithStarts (min n.shape.target m) history) (length-replicate n.children no_child) begins
-started-by n None t' history unused (inl same) waited = absurd (cc same)
-started-by n (Some t) t' history unused (inl same) waited =
+started-by n None t' history unused (inl same) none waited = absurd (cc same)
+started-by n (Some t) t' history unused (inl same) none waited =
     let waits : t'.waits ≡ t.waits = cc same in
     absurd (waited (waits ∙ unused))
 
 pub started-first : (n : RunNumbers) (told told' : Option FrontTold) (history : List Entry) → IfSome told (λ t. t.waits ≡ [])
-    → (waits_of told' ≡ waits_of told) ⊎ BeginsWithStarts (asked_children (opened_by n)) history → IfSome told' (IsStartedFirst n history)
+    → (waits_of told' ≡ waits_of told) ⊎ BeginsWithStarts (asked_children (opened_by n)) history → IfSome told' (IsStartedFirst (folded_by n) n history)
 started-first n told None history unused started = tt
 started-first n told (Some t') history unused started = started-by n told t' history unused started

@@ -1,5 +1,6 @@
 -- What a board shows of its run.
-use Rattle.std.proofs.Common.{◌≡◌, ℕ, zero, suc, ◌+◌, ◌<◌, min, Bool, true, false, ◌||◌, cond, List, [], ◌∷◌, ◌++◌, length, count_by, replicate, Option, Some, IfSome, refl, sym, ap, subst, ◌∙◌, arith}
+use Rattle.std.proofs.Common.{◌≡◌, ℕ, zero, suc, ◌≤◌, ◌+◌, ◌<◌, min, Bool, true, false, ◌||◌, cond, List, [], ◌∷◌, ◌++◌, length, count_by, replicate, Option, Some, IfSome, refl, sym, ap, subst, ◌∙◌, arith, ◌⊎◌, inl, inr}
+use Rattle.std.proofs.lemmas.Bool.{cases_order}
 use Rattle.std.proofs.lemmas.List.{append-nil}
 use Rattle.std.proofs.lemmas.List.Sums.{sum_by-cons}
 use Rattle.std.specs.List.{list_any}
@@ -27,7 +28,7 @@ use Rattle.board.specs.Board.{SeenBoard, Agrees, AreClosed, AreEnded, ClosesFirs
 use Rattle.board.specs.Ranks.{AllTell, has_rank}
 use Rattle.mpm_run.specs.Links.{EndsLinks}
 use Rattle.mpm_run.specs.Tells.{Receives, AllReceive}
-use Rattle.mpm_run.specs.FirstNumbers.{opened_by}
+use Rattle.mpm_run.specs.FirstNumbers.{folded_by, opened_by}
 use Rattle.mpm_run.specs.declared.run_numbers.RunNumbers.{RunNumbers}
 use Rattle.mpm_run.specs.Listen.{HasClosedAll, HasNoLive, IsClosedDown, IsRunFrom}
 
@@ -103,16 +104,18 @@ none-counted (r ∷ rows) none = none-cons r rows (is_live r) refl none (none-co
 -- where no connection is live each that was taken ended
 pub closed-all : (n : RunNumbers) (b : SeenBoard) → IsRunFrom n b
     → count_events is_accept b.book.history ≡ count_events is_close b.book.history + count_by is_live (after (opened_by n) b.book.history).rows
-    → IsClosedDown b.book.state → HasClosedAll b
+    → IsClosedDown b.book.state → HasClosedAll (folded_by n) b
 closed-all n b run closed_or_live down = record {
   down = down;
   ended =
+      let all : length b.ended ≡ count_events is_accept b.book.history =
       omega (
         arith,
         closed_or_live,
         none-counted (after (opened_by n) b.book.history).rows (subst HasNoLive (sym run.state) down.live),
         closed-count b.book.base b.book.history b.ended run.agrees.closed,
-      );
+      ) in
+      ap (λ (m : ℕ). 0 + m) all;
 }
 
 -- ## What ended connections received
@@ -145,18 +148,43 @@ pub all-tell : (k : KnownOutside) (ended : List SeenEnded) → EndedForClients (
 all-tell k [] ends = tt
 all-tell k (e ∷ ended) ends = ((ends.0.t, ends.0.told_is), all-tell k ended ends.1)
 
+-- as many ended as the history took
+closed-plain : (n : RunNumbers) (b : SeenBoard) → HasClosedAll (folded_by n) b → length b.ended ≡ count_events is_accept b.book.history
+closed-plain n b closed =
+    let all : 0 + length b.ended ≡ 0 + count_events is_accept b.book.history = closed.ended in
+    omega (arith, all)
+
+-- what is 1 below a bound and 0 from there on is 1 at most
+at-most-one : (number bound count : ℕ) → (number < bound → count ≡ 1) → (bound ≤ number → count ≡ 0) → count ≤ 1
+at-most-one number bound count below above = by (cases_order number bound) where
+  by : (number ≡ bound) ⊎ ((number < bound) ⊎ (bound < number)) → count ≤ 1
+  by (inl same) = omega (arith, above (omega (arith, same)))
+  by (inr (inl lower)) = omega (arith, below lower)
+  by (inr (inr higher)) = omega (arith, above (omega (arith, higher)))
+
 -- where no connection is live their links are, each once, those that the table took
 pub ends-links : (n : RunNumbers) (b : SeenBoard) → IsRunFrom n b
     → ((number : ℕ) → Run (opened_by n) b.book.history → AreClosed (opened_by n) b.book.history b.ended → AllTell b.ended
     → list_any is_live (after (opened_by n) b.book.history).rows ≡ false → (after (opened_by n) b.book.history).accepted < greatest_count
     → number < (after (opened_by n) b.book.history).accepted → count_by (has_rank number) b.ended ≡ 1)
+    → ((number : ℕ) → Run (opened_by n) b.book.history → AreClosed (opened_by n) b.book.history b.ended → AllTell b.ended
+    → (after (opened_by n) b.book.history).accepted < greatest_count → (after (opened_by n) b.book.history).accepted ≤ number
+    → count_by (has_rank number) b.ended ≡ 0)
     → (after (opened_by n) b.book.history).accepted ≡ min (count_events is_accept b.book.history) greatest_count
-    → HasClosedAll b → AllTell b.ended → EndsLinks b
-ends-links n b run once counted closed tell few =
+    → HasClosedAll (folded_by n) b → AllTell b.ended → EndsLinks (folded_by n) b
+ends-links n b run once no_other counted closed tell few =
     let few' = subst (λ (s : State). s.accepted < greatest_count) (sym run.state) few in
+    let of_entries = subst (λ (s : State). AreClosed s b.book.history b.ended) run.opened run.agrees.closed in
+    let none : (number : ℕ) → b.book.state.accepted ≤ number → count_by (has_rank number) b.ended ≡ 0 =
+    λ number above. no_other number run.run of_entries tell few' (subst (λ (s : State). s.accepted ≤ number) (sym run.state) above) in
+    let one : (number : ℕ) → number < b.book.state.accepted → count_by (has_rank number) b.ended ≡ 1 =
+    λ number below. once number run.run of_entries tell (subst HasNoLive (sym run.state) closed.down.live) few'
+    (subst (λ (s : State). number < s.accepted) (sym run.state) below) in
+    let all : length b.ended ≡ count_events is_accept b.book.history = closed-plain n b closed in
+    let as_many : length b.ended ≡ b.book.state.accepted = omega (arith, all, counted, few', ap (λ (s : State). s.accepted) run.state) in
     record {
-      each =
-          λ number below. once number run.run (subst (λ (s : State). AreClosed s b.book.history b.ended) run.opened run.agrees.closed) tell
-          (subst HasNoLive (sym run.state) closed.down.live) few' (subst (λ (s : State). number < s.accepted) (sym run.state) below);
-      as_many = omega (arith, closed.ended, counted, few', ap (λ (s : State). s.accepted) run.state);
+      tell = tell;
+      once = λ number. at-most-one number b.book.state.accepted (count_by (has_rank number) b.ended) (one number) (none number);
+      taken = none;
+      as_many = ap (λ (m : ℕ). 0 + m) as_many;
     }

@@ -6,7 +6,7 @@ use Rattle.mpm_base.specs.declared.addr.Addr.{Addr}
 use Rattle.conn_machine.specs.Made.{AreOfPasses, IsOpened}
 use Rattle.conn_machine.specs.declared.state.State.{State}
 use Rattle.board.specs.Book.{SeenBook}
-use Rattle.mpm_run.specs.FirstNumbers.{AreNumbers, opened_book}
+use Rattle.mpm_run.specs.FirstNumbers.{AreNumbers, folded_by, opened_book}
 use Rattle.mpm_run.specs.ListenInside.{Follows, HasStopped, IsAtStart, IsInStep, IsInTime, WatchesAll, bound_of, waits_of}
 use Rattle.mpm_run.specs.Times.{IsInformed, SignalsAre, TicksAre}
 use Rattle.mpm_run.specs.Watched.{AreClosedAtOnce, AreWatched, IsBoundOnce, IsHushed, IsOpenedAndHushed, link_watched}
@@ -148,9 +148,10 @@ watching-opened n (Some t) calls b opened idle =
     })
 
 -- and in the end each link that the table took
-pub are-watched : (told : Option FrontTold) (b : SeenBook) → IfSome told (WatchesAll b) → IfSome told (AreWatched b.history)
-are-watched None b all = tt
-are-watched (Some t) b all = all.watches
+pub are-watched : (n : RunNumbers) (told : Option FrontTold) (b : SeenBook) → IfSome told (WatchesAll b)
+    → IfSome told (AreWatched (folded_by n) b.history)
+are-watched n None b all = tt
+are-watched n (Some t) b all = record { before = omega arith; watches = all.watches.watches; failed = all.watches.failed }
 
 -- ## Patience
 

@@ -18,7 +18,7 @@ use Rattle.conn_machine.specs.Runs.{full_load, load}
 use Rattle.board.specs.Book.{HasEntryOf, full_stop}
 use Rattle.board.specs.Board.{SeenBoard}
 use Rattle.mpm_run.specs.Invocations.{IsNoInvocation, script_words}
-use Rattle.mpm_run.specs.FirstNumbers.{first_numbers}
+use Rattle.mpm_run.specs.FirstNumbers.{first_numbers, folded_by}
 use Rattle.mpm_run.specs.Listen.{HasClosedAll, IsRunFrom}
 use Rattle.mpm_run.specs.Patient.{ArePatient}
 use Rattle.mpm_run.specs.Report.{report_of}
@@ -144,7 +144,7 @@ Reports old new b = new.told ≡ option_map (λ written. written ++ board_report
 -- received a front of what its client sends, and all of it where the client had done
 pub record HasRun (clients : List (List ℕ)) (b : SeenBoard) : Type 0 where
   pub run : IsRunFrom first_numbers b
-  pub closed : HasClosedAll b
+  pub closed : HasClosedAll (folded_by first_numbers) b
   pub receive : AllReceive clients b.ended
 
 -- a script was read, and what is left is of a run of it: a board, and the front that played the script

@@ -4,6 +4,8 @@ use Rattle.mpm_base.specs.declared.addr.Addr.{Addr}
 use Rattle.mpm_base.specs.declared.shape.Shape.{Shape}
 use Rattle.mpm_config.specs.Shape.{default_shape}
 use Rattle.conn_machine.specs.Children.{is_in_bounds}
+use Rattle.conn_machine.specs.Folds.{opening_record}
+use Rattle.conn_machine.specs.declared.folded.Folded.{Folded}
 use Rattle.conn_machine.specs.States.{opening_state}
 use Rattle.conn_machine.specs.declared.state.State.{State}
 use Rattle.board.specs.Book.{SeenBook}
@@ -36,6 +38,10 @@ pub record AreNumbers (n : RunNumbers) : Type 0 where
 -- the state in which a run by these numbers opens
 abbrev pub opened_by : RunNumbers → State
 opened_by n = opening_state n.slots n.children n.shape
+
+-- what a run by these numbers has folded of its history: nothing yet
+abbrev pub folded_by : RunNumbers → Folded
+folded_by n = opening_record n.passes
 
 -- the book of a board that opens by these numbers
 abbrev pub opened_book : RunNumbers → SeenBook

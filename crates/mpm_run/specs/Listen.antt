@@ -1,17 +1,18 @@
 -- How a run ends, and what its history and its connections are.
-use Rattle.std.specs.Prelude.{◌≡◌, ℕ, true, false, length}
+use Rattle.std.specs.Prelude.{◌≡◌, ℕ, ◌+◌, true, false, length}
 use Rattle.std.specs.List.{list_any}
 use Rattle.conn_machine.specs.declared.state.State.{State}
 use Rattle.conn_machine.specs.Rows.{is_live}
 use Rattle.conn_machine.specs.Children.{child_at, is_empty}
 use Rattle.conn_machine.specs.Events.{count_events, is_accept}
-use Rattle.conn_machine.specs.Folds.{IsInPassOrderFrom, opening_record}
+use Rattle.conn_machine.specs.Folds.{IsInPassOrderFrom}
+use Rattle.conn_machine.specs.declared.folded.Folded.{Folded}
 use Rattle.conn_machine.specs.Runs.{Run, after}
 use Rattle.conn_machine.specs.Made.{AreMade, AreOfPasses}
 use Rattle.conn_machine.specs.Laws.{StaysSound}
 use Rattle.board.specs.Book.{StopsByLoad, TellsFullStop}
 use Rattle.board.specs.Board.{SeenBoard, Agrees}
-use Rattle.mpm_run.specs.FirstNumbers.{opened_by}
+use Rattle.mpm_run.specs.FirstNumbers.{folded_by, opened_by}
 use Rattle.mpm_run.specs.declared.run_numbers.RunNumbers.{RunNumbers}
 
 -- ## How a run ends
@@ -38,7 +39,7 @@ pub record IsClosedDown (s : State) : Type 0 where
 pub record IsRunFrom (n : RunNumbers) (b : SeenBoard) : Type 0 where
   pub opened : b.book.base ≡ opened_by n
   pub run : Run (opened_by n) b.book.history
-  pub order : IsInPassOrderFrom (opening_record n.passes) b.book.history
+  pub order : IsInPassOrderFrom (folded_by n) b.book.history
   pub made : AreMade (opened_by n) b.book.history
   pub few : AreOfPasses n.passes b.book.history
   pub state : after (opened_by n) b.book.history ≡ b.book.state
@@ -47,7 +48,8 @@ pub record IsRunFrom (n : RunNumbers) (b : SeenBoard) : Type 0 where
   pub full : TellsFullStop b.book.state.going b.book.history
   pub agrees : Agrees b
 
--- it closed each connection: none is live, each child is gone, and as many connections ended as were taken
-pub record HasClosedAll (b : SeenBoard) : Type 0 where
+-- it closed each connection: none is live, each child is gone, and as many connections ended as were taken, those that were folded
+-- among both
+pub record HasClosedAll (f : Folded) (b : SeenBoard) : Type 0 where
   pub down : IsClosedDown b.book.state
-  pub ended : length b.ended ≡ count_events is_accept b.book.history
+  pub ended : f.closed + length b.ended ≡ f.accepted + count_events is_accept b.book.history

@@ -34,7 +34,7 @@ use Rattle.mpm_run.specs.Links.{HandsOutTaken, TakesLinks, TurnsOneAway}
 use Rattle.mpm_run.specs.Listen.{HasNoLive, IsClosedDown}
 use Rattle.mpm_run.specs.Patient.{IsAtRest}
 use Rattle.mpm_run.specs.Started.{BeginsWithStarts}
-use Rattle.mpm_run.specs.Watched.{AreWatched, accepted_names}
+use Rattle.mpm_run.specs.Watched.{AreClosedAtOnce, accepted_names, link_watched, links_from}
 
 -- the waits of a front, where it tells
 abbrev pub waits_of : Option FrontTold → Option (List WaitTold)
@@ -124,16 +124,23 @@ abbrev pub number_after : ℕ → List ConnName → ℕ
 number_after number [] = number
 number_after number (name ∷ names) = number_after (next_count number) names
 
+-- the front watched each link that the table took once, in order, under the name of its connection; and where the watch failed the
+-- connection was closed at once
+pub record WatchesEach (history : List Entry) (t : FrontTold) : Type 0 where
+  pub watches : map link_watched t.watches ≡ links_from 0 (accepted_names history)
+  pub failed : AreClosedAtOnce history t.watches
+
 -- the front watches each link that the table took, and the table counted them
 pub record WatchesAll (b : SeenBook) (t : FrontTold) : Type 0 where
-  pub watches : AreWatched b.history t
+  pub watches : WatchesEach b.history t
   pub count : b.state.accepted ≡ number_after 0 (accepted_names b.history)
 
 -- the same of a front that tells, whose links tell
 abbrev pub IsWatching : {L : Type 0} → (L → LinkSeen) → Option FrontTold → SeenBook → Type 0
 IsWatching link_seen told b = LinksTell link_seen → IfSome told (WatchesAll b)
 
--- the same once the server has stopped, so that it turned one away only where the server was broken off
+-- where its links tell, the table took each link that the front handed out, or the server was broken off and the last one was turned
+-- away
 abbrev pub HandedOut : {L : Type 0} → (L → LinkSeen) → Option FrontTold → State → Type 0
 HandedOut link_seen told s = LinksTell link_seen → IfSome told (TakesLinks s)
 

@@ -85,7 +85,8 @@ pub record IsTaking (link : Option LinkTold) (old new : SeenListener) : Type 0 w
   pub told : new.front.told ≡ option_map (after_watch name watched link) old.front.told
   pub acts : Acts 0 (taking_events (record { name = name; way = way_of watched })) None old.board.book new.board.book
 
--- the table counts one connection more, and is in step with the front, where it was so with the link handed out
+-- the table counts one connection more; and where the front was in step with that count, as the link was handed out already, it
+-- still is
 pub record IsTakenStill (old new : SeenListener) : Type 0 where
   pub accepted : new.board.book.state.accepted ≡ next_count old.board.book.state.accepted
   pub step : IsInStep old.front.told new.board.book.state → IsInStep new.front.told new.board.book.state
@@ -95,8 +96,7 @@ pub record IsRefused (link : Option LinkTold) (old new : SeenListener) : Type 0 
   pub accepted : new.board.book.state.accepted ≡ old.board.book.state.accepted
   pub told : new.front.told ≡ option_map (after_turning_away link) old.front.told
 
--- a connection that could not be taken so: the table took it, and it was given up; or the table refused its link, which the front
--- turned away
+-- a connection that could not be taken so: the table took it all the same; or it refused its link, which the front turned away
 abbrev pub EndsTaking : Option LinkTold → SeenListener → SeenListener → Type 0
 EndsTaking link old new = IsTakenStill old new ⊎ IsRefused link old new
 

@@ -3,6 +3,7 @@ use Rattle.std.specs.Prelude.{◌≡◌, ◌≢◌, ℕ, List, [], ◌++◌, map
 use Rattle.std.specs.List.{range_with_len}
 use Rattle.mpm_base.specs.Front.{FrontTold}
 use Rattle.conn_machine.specs.declared.event.Entry.{Entry}
+use Rattle.conn_machine.specs.declared.folded.Folded.{Folded}
 use Rattle.conn_machine.specs.declared.event.Event.{Event}
 use Rattle.conn_machine.specs.declared.event.Event.TheVariants as event
 use Rattle.mpm_run.specs.declared.run_numbers.RunNumbers.{RunNumbers}
@@ -19,6 +20,6 @@ BeginsWithStarts count history = (rest : List Event) × (map (λ e. e.event) his
 abbrev pub first_children : RunNumbers → ℕ
 first_children n = min n.shape.target n.children
 
--- where the front waited at all, these children were started before all else, in order of number
-abbrev pub IsStartedFirst : RunNumbers → List Entry → FrontTold → Type 0
-IsStartedFirst n history t = t.waits ≢ [] → BeginsWithStarts (first_children n) history
+-- where nothing was folded, and the front waited at all, these children were started before all else, in order of number
+abbrev pub IsStartedFirst : Folded → RunNumbers → List Entry → FrontTold → Type 0
+IsStartedFirst f n history t = f.entries ≡ 0 → t.waits ≢ [] → BeginsWithStarts (first_children n) history

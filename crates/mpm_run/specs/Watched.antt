@@ -1,5 +1,5 @@
 -- What a run did with its front.
-use Rattle.std.specs.Prelude.{◌≡◌, ℕ, true, false, List, [], ◌∷◌, ◌++◌, map, Option, None, Some, ⊤}
+use Rattle.std.specs.Prelude.{◌≡◌, ℕ, true, false, List, [], ◌∷◌, ◌++◌, map, Option, None, Some, ⊤, ◌≤◌, drop, length}
 use Rattle.std.specs.List.{flat_map}
 use Rattle.mpm_base.specs.Count.{next_count}
 use Rattle.mpm_base.specs.Front.{FrontTold, WatchTold}
@@ -7,6 +7,7 @@ use Rattle.mpm_base.specs.declared.conn.Cause.TheVariants.{LinkFailed}
 use Rattle.mpm_base.specs.declared.conn.ConnName.{ConnName}
 use Rattle.mpm_base.specs.declared.conn.Tail.TheVariants.{Direct}
 use Rattle.conn_machine.specs.declared.event.Entry.{Entry}
+use Rattle.conn_machine.specs.declared.folded.Folded.{Folded}
 use Rattle.conn_machine.specs.declared.event.Event.{Event}
 use Rattle.conn_machine.specs.declared.event.Event.TheVariants as event
 use Rattle.conn_machine.specs.declared.event.Reply.{Reply}
@@ -79,8 +80,9 @@ abbrev pub AreClosedAtOnce : List Entry → List WatchTold → Type 0
 AreClosedAtOnce history [] = ⊤
 AreClosedAtOnce history (w ∷ watches) = (w.answer ≡ false → IsClosedAtOnce history w.name) × AreClosedAtOnce history watches
 
--- each link that the table took was watched once, in order, under the name of its connection, and no other link was; and where
--- the watch failed the connection was closed at once
-pub record AreWatched (history : List Entry) (t : FrontTold) : Type 0 where
-  pub watches : map link_watched t.watches ≡ links_from 0 (accepted_names history)
-  pub failed : AreClosedAtOnce history t.watches
+-- behind the watches of the connections whose entries were folded, each link that the table took was watched once, in order, under
+-- the name of its connection, and no other link was; and where the watch failed the connection was closed at once
+pub record AreWatched (f : Folded) (history : List Entry) (t : FrontTold) : Type 0 where
+  pub before : f.accepted ≤ length t.watches
+  pub watches : map link_watched (drop f.accepted t.watches) ≡ links_from f.accepted (accepted_names history)
+  pub failed : AreClosedAtOnce history (drop f.accepted t.watches)

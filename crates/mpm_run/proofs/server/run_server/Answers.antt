@@ -3,7 +3,7 @@ use Rattle.conn_machine.specs.Made.{AreOfPasses}
 use Rattle.conn_machine.specs.declared.state.State.{State}
 use Rattle.board.specs.Board.{SeenBoard}
 use Rattle.board.specs.Book.{SeenBook}
-use Rattle.mpm_run.specs.FirstNumbers.{opened_by}
+use Rattle.mpm_run.specs.FirstNumbers.{folded_by, opened_by}
 use Rattle.mpm_run.specs.Links.{TakesLinks}
 use Rattle.mpm_run.specs.ListenInside.{Follows, HasStopped, SeenListener, IsInTime, asked_children, waits_of}
 use Rattle.mpm_run.specs.Patient.{IsPatientRun}
@@ -68,8 +68,8 @@ returns-clause-watched g c tells =
     idle-bound c.args.numbers (g.F.Front.seen c.args.front) (g.F.Front.seen c.in-Ok.front) _ c.in-Ok.ensures.bound c.requires.unused c.requires.unasked in
     let all =
     c.listen.ensures.watched (λ holds. watching-opened c.args.numbers (g.F.Front.seen c.in-Ok.front).told _ c.in-Ok-open_board.board.book c.in-Ok-open_board.ensures.book idle) tells in
-    subst (λ (b : SeenBoard). IfSome (g.F.Front.seen c.listener.inside.front).told (AreWatched b.book.history)) (sym c.forget.ensures.same)
-    (subst (λ (l : SeenListener). IfSome l.front.told (AreWatched l.board.book.history)) (sym c.listener.view_is) (are-watched _ _ all))
+    subst (λ (b : SeenBoard). IfSome (g.F.Front.seen c.listener.inside.front).told (AreWatched (folded_by c.args.numbers) b.book.history)) (sym c.forget.ensures.same)
+    (subst (λ (l : SeenListener). IfSome l.front.told (AreWatched (folded_by c.args.numbers) l.board.book.history)) (sym c.listener.view_is) (are-watched c.args.numbers _ _ all))
 
 pub returns-clause-patient : goal.returns-clause-patient
 returns-clause-patient g c =
@@ -95,8 +95,8 @@ returns-clause-started g c =
     let started = c.listen.ensures.started (ap (λ (b : SeenBook). b.history) c.in-Ok-open_board.ensures.book) in
     let here = subst (λ (s : State). (waits_of c.listen.new.self.front.told ≡ waits_of (g.F.Front.seen c.in-Ok.front).told)
     ⊎ BeginsWithStarts (asked_children s) c.listen.new.self.board.book.history) base started in
-    subst (λ (b : SeenBoard). IfSome (g.F.Front.seen c.listener.inside.front).told (IsStartedFirst c.args.numbers b.book.history)) (sym c.forget.ensures.same)
-    (subst (λ (l : SeenListener). IfSome l.front.told (IsStartedFirst c.args.numbers l.board.book.history)) (sym c.listener.view_is)
+    subst (λ (b : SeenBoard). IfSome (g.F.Front.seen c.listener.inside.front).told (IsStartedFirst (folded_by c.args.numbers) c.args.numbers b.book.history)) (sym c.forget.ensures.same)
+    (subst (λ (l : SeenListener). IfSome l.front.told (IsStartedFirst (folded_by c.args.numbers) c.args.numbers l.board.book.history)) (sym c.listener.view_is)
     (started-first c.args.numbers (g.F.Front.seen c.in-Ok.front).told c.listen.new.self.front.told c.listen.new.self.board.book.history (unwaited _ _ idle) here))
 
 pub returns-clause-links : goal.returns-clause-links
