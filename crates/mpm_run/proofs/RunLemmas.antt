@@ -186,5 +186,5 @@ ends-links n b run once no_other counted closed tell few =
       tell = tell;
       once = λ number. at-most-one number b.book.state.accepted (count_by (has_rank number) b.ended) (one number) (none number);
       taken = none;
-      as_many = ap (λ (m : ℕ). 0 + m) as_many;
+      as_many = omega (arith, as_many);
     }

@@ -1,5 +1,5 @@
 -- A server that has just opened.
-use Rattle.std.proofs.Common.{◌≡◌, inl, inr, ℕ, true, List, [], ◌∷◌, ◌++◌, map, Option, None, Some, option_map, IfSome, refl, sym, ap, subst, ◌∙◌}
+use Rattle.std.proofs.Common.{◌≡◌, inl, inr, ℕ, true, List, [], ◌∷◌, ◌++◌, map, Option, None, Some, option_map, IfSome, refl, sym, ap, subst, ◌∙◌, arith}
 use Rattle.mpm_base.specs.Clock.{asked_at}
 use Rattle.mpm_base.specs.Front.{Binds, BoundTold, FrontSeen, FrontTold, IsUnused, WaitTold, after_bind, moments_of}
 use Rattle.mpm_base.specs.declared.addr.Addr.{Addr}

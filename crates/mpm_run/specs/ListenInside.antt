@@ -9,6 +9,7 @@ use Rattle.mpm_base.specs.Count.{NeverFalls, Rises, next_count}
 use Rattle.mpm_base.specs.Link.{LinkTold, LinkSeen}
 use Rattle.mpm_base.specs.declared.conn.ConnName.{ConnName}
 use Rattle.conn_machine.specs.declared.row.Row.{Row}
+use Rattle.conn_machine.specs.declared.event.Entry.{Entry}
 use Rattle.conn_machine.specs.declared.event.Why.{Why}
 use Rattle.conn_machine.specs.declared.event.Why.TheVariants as why
 use Rattle.conn_machine.specs.declared.state.Going.{Going}
