@@ -7,17 +7,17 @@ use Rattle.atomic_table.specs.declared.ruled.Mark.{Mark}
 use Rattle.recycle_perch.specs.declared.looks.Looks.{Looks}
 use Rattle.recycle_perch.specs.declared.word.Step.{Step}
 use Rattle.recycle_perch.specs.Looking.{AllLookAt, LookAt, found_none, found_taken, with_step_at, with_steps}
-use Rattle.recycle_perch.specs.Words.{give_step, take_step}
+use Rattle.recycle_perch.specs.Words.{deeds, laid_none, laid_one, took_none, took_one}
 
 -- ## A step at a place
 
 -- the mark at a place has one step more
-pub step_at : (marks : List (Mark (List Step))) (i : ℕ) (m w : Mark (List Step)) (step : Step) → m ≡ get_or marks i m
-    → w.view ≡ m.view ++ step ∷ [] → map (λ mark. mark.view) (set marks i w) ≡ with_step_at i step (map (λ mark. mark.view) marks)
+pub step_at : (marks : List (Mark (List Step))) (i : ℕ) (m w : Mark (List Step)) (step : ℕ × ℕ) → m ≡ get_or marks i m
+    → deeds w.view ≡ deeds m.view ++ step ∷ [] → map (λ mark. deeds mark.view) (set marks i w) ≡ with_step_at i step (map (λ mark. deeds mark.view) marks)
 step_at [] i m w step at now = refl
 step_at (x ∷ marks) zero m w step at now =
-    ap (λ steps. steps ∷ map (λ (mark : Mark (List Step)). mark.view) marks) (now ∙ ap (λ (mark : Mark (List Step)). mark.view ++ step ∷ []) at)
-step_at (x ∷ marks) (suc i) m w step at now = ap (λ all. x.view ∷ all) (step_at marks i m w step at now)
+    ap (λ steps. steps ∷ map (λ (mark : Mark (List Step)). deeds mark.view) marks) (now ∙ ap (λ (mark : Mark (List Step)). deeds mark.view ++ step ∷ []) at)
+step_at (x ∷ marks) (suc i) m w step at now = ap (λ all. deeds x.view ∷ all) (step_at marks i m w step at now)
 
 -- it is of the same word
 pub words_at : (marks : List (Mark (List Step))) (i : ℕ) (m w : Mark (List Step)) → m ≡ get_or marks i m → w.perch ≡ m.perch
@@ -43,7 +43,7 @@ pub image_at : {X : Type 0} (f : X → ℕ) (xs : List X) (i : ℕ) (x : X) → 
 image_at f xs i x within at = get_or-map f xs i x 0 within ∙ ap f (sym at)
 
 -- one place more that passes the test
-pub steps_more : (step : Step) (test : ℕ → Bool) (numbers : List ℕ) (i : ℕ) (all : List (List Step)) → i < length numbers
+pub steps_more : (step : ℕ × ℕ) (test : ℕ → Bool) (numbers : List ℕ) (i : ℕ) (all : List (List (ℕ × ℕ))) → i < length numbers
     → test (get_or numbers i 0) ≡ true
     → with_steps step test (take (suc i) numbers) all ≡ with_step_at i step (with_steps step test (take i numbers) all)
 steps_more step test [] i all within passes = absurd (omega arith)
@@ -55,7 +55,7 @@ steps_more step test (n ∷ numbers) (suc i) (before ∷ others) within passes =
     ap (λ rest. (if test n then before ++ step ∷ [] else before) ∷ rest) (steps_more step test numbers i others (omega arith) passes)
 
 -- one place more that doesn't
-pub steps_same : (step : Step) (test : ℕ → Bool) (numbers : List ℕ) (i : ℕ) (all : List (List Step)) → i < length numbers
+pub steps_same : (step : ℕ × ℕ) (test : ℕ → Bool) (numbers : List ℕ) (i : ℕ) (all : List (List (ℕ × ℕ))) → i < length numbers
     → test (get_or numbers i 0) ≡ false
     → with_steps step test (take (suc i) numbers) all ≡ with_steps step test (take i numbers) all
 steps_same step test [] i all within fails = absurd (omega arith)
@@ -70,49 +70,49 @@ steps_same step test (n ∷ numbers) (suc i) (before ∷ others) within fails =
 
 -- a place was looked at
 pub looked : {C : Type 0} (o : Option C) (marks : List (Mark (List Step))) (i : ℕ) (m w : Mark (List Step)) → m ≡ get_or marks i m
-    → MatchOption o (w.view ≡ m.view ++ take_step 0 ∷ []) (λ _. w.view ≡ m.view ++ take_step 2 ∷ [])
-    → MatchOption o (map (λ mark. mark.view) (set marks i w) ≡ with_step_at i (take_step 0) (map (λ mark. mark.view) marks))
-    (λ _. map (λ mark. mark.view) (set marks i w) ≡ with_step_at i (take_step 2) (map (λ mark. mark.view) marks))
-looked None marks i m w at told = step_at marks i m w (take_step 0) at told
-looked (Some x) marks i m w at told = step_at marks i m w (take_step 2) at told
+    → MatchOption o (deeds w.view ≡ deeds m.view ++ took_none ∷ []) (λ _. deeds w.view ≡ deeds m.view ++ took_one ∷ [])
+    → MatchOption o (map (λ mark. deeds mark.view) (set marks i w) ≡ with_step_at i took_none (map (λ mark. deeds mark.view) marks))
+    (λ _. map (λ mark. deeds mark.view) (set marks i w) ≡ with_step_at i took_one (map (λ mark. deeds mark.view) marks))
+looked None marks i m w at told = step_at marks i m w took_none at told
+looked (Some x) marks i m w at told = step_at marks i m w took_one at told
 
 -- a place of the carrier was tried
 pub tried : {C E : Type 0} (r : Result C E) (marks : List (Mark (List Step))) (i : ℕ) (m w : Mark (List Step)) (number carrier : ℕ)
     → m ≡ get_or marks i m → number ≡ carrier
-    → MatchResult r (λ _. w.view ≡ m.view ++ give_step 0 ∷ []) (λ _. w.view ≡ m.view ++ give_step 2 ∷ [])
+    → MatchResult r (λ _. deeds w.view ≡ deeds m.view ++ laid_one ∷ []) (λ _. deeds w.view ≡ deeds m.view ++ laid_none ∷ [])
     → MatchResult r
-    (λ _. (number ≡ carrier) × (map (λ mark. mark.view) (set marks i w) ≡ with_step_at i (give_step 0) (map (λ mark. mark.view) marks)))
-    (λ _. map (λ mark. mark.view) (set marks i w)
-    ≡ (if number == carrier then with_step_at i (give_step 2) (map (λ mark. mark.view) marks) else map (λ mark. mark.view) marks))
-tried (Ok x) marks i m w number carrier at its told = (its, step_at marks i m w (give_step 0) at told)
+    (λ _. (number ≡ carrier) × (map (λ mark. deeds mark.view) (set marks i w) ≡ with_step_at i laid_one (map (λ mark. deeds mark.view) marks)))
+    (λ _. map (λ mark. deeds mark.view) (set marks i w)
+    ≡ (if number == carrier then with_step_at i laid_none (map (λ mark. deeds mark.view) marks) else map (λ mark. deeds mark.view) marks))
+tried (Ok x) marks i m w number carrier at its told = (its, step_at marks i m w laid_one at told)
 tried (Err x) marks i m w number carrier at its told =
-    let all = map (λ (mark : Mark (List Step)). mark.view) marks in
-    step_at marks i m w (give_step 2) at told
-    ∙ sym (ap (λ b. if b then with_step_at i (give_step 2) all else all) (eq-eqb number carrier its))
+    let all = map (λ (mark : Mark (List Step)). deeds mark.view) marks in
+    step_at marks i m w laid_none at told
+    ∙ sym (ap (λ b. if b then with_step_at i laid_none all else all) (eq-eqb number carrier its))
 
 -- one place more was found empty
-pub none_more : (numbers : List ℕ) (i : ℕ) (before now after : List (List Step)) → i < length numbers
-    → now ≡ found_none (take i numbers) before → after ≡ with_step_at i (take_step 0) now → after ≡ found_none (take (i + 1) numbers) before
+pub none_more : (numbers : List ℕ) (i : ℕ) (before now after : List (List (ℕ × ℕ))) → i < length numbers
+    → now ≡ found_none (take i numbers) before → after ≡ with_step_at i took_none now → after ≡ found_none (take (i + 1) numbers) before
 none_more numbers i before now after within so_far step =
-    step ∙ (ap (with_step_at i (take_step 0)) so_far
-    ∙ (sym (steps_more (take_step 0) (λ _. true) numbers i before within refl) ∙ ap (λ k. found_none (take k numbers) before) (sym (add-one i))))
+    step ∙ (ap (with_step_at i took_none) so_far
+    ∙ (sym (steps_more took_none (λ _. true) numbers i before within refl) ∙ ap (λ k. found_none (take k numbers) before) (sym (add-one i))))
 
-taken_as : (b : Bool) (numbers : List ℕ) (i carrier : ℕ) (before now after : List (List Step)) → i < length numbers
+taken_as : (b : Bool) (numbers : List ℕ) (i carrier : ℕ) (before now after : List (List (ℕ × ℕ))) → i < length numbers
     → (slice_index numbers i == carrier) ≡ b → now ≡ found_taken carrier (take i numbers) before
-    → after ≡ (if b then with_step_at i (give_step 2) now else now) → after ≡ found_taken carrier (take (suc i) numbers) before
+    → after ≡ (if b then with_step_at i laid_none now else now) → after ≡ found_taken carrier (take (suc i) numbers) before
 taken_as true numbers i carrier before now after within passes so_far step =
-    step ∙ (ap (with_step_at i (give_step 2)) so_far ∙ sym (steps_more (give_step 2) (λ number. number == carrier) numbers i before within passes))
+    step ∙ (ap (with_step_at i laid_none) so_far ∙ sym (steps_more laid_none (λ number. number == carrier) numbers i before within passes))
 taken_as false numbers i carrier before now after within fails so_far step =
-    step ∙ (so_far ∙ sym (steps_same (give_step 2) (λ number. number == carrier) numbers i before within fails))
+    step ∙ (so_far ∙ sym (steps_same laid_none (λ number. number == carrier) numbers i before within fails))
 
 -- one place more was tried
-pub taken_more : (numbers : List ℕ) (i back carrier : ℕ) (before now after : List (List Step)) → i < length numbers → back ≡ carrier
+pub taken_more : (numbers : List ℕ) (i back carrier : ℕ) (before now after : List (List (ℕ × ℕ))) → i < length numbers → back ≡ carrier
     → now ≡ found_taken carrier (take i numbers) before
-    → after ≡ (if slice_index numbers i == back then with_step_at i (give_step 2) now else now)
+    → after ≡ (if slice_index numbers i == back then with_step_at i laid_none now else now)
     → after ≡ found_taken carrier (take (i + 1) numbers) before
 taken_more numbers i back carrier before now after within its so_far step =
     taken_as (slice_index numbers i == carrier) numbers i carrier before now after within refl so_far
-    (step ∙ ap (λ k. if slice_index numbers i == k then with_step_at i (give_step 2) now else now) its)
+    (step ∙ ap (λ k. if slice_index numbers i == k then with_step_at i laid_none now else now) its)
     ∙ ap (λ k. found_taken carrier (take k numbers) before) (sym (add-one i))
 
 -- ## Elements of changed lists

@@ -1,3 +1,4 @@
 pub mod Looking
 pub mod Resting
+pub mod StepsInside
 pub mod Words

@@ -2,8 +2,7 @@
 use Rattle.std.specs.Prelude.{◌≡◌, ℕ, zero, suc, ◌<◌, ◌==◌, Bool, true, List, [], ◌∷◌, ◌++◌, map, length, take, slice_get, slice_index, Some, Vec, vec_capacity, if◌then◌else◌}
 use Rattle.recycle_perch.specs.declared.looks.Looks.{Looks}
 use Rattle.recycle_perch.specs.declared.place.Place.{Place}
-use Rattle.recycle_perch.specs.declared.word.Step.{Step}
-use Rattle.recycle_perch.specs.Words.{give_step, take_step}
+use Rattle.recycle_perch.specs.Words.{deeds, laid_none, laid_one, took_none, took_one}
 
 -- ## The places, and looks at them
 
@@ -19,9 +18,9 @@ numbers_of places = map (λ place. place.number) places
 abbrev pub HasPlaceMore : {K : Type 0} → ℕ → List (Place K) → List (Place K) → Type 0
 HasPlaceMore {K} carrier before after = (place : Place K) × (after ≡ before ++ place ∷ []) × (place.number ≡ carrier)
 
--- the steps at each place
-abbrev pub steps_of : Looks → List (List Step)
-steps_of looks = map (λ mark. mark.view) looks.marks.items
+-- what the steps at each place did
+abbrev pub steps_of : Looks → List (List (ℕ × ℕ))
+steps_of looks = map (λ mark. deeds mark.view) looks.marks.items
 
 -- the looks are at the words of these names, in their order, and have room for so many
 pub record LookAt (names : List ℕ) (most : ℕ) (looks : Looks) : Type 0 where
@@ -43,36 +42,36 @@ AllAreOf places all = AllLookAt (words_of places.items) (vec_capacity places) al
 -- ## The steps of one call
 
 -- one step more at a place
-abbrev pub with_step_at : ℕ → Step → List (List Step) → List (List Step)
+abbrev pub with_step_at : ℕ → ℕ × ℕ → List (List (ℕ × ℕ)) → List (List (ℕ × ℕ))
 with_step_at place step [] = []
 with_step_at zero step (before ∷ others) = (before ++ step ∷ []) ∷ others
 with_step_at (suc place) step (before ∷ others) = before ∷ with_step_at place step others
 
 -- one step more at each place whose number passes the test
-abbrev pub with_steps : Step → (ℕ → Bool) → List ℕ → List (List Step) → List (List Step)
+abbrev pub with_steps : ℕ × ℕ → (ℕ → Bool) → List ℕ → List (List (ℕ × ℕ)) → List (List (ℕ × ℕ))
 with_steps step test [] all = all
 with_steps step test (number ∷ numbers) [] = []
 with_steps step test (number ∷ numbers) (before ∷ others) =
     (if test number then before ++ step ∷ [] else before) ∷ with_steps step test numbers others
 
--- one step more at each of the places, which would have taken a carrier and found none
-abbrev pub found_none : List ℕ → List (List Step) → List (List Step)
-found_none numbers all = with_steps (take_step 0) (λ _. true) numbers all
+-- one step more at each of the places, which found none there, and left none
+abbrev pub found_none : List ℕ → List (List (ℕ × ℕ)) → List (List (ℕ × ℕ))
+found_none numbers all = with_steps took_none (λ _. true) numbers all
 
--- one step more at each place of this carrier, which would have laid it down and found another one there
-abbrev pub found_taken : ℕ → List ℕ → List (List Step) → List (List Step)
-found_taken carrier numbers all = with_steps (give_step 2) (λ number. number == carrier) numbers all
+-- one step more at each place of this carrier, which found another one there, and left it
+abbrev pub found_taken : ℕ → List ℕ → List (List (ℕ × ℕ)) → List (List (ℕ × ℕ))
+found_taken carrier numbers all = with_steps laid_none (λ number. number == carrier) numbers all
 
 -- the carrier of that number was taken from its place; at each place before that one none was found
-pub record WasTaken (carrier : ℕ) (numbers : List ℕ) (before after : List (List Step)) : Type 0 where
+pub record WasTaken (carrier : ℕ) (numbers : List ℕ) (before after : List (List (ℕ × ℕ))) : Type 0 where
   pub place : ℕ
   pub within : place < length numbers
   pub its : slice_index numbers place ≡ carrier
-  pub steps : after ≡ with_step_at place (take_step 2) (found_none (take place numbers) before)
+  pub steps : after ≡ with_step_at place took_one (found_none (take place numbers) before)
 
 -- the carrier of that number was laid down on a place of its own, where none rested
-pub record WasLaidDown (carrier : ℕ) (numbers : List ℕ) (before after : List (List Step)) : Type 0 where
+pub record WasLaidDown (carrier : ℕ) (numbers : List ℕ) (before after : List (List (ℕ × ℕ))) : Type 0 where
   pub place : ℕ
   pub within : place < length numbers
   pub its : slice_index numbers place ≡ carrier
-  pub steps : after ≡ with_step_at place (give_step 0) (found_taken carrier (take place numbers) before)
+  pub steps : after ≡ with_step_at place laid_one (found_taken carrier (take place numbers) before)

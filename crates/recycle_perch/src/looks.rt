@@ -2,7 +2,7 @@
 ghost use Rattle.std.specs.Prelude.{◌<◌, [], ◌∷◌, ◌++◌, IfOk, vec_len, vec_capacity};
 ghost use Rattle.recycle_perch.specs.Looking.{LookAt};
 
-use crate::word::{AnyStep, RestRule, Step};
+use crate::word::{RestRule, Step, TakeStep};
 use atomic_table::{Mark, RuledPerch};
 use mpm_base::NoMemory;
 use std::alloc::Global;
@@ -30,7 +30,7 @@ impl Looks {
         requires { vec_len self.old.marks < vec_capacity self.old.marks }
         ensures words { (words : _) (room : _) → LookAt words room self.old → LookAt (words ++ perch.now.name ∷ []) room self.new }
     {
-        let (_, mark, _) = perch.swap_new_mark::<AnyStep>(0);
+        let (_, mark, _) = perch.swap_new_mark::<TakeStep>(0);
         self.marks.push_reserved(mark);
     }
 }

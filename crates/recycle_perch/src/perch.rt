@@ -2,7 +2,7 @@
 ghost use Rattle.std.specs.Prelude.{◌≡◌, ◌≤◌, ◌<◌, ◌==◌, [], ◌∷◌, ◌++◌, All, IfOk, IfSome, IfErr, OnOk, OnErr, MatchOption, MatchResult, slice_index, vec_len, vec_capacity, if◌then◌else◌};
 ghost use Rattle.recycle_perch.specs.Looking.{AllAreOf, AllLookAt, AreOf, HasPlaceMore, WasLaidDown, WasTaken, found_none, found_taken, numbers_of, steps_of, with_step_at, words_of};
 ghost use Rattle.recycle_perch.specs.Resting.{IsFreeCarrier, IsWokenCarrier};
-ghost use Rattle.recycle_perch.specs.Words.{give_step, take_step};
+ghost use Rattle.recycle_perch.specs.Words.{laid_none, laid_one, took_none, took_one};
 
 use crate::looks::Looks;
 use crate::place::Place;
@@ -115,7 +115,7 @@ impl<'a, K: Kept> Perch<'a, K> {
         requires looks { AreOf self.now.places looks.old }
         requires place { i < vec_len self.now.places }
         ensures looks { AreOf self.now.places looks.new }
-        ensures step { MatchOption result (steps_of looks.new ≡ with_step_at i (take_step 0) (steps_of looks.old)) (λ _. steps_of looks.new ≡ with_step_at i (take_step 2) (steps_of looks.old)) }
+        ensures step { MatchOption result (steps_of looks.new ≡ with_step_at i took_none (steps_of looks.old)) (λ _. steps_of looks.new ≡ with_step_at i took_one (steps_of looks.old)) }
         ensures own { IfSome result (λ carrier. carrier.seat.table_id ≡ self.now.shared.now.table.shared.table_id) }
         ensures free { IfSome result (λ carrier. IsFreeCarrier carrier.seat.me) }
         ensures woken { IfSome result (λ carrier. IsWokenCarrier carrier.seat.me) }
@@ -155,7 +155,7 @@ impl<'a, K: Kept> Perch<'a, K> {
         requires looks { AreOf self.now.places looks.old }
         requires place { i < vec_len self.now.places }
         ensures looks { AreOf self.now.places looks.new }
-        ensures step { MatchResult result (λ _. (slice_index (numbers_of self.now.places.items) i ≡ carrier.seat.me.0.who.number) × (steps_of looks.new ≡ with_step_at i (give_step 0) (steps_of looks.old))) (λ _. steps_of looks.new ≡ (if slice_index (numbers_of self.now.places.items) i == carrier.seat.me.0.who.number then with_step_at i (give_step 2) (steps_of looks.old) else steps_of looks.old)) }
+        ensures step { MatchResult result (λ _. (slice_index (numbers_of self.now.places.items) i ≡ carrier.seat.me.0.who.number) × (steps_of looks.new ≡ with_step_at i laid_one (steps_of looks.old))) (λ _. steps_of looks.new ≡ (if slice_index (numbers_of self.now.places.items) i == carrier.seat.me.0.who.number then with_step_at i laid_none (steps_of looks.old) else steps_of looks.old)) }
         ensures own { IfErr result (λ back. back.seat.table_id ≡ self.now.shared.now.table.shared.table_id) }
         ensures free { IfErr result (λ back. IsFreeCarrier back.seat.me) }
         ensures number { IfErr result (λ back. back.seat.me.0.who.number ≡ carrier.seat.me.0.who.number) }

@@ -1,10 +1,10 @@
 //! A place for the carrier of one number.
 ghost use Rattle.std.specs.Prelude.{◌≡◌, ◌≢◌, [], ◌∷◌, ◌++◌, IfSome, IfErr, MatchOption, MatchResult};
 ghost use Rattle.recycle_perch.specs.Resting.{IsFreeCarrier, IsWokenCarrier};
-ghost use Rattle.recycle_perch.specs.Words.{give_step, take_step};
+ghost use Rattle.recycle_perch.specs.Words.{deeds, laid_none, laid_one, took_none, took_one};
 ghost use Rattle.table_rule.specs.Views.{resting_view};
 
-use crate::word::{AnyStep, RestRule, Step};
+use crate::word::{GiveStep, RestRule, Step, TakeStep};
 use atomic_table::{Mark, RuledPerch, Seat};
 use board_lock::{Carrier, Shared, number};
 use conn_machine::Kept;
@@ -70,13 +70,13 @@ impl<K: Kept> Place<K> {
         requires own { self.now.perch.table_id ≡ shared.now.table.shared.table_id }
         requires mark { mark.old.perch ≡ self.now.perch.name }
         ensures mark { mark.new.perch ≡ mark.old.perch }
-        ensures step { MatchOption result (mark.new.view ≡ mark.old.view ++ take_step 0 ∷ []) (λ _. mark.new.view ≡ mark.old.view ++ take_step 2 ∷ []) }
+        ensures step { MatchOption result (deeds mark.new.view ≡ deeds mark.old.view ++ took_none ∷ []) (λ _. deeds mark.new.view ≡ deeds mark.old.view ++ took_one ∷ []) }
         ensures own { IfSome result (λ carrier. carrier.seat.table_id ≡ shared.now.table.shared.table_id) }
         ensures free { IfSome result (λ carrier. IsFreeCarrier carrier.seat.me) }
         ensures woken { IfSome result (λ carrier. IsWokenCarrier carrier.seat.me) }
         ensures number { IfSome result (λ carrier. carrier.seat.me.0.who.number ≡ self.now.number) }
     {
-        let (_, seat) = self.perch.swap::<AnyStep>(mark, 0);
+        let (_, seat) = self.perch.swap::<TakeStep>(mark, 0);
         match seat {
             Some(seat) => Some(wake_up(shared, seat, self.number)),
             None => None,
@@ -96,14 +96,14 @@ impl<K: Kept> Place<K> {
         requires free { IsFreeCarrier carrier.seat.me }
         requires number { carrier.seat.me.0.who.number ≡ self.now.number }
         ensures mark { mark.new.perch ≡ mark.old.perch }
-        ensures step { MatchResult result (λ _. mark.new.view ≡ mark.old.view ++ give_step 0 ∷ []) (λ _. mark.new.view ≡ mark.old.view ++ give_step 2 ∷ []) }
+        ensures step { MatchResult result (λ _. deeds mark.new.view ≡ deeds mark.old.view ++ laid_one ∷ []) (λ _. deeds mark.new.view ≡ deeds mark.old.view ++ laid_none ∷ []) }
         ensures own { IfErr result (λ back. back.seat.table_id ≡ shared.now.table.shared.table_id) }
         ensures free { IfErr result (λ back. IsFreeCarrier back.seat.me) }
         ensures woken { IfErr result (λ back. IsWokenCarrier back.seat.me) }
         ensures number { IfErr result (λ back. back.seat.me.0.who.number ≡ self.now.number) }
     {
         let seat = lay_down(shared, carrier);
-        match self.perch.give::<AnyStep>(mark, seat, 0, 2) {
+        match self.perch.give::<GiveStep>(mark, seat, 0, 2) {
             Ok(()) => Ok(()),
             Err(seat) => Err(wake_up(shared, seat, self.number)),
         }

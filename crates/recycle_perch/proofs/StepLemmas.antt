@@ -1,0 +1,167 @@
+-- Each step keeps the rule of a place.
+use Rattle.std.proofs.Common.{◌≡◌, ◌≢◌, ◌⊎◌, inl, inr, ⊎_elim, ℕ, zero, suc, ◌+◌, ◌<◌, ◌≤◌, Bool, true, false, cond, ◌==◌, List, [], ◌∷◌, ◌++◌, length, set, refl, sym, ap, ◌∙◌, subst, arith, eq-eqb, ne_eqb, append-nil, map}
+use Rattle.std.proofs.lemmas.List.{length-set, map_push}
+use Rattle.std.proofs.lemmas.List.Elements.{filter-append}
+use mathlib.Core.Option.{some, some-ne-none, some-injective}
+use lib.ListN.{get_elem?}
+use prog.Atomic.{either}
+use Rattle.atomic_table.proofs.Lists.{at_set}
+use Rattle.atomic_table.specs.Marked.{Comes, Keeps}
+use Rattle.recycle_perch.specs.declared.word.Step.{Step}
+use Rattle.recycle_perch.specs.StepsInside.{AddsStep, Gives, Takes}
+use Rattle.recycle_perch.specs.Words.{AreNumbered, AreOfMarks, GoesOn, IsRestNumber, IsRestWord, deed, steps_by}
+
+-- ## One step behind all others
+
+-- the steps leave a number that the word may be
+last_rests : (word : ℕ) (steps : List Step) (last : ℕ) → IsRestNumber word → GoesOn word steps last → IsRestNumber last
+last_rests word [] last rests on = subst IsRestNumber on rests
+last_rests word (step ∷ steps) last rests on = last_rests step.leaves steps last on.1 on.2
+
+goes_on_more : (word : ℕ) (steps : List Step) (last : ℕ) (step : Step) → GoesOn word steps last → step.found ≡ last → IsRestNumber step.leaves
+    → GoesOn word (steps ++ step ∷ []) step.leaves
+goes_on_more word [] last step on found rests = (found ∙ sym on, rests, refl)
+goes_on_more word (s ∷ steps) last step on found rests = (on.0, on.1, goes_on_more s.leaves steps last step on.2 found rests)
+
+numbered_more : (number : ℕ) (steps : List Step) (step : Step) → AreNumbered number steps → step.at ≡ number + length steps
+    → AreNumbered number (steps ++ step ∷ [])
+numbered_more number [] step numbered at = (omega (arith, at), tt)
+numbered_more number (s ∷ steps) step numbered at = (numbered.0, numbered_more (suc number) steps step numbered.1 (omega (arith, at)))
+
+of_marks_more : (before after : ℕ) (steps : List Step) (step : Step) → before ≤ after → AreOfMarks before steps → step.by < after
+    → AreOfMarks after (steps ++ step ∷ [])
+of_marks_more before after [] step le of_marks below = (below, tt)
+of_marks_more before after (s ∷ steps) step le of_marks below =
+    let first = of_marks.0 in (omega arith, of_marks_more before after steps step le of_marks.1 below)
+
+-- ## The steps that were made with one mark
+
+by_one : (b : Bool) (mark : ℕ) (steps : List Step) (step : Step) → (step.by == mark) ≡ b
+    → steps_by mark (steps ++ step ∷ []) ≡ steps_by mark steps ++ cond b (step ∷ []) []
+by_one b mark steps step test =
+    filter-append (λ (s : Step). s.by == mark) steps (step ∷ []) ∙ ap (λ t. steps_by mark steps ++ cond t (step ∷ []) []) test
+
+-- one more with this mark
+by_it : (mark : ℕ) (steps : List Step) (step : Step) → step.by ≡ mark → steps_by mark (steps ++ step ∷ []) ≡ steps_by mark steps ++ step ∷ []
+by_it mark steps step its = by_one true mark steps step (eq-eqb step.by mark its)
+
+-- one more with another mark
+by_other : (mark : ℕ) (steps : List Step) (step : Step) → step.by ≢ mark → steps_by mark (steps ++ step ∷ []) ≡ steps_by mark steps
+by_other mark steps step other = by_one false mark steps step (ne_eqb step.by mark other) ∙ append-nil (steps_by mark steps)
+
+-- a mark that isn't there made none
+by_none : (mark : ℕ) (steps : List Step) → AreOfMarks mark steps → steps_by mark steps ≡ []
+by_none mark [] of_marks = refl
+by_none mark (s ∷ steps) of_marks =
+    let below = of_marks.0 in
+    ap (λ t. cond t (s ∷ steps_by mark steps) (steps_by mark steps)) (ne_eqb s.by mark (λ e. omega (arith, e, below)))
+    ∙ by_none mark steps of_marks.1
+
+-- ## The views of all marks
+
+has_within : {A : Type 0} (l : List A) (i : ℕ) (a : A) → get_elem? l i ≡ some a → i < length l
+has_within [] i a e = absurd (some-ne-none a (sym e))
+has_within (x ∷ xs) zero a e = omega arith
+has_within (x ∷ xs) (suc i) a e = let rest = has_within xs i a e in omega arith
+
+has_more : {A : Type 0} (l : List A) (a b : A) (j : ℕ) → get_elem? (l ++ a ∷ []) j ≡ some b
+    → ((j ≢ length l) × (get_elem? l j ≡ some b)) ⊎ ((j ≡ length l) × (a ≡ b))
+has_more [] a b zero e = inr (refl, some-injective a b e)
+has_more [] a b (suc j) e = absurd (some-ne-none b (sym e))
+has_more (x ∷ xs) a b zero e = inl ((λ h. omega arith), e)
+has_more (x ∷ xs) a b (suc j) e =
+    ⊎_elim (λ t. let n = t.0 in inl ((λ h. n (omega arith)), t.1)) (λ t. inr (ap suc t.0, t.1)) (has_more xs a b j e)
+
+long_more : {A : Type 0} (l : List A) (a : A) → length (l ++ a ∷ []) ≡ suc (length l)
+long_more [] a = refl
+long_more (x ∷ xs) a = ap suc (long_more xs a)
+
+-- ## Steps with marks
+
+-- a step of these numbers
+abbrev step_of : ℕ → ℕ → ℕ → ℕ → Step
+step_of at by found leaves = record { at = at; by = by; found = found; leaves = leaves }
+
+-- what a step tells
+adds : (found left : ℕ) (before : List Step) (step : Step) → step.found ≡ found → step.leaves ≡ left → IsRestNumber found
+    → AddsStep found left before (before ++ step ∷ [])
+adds found left before step is leaves rests =
+    let same : deed step ≡ (found, left) = λ i. (is i, leaves i) in
+    (map_push deed before step ∙ ap (λ d. map deed before ++ d ∷ []) same, rests)
+
+-- a step with a mark
+one_step : (found left mark : ℕ) (view : List Step) (views : List (List Step)) → IsRestWord found views → get_elem? views mark ≡ some view
+    → IsRestNumber left → (w : List Step) × IsRestWord left (set views mark w) × AddsStep found left view w
+one_step found left mark view views rule at rests =
+    let step = step_of (length rule.trail) mark found left in
+    let w = view ++ step ∷ [] in
+    let long = length-set views mark w in
+    let within = has_within views mark view at in
+    let le : length views ≤ length (set views mark w) = omega (arith, long) in
+    let below : mark < length (set views mark w) = omega (arith, long, within) in
+    let next : length rule.trail ≡ 0 + length rule.trail = omega arith in (
+      w,
+      record {
+        trail = rule.trail ++ step ∷ [];
+        goes_on = goes_on_more 0 rule.trail found step rule.goes_on refl rests;
+        numbered = numbered_more 0 rule.trail step rule.numbered next;
+        of_marks = of_marks_more (length views) (length (set views mark w)) rule.trail step le rule.of_marks below;
+        known = λ j u e. ⊎_elim
+            (λ (z : (j ≡ mark) × (w ≡ u)).
+            sym z.1 ∙ (ap (λ l. l ++ step ∷ []) (rule.known mark view at)
+            ∙ (sym (by_it mark rule.trail step refl) ∙ ap (λ k. steps_by k (rule.trail ++ step ∷ [])) (sym z.0))))
+            (λ (z : (j ≢ mark) × (get_elem? views j ≡ some u)).
+            rule.known j u z.1 ∙ sym (by_other j rule.trail step (λ (same : mark ≡ j). z.0 (sym same))))
+            (at_set views mark j w u e);
+      },
+      adds found left view step refl refl (last_rests 0 rule.trail found (inl refl) rule.goes_on),
+    )
+
+-- a step that takes what rests there
+pub takes : (mark : ℕ) (view : List Step) → Keeps IsRestWord mark view (λ _. 0) (Takes 0 0 view)
+takes mark view found views rule at small = one_step found 0 mark view views rule at (inl refl)
+
+left_rests : (found : ℕ) → IsRestNumber found → IsRestNumber (either (found == 0) 2 found)
+left_rests found (inl none) = subst (λ n. IsRestNumber (either (n == 0) 2 n)) (sym none) (inr refl)
+left_rests found (inr one) = subst (λ n. IsRestNumber (either (n == 0) 2 n)) (sym one) (inr refl)
+
+-- a step that lays a carrier down
+pub gives : (mark : ℕ) (view : List Step) → Keeps IsRestWord mark view (λ n. either (n == 0) 2 n) (Gives 0 2 view)
+gives mark view found views rule at small =
+    one_step found (either (found == 0) 2 found) mark view views rule at
+    (left_rests found (last_rests 0 rule.trail found (inl refl) rule.goes_on))
+
+-- a step with a new mark
+pub comes : Comes IsRestWord 0 (Takes 0 0 [])
+comes found views rule small =
+    let mark = length views in
+    let step = step_of (length rule.trail) mark found 0 in
+    let w = step ∷ [] in
+    let long = long_more views w in
+    let le : length views ≤ length (views ++ w ∷ []) = omega (arith, long) in
+    let below : length views < length (views ++ w ∷ []) = omega (arith, long) in
+    let next : length rule.trail ≡ 0 + length rule.trail = omega arith in (
+      w,
+      record {
+        trail = rule.trail ++ step ∷ [];
+        goes_on = goes_on_more 0 rule.trail found step rule.goes_on refl (inl refl);
+        numbered = numbered_more 0 rule.trail step rule.numbered next;
+        of_marks = of_marks_more mark (length (views ++ w ∷ [])) rule.trail step le rule.of_marks below;
+        known = λ j u e. ⊎_elim
+            (λ (z : (j ≢ mark) × (get_elem? views j ≡ some u)).
+            rule.known j u z.1 ∙ sym (by_other j rule.trail step (λ (same : mark ≡ j). z.0 (sym same))))
+            (λ (z : (j ≡ mark) × (w ≡ u)).
+            sym z.1 ∙ (ap (λ l. l ++ step ∷ []) (sym (by_none mark rule.trail rule.of_marks))
+            ∙ (sym (by_it mark rule.trail step refl) ∙ ap (λ k. steps_by k (rule.trail ++ step ∷ [])) (sym z.0))))
+            (has_more views w u j e);
+      },
+      adds found 0 [] step refl refl (last_rests 0 rule.trail found (inl refl) rule.goes_on),
+    )
+
+-- no step was made yet
+pub begins : IsRestWord 0 ([] ∷ [])
+begins = record { trail = []; goes_on = refl; numbered = tt; of_marks = tt; known = one }
+  where
+    one : (mark : ℕ) (view : List Step) → get_elem? ([] ∷ []) mark ≡ some view → view ≡ []
+    one zero view e = sym (some-injective _ _ e)
+    one (suc mark) view e = absurd (some-ne-none view (sym e))
