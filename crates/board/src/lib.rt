@@ -14,6 +14,7 @@ mod board;
 mod book;
 mod faults;
 mod finds;
+pub mod laws;
 mod waits;
 
 pub use board::{Board, Taken};

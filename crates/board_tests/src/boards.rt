@@ -15,6 +15,7 @@ mod deadlines;
 mod lingering;
 mod lives;
 
+use board::laws::answered_connections_fit_their_rows;
 use board::{AcceptFault, Board, BoardFault};
 use conn_machine::{Commanded, Event, Going, Why, may};
 use conn_state::{Conn, Nothing, ReadTurn, WriteTurn};

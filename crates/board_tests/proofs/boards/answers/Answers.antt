@@ -5,7 +5,8 @@ use Rattle.conn_machine.specs.declared.event.Event.TheVariants as event
 use Rattle.conn_machine.specs.declared.state.State.{State}
 use Rattle.conn_machine.specs.Table.{next}
 use Rattle.board.specs.Board.{SeenBoard}
-use Rattle.board_tests.proofs.AnswerLemmas.{of-answered}
+use Rattle.board.specs.Events.{IsDecided}
+use Rattle.board.specs.Fits.{IsOf}
 use Rattle.board_tests.proofs.boards.answers.Goals as goal
 
 pub sends-requires-clause-fits : goal.sends-requires-clause-fits
