@@ -1,41 +1,57 @@
--- What a reservation leaves, by what its try found.
-use Rattle.std.proofs.Common.{◌≡◌, ◌+◌, ◌-◌, ◌<◌, ◌≤◌, ℕ, true, false, nat_lt, Some, None, sym, ap, ◌∙◌, arith}
+-- What a reservation leaves, by what its steps found.
+use Rattle.std.proofs.Common.{◌≡◌, ◌+◌, ◌-◌, ◌<◌, ◌≤◌, ℕ, true, false, nat_lt, [], ◌∷◌, ◌++◌, Some, None, sym, ap, ◌∙◌, append_assoc, arith}
 use Rattle.std.proofs.lemmas.Bool.{lt-ltb, le-ltb}
 use Rattle.table_rule.specs.declared.view.Hand.{Hand}
+use Rattle.table_rule.specs.declared.view.Past.{Past}
 use Rattle.table_rule.specs.declared.view.View.{View}
 use Rattle.table_rule.specs.IdleWords.{bias}
+use Rattle.table_rule.specs.Pasts.{MakesSteps, StepsOn, moves_of}
 use Rattle.table_rule.specs.Steps.{tried_view}
-use Rattle.table_rule.specs.Views.{IsIdle, noting_view, with_permit, with_try}
+use Rattle.table_rule.specs.Views.{IsIdle, with_permit, with_try}
 use Rattle.idle_workers.specs.Found.{ReservesPermit}
 
 child_is : (k : ℕ) → k + 2 - 2 ≡ k
 child_is k = omega arith
 
 -- a try that found a permit
-pub reserved : (k found : ℕ) (v w : View) → bias < found → w ≡ noting_view found (tried_view (nat_lt bias found) (k + 2 - 2) v) → ReservesPermit k v true w
+pub reserved : (k found : ℕ) (v w : View) → bias < found → StepsOn (k + 2) found (found - 1) v (tried_view (nat_lt bias found) (k + 2 - 2) v) w
+    → ReservesPermit k v true w
 reserved k found v w above told =
     let b : nat_lt bias found ≡ true = lt-ltb bias found above in
     record {
-      word = found;
+      found = found;
       answer = sym b;
-      kept = λ _. told ∙ ap (λ t. noting_view found (tried_view t (k + 2 - 2) v)) b ∙ ap (λ i. noting_view found (with_permit (Some i) v)) (child_is k);
+      kept = λ _. told.0 ∙ ap (λ t. record (tried_view t (k + 2 - 2) v) { past = w.past }) b
+          ∙ ap (λ i. record (with_permit (Some i) v) { past = w.past }) (child_is k);
+      tried = λ _. told.1;
+      left = λ e. absurd (cc);
       undone = λ e. absurd (cc);
     }
 
 -- a try that found none
-pub missed : (k found : ℕ) (v w : View) → found ≤ bias → w ≡ noting_view found (tried_view (nat_lt bias found) (k + 2 - 2) v)
-    → w ≡ noting_view found (with_try (Some k) v)
+pub missed : (k found : ℕ) (v w : View) → found ≤ bias → StepsOn (k + 2) found (found - 1) v (tried_view (nat_lt bias found) (k + 2 - 2) v) w
+    → w ≡ record (with_try (Some k) v) { past = w.past }
 missed k found v w low told =
-    told ∙ ap (λ t. noting_view found (tried_view t (k + 2 - 2) v)) (le-ltb bias found low) ∙ ap (λ i. noting_view found (with_try (Some i) v)) (child_is k)
+    told.0 ∙ ap (λ t. record (tried_view t (k + 2 - 2) v) { past = w.past }) (le-ltb bias found low)
+    ∙ ap (λ i. record (with_try (Some i) v) { past = w.past }) (child_is k)
+
+-- two steps, one after the other
+steps_both : (a b : ℕ × ℕ × ℕ) (p q r : Past) → MakesSteps (a ∷ []) p q → MakesSteps (b ∷ []) q r → MakesSteps (a ∷ b ∷ []) p r
+steps_both a b p q r one two =
+    (two.0 ∙ one.0, two.1 ∙ (ap (λ l. l ++ b ∷ []) one.1 ∙ append_assoc (moves_of p.steps) (a ∷ []) (b ∷ [])))
 
 -- it was undone
-pub undone : (k found : ℕ) (v w u : View) → IsIdle v → found ≤ bias → w ≡ noting_view found (tried_view (nat_lt bias found) (k + 2 - 2) v) → u ≡ with_try None w
+pub undone : (k found again : ℕ) (v w u : View) → IsIdle v → found ≤ bias
+    → StepsOn (k + 2) found (found - 1) v (tried_view (nat_lt bias found) (k + 2 - 2) v) w → StepsOn (k + 2) again (again + 1) w (with_try None w) u
     → ReservesPermit k v false u
-undone k found v w u idle low told back =
+undone k found again v w u idle low told back =
     let none : v.hand.trying ≡ None = ap (λ (h : Hand). h.trying) idle.hand in
     record {
-      word = found;
+      found = found;
       answer = sym (le-ltb bias found low);
       kept = λ e. absurd (cc);
-      undone = λ _. back ∙ ap (with_try None) (missed k found v w low told) ∙ ap (λ t. noting_view found (with_try t v)) (sym none);
+      tried = λ e. absurd (cc);
+      left = λ _. back.0 ∙ ap (λ (q : View). record (with_try None q) { past = u.past }) (missed k found v w low told)
+          ∙ ap (λ t. record (with_try t v) { past = u.past }) (sym none);
+      undone = λ _. (again, steps_both (k + 2, found, found - 1) (k + 2, again, again + 1) v.past w.past u.past told.1 back.1);
     }

@@ -1,5 +1,6 @@
 -- What calls on idle words found and leave.
-use Rattle.std.specs.Prelude.{◌≡◌, ◌≤◌, ℕ, ◌+◌, ◌-◌, ◌==◌, nat_lt, Bool, true, false, slice_index, List, Some}
+use Rattle.std.specs.Prelude.{◌≡◌, ◌≤◌, ℕ, ◌+◌, ◌-◌, ◌==◌, nat_lt, Bool, true, false, slice_index, List, [], ◌∷◌, None, Some}
+use prog.Atomic.{either}
 use Rattle.conn_machine.specs.declared.event.Entry.{Entry}
 use Rattle.conn_machine.specs.Laws.{idle_in}
 use Rattle.conn_machine.specs.Made.{AreMade, HasSeen}
@@ -7,33 +8,45 @@ use Rattle.conn_machine.specs.Runs.{after}
 use Rattle.table_rule.specs.declared.view.View.{View}
 use Rattle.table_rule.specs.Histories.{threads_of}
 use Rattle.table_rule.specs.IdleWords.{bias}
+use Rattle.table_rule.specs.Pasts.{MakesSteps, StepsOn}
 use Rattle.table_rule.specs.Steps.{uncredited_view}
-use Rattle.table_rule.specs.Views.{noting_view, with_permit}
+use Rattle.table_rule.specs.Views.{credited_view, with_permit}
 
--- a worker of the child was reserved, exactly where the word that was found was above the bias; else nothing but what was found changed
+-- a worker of the child was reserved, exactly where the step that tried found a number above the bias; it left one less. Else
+-- another step left one more again, and nothing but the two steps changed
 pub record ReservesPermit (child : ℕ) (old : View) (done : Bool) (new : View) : Type 0 where
-  pub word : ℕ
-  pub answer : done ≡ nat_lt bias word
-  pub kept : done ≡ true → new ≡ noting_view word (with_permit (Some child) old)
-  pub undone : done ≡ false → new ≡ noting_view word old
+  pub found : ℕ
+  pub answer : done ≡ nat_lt bias found
+  pub kept : done ≡ true → new ≡ record (with_permit (Some child) old) { past = new.past }
+  pub tried : done ≡ true → MakesSteps ((child + 2, found, found - 1) ∷ []) old.past new.past
+  pub left : done ≡ false → new ≡ record old { past = new.past }
+  pub undone : done ≡ false → (again : ℕ) × MakesSteps ((child + 2, found, found - 1) ∷ (child + 2, again, again + 1) ∷ []) old.past new.past
 
--- the answer is the word less the bias, at that step; after some history that passes made as they may, and that goes on from
--- what the pass had seen, at least so many workers of the child carried no connection
+-- the permit went, by one step, which left one more than it found
+abbrev pub ReleasesPermit : ℕ → View → View → Type 0
+ReleasesPermit child old new = (found : ℕ) × StepsOn (child + 2) found (found + 1) old (with_permit None old) new
+
+-- the answer is the number that a step found, less the bias, and the step changed nothing; after some history that passes made
+-- as they may, and that goes on from what the pass had seen, at least so many workers of the child carried no connection
 pub record FoundIdle (child : ℕ) (old : View) (count : ℕ) (new : View) : Type 0 where
-  pub word : ℕ
-  pub answer : count ≡ word - bias
-  pub view : new ≡ noting_view word old
+  pub found : ℕ
+  pub answer : count ≡ found - bias
+  pub looked : StepsOn (child + 2) found found old old new
   pub history : List Entry
   pub seen : HasSeen old.who.number old.seen history
   pub made : AreMade old.origin.state history
   pub free : count ≤ idle_in (after old.origin.state history) child
 
--- the child lost its credit, exactly where the word that was found was the bias and its workers, so that no permit and no
--- try was out
+-- the child has the credit of so many workers, by one step, which left so many more than it found
+abbrev pub GivesCredit : ℕ → ℕ → View → View → Type 0
+GivesCredit child threads old new = (found : ℕ) × StepsOn (child + 2) found (found + threads) old (credited_view child threads old) new
+
+-- the child lost its credit, exactly where a step found the bias and its workers, so that no permit and no try was out, and left
+-- the bias; else it left what it found
 pub record TakesCreditBack (child threads : ℕ) (old : View) (done : Bool) (new : View) : Type 0 where
-  pub word : ℕ
-  pub answer : done ≡ (word == bias + threads)
-  pub view : new ≡ noting_view word (uncredited_view done child old)
+  pub found : ℕ
+  pub answer : done ≡ (found == bias + threads)
+  pub tried : StepsOn (child + 2) found (either done bias found) old (uncredited_view done child old) new
 
 -- the child may be given the credit of so many workers: the pass is the listener's, and has the turn; the child has no
 -- credit, and so many workers in what the turn found

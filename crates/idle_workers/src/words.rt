@@ -1,7 +1,7 @@
 //! The calls on idle words.
 ghost use Rattle.std.specs.Prelude.{◌≡◌, ◌<◌, Some, None, IsSome, slice_index};
-ghost use Rattle.idle_workers.specs.Found.{FoundIdle, MayCredit, ReservesPermit, TakesCreditBack};
-ghost use Rattle.table_rule.specs.Views.{IsIdle, credited_view, with_permit};
+ghost use Rattle.idle_workers.specs.Found.{FoundIdle, GivesCredit, MayCredit, ReleasesPermit, ReservesPermit, TakesCreditBack};
+ghost use Rattle.table_rule.specs.Views.{IsIdle};
 
 use board_lock::{Carrier, Pass, Shared};
 use conn_machine::Kept;
@@ -36,7 +36,8 @@ pub fn release<K: Kept>(shared: &Shared<K>, carrier: &mut Carrier<K>, child: u32
     requires permit { carrier.old.seat.me.0.hand.permit ≡ Some child }
     requires row { carrier.old.seat.me.0.row ≡ None }
     ensures own { carrier.new.seat.table_id ≡ carrier.old.seat.table_id }
-    ensures free { carrier.new.seat.me ≡ (with_permit None carrier.old.seat.me.0, carrier.old.seat.me.1) }
+    ensures hand { carrier.new.seat.me.1 ≡ carrier.old.seat.me.1 }
+    ensures released { ReleasesPermit child carrier.old.seat.me.0 carrier.new.seat.me.0 }
 {
     let table = &shared.table.shared;
     laws::permit_is_released::<K>();
@@ -66,7 +67,8 @@ pub fn credit<K: Kept>(shared: &Shared<K>, pass: &mut Pass<K>, child: u32, threa
     requires turn { IsSome pass.old.seat.me.0.turn }
     requires may { MayCredit pass.old.seat.me.0 child threads }
     ensures own { pass.new.seat.table_id ≡ pass.old.seat.table_id }
-    ensures credited { pass.new.seat.me ≡ (credited_view child threads pass.old.seat.me.0, pass.old.seat.me.1) }
+    ensures hand { pass.new.seat.me.1 ≡ pass.old.seat.me.1 }
+    ensures credited { GivesCredit child threads pass.old.seat.me.0 pass.new.seat.me.0 }
 {
     let table = &shared.table.shared;
     laws::child_is_credited::<K>();

@@ -5,7 +5,7 @@ use Rattle.std.proofs.lemmas.List.{get_or-map, length-map}
 use Rattle.std.proofs.lemmas.Option.{same_Some}
 use Rattle.atomic_table.specs.declared.ruled.Mark.{Mark}
 use Rattle.recycle_perch.specs.declared.looks.Looks.{Looks}
-use Rattle.recycle_perch.specs.declared.word.Step.{Step}
+use Rattle.table_rule.specs.declared.trail.Step.{Step}
 use Rattle.recycle_perch.specs.Looking.{AllLookAt, LookAt, found_none, found_taken, with_step_at, with_steps}
 use Rattle.recycle_perch.specs.Words.{deeds, laid_none, laid_one, took_none, took_one}
 

@@ -1,61 +1,27 @@
 -- Each step keeps the rule of a place.
-use Rattle.std.proofs.Common.{◌≡◌, ◌≢◌, ◌⊎◌, inl, inr, ⊎_elim, ℕ, zero, suc, ◌+◌, ◌<◌, ◌≤◌, Bool, true, false, cond, ◌==◌, List, [], ◌∷◌, ◌++◌, length, set, refl, sym, ap, ◌∙◌, subst, arith, eq-eqb, ne_eqb, append-nil, map}
+use Rattle.std.proofs.Common.{◌≡◌, ◌≢◌, ◌⊎◌, inl, inr, ⊎_elim, ℕ, zero, suc, ◌+◌, ◌<◌, ◌≤◌, ◌==◌, List, [], ◌∷◌, ◌++◌, length, set, refl, sym, ap, ◌∙◌, subst, arith, map}
 use Rattle.std.proofs.lemmas.List.{length-set, map_push}
-use Rattle.std.proofs.lemmas.List.Elements.{filter-append}
 use mathlib.Core.Option.{some, some-ne-none, some-injective}
 use lib.ListN.{get_elem?}
 use prog.Atomic.{either}
 use Rattle.atomic_table.proofs.Lists.{at_set}
 use Rattle.atomic_table.specs.Marked.{Comes, Keeps}
-use Rattle.recycle_perch.specs.declared.word.Step.{Step}
+use Rattle.table_rule.specs.declared.trail.Step.{Step}
 use Rattle.recycle_perch.specs.StepsInside.{AddsStep, Gives, Takes}
-use Rattle.recycle_perch.specs.Words.{AreNumbered, AreOfMarks, GoesOn, IsRestNumber, IsRestWord, deed, steps_by}
+use Rattle.recycle_perch.specs.Words.{IsRestNumber, IsRestWord, LeaveRests, deed}
+use Rattle.table_rule.proofs.TrailLemmas.{by_it, by_none, by_other, goes_on_more, numbered_more, of_makers_more, of_more_makers, step_of}
+use Rattle.table_rule.specs.Trails.{GoesOn, steps_by}
 
 -- ## One step behind all others
 
 -- the steps leave a number that the word may be
-last_rests : (word : ℕ) (steps : List Step) (last : ℕ) → IsRestNumber word → GoesOn word steps last → IsRestNumber last
-last_rests word [] last rests on = subst IsRestNumber on rests
-last_rests word (step ∷ steps) last rests on = last_rests step.leaves steps last on.1 on.2
+last_rests : (word : ℕ) (steps : List Step) (last : ℕ) → IsRestNumber word → LeaveRests steps → GoesOn word steps last → IsRestNumber last
+last_rests word [] last rests leave on = subst IsRestNumber on rests
+last_rests word (step ∷ steps) last rests leave on = last_rests step.leaves steps last leave.0 leave.1 on.1
 
-goes_on_more : (word : ℕ) (steps : List Step) (last : ℕ) (step : Step) → GoesOn word steps last → step.found ≡ last → IsRestNumber step.leaves
-    → GoesOn word (steps ++ step ∷ []) step.leaves
-goes_on_more word [] last step on found rests = (found ∙ sym on, rests, refl)
-goes_on_more word (s ∷ steps) last step on found rests = (on.0, on.1, goes_on_more s.leaves steps last step on.2 found rests)
-
-numbered_more : (number : ℕ) (steps : List Step) (step : Step) → AreNumbered number steps → step.at ≡ number + length steps
-    → AreNumbered number (steps ++ step ∷ [])
-numbered_more number [] step numbered at = (omega (arith, at), tt)
-numbered_more number (s ∷ steps) step numbered at = (numbered.0, numbered_more (suc number) steps step numbered.1 (omega (arith, at)))
-
-of_marks_more : (before after : ℕ) (steps : List Step) (step : Step) → before ≤ after → AreOfMarks before steps → step.by < after
-    → AreOfMarks after (steps ++ step ∷ [])
-of_marks_more before after [] step le of_marks below = (below, tt)
-of_marks_more before after (s ∷ steps) step le of_marks below =
-    let first = of_marks.0 in (omega arith, of_marks_more before after steps step le of_marks.1 below)
-
--- ## The steps that were made with one mark
-
-by_one : (b : Bool) (mark : ℕ) (steps : List Step) (step : Step) → (step.by == mark) ≡ b
-    → steps_by mark (steps ++ step ∷ []) ≡ steps_by mark steps ++ cond b (step ∷ []) []
-by_one b mark steps step test =
-    filter-append (λ (s : Step). s.by == mark) steps (step ∷ []) ∙ ap (λ t. steps_by mark steps ++ cond t (step ∷ []) []) test
-
--- one more with this mark
-by_it : (mark : ℕ) (steps : List Step) (step : Step) → step.by ≡ mark → steps_by mark (steps ++ step ∷ []) ≡ steps_by mark steps ++ step ∷ []
-by_it mark steps step its = by_one true mark steps step (eq-eqb step.by mark its)
-
--- one more with another mark
-by_other : (mark : ℕ) (steps : List Step) (step : Step) → step.by ≢ mark → steps_by mark (steps ++ step ∷ []) ≡ steps_by mark steps
-by_other mark steps step other = by_one false mark steps step (ne_eqb step.by mark other) ∙ append-nil (steps_by mark steps)
-
--- a mark that isn't there made none
-by_none : (mark : ℕ) (steps : List Step) → AreOfMarks mark steps → steps_by mark steps ≡ []
-by_none mark [] of_marks = refl
-by_none mark (s ∷ steps) of_marks =
-    let below = of_marks.0 in
-    ap (λ t. cond t (s ∷ steps_by mark steps) (steps_by mark steps)) (ne_eqb s.by mark (λ e. omega (arith, e, below)))
-    ∙ by_none mark steps of_marks.1
+leave_more : (steps : List Step) (step : Step) → LeaveRests steps → IsRestNumber step.leaves → LeaveRests (steps ++ step ∷ [])
+leave_more [] step leave rests = (rests, tt)
+leave_more (s ∷ steps) step leave rests = (leave.0, leave_more steps step leave.1 rests)
 
 -- ## The views of all marks
 
@@ -78,10 +44,6 @@ long_more (x ∷ xs) a = ap suc (long_more xs a)
 
 -- ## Steps with marks
 
--- a step of these numbers
-abbrev step_of : ℕ → ℕ → ℕ → ℕ → Step
-step_of at by found leaves = record { at = at; by = by; found = found; leaves = leaves }
-
 -- what a step tells
 adds : (found left : ℕ) (before : List Step) (step : Step) → step.found ≡ found → step.leaves ≡ left → IsRestNumber found
     → AddsStep found left before (before ++ step ∷ [])
@@ -93,7 +55,7 @@ adds found left before step is leaves rests =
 one_step : (found left mark : ℕ) (view : List Step) (views : List (List Step)) → IsRestWord found views → get_elem? views mark ≡ some view
     → IsRestNumber left → (w : List Step) × IsRestWord left (set views mark w) × AddsStep found left view w
 one_step found left mark view views rule at rests =
-    let step = step_of (length rule.trail) mark found left in
+    let step = step_of 0 (length rule.trail) mark found left in
     let w = view ++ step ∷ [] in
     let long = length-set views mark w in
     let within = has_within views mark view at in
@@ -103,9 +65,10 @@ one_step found left mark view views rule at rests =
       w,
       record {
         trail = rule.trail ++ step ∷ [];
-        goes_on = goes_on_more 0 rule.trail found step rule.goes_on refl rests;
+        goes_on = goes_on_more 0 rule.trail found step rule.goes_on refl;
+        rests = leave_more rule.trail step rule.rests rests;
         numbered = numbered_more 0 rule.trail step rule.numbered next;
-        of_marks = of_marks_more (length views) (length (set views mark w)) rule.trail step le rule.of_marks below;
+        of_marks = of_makers_more (length (set views mark w)) rule.trail step (of_more_makers (length views) (length (set views mark w)) rule.trail le rule.of_marks) below;
         known = λ j u e. ⊎_elim
             (λ (z : (j ≡ mark) × (w ≡ u)).
             sym z.1 ∙ (ap (λ l. l ++ step ∷ []) (rule.known mark view at)
@@ -114,7 +77,7 @@ one_step found left mark view views rule at rests =
             rule.known j u z.1 ∙ sym (by_other j rule.trail step (λ (same : mark ≡ j). z.0 (sym same))))
             (at_set views mark j w u e);
       },
-      adds found left view step refl refl (last_rests 0 rule.trail found (inl refl) rule.goes_on),
+      adds found left view step refl refl (last_rests 0 rule.trail found (inl refl) rule.rests rule.goes_on),
     )
 
 -- a step that takes what rests there
@@ -129,13 +92,13 @@ left_rests found (inr one) = subst (λ n. IsRestNumber (either (n == 0) 2 n)) (s
 pub gives : (mark : ℕ) (view : List Step) → Keeps IsRestWord mark view (λ n. either (n == 0) 2 n) (Gives 0 2 view)
 gives mark view found views rule at small =
     one_step found (either (found == 0) 2 found) mark view views rule at
-    (left_rests found (last_rests 0 rule.trail found (inl refl) rule.goes_on))
+    (left_rests found (last_rests 0 rule.trail found (inl refl) rule.rests rule.goes_on))
 
 -- a step with a new mark
 pub comes : Comes IsRestWord 0 (Takes 0 0 [])
 comes found views rule small =
     let mark = length views in
-    let step = step_of (length rule.trail) mark found 0 in
+    let step = step_of 0 (length rule.trail) mark found 0 in
     let w = step ∷ [] in
     let long = long_more views w in
     let le : length views ≤ length (views ++ w ∷ []) = omega (arith, long) in
@@ -144,9 +107,10 @@ comes found views rule small =
       w,
       record {
         trail = rule.trail ++ step ∷ [];
-        goes_on = goes_on_more 0 rule.trail found step rule.goes_on refl (inl refl);
+        goes_on = goes_on_more 0 rule.trail found step rule.goes_on refl;
+        rests = leave_more rule.trail step rule.rests (inl refl);
         numbered = numbered_more 0 rule.trail step rule.numbered next;
-        of_marks = of_marks_more mark (length (views ++ w ∷ [])) rule.trail step le rule.of_marks below;
+        of_marks = of_makers_more (length (views ++ w ∷ [])) rule.trail step (of_more_makers mark (length (views ++ w ∷ [])) rule.trail le rule.of_marks) below;
         known = λ j u e. ⊎_elim
             (λ (z : (j ≢ mark) × (get_elem? views j ≡ some u)).
             rule.known j u z.1 ∙ sym (by_other j rule.trail step (λ (same : mark ≡ j). z.0 (sym same))))
@@ -155,12 +119,12 @@ comes found views rule small =
             ∙ (sym (by_it mark rule.trail step refl) ∙ ap (λ k. steps_by k (rule.trail ++ step ∷ [])) (sym z.0))))
             (has_more views w u j e);
       },
-      adds found 0 [] step refl refl (last_rests 0 rule.trail found (inl refl) rule.goes_on),
+      adds found 0 [] step refl refl (last_rests 0 rule.trail found (inl refl) rule.rests rule.goes_on),
     )
 
 -- no step was made yet
 pub begins : IsRestWord 0 ([] ∷ [])
-begins = record { trail = []; goes_on = refl; numbered = tt; of_marks = tt; known = one }
+begins = record { trail = []; goes_on = refl; rests = tt; numbered = tt; of_marks = tt; known = one }
   where
     one : (mark : ℕ) (view : List Step) → get_elem? ([] ∷ []) mark ≡ some view → view ≡ []
     one zero view e = sym (some-injective _ _ e)

@@ -1,7 +1,7 @@
 -- What a step on the word of a place tells who made it.
 use Rattle.std.specs.Prelude.{◌≡◌, ◌==◌, ℕ, List, [], ◌∷◌, ◌++◌}
 use prog.Atomic.{either}
-use Rattle.recycle_perch.specs.declared.word.Step.{Step}
+use Rattle.table_rule.specs.declared.trail.Step.{Step}
 use Rattle.recycle_perch.specs.Words.{IsRestNumber, deeds}
 
 -- a step is put behind those before it, which found this number and left that one

@@ -1,8 +1,9 @@
 -- The word of a place, the steps on it, and what its marks know of them.
-use Rattle.std.specs.Prelude.{◌≡◌, ◌==◌, ◌<◌, ℕ, suc, List, [], ◌∷◌, ◌⊎◌, ⊤, filter, length, map}
+use Rattle.std.specs.Prelude.{◌≡◌, ℕ, List, [], ◌∷◌, ◌⊎◌, ⊤, length, map}
 use mathlib.Core.Option.{some}
 use lib.ListN.{get_elem?}
-use Rattle.recycle_perch.specs.declared.word.Step.{Step}
+use Rattle.table_rule.specs.declared.trail.Step.{Step}
+use Rattle.table_rule.specs.Trails.{AreNumbered, AreOfMakers, GoesOn, steps_by}
 
 -- ## The rule of a place
 
@@ -10,31 +11,18 @@ use Rattle.recycle_perch.specs.declared.word.Step.{Step}
 abbrev pub IsRestNumber : ℕ → Type 0
 IsRestNumber word = (word ≡ 0) ⊎ (word ≡ 2)
 
--- each step found what the one before it left, from this number on to that one
-abbrev pub GoesOn : ℕ → List Step → ℕ → Type 0
-GoesOn word [] last = word ≡ last
-GoesOn word (step ∷ steps) last = (step.found ≡ word) × IsRestNumber step.leaves × GoesOn step.leaves steps last
-
--- the steps are numbered from there on
-abbrev pub AreNumbered : ℕ → List Step → Type 0
-AreNumbered number [] = ⊤
-AreNumbered number (step ∷ steps) = (step.at ≡ number) × AreNumbered (suc number) steps
-
--- each step was made with one of so many marks
-abbrev pub AreOfMarks : ℕ → List Step → Type 0
-AreOfMarks marks [] = ⊤
-AreOfMarks marks (step ∷ steps) = (step.by < marks) × AreOfMarks marks steps
-
--- the steps that were made with that mark
-abbrev pub steps_by : ℕ → List Step → List Step
-steps_by mark steps = filter (λ (step : Step). step.by == mark) steps
+-- each step left a number that the word may be
+abbrev pub LeaveRests : List Step → Type 0
+LeaveRests [] = ⊤
+LeaveRests (step ∷ steps) = IsRestNumber step.leaves × LeaveRests steps
 
 -- the rule of a place: its word is what the last of all steps left, and each mark knows the steps that were made with it
 pub record IsRestWord (word : ℕ) (views : List (List Step)) : Type 0 where
   pub trail : List Step
   pub goes_on : GoesOn 0 trail word
+  pub rests : LeaveRests trail
   pub numbered : AreNumbered 0 trail
-  pub of_marks : AreOfMarks (length views) trail
+  pub of_marks : AreOfMakers (length views) trail
   pub known : (mark : ℕ) (view : List Step) → get_elem? views mark ≡ some view → view ≡ steps_by mark trail
 
 -- ## What a step did

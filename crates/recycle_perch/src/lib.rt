@@ -14,4 +14,3 @@ mod word;
 
 pub use looks::Looks;
 pub use perch::Perch;
-pub use word::Step;

@@ -2,11 +2,12 @@
 ghost use Rattle.std.specs.Prelude.{◌<◌, [], ◌∷◌, ◌++◌, IfOk, vec_len, vec_capacity};
 ghost use Rattle.recycle_perch.specs.Looking.{LookAt};
 
-use crate::word::{RestRule, Step, TakeStep};
+use crate::word::{RestRule, TakeStep};
 use atomic_table::{Mark, RuledPerch};
 use mpm_base::NoMemory;
 use std::alloc::Global;
 use std::collections::LinkedList;
+use table_rule::Step;
 
 /// What the steps of one caller on the words of a perch found: a mark of the word of each place, in their order.
 #[derive(Drop)]

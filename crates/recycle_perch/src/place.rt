@@ -4,12 +4,12 @@ ghost use Rattle.recycle_perch.specs.Resting.{IsFreeCarrier, IsWokenCarrier};
 ghost use Rattle.recycle_perch.specs.Words.{deeds, laid_none, laid_one, took_none, took_one};
 ghost use Rattle.table_rule.specs.Views.{resting_view};
 
-use crate::word::{GiveStep, RestRule, Step, TakeStep};
+use crate::word::{GiveStep, RestRule, TakeStep};
 use atomic_table::{Mark, RuledPerch, Seat};
 use board_lock::{Carrier, Shared, number};
 use conn_machine::Kept;
 use std::collections::LinkedList;
-use table_rule::{RestStep, View, WakeStep, laws};
+use table_rule::{RestStep, Step, View, WakeStep, laws};
 
 /// A place for the carrier of one number.
 #[derive(Drop)]

@@ -5,18 +5,7 @@ ghost use Rattle.recycle_perch.specs.Words.{IsRestWord};
 
 use atomic_table::{PerchPlay, PerchRule};
 use std::collections::LinkedList;
-
-/// A step on the word of a place. Contracts alone speak of it, and no value of it is made.
-pub struct Step {
-    /// How many steps were made on this word before it.
-    pub at: u64,
-    /// The mark with which it was made.
-    pub by: u64,
-    /// The number that it found: 2 where a carrier rested there, and else 0.
-    pub found: u64,
-    /// The number that it left.
-    pub leaves: u64,
-}
+use table_rule::Step;
 
 /// The rule of a place.
 pub struct RestRule;

@@ -25,6 +25,7 @@ use Rattle.table_rule.specs.Steps.{DrawsNext}
 use Rattle.table_rule.specs.Tie.{AreDrawn, AreFirstWords, IsNew, IsTied, IsViewOf, KeptIsHome, KeptIsOut, origin_of}
 use Rattle.table_rule.proofs.MachineLemmas.{none_behind, none_some, row_none}
 use Rattle.table_rule.proofs.OrdinalLemmas.{no_ordinals}
+use Rattle.table_rule.proofs.PastLemmas.{knows_none, past_begins, past_changed, past_more, past_same}
 use Rattle.table_rule.proofs.SumLemmas.{sum_snoc}
 use Rattle.table_rule.proofs.TieLemmas.{Placed, drawn_same, first_is, idle_same, moved, same_place}
 use Rattle.table_rule.proofs.WordLemmas.{at_snoc_or, first_after, first_other, first_same, set_length, snoc_length, word_else, word_here}
@@ -85,6 +86,7 @@ module _ {K : Type 0} (ledger : K → Ledger) (o : Ledger) where
           children = λ j u e i has. none_some None i refl (ap (λ (q : View). q.hand.permit) (alone v j u e).1 ∙ has);
           holders = λ j u e name r row. none_some None name refl (ap (λ (q : View). q.row) (alone v j u e).1 ∙ row);
         };
+        steps = past_begins words v first.idle refl;
       }
 
   -- ## A number is drawn
@@ -126,7 +128,8 @@ module _ {K : Type 0} (ledger : K → Ledger) (o : Ledger) where
               views_are = (let l = set_length s.views id w in omega arith);
               few = omega arith;
             })
-            (idle_same (after o.base t.history) s.words words s.views id v w t.first.credits f.view.credits t.idle at refl refl (λ k _. second_idle s.words x k) (first_same (λ (q : View). q.credits) s.views id v w t.first f (λ _. refl))),
+            (idle_same (after o.base t.history) s.words words s.views id v w t.first.credits f.view.credits t.idle at refl refl (λ k _. second_idle s.words x k) (first_same (λ (q : View). q.credits) s.views id v w t.first f (λ _. refl)))
+            (past_same s.words words s.views id v w t.steps at refl refl (λ k _. second_idle s.words x k)),
         (is, refl, refl),
       )
 
@@ -240,6 +243,7 @@ module _ {K : Type 0} (ledger : K → Ledger) (o : Ledger) where
               (λ (z : (j ≡ length vs) × (right ≡ u)). λ name r row. none_some None name refl (ap (λ (q : View). q.row) z.1 ∙ row))
               (at_snoc_or vs right u j e);
         };
+        steps = past_more s.words vs right (past_same s.words s.words s.views id v left t.steps at refl refl (λ k _. refl)) refl;
       }
 
   -- ## A pass goes into another one
@@ -267,6 +271,7 @@ module _ {K : Type 0} (ledger : K → Ledger) (o : Ledger) where
         few = t.drawn.few;
       })
       (idle_same (after o.base t.history) s.words s.words s.views id v w t.first.credits f.view.credits t.idle at (sym idle.hand) (sym idle.row) (λ k _. refl) (first_other (λ (q : View). q.credits) s.views id v w t.first f other))
+      (past_changed s.words s.words s.views id w t.steps (λ k _. refl) (knows_none t.steps.trail id w refl refl))
 
   -- where a pass has seen less of a history than another one, it made no entry behind what the other has seen
   seen_longer : (p : ℕ) (a b history : List Entry) → HasSeen p a history → Extends b history → length a ≤ length b → HasSeen p b history
@@ -293,6 +298,7 @@ module _ {K : Type 0} (ledger : K → Ledger) (o : Ledger) where
       (same_place ledger o s s.words t.first.left f.view.left t.history id v w at refl (λ got h. none_some v.turn got turn h) refl (first_same (λ (q : View). q.left) s.views id v w t.first f (λ _. refl)) t.place)
       (drawn_same (origin_of o) s.words s.words s.views id w t.first.draws f.view.draws t.drawn refl (first_same (λ (q : View). q.draws) s.views id v w t.first f (λ _. refl)))
       (idle_same (after o.base t.history) s.words s.words s.views id v w t.first.credits f.view.credits t.idle at refl refl (λ k _. refl) (first_same (λ (q : View). q.credits) s.views id v w t.first f (λ _. refl)))
+      (past_same s.words s.words s.views id v w t.steps at refl refl (λ k _. refl))
 
   joined_by : (s : State (Option K) View) (t : IsTied ledger o s) (id j : ℕ) (v u : View) → get_elem? s.views id ≡ m.some v → get_elem? s.views j ≡ m.some u → IsAwake v → v.turn ≡ None
       → (b : Bool) → nat_lt (length v.seen) (length u.seen) ≡ b

@@ -27,6 +27,7 @@ use Rattle.table_rule.specs.Steps.{GivesBack}
 use Rattle.table_rule.specs.Tie.{IsTied, IsViewOf, KeptIsHome, KeptIsOut, origin_of}
 use Rattle.table_rule.proofs.MachineLemmas.{KeepsGoing, after-append, entries_of-append, none_some, row_by, seen_on, seen_same, seen_whole, some_is}
 use Rattle.table_rule.proofs.OrdinalLemmas.{ordinal_after, ordinals_length}
+use Rattle.table_rule.proofs.PastLemmas.{past_same}
 use Rattle.table_rule.proofs.PermitLaws.{entries_credit, entries_permit}
 use Rattle.table_rule.proofs.TieLemmas.{drawn_same, first_is, idle_kept, moved}
 use Rattle.table_rule.proofs.TurnLaws.{idle_else, second_else, turn_here}
@@ -250,6 +251,7 @@ module _ {K : Type 0} (ledger : K → Ledger) (o : Ledger) where
       (λ (z : (j ≢ id) × (get_elem? s.views j ≡ m.some u)).
       other_permit laws id j u t.history a.added t.opening made z.0 are (t.fits j u z.1).row (t.idle.holders j u z.1))
       (at_set s.views id j w u e)))
+      (past_same s.words words s.views id v w t.steps at refl refl (λ j _. idle_else s.words x j))
 
   given_back : KeepsGoing → (s : State (Option K) View) (t : IsTied ledger o s) (id : ℕ) (v : View) (k : K) (x : ℕ) → get_elem? s.views id ≡ m.some v → IsAwake v
       → (back : MayGiveBack v (ledger k)) → x ≡ 2 * ((ledger k).folded.entries + length (ledger k).history)

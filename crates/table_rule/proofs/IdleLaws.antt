@@ -1,5 +1,5 @@
 -- Steps on the idle words.
-use Rattle.std.proofs.Common.{◌≡◌, ◌≢◌, ◌⊎◌, ℕ, ◌+◌, ◌-◌, ◌%◌, ◌^◌, ◌<◌, ◌≤◌, ◌==◌, length, set, Option, Some, None, Bool, true, false, refl, sym, ap, ◌∙◌, subst, inl, inr, ⊎_elim, arith, List, [], ◌∷◌, ◌++◌}
+use Rattle.std.proofs.Common.{◌≡◌, ◌≢◌, ◌⊎◌, ℕ, ◌+◌, ◌-◌, ◌%◌, ◌^◌, ◌<◌, ◌≤◌, ◌==◌, length, set, Option, Some, None, Bool, true, false, refl, sym, ap, ◌∙◌, subst, inl, inr, ⊎_elim, arith}
 use Rattle.std.specs.Prelude.{slice_index, nat_lt}
 use Rattle.std.proofs.Math.Nat.{mod-eq_of_lt, add-mod_right}
 use Rattle.std.proofs.lemmas.Bool.{ltb-true}
@@ -16,13 +16,16 @@ use Rattle.conn_machine.specs.Made.{AreMade, HasSeen}
 use Rattle.conn_machine.specs.Runs.{after}
 use Rattle.table_rule.specs.declared.view.Hand.{Hand}
 use Rattle.table_rule.specs.declared.view.Origin.{Origin}
+use Rattle.table_rule.specs.declared.view.Past.{Past}
 use Rattle.table_rule.specs.declared.view.View.{View}
 use Rattle.table_rule.specs.Histories.{threads_of}
-use Rattle.table_rule.specs.Views.{IsAwake, IsIdle, credited_view, with_permit, with_try, noting_view}
+use Rattle.table_rule.specs.Views.{IsAwake, IsIdle, credited_view, with_permit, with_try}
 use Rattle.table_rule.specs.IdleWords.{bias, bit_at, sum_of, permits, tries, HasPermit, AreIdleWords}
+use Rattle.table_rule.specs.Pasts.{StepsOn}
 use Rattle.table_rule.specs.Steps.{Credits, LooksAtIdle, Releases, Tries, Uncredits, Undoes, tried_view, uncredited_view}
 use Rattle.table_rule.specs.Tie.{IsTied, origin_of}
 use Rattle.table_rule.proofs.MachineLemmas.{SomeoneHas, none_some, some_is}
+use Rattle.table_rule.proofs.PastLemmas.{next_step, past_step, past_with, told}
 use Rattle.table_rule.proofs.SumLemmas.{bit_other, bit_self, sum_has, sum_same, sum_set, tries_le}
 use Rattle.table_rule.proofs.TieLemmas.{drawn_same, first_is, moved, same_place, views_of}
 use Rattle.table_rule.proofs.GiveLaws.{holder}
@@ -46,16 +49,26 @@ word_child : (k : ℕ) → k + 2 - 2 ≡ k
 word_child k = omega arith
 
 module _ {K : Type 0} (ledger : K → Ledger) (o : Ledger) where
+  -- the past after a step on an idle word, which left this number
+  abbrev past_of : (s : State (Option K) View) → IsTied ledger o s → ℕ → View → ℕ → ℕ → Past
+  past_of s t id v k x = past_with (next_step t.steps id k (slice_index s.words (k + 2)) x) v.past
+
+  -- what the step tells
+  step_told : (s : State (Option K) View) (t : IsTied ledger o s) (id : ℕ) (v changed : View) (k x left : ℕ) → x ≡ left
+      → StepsOn (k + 2) (slice_index s.words (k + 2)) left v changed (record changed { past = past_of s t id v k x })
+  step_told s t id v changed k x left is =
+      told (k + 2) (slice_index s.words (k + 2)) left (next_step t.steps id k (slice_index s.words (k + 2)) x) v changed (record changed { past = past_of s t id v k x }) refl refl is refl
+
   -- a step on an idle word, which changes a view's permit or try of that child
-  hand_step : (s : State (Option K) View) (t : IsTied ledger o s) (id : ℕ) (v : View) (hand : Hand) (found : List ℕ) (k x : ℕ) → get_elem? s.views id ≡ m.some v → k < 32
+  hand_step : (s : State (Option K) View) (t : IsTied ledger o s) (id : ℕ) (v : View) (hand : Hand) (k x : ℕ) → get_elem? s.views id ≡ m.some v → v.who.resting ≡ false → k < 32
       → ((j : ℕ) → j ≢ k → (bit_at j hand.permit ≡ bit_at j v.hand.permit) × (bit_at j hand.trying ≡ bit_at j v.hand.trying))
       → x + (bit_at k hand.permit + bit_at k hand.trying) ≡ slice_index s.words (k + 2) + (bit_at k v.hand.permit + bit_at k v.hand.trying)
       → sum_of (permits k) s.views + bit_at k hand.permit ≤ slice_index t.first.credits k + bit_at k v.hand.permit
       → ((j : ℕ) → hand.permit ≡ Some j → j < 32)
       → (hand.permit ≡ v.hand.permit) ⊎ (v.row ≡ None)
-      → IsTied ledger o record { words = set s.words (k + 2) x; homes = s.homes; views = set s.views id (record v { hand = hand; found = found }) }
-  hand_step s t id v hand found k x at lt others new permitted children free =
-      let w : View = record v { hand = hand; found = found } in
+      → IsTied ledger o record { words = set s.words (k + 2) x; homes = s.homes; views = set s.views id (record v { hand = hand; past = past_of s t id v k x }) }
+  hand_step s t id v hand k x at up lt others new permitted children free =
+      let w : View = record v { hand = hand; past = past_of s t id v k x } in
       let words = set s.words (k + 2) x in
       let mine = t.fits id v at in
       let f = first_after s.views id v w t.first at t.at in
@@ -96,12 +109,13 @@ module _ {K : Type 0} (ledger : K → Ledger) (o : Ledger) where
             (λ (z : (j ≢ id) × (get_elem? s.views j ≡ m.some u)). t.idle.holders j u z.1)
             (at_set s.views id j w u e);
       })
+      (past_step s.words s.views id v w t.steps k x at up up lt t.count refl)
 
   -- a look at an idle word leaves all else
-  noted : (s : State (Option K) View) (t : IsTied ledger o s) (id : ℕ) (v : View) (k : ℕ) → get_elem? s.views id ≡ m.some v → k < 32
-      → IsTied ledger o record { words = set s.words (k + 2) (slice_index s.words (k + 2)); homes = s.homes; views = set s.views id (noting_view (slice_index s.words (k + 2)) v) }
-  noted s t id v k at lt =
-      hand_step s t id v v.hand (v.found ++ slice_index s.words (k + 2) ∷ []) k (slice_index s.words (k + 2)) at lt
+  noted : (s : State (Option K) View) (t : IsTied ledger o s) (id : ℕ) (v : View) (k : ℕ) → get_elem? s.views id ≡ m.some v → v.who.resting ≡ false → k < 32
+      → IsTied ledger o record { words = set s.words (k + 2) (slice_index s.words (k + 2)); homes = s.homes; views = set s.views id (record v { past = past_of s t id v k (slice_index s.words (k + 2)) }) }
+  noted s t id v k at up lt =
+      hand_step s t id v v.hand k (slice_index s.words (k + 2)) at up lt
       (λ j ne. (refl, refl)) refl (let p = t.idle.permitted k lt in omega arith)
       (λ j e. t.idle.children id v at j e) (inl refl)
 
@@ -110,107 +124,107 @@ module _ {K : Type 0} (ledger : K → Ledger) (o : Ledger) where
   abbrev TriesGoal : (s : State (Option K) View) (id : ℕ) (me : Me (Option K) View) (k x : ℕ) → Bool → Type 0
   TriesGoal s id me k x b = (w : View) × (a : Act (Option K)) × Valid s.homes me.1 a
       × IsTied ledger o (stepped s (k + 2) x id me.1 w a)
-      × (carried_after me.1 a ≡ me.1) × (w ≡ noting_view (slice_index s.words (k + 2)) (tried_view b k me.0))
+      × (carried_after me.1 a ≡ me.1) × StepsOn (k + 2) (slice_index s.words (k + 2)) (slice_index s.words (k + 2) - 1) me.0 (tried_view b k me.0) w
 
-  tried : (s : State (Option K) View) (t : IsTied ledger o s) (id : ℕ) (me : Me (Option K) View) (k x : ℕ) → get_elem? s.views id ≡ m.some me.0 → k < 32
+  tried : (s : State (Option K) View) (t : IsTied ledger o s) (id : ℕ) (me : Me (Option K) View) (k x : ℕ) → get_elem? s.views id ≡ m.some me.0 → me.0.who.resting ≡ false → k < 32
       → me.0.row ≡ None → me.0.hand.permit ≡ None → me.0.hand.trying ≡ None → x + 1 ≡ slice_index s.words (k + 2)
       → (b : Bool) → nat_lt bias (slice_index s.words (k + 2)) ≡ b → TriesGoal s id me k x b
-  tried s t id me k x at lt no_row no_permit no_try word true is =
+  tried s t id me k x at up lt no_row no_permit no_try word true is =
       let hand : Hand = record me.0.hand { permit = Some k } in
       let above : bias < slice_index s.words (k + 2) = ltb-true bias (slice_index s.words (k + 2)) is in
       let self = bit_self k in
       let p0 : bit_at k me.0.hand.permit ≡ 0 = ap (bit_at k) no_permit in (
-        record me.0 { hand = hand; found = me.0.found ++ slice_index s.words (k + 2) ∷ [] },
+        record me.0 { hand = hand; past = past_of s t id me.0 k x },
         keeps,
         tt,
-        hand_step s t id me.0 hand (me.0.found ++ slice_index s.words (k + 2) ∷ []) k x at lt
+        hand_step s t id me.0 hand k x at up lt
             (λ j ne. (bit_other j k ne ∙ sym (ap (bit_at j) no_permit), refl))
             (omega arith)
             (let e = t.idle.equation k lt in omega arith)
             (λ j e. subst (λ i. i < 32) (some_is (Some k) k j refl e) lt)
             (inr no_row),
         refl,
-        refl,
+        step_told s t id me.0 (record me.0 { hand = hand }) k x (slice_index s.words (k + 2) - 1) (omega arith),
       )
-  tried s t id me k x at lt no_row no_permit no_try word false is =
+  tried s t id me k x at up lt no_row no_permit no_try word false is =
       let hand : Hand = record me.0.hand { trying = Some k } in
       let self = bit_self k in
       let t0 : bit_at k me.0.hand.trying ≡ 0 = ap (bit_at k) no_try in (
-        record me.0 { hand = hand; found = me.0.found ++ slice_index s.words (k + 2) ∷ [] },
+        record me.0 { hand = hand; past = past_of s t id me.0 k x },
         keeps,
         tt,
-        hand_step s t id me.0 hand (me.0.found ++ slice_index s.words (k + 2) ∷ []) k x at lt
+        hand_step s t id me.0 hand k x at up lt
             (λ j ne. (refl, bit_other j k ne ∙ sym (ap (bit_at j) no_try)))
             (omega arith)
             (let e = t.idle.permitted k lt in omega arith)
             (λ j e. t.idle.children id me.0 at j e)
             (inl refl),
         refl,
-        refl,
+        step_told s t id me.0 (record me.0 { hand = hand }) k x (slice_index s.words (k + 2) - 1) (omega arith),
       )
 
-  pub tries_law : (slots id : ℕ) (me : Me (Option K) View) (k : ℕ) → k < 32 → IsIdle me.0
+  pub tries_law : (slots id : ℕ) (me : Me (Option K) View) (k : ℕ) → k < 32 → IsAwake me.0 → IsIdle me.0
       → Allows (IsTied ledger o) slots id me (k + 2) (λ n. (n + (2 ^ 64 - 1)) % 2 ^ 64) (Tries (step slots (k + 2) 1 0 m.none) me)
-  tries_law slots id me k lt idle s t len at small =
+  tries_law slots id me k lt awake idle s t len at small =
       let n = slice_index s.words (k + 2) in
       let x = (n + (2 ^ 64 - 1)) % 2 ^ 64 in
       let positive : 0 < n = (let e = t.idle.equation k lt in let p = t.idle.permitted k lt in let q = tries_le k s.views in
       let d = t.drawn.views_are in let w = t.drawn.few in let f = t.few in omega arith) in
       let word : x + 1 ≡ n = (let a : n + (2 ^ 64 - 1) ≡ (n - 1) + 2 ^ 64 = omega arith in let b : x ≡ n - 1 = ap (λ y. y % 2 ^ 64) a ∙ add-mod_right (n - 1) (2 ^ 64) ∙ mod-eq_of_lt (omega arith) in omega arith) in
-      let r = tried s t id me k x at lt idle.row (ap (λ (h : Hand). h.permit) idle.hand) (ap (λ (h : Hand). h.trying) idle.hand) word (nat_lt bias n) refl in
-      (r.0, r.1, r.2, r.3, (r.4, r.5 ∙ ap (λ i. noting_view n (tried_view (nat_lt bias n) i me.0)) (sym (word_child k))))
+      let r = tried s t id me k x at awake.up lt idle.row (ap (λ (h : Hand). h.permit) idle.hand) (ap (λ (h : Hand). h.trying) idle.hand) word (nat_lt bias n) refl in
+      (r.0, r.1, r.2, r.3, (r.4, subst (λ i. StepsOn (k + 2) n (n - 1) me.0 (tried_view (nat_lt bias n) i me.0) r.0) (sym (word_child k)) r.5))
 
   -- a word to which something is added stays small
   word_small : (s : State (Option K) View) (t : IsTied ledger o s) (k n : ℕ) → k < 32 → n ≤ 64 → slice_index s.words (k + 2) + n < 2 ^ 64
   word_small s t k n lt few = let e = t.idle.equation k lt in let c = t.idle.small k lt in omega arith
 
-  pub undoes_law : (slots id : ℕ) (me : Me (Option K) View) (k : ℕ) → k < 32 → me.0.hand.trying ≡ Some k
+  pub undoes_law : (slots id : ℕ) (me : Me (Option K) View) (k : ℕ) → k < 32 → IsAwake me.0 → me.0.hand.trying ≡ Some k
       → Allows (IsTied ledger o) slots id me (k + 2) (λ n. (n + 1) % 2 ^ 64) (Undoes (step slots (k + 2) 1 0 m.none) me)
-  undoes_law slots id me k lt trying s t len at small =
+  undoes_law slots id me k lt awake trying s t len at small =
       let n = slice_index s.words (k + 2) in
       let had = less k me.0.hand.trying trying in
       let word : (n + 1) % 2 ^ 64 ≡ n + 1 = mod-eq_of_lt (word_small s t k 1 lt (omega arith)) in (
-        with_try None me.0,
+        record me.0 { hand = record me.0.hand { trying = None }; past = past_of s t id me.0 k ((n + 1) % 2 ^ 64) },
         keeps,
         tt,
-        hand_step s t id me.0 (record me.0.hand { trying = None }) me.0.found k _ at lt
+        hand_step s t id me.0 (record me.0.hand { trying = None }) k ((n + 1) % 2 ^ 64) at awake.up lt
             (λ j ne. (refl, gone_else j k me.0.hand.trying trying ne))
             (omega (arith, word, had))
             (let e = t.idle.permitted k lt in omega arith)
             (λ j e. t.idle.children id me.0 at j e)
             (inl refl),
-        (refl, refl),
+        (refl, step_told s t id me.0 (with_try None me.0) k ((n + 1) % 2 ^ 64) (n + 1) word),
       )
 
-  pub releases_law : (slots id : ℕ) (me : Me (Option K) View) (k : ℕ) → k < 32 → me.0.hand.permit ≡ Some k → me.0.row ≡ None
+  pub releases_law : (slots id : ℕ) (me : Me (Option K) View) (k : ℕ) → k < 32 → IsAwake me.0 → me.0.hand.permit ≡ Some k → me.0.row ≡ None
       → Allows (IsTied ledger o) slots id me (k + 2) (λ n. (n + 1) % 2 ^ 64) (Releases (step slots (k + 2) 1 0 m.none) me)
-  releases_law slots id me k lt permit no_row s t len at small =
+  releases_law slots id me k lt awake permit no_row s t len at small =
       let n = slice_index s.words (k + 2) in
       let had = less k me.0.hand.permit permit in
       let in_sum : permits k me.0 ≤ sum_of (permits k) s.views = sum_has (permits k) s.views id me.0 at in
       let word : (n + 1) % 2 ^ 64 ≡ n + 1 = mod-eq_of_lt (word_small s t k 1 lt (omega arith)) in (
-        with_permit None me.0,
+        record me.0 { hand = record me.0.hand { permit = None }; past = past_of s t id me.0 k ((n + 1) % 2 ^ 64) },
         keeps,
         tt,
-        hand_step s t id me.0 (record me.0.hand { permit = None }) me.0.found k _ at lt
+        hand_step s t id me.0 (record me.0.hand { permit = None }) k ((n + 1) % 2 ^ 64) at awake.up lt
             (λ j ne. (gone_else j k me.0.hand.permit permit ne, refl))
             (omega (arith, word, had))
             (let e = t.idle.permitted k lt in omega (arith, had))
             (λ j e. none_some None j refl e)
             (inr no_row),
-        (refl, refl),
+        (refl, step_told s t id me.0 (with_permit None me.0) k ((n + 1) % 2 ^ 64) (n + 1) word),
       )
 
   -- ## A credit
 
   -- a step of pass 0 on an idle word, which changes the credit of that child
-  credit_step : (s : State (Option K) View) (t : IsTied ledger o s) (id : ℕ) (v : View) (found : List ℕ) (k n x : ℕ) → get_elem? s.views id ≡ m.some v → id ≡ 0 → k < 32
+  credit_step : (s : State (Option K) View) (t : IsTied ledger o s) (id : ℕ) (v : View) (k n x : ℕ) → get_elem? s.views id ≡ m.some v → v.who.resting ≡ false → id ≡ 0 → k < 32
       → x + slice_index v.credits k ≡ slice_index s.words (k + 2) + n
       → sum_of (permits k) s.views ≤ n → n ≤ 64
       → (n ≡ 0) ⊎ (n ≡ threads_of (after o.base t.history) k)
-      → IsTied ledger o record { words = set s.words (k + 2) x; homes = s.homes; views = set s.views id (record (credited_view k n v) { found = found }) }
-  credit_step s t id v found k n x at here lt new permitted few credited =
-      let w : View = record (credited_view k n v) { found = found } in
+      → IsTied ledger o record { words = set s.words (k + 2) x; homes = s.homes; views = set s.views id (record (credited_view k n v) { past = past_of s t id v k x }) }
+  credit_step s t id v k n x at up here lt new permitted few credited =
+      let w : View = record (credited_view k n v) { past = past_of s t id v k x } in
       let words = set s.words (k + 2) x in
       let mine = t.fits id v at in
       let f = first_after s.views id v w t.first at t.at in
@@ -263,6 +277,7 @@ module _ {K : Type 0} (ledger : K → Ledger) (o : Ledger) where
             (λ (z : (j ≢ id) × (get_elem? s.views j ≡ m.some u)). t.idle.holders j u z.1)
             (at_set s.views id j w u e);
       })
+      (past_step s.words s.views id v w t.steps k x at up up lt t.count refl)
 
   pub credits_law : (slots id : ℕ) (me : Me (Option K) View) (found : Ledger) (k n : ℕ) → k < 32 → IsAwake me.0 → me.0.who.number ≡ 0 → me.0.turn ≡ Some found
       → slice_index me.0.credits k ≡ 0 → n ≤ 64 → n ≡ threads_of (after me.0.origin.state me.0.seen) k
@@ -277,39 +292,53 @@ module _ {K : Type 0} (ledger : K → Ledger) (o : Ledger) where
       let word : (slice_index s.words (k + 2) + n) % 2 ^ 64 ≡ slice_index s.words (k + 2) + n = mod-eq_of_lt (word_small s t k n lt few) in
       let first : v ≡ t.first = first_is ledger o s t id v at here in
       let none' : slice_index t.first.credits k ≡ 0 = ap (λ (q : View). slice_index q.credits k) (sym first) ∙ none in (
-        credited_view k n v,
+        record (credited_view k n v) { past = past_of s t id v k ((slice_index s.words (k + 2) + n) % 2 ^ 64) },
         keeps,
         tt,
-        credit_step s t id v v.found k n _ at here lt (omega (arith, word, none)) (let p = t.idle.permitted k lt in omega (arith, none')) few (inr is),
-        (refl, ap (λ i. credited_view i n v) (sym (word_child k))),
+        credit_step s t id v k n ((slice_index s.words (k + 2) + n) % 2 ^ 64) at awake.up here lt
+            (omega (arith, word, none)) (let p = t.idle.permitted k lt in omega (arith, none')) few (inr is),
+        (
+          refl,
+          subst (λ i. StepsOn (k + 2) (slice_index s.words (k + 2)) (slice_index s.words (k + 2) + n) v (credited_view i n v)
+              (record (credited_view k n v) { past = past_of s t id v k ((slice_index s.words (k + 2) + n) % 2 ^ 64) })) (sym (word_child k))
+              (step_told s t id v (credited_view k n v) k ((slice_index s.words (k + 2) + n) % 2 ^ 64) (slice_index s.words (k + 2) + n) word),
+        ),
       )
 
   abbrev UncreditsGoal : (s : State (Option K) View) (id : ℕ) (me : Me (Option K) View) (k n : ℕ) → Bool → Type 0
   UncreditsGoal s id me k n b = (w : View) × (a : Act (Option K)) × Valid s.homes me.1 a
       × IsTied ledger o (stepped s (k + 2) (either b bias (slice_index s.words (k + 2))) id me.1 w a)
-      × (carried_after me.1 a ≡ me.1) × (w ≡ noting_view (slice_index s.words (k + 2)) (uncredited_view b k me.0))
+      × (carried_after me.1 a ≡ me.1) × StepsOn (k + 2) (slice_index s.words (k + 2)) (either b bias (slice_index s.words (k + 2))) me.0 (uncredited_view b k me.0) w
 
-  uncredited : (s : State (Option K) View) (t : IsTied ledger o s) (id : ℕ) (me : Me (Option K) View) (k n : ℕ) → get_elem? s.views id ≡ m.some me.0 → id ≡ 0 → k < 32
+  uncredited : (s : State (Option K) View) (t : IsTied ledger o s) (id : ℕ) (me : Me (Option K) View) (k n : ℕ) → get_elem? s.views id ≡ m.some me.0 → me.0.who.resting ≡ false → id ≡ 0 → k < 32
       → slice_index me.0.credits k ≡ n → (b : Bool) → (slice_index s.words (k + 2) == bias + n) ≡ b → UncreditsGoal s id me k n b
-  uncredited s t id me k n at here lt credit true is =
+  uncredited s t id me k n at up here lt credit true is =
       let found : slice_index s.words (k + 2) ≡ bias + n = grind (arith, is) in
       let first : me.0 ≡ t.first = first_is ledger o s t id me.0 at here in
       let credit' : slice_index t.first.credits k ≡ n = ap (λ (q : View). slice_index q.credits k) (sym first) ∙ credit in (
-        noting_view (slice_index s.words (k + 2)) (credited_view k 0 me.0),
+        record (credited_view k 0 me.0) { past = past_of s t id me.0 k bias },
         keeps,
         tt,
-        credit_step s t id me.0 (me.0.found ++ slice_index s.words (k + 2) ∷ []) k 0 bias at here lt (omega (arith, found, credit)) (let e = t.idle.equation k lt in omega (arith, found, credit')) (omega arith) (inl refl),
+        credit_step s t id me.0 k 0 bias at up here lt (omega (arith, found, credit)) (let e = t.idle.equation k lt in omega (arith, found, credit')) (omega arith) (inl refl),
         refl,
-        refl,
+        step_told s t id me.0 (credited_view k 0 me.0) k bias bias refl,
       )
-  uncredited s t id me k n at here lt credit false is = (noting_view (slice_index s.words (k + 2)) me.0, keeps, tt, noted s t id me.0 k at lt, refl, refl)
+  uncredited s t id me k n at up here lt credit false is = (
+    record me.0 { past = past_of s t id me.0 k (slice_index s.words (k + 2)) },
+    keeps,
+    tt,
+    noted s t id me.0 k at up lt,
+    refl,
+    step_told s t id me.0 me.0 k (slice_index s.words (k + 2)) (slice_index s.words (k + 2)) refl,
+  )
 
   pub uncredits_law : (slots id : ℕ) (me : Me (Option K) View) (k n : ℕ) → k < 32 → IsAwake me.0 → me.0.who.number ≡ 0 → slice_index me.0.credits k ≡ n
       → Allows (IsTied ledger o) slots id me (k + 2) (λ x. either (x == bias + n) bias x) (Uncredits (step slots (k + 2) (bias + n) bias m.none) me)
   uncredits_law slots id me k n lt awake zero_is credit s t len at small =
       let here : id ≡ 0 = sym ((t.fits id me.0 at).number awake.there) ∙ zero_is in
-      let r = uncredited s t id me k n at here lt credit (slice_index s.words (k + 2) == bias + n) refl in
-      (r.0, r.1, r.2, r.3, (r.4, r.5 ∙ ap (λ i. noting_view (slice_index s.words (k + 2)) (uncredited_view (slice_index s.words (k + 2) == bias + n) i me.0)) (sym (word_child k))))
+      let found = slice_index s.words (k + 2) in
+      let r = uncredited s t id me k n at awake.up here lt credit (found == bias + n) refl in
+      (r.0, r.1, r.2, r.3, (r.4, subst (λ i. StepsOn (k + 2) found (either (found == bias + n) bias found) me.0 (uncredited_view (found == bias + n) i me.0) r.0) (sym (word_child k)) r.5))
 
   -- ## A look at an idle word
 
@@ -326,13 +355,13 @@ module _ {K : Type 0} (ledger : K → Ledger) (o : Ledger) where
       let few : slice_index s.words (k + 2) - bias ≤ 64 = omega arith in
       let below : slice_index s.words (k + 2) - bias ≤ idle_in (after o.base t.history) k =
       ⊎_elim (λ z. omega arith) (λ z. omega arith) (t.idle.credited k lt) in (
-        noting_view (slice_index s.words (k + 2)) me.0,
+        record me.0 { past = past_of s t id me.0 k (slice_index s.words (k + 2)) },
         keeps,
         tt,
-        noted s t id me.0 k at lt,
+        noted s t id me.0 k at awake.up lt,
         (
           refl,
-          refl,
+          step_told s t id me.0 me.0 k (slice_index s.words (k + 2)) (slice_index s.words (k + 2)) refl,
           few,
           (
             t.history,

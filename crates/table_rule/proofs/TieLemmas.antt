@@ -18,6 +18,7 @@ use Rattle.table_rule.specs.declared.view.View.{View}
 use Rattle.conn_machine.specs.Made.{AreMade}
 use Rattle.table_rule.specs.Histories.{threads_of}
 use Rattle.table_rule.specs.IdleWords.{bit, bit_at, permits, tries, HasPermit, AreIdleWords}
+use Rattle.table_rule.specs.Pasts.{AreIdleSteps}
 use Rattle.table_rule.specs.Tie.{AreDrawn, IsTied, IsViewOf, KeptIsHome, KeptIsOut, origin_of}
 use Rattle.table_rule.proofs.SumLemmas.{sum_same}
 use Rattle.table_rule.proofs.WordLemmas.{FirstAfter, at_below, at_same, set_length, word_again}
@@ -80,8 +81,9 @@ module _ {K : Type 0} (ledger : K → Ledger) (o : Ledger) where
       → Placed f.view.left history record { words = words; homes = homes; views = set s.views id w }
       → AreDrawn (origin_of o) words (set s.views id w) f.view.draws
       → AreIdleWords (after o.base history) words (set s.views id w) f.view.credits
+      → AreIdleSteps words (set s.views id w)
       → IsTied ledger o record { words = words; homes = homes; views = set s.views id w }
-  moved s t id v w f words homes history count made undrawn others mine place drawn idle = record {
+  moved s t id v w f words homes history count made undrawn others mine place drawn idle steps = record {
     history = history;
     opening = t.opening;
     few = t.few;
@@ -97,6 +99,7 @@ module _ {K : Type 0} (ledger : K → Ledger) (o : Ledger) where
     place = place;
     drawn = drawn;
     idle = idle;
+    steps = steps;
   }
 
   -- where a step leaves turn and seen, the value stays where it is

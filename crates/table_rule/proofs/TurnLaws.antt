@@ -14,10 +14,12 @@ use Rattle.table_rule.specs.declared.view.Origin.{Origin}
 use Rattle.table_rule.specs.declared.view.View.{View}
 use Rattle.conn_machine.specs.Made.{AreMade, HasSeen}
 use Rattle.table_rule.specs.Ledgers.{IsSplit}
-use Rattle.table_rule.specs.Views.{IsAwake, IsFound, IsIdle, HasFreeWorker, resting_view, free_view, taken_view}
+use Rattle.table_rule.specs.Views.{IsAwake, IsFound, IsIdle, HasFreeWorker, resting_view, taken_view, woken_view}
+use Rattle.table_rule.specs.Pasts.{KnowsPast}
 use Rattle.table_rule.specs.Steps.{IsTurnTaken, TakesTurn, LooksAtWord, LiesDown, WakesUp}
 use Rattle.table_rule.specs.Tie.{IsTied, IsViewOf, KeptIsHome, KeptIsOut, origin_of}
 use Rattle.table_rule.proofs.MachineLemmas.{RowsStay, SomeoneHas, none_some, row_by, seen_same, seen_whole}
+use Rattle.table_rule.proofs.PastLemmas.{knows_none, knows_since, past_changed, past_same}
 use Rattle.table_rule.proofs.TieLemmas.{drawn_same, first_is, idle_same, moved, number_below, same_place, stays, views_of}
 use Rattle.table_rule.proofs.WordLemmas.{at_below, first_after, first_other, first_same, set_length, word_again, word_else, word_here}
 use Rattle.table_rule.proofs.WorkerLaws.{free_worker}
@@ -100,7 +102,8 @@ module _ {K : Type 0} (ledger : K → Ledger) (o : Ledger) where
                   (at_set s.views id j w u e);
             })
             (drawn_same (origin_of o) s.words words s.views id w t.first.draws f.view.draws t.drawn (second_else s.words (n + 1)) (first_same (λ (q : View). q.draws) s.views id v w t.first f (λ _. refl)))
-            (idle_same (after o.base t.history) s.words words s.views id v w t.first.credits f.view.credits t.idle at refl refl (λ k _. idle_else s.words (n + 1) k) (first_same (λ (q : View). q.credits) s.views id v w t.first f (λ _. refl))),
+            (idle_same (after o.base t.history) s.words words s.views id v w t.first.credits f.view.credits t.idle at refl refl (λ k _. idle_else s.words (n + 1) k) (first_same (λ (q : View). q.credits) s.views id v w t.first f (λ _. refl)))
+            (past_same s.words words s.views id v w t.steps at refl refl (λ k _. idle_else s.words (n + 1) k)),
         (home.kept, t.history, refl, refl, found_by someone stay s t id v t.first.left (ledger home.kept) at awake refl home.parts),
       )
 
@@ -123,9 +126,9 @@ module _ {K : Type 0} (ledger : K → Ledger) (o : Ledger) where
 
   -- a load of the turn word, at which a pass that has nothing becomes another view of its number
   looked : (s : State (Option K) View) (t : IsTied ledger o s) (id : ℕ) (v w : View) → get_elem? s.views id ≡ m.some v → id ≢ 0
-      → v.turn ≡ None → w.turn ≡ None → w.hand ≡ v.hand → w.row ≡ v.row → IsViewOf (origin_of o) t.history id w
+      → v.turn ≡ None → w.turn ≡ None → w.hand ≡ v.hand → w.row ≡ v.row → IsViewOf (origin_of o) t.history id w → KnowsPast t.steps.trail id w
       → IsTied ledger o record { words = set s.words 0 (slice_index s.words 0); homes = s.homes; views = set s.views id w }
-  looked s t id v w at other none none' hand row fits =
+  looked s t id v w at other none none' hand row fits knows =
       let f = first_after s.views id v w t.first at t.at in
       let words = set s.words 0 (slice_index s.words 0) in
       let again : words ≡ s.words = word_again s.words 0 in
@@ -135,6 +138,7 @@ module _ {K : Type 0} (ledger : K → Ledger) (o : Ledger) where
       (same_place ledger o s words t.first.left f.view.left t.history id v w at (none' ∙ sym none) (λ got h. none_some v.turn got none h) (ap (λ l. slice_index l 0) again) (first_other (λ (q : View). q.left) s.views id v w t.first f other) t.place)
       (drawn_same (origin_of o) s.words words s.views id w t.first.draws f.view.draws t.drawn (ap (λ l. slice_index l 1) again) (first_other (λ (q : View). q.draws) s.views id v w t.first f other))
       (idle_same (after o.base t.history) s.words words s.views id v w t.first.credits f.view.credits t.idle at hand row (λ k _. ap (λ l. slice_index l (k + 2)) again) (first_other (λ (q : View). q.credits) s.views id v w t.first f other))
+      (past_changed s.words words s.views id w t.steps (λ k _. ap (λ l. slice_index l (k + 2)) again) knows)
 
   -- a pass other than pass 0 has another place
   other_place : (s : State (Option K) View) (t : IsTied ledger o s) (id : ℕ) (v : View) → get_elem? s.views id ≡ m.some v → v.who.gone ≡ false → v.who.number ≢ 0 → id ≢ 0
@@ -155,7 +159,8 @@ module _ {K : Type 0} (ledger : K → Ledger) (o : Ledger) where
               begins = (t.history, refl);
               seen = λ _ up. absurd (true≢false up);
               row = sym idle.row ∙ mine.row;
-            },
+            }
+            (knows_none t.steps.trail id w refl refl),
         (refl, refl),
       )
 
@@ -166,7 +171,7 @@ module _ {K : Type 0} (ledger : K → Ledger) (o : Ledger) where
       let mine = t.fits id me.0 at in
       let there : me.0.who.gone ≡ false = ap (λ (q : View). q.who.gone) rests in
       let number : me.0.who.number ≡ p = ap (λ (q : View). q.who.number) rests in
-      let w : View = free_view (origin_of o) me.0.who.number t.history in (
+      let w : View = woken_view (origin_of o) me.0.who.number t.history (length t.steps.trail) in (
         w,
         keeps,
         tt,
@@ -178,8 +183,9 @@ module _ {K : Type 0} (ledger : K → Ledger) (o : Ledger) where
               begins = ([], sym (append-nil t.history));
               seen = λ _ _. seen_whole id t.history;
               row = sym (ap (λ (q : View). q.row) rests) ∙ mine.row;
-            },
-        (refl, (origin_of o, t.history, refl, t.made, ap (λ n. row_of n t.history) (mine.number there) ∙ sym mine.row ∙ ap (λ (q : View). q.row) rests)),
+            }
+            (knows_since s.words s.views t.steps id w refl refl),
+        (refl, (origin_of o, t.history, length t.steps.trail, refl, t.made, ap (λ n. row_of n t.history) (mine.number there) ∙ sym mine.row ∙ ap (λ (q : View). q.row) rests)),
       )
 
   pub took : (found first : ℕ) (v w : Me (Option K) View) → found ≡ first → IsTurnTaken ledger (found == first) v w → IsTurnTaken ledger true v w

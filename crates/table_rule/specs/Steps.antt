@@ -1,5 +1,6 @@
 -- What each kind of step tells the pass that makes it.
-use Rattle.std.specs.Prelude.{◌≡◌, ◌≤◌, ℕ, ◌-◌, ◌==◌, Bool, true, false, List, [], ◌∷◌, nat_lt, Option, None, Some}
+use Rattle.std.specs.Prelude.{◌≡◌, ◌≤◌, ℕ, ◌+◌, ◌-◌, ◌==◌, Bool, true, false, List, [], ◌∷◌, nat_lt, Option, None, Some}
+use prog.Atomic.{either}
 use Rattle.atomic_table.specs.Table.{Step, Me}
 use Rattle.conn_machine.specs.declared.event.Entry.{Entry}
 use Rattle.conn_machine.specs.declared.kept.Ledger.{Ledger}
@@ -10,8 +11,9 @@ use Rattle.table_rule.specs.declared.view.Left.{Left}
 use Rattle.table_rule.specs.declared.view.Origin.{Origin}
 use Rattle.table_rule.specs.declared.view.View.{View}
 use Rattle.table_rule.specs.Ledgers.{EndsTurn, IsLedgerLeft}
-use Rattle.table_rule.specs.Views.{IsFound, taken_view, given_view, drawn_view, resting_view, free_view, with_permit, with_try, credited_view, noting_view}
+use Rattle.table_rule.specs.Views.{IsFound, taken_view, given_view, drawn_view, resting_view, woken_view, with_permit, with_try, credited_view}
 use Rattle.table_rule.specs.IdleWords.{bias}
+use Rattle.table_rule.specs.Pasts.{StepsOn}
 
 module _ {K : Type 0} (ledger : K → Ledger) where
   -- the turn was taken, with the value; or nothing changed
@@ -44,10 +46,11 @@ DrawsNext s v found w = (found ≡ v.0.draws.next) × (w.1 ≡ v.1) × (w.0 ≡ 
 abbrev pub LiesDown : {K : Type 0} → Step (Option K) → Me (Option K) View → ℕ → Me (Option K) View → Type 0
 LiesDown s v found w = (w.1 ≡ v.1) × (w.0 ≡ resting_view v.0.who.number)
 
--- the pass rests no more: it has nothing, and knows its number and some history that it has seen, in which it has no connection
+-- the pass rests no more: it has nothing, and knows its number, how many steps had been made on idle words, and some history
+-- that it has seen, in which it has no connection
 abbrev pub WakesUp : {K : Type 0} → Step (Option K) → Me (Option K) View → ℕ → Me (Option K) View → Type 0
 WakesUp s v found w =
-    (w.1 ≡ v.1) × ((origin : Origin) × (seen : List Entry) × (w.0 ≡ free_view origin v.0.who.number seen)
+    (w.1 ≡ v.1) × ((origin : Origin) × (seen : List Entry) × (since : ℕ) × (w.0 ≡ woken_view origin v.0.who.number seen since)
     × AreMade origin.state seen × (row_of v.0.who.number seen ≡ None))
 
 -- a permit of the child, or a try to undo
@@ -57,19 +60,19 @@ tried_view false k v = with_try (Some k) v
 
 -- a permit where the word was above the bias; the word's number is the child's and 2
 abbrev pub Tries : {K : Type 0} → Step (Option K) → Me (Option K) View → ℕ → Me (Option K) View → Type 0
-Tries s v found w = (w.1 ≡ v.1) × (w.0 ≡ noting_view found (tried_view (nat_lt bias found) (s.word - 2) v.0))
+Tries s v found w = (w.1 ≡ v.1) × StepsOn s.word found (found - 1) v.0 (tried_view (nat_lt bias found) (s.word - 2) v.0) w.0
 
 -- the try is undone
 abbrev pub Undoes : {K : Type 0} → Step (Option K) → Me (Option K) View → ℕ → Me (Option K) View → Type 0
-Undoes s v found w = (w.1 ≡ v.1) × (w.0 ≡ with_try None v.0)
+Undoes s v found w = (w.1 ≡ v.1) × StepsOn s.word found (found + 1) v.0 (with_try None v.0) w.0
 
 -- the permit is given back
 abbrev pub Releases : {K : Type 0} → Step (Option K) → Me (Option K) View → ℕ → Me (Option K) View → Type 0
-Releases s v found w = (w.1 ≡ v.1) × (w.0 ≡ with_permit None v.0)
+Releases s v found w = (w.1 ≡ v.1) × StepsOn s.word found (found + 1) v.0 (with_permit None v.0) w.0
 
 -- the child has the credit that was added
 abbrev pub Credits : {K : Type 0} → Step (Option K) → Me (Option K) View → ℕ → Me (Option K) View → Type 0
-Credits s v found w = (w.1 ≡ v.1) × (w.0 ≡ credited_view (s.word - 2) s.first v.0)
+Credits s v found w = (w.1 ≡ v.1) × StepsOn s.word found (found + s.first) v.0 (credited_view (s.word - 2) s.first v.0) w.0
 
 -- the child's credit went, or stayed
 abbrev pub uncredited_view : Bool → ℕ → View → View
@@ -78,12 +81,14 @@ uncredited_view false k v = v
 
 -- the credit goes where the word was the one that was expected
 abbrev pub Uncredits : {K : Type 0} → Step (Option K) → Me (Option K) View → ℕ → Me (Option K) View → Type 0
-Uncredits s v found w = (w.1 ≡ v.1) × (w.0 ≡ noting_view found (uncredited_view (found == s.first) (s.word - 2) v.0))
+Uncredits s v found w =
+    (w.1 ≡ v.1)
+    × StepsOn s.word found (either (found == s.first) s.second found) v.0 (uncredited_view (found == s.first) (s.word - 2) v.0) w.0
 
--- nothing changed but what was found; in a history that the pass had seen the first of, at least as many workers of the child carry nothing as
--- the word is above the bias, which are 64 at most
+-- nothing changed but that the step was made; in a history that the pass had seen the first of, at least as many workers of the
+-- child carry nothing as the word is above the bias, which are 64 at most
 abbrev pub LooksAtIdle : {K : Type 0} → Step (Option K) → Me (Option K) View → ℕ → Me (Option K) View → Type 0
 LooksAtIdle s v found w =
-    (w.1 ≡ v.1) × (w.0 ≡ noting_view found v.0) × (found - bias ≤ 64)
+    (w.1 ≡ v.1) × StepsOn s.word found found v.0 v.0 w.0 × (found - bias ≤ 64)
     × ((history : List Entry) × HasSeen v.0.who.number v.0.seen history × AreMade v.0.origin.state history
     × (found - bias ≤ idle_in (after v.0.origin.state history) (s.word - 2)))

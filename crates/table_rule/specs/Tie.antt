@@ -15,6 +15,7 @@ use Rattle.conn_machine.specs.Made.{AreMade, HasSeen, IsOpened}
 use Rattle.table_rule.specs.Histories.{Extends}
 use Rattle.table_rule.specs.Ledgers.{IsSplit}
 use Rattle.table_rule.specs.IdleWords.{bias, bit, AreIdleWords}
+use Rattle.table_rule.specs.Pasts.{AreIdleSteps}
 
 -- where the history of a value that was just made begins
 abbrev pub origin_of : Ledger → Origin
@@ -73,7 +74,7 @@ pub record AreDrawn (origin : Origin) (words : List ℕ) (views : List View) (dr
   pub few : draws.next ≤ origin.passes
 
 -- there is one history, made by passes as they may; the value is at home or out; each view fits; and the idle words are
--- what they ought to be
+-- what they ought to be, and what the steps on them left, of which each pass knows its own
 pub record IsTied {K : Type 0} (ledger : K → Ledger) (opened : Ledger) (s : State (Option K) View) : Type 0 where
   pub history : List Entry
   pub opening : IsOpened opened.base
@@ -87,3 +88,4 @@ pub record IsTied {K : Type 0} (ledger : K → Ledger) (opened : Ledger) (s : St
   pub place : KeptIsHome ledger (origin_of opened) first.left history s ⊎ KeptIsOut (origin_of opened) first.left history s
   pub drawn : AreDrawn (origin_of opened) s.words s.views first.draws
   pub idle : AreIdleWords (after opened.base history) s.words s.views first.credits
+  pub steps : AreIdleSteps s.words s.views

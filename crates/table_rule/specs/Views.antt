@@ -1,5 +1,5 @@
 -- The views of passes, and how steps change them.
-use Rattle.std.specs.Prelude.{◌≡◌, ◌<◌, ℕ, ◌+◌, ◌-◌, true, false, List, [], length, nat_lt, if◌then◌else◌, Option, None, Some, IfSome, replicate, slice_get, slice_set, ◌++◌, ◌∷◌}
+use Rattle.std.specs.Prelude.{◌≡◌, ◌<◌, ℕ, ◌+◌, ◌-◌, true, false, List, [], length, nat_lt, if◌then◌else◌, Option, None, Some, IfSome, replicate, slice_get, slice_set}
 use Rattle.conn_machine.specs.declared.event.Entry.{Entry}
 use Rattle.conn_machine.specs.declared.kept.Ledger.{Ledger}
 use Rattle.conn_machine.specs.declared.state.State.{State}
@@ -11,6 +11,7 @@ use Rattle.conn_machine.specs.Folds.{opening_record}
 use Rattle.table_rule.specs.declared.view.Hand.{Hand}
 use Rattle.table_rule.specs.declared.view.Left.{Left}
 use Rattle.table_rule.specs.declared.view.Origin.{Origin}
+use Rattle.table_rule.specs.declared.view.Past.{Past}
 use Rattle.table_rule.specs.declared.view.View.{View}
 use Rattle.conn_machine.specs.Made.{AreMade, HasSeen}
 use Rattle.table_rule.specs.Histories.{threads_of}
@@ -21,6 +22,10 @@ use Rattle.table_rule.specs.Ledgers.{IsSplit}
 -- neither a permit nor a try
 abbrev pub empty_hand : Hand
 empty_hand = record { permit = None; trying = None }
+
+-- no step on an idle word
+abbrev pub new_past : Past
+new_past = record { since = 0; steps = [] }
 
 -- nothing was folded yet, and no text left
 abbrev pub nothing_left : Origin → Left
@@ -40,7 +45,7 @@ resting_view p =
       turn = None;
       row = None;
       hand = empty_hand;
-      found = [];
+      past = new_past;
       left = nothing_left no_origin;
       credits = [];
       draws = record { next = 0; spare = false };
@@ -55,6 +60,10 @@ free_view origin p seen =
       seen = seen;
       left = nothing_left origin;
     }
+
+-- a pass that woke up when so many steps had been made on idle words
+abbrev pub woken_view : Origin → ℕ → List Entry → ℕ → View
+woken_view origin p seen since = record (free_view origin p seen) { past = record { since = since; steps = [] } }
 
 -- pass 0 before it did anything, when it has drawn the numbers below this one
 abbrev pub first_view : Origin → ℕ → View
@@ -125,10 +134,6 @@ parted_view v = record v { draws = record v.draws { spare = false } }
 -- the new pass
 abbrev pub new_view : View → View
 new_view v = free_view v.origin (v.draws.next - 1) v.seen
-
--- it found this on an idle word
-abbrev pub noting_view : ℕ → View → View
-noting_view word v = record v { found = v.found ++ word ∷ [] }
 
 -- the view with a permit of that child
 abbrev pub with_permit : Option ℕ → View → View

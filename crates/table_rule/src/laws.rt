@@ -81,17 +81,17 @@ pub fn pass_wakes_up<K: Kept>()
 
 /// A pass that has nothing tries for a permit.
 pub fn permit_is_tried_for<K: Kept>()
-    ensures { (o : Ledger) (slots id k : ℕ) (me : Me (Option K) View) → k < 32 → IsIdle me.0 → Allows (IsTied K.ledger o) slots id me (k + 2) (λ n. (n + (2 ^ 64 - 1)) % 2 ^ 64) (Tries (step slots (k + 2) 1 0 none) me) }
+    ensures { (o : Ledger) (slots id k : ℕ) (me : Me (Option K) View) → k < 32 → IsAwake me.0 → IsIdle me.0 → Allows (IsTied K.ledger o) slots id me (k + 2) (λ n. (n + (2 ^ 64 - 1)) % 2 ^ 64) (Tries (step slots (k + 2) 1 0 none) me) }
 {}
 
 /// A try is undone.
 pub fn try_is_undone<K: Kept>()
-    ensures { (o : Ledger) (slots id k : ℕ) (me : Me (Option K) View) → k < 32 → me.0.hand.trying ≡ Some k → Allows (IsTied K.ledger o) slots id me (k + 2) (λ n. (n + 1) % 2 ^ 64) (Undoes (step slots (k + 2) 1 0 none) me) }
+    ensures { (o : Ledger) (slots id k : ℕ) (me : Me (Option K) View) → k < 32 → IsAwake me.0 → me.0.hand.trying ≡ Some k → Allows (IsTied K.ledger o) slots id me (k + 2) (λ n. (n + 1) % 2 ^ 64) (Undoes (step slots (k + 2) 1 0 none) me) }
 {}
 
 /// A permit is given back.
 pub fn permit_is_released<K: Kept>()
-    ensures { (o : Ledger) (slots id k : ℕ) (me : Me (Option K) View) → k < 32 → me.0.hand.permit ≡ Some k → me.0.row ≡ None → Allows (IsTied K.ledger o) slots id me (k + 2) (λ n. (n + 1) % 2 ^ 64) (Releases (step slots (k + 2) 1 0 none) me) }
+    ensures { (o : Ledger) (slots id k : ℕ) (me : Me (Option K) View) → k < 32 → IsAwake me.0 → me.0.hand.permit ≡ Some k → me.0.row ≡ None → Allows (IsTied K.ledger o) slots id me (k + 2) (λ n. (n + 1) % 2 ^ 64) (Releases (step slots (k + 2) 1 0 none) me) }
 {}
 
 /// A child gets its credit: pass 0 has the turn, and the child has these workers.

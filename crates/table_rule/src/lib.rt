@@ -3,13 +3,15 @@
 //!
 //! Word 0 is the turn word, word 1 the count of passes, word 2 + k the idle word of child k, for 32 children. Slot 0 holds
 //! the kept value. What a pass knows is a `View`. The rule is `IsTied` in `specs/Tie.antt`: there is one history, of which
-//! each pass has seen a beginning; one pass at a time has the turn; and each idle word is what it ought to be (`specs/IdleWords.antt`).
+//! each pass has seen a beginning; one pass at a time has the turn; each idle word is what it ought to be (`specs/IdleWords.antt`);
+//! and the steps on idle words stand in the views of those that made them, each with what it found and left (`specs/Pasts.antt`).
 //! What each kind of step tells stands in `specs/Steps.antt`. That each keeps the rule is a function of `laws`, which does
 //! nothing. Which connection a pass has, and that it stays, are laws of `conn_machine`.
 #![tactic(auto)]
 
 pub mod laws;
 mod steps;
+mod trail;
 mod view;
 mod words;
 
@@ -17,5 +19,6 @@ pub use steps::{
     CreditStep, DrawStep, GiveStep, IdleStep, Joined, LoadStep, NewPass, ReleaseStep, RestStep,
     TakeStep, Tie, TryStep, UncreditStep, UndoStep, WakeStep,
 };
-pub use view::{Draws, Hand, Left, Origin, View, Who};
+pub use trail::Step;
+pub use view::{Draws, Hand, Left, Origin, Past, View, Who};
 pub use words::{BIAS, first_words};

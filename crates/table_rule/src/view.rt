@@ -1,4 +1,5 @@
 //! What a pass knows. Contracts alone speak of it, and no value of these types is made.
+use crate::trail::Step;
 use conn_machine::{Entry, Folded, Ledger, State};
 use mpm_base::ConnName;
 use std::collections::LinkedList;
@@ -14,8 +15,7 @@ pub struct View {
     /// The connection that it has.
     pub row: Option<ConnName>,
     pub hand: Hand,
-    /// What its steps on idle words found that may fail, in order: tries, looks, and those that take a credit back.
-    pub found: LinkedList<u64>,
+    pub past: Past,
     /// What pass 0 alone has: what it left as it last gave the turn back, the credit of each child, and the numbers that
     /// it draws.
     pub left: Left,
@@ -46,6 +46,14 @@ pub struct Hand {
     pub permit: Option<u32>,
     /// It found no permit of this child, and has to undo its try.
     pub trying: Option<u32>,
+}
+
+/// What a pass knows of the steps on idle words: all that it made since it woke up last, or ever where it didn't rest.
+pub struct Past {
+    /// How many steps had been made on all idle words when it woke up, or 0.
+    pub since: u64,
+    /// The steps that it made since, in order.
+    pub steps: LinkedList<Step>,
 }
 
 /// What pass 0 left as it gave the turn back.

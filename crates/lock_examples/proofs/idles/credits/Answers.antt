@@ -16,4 +16,4 @@ credit-requires-clause-may g c = record {
 
 pub done-requires-2-clause-left : goal.done-requires-2-clause-left
 done-requires-2-clause-left g c =
-    may_leave _ _ (ap (λ me. me.0.turn) c.credit.ensures.credited ∙ ap (λ (u : View). u.turn) c.turn-turn.ensures.turn.view)
+    may_leave _ _ (ap (λ (u : View). u.turn) c.credit.ensures.credited.1.0 ∙ ap (λ (u : View). u.turn) c.turn-turn.ensures.turn.view)
