@@ -1,8 +1,8 @@
 //! The queue.
-ghost use Rattle.std.specs.Prelude.{◌≡◌, ◌<◌, ◌≤◌, ⊤, ℕ, IfOk, MatchOption, MatchResult, slice_get, Some, vec_len, vec_capacity};
+ghost use Rattle.std.specs.Prelude.{◌≡◌, ◌<◌, ◌≤◌, ⊤, true, false, ℕ, IfOk, MatchOption, MatchResult, slice_get, Some, vec_len, vec_capacity};
 ghost use Rattle.crossbeam_queue.specs.Passes.{view, IsPassOf, ruled_capacity};
 ghost use Rattle.fd_queue.specs.declared.seat.Item.TheVariants.{End};
-ghost use Rattle.fd_queue.specs.Seats.{new_seat, InOrder, PutsItem, PutsAll, Stood, TakesItem, WasHolding};
+ghost use Rattle.fd_queue.specs.Seats.{new_seat, InOrder, IsNewSeat, PutsItem, PutsAll, Stood, TakesItem, WasHolding};
 
 use crate::seat::{Item, SeatView};
 use crossbeam_queue::protocol::{Lesson, Outcome, Protocol, Split};
@@ -17,7 +17,7 @@ pub struct Order;
 impl<T> Protocol<T, SeatView<T>> for Order {
     ghost holds = { InOrder };
 
-    ghost first = { new_seat };
+    ghost first = { new_seat true };
 }
 
 /// An item is put.
@@ -46,9 +46,9 @@ impl<T> Lesson<T, SeatView<T>> for TakeStep {
 struct Seats;
 
 impl<T> Split<SeatView<T>> for Seats {
-    ghost left = { λ v. v };
+    ghost left = { λ v. record v { alone = false } };
 
-    ghost right = { λ v. new_seat };
+    ghost right = { λ v. new_seat false };
 }
 
 /// The token of a thread.
@@ -71,7 +71,8 @@ impl<T: Drop> FdQueue<T> {
         requires seats { (1 ≤ seats) × (seats ≤ 66) }
         ensures places { IfOk result (λ made. ruled_capacity made.0.ring ≡ places) }
         ensures count { IfOk result (λ made. vec_len made.1 ≡ seats) }
-        ensures seats { IfOk result (λ made. (i : ℕ) (seat : _) → slice_get made.1.items i ≡ Some seat → IsPassOf made.0.ring seat × (view seat ≡ new_seat)) }
+        ensures seats { IfOk result (λ made. (i : ℕ) (seat : _) → slice_get made.1.items i ≡ Some seat → IsPassOf made.0.ring seat × IsNewSeat (view seat)) }
+        ensures alone { IfOk result (λ made. seats ≡ 1 → (i : ℕ) (seat : _) → slice_get made.1.items i ≡ Some seat → (view seat).alone ≡ true) }
     {
         let Ok(mut all) = Vec::with_capacity(alloc, seats as usize) else {
             return Err(NoMemory);
@@ -86,11 +87,12 @@ impl<T: Drop> FdQueue<T> {
 
     /// Makes the seats.
     fn fill(&self, mut first: FdSeat<T>, all: &mut Vec<FdSeat<T>>, seats: u32)
-        requires first { IsPassOf self.now.ring first × (view first ≡ new_seat) }
+        requires first { IsPassOf self.now.ring first × (view first ≡ new_seat true) }
         requires seats { 1 ≤ seats }
         requires room { (vec_len all.old ≡ 0) × (seats ≤ vec_capacity all.old) }
         ensures count { vec_len all.new ≡ seats }
-        ensures seats { (i : ℕ) (seat : _) → slice_get all.new.items i ≡ Some seat → IsPassOf self.now.ring seat × (view seat ≡ new_seat) }
+        ensures seats { (i : ℕ) (seat : _) → slice_get all.new.items i ≡ Some seat → IsPassOf self.now.ring seat × IsNewSeat (view seat) }
+        ensures alone { seats ≡ 1 → (i : ℕ) (seat : _) → slice_get all.new.items i ≡ Some seat → (view seat).alone ≡ true }
     {
         for _ in 1..seats {
             let seat = self.ring.another::<Seats>(&mut first);

@@ -18,4 +18,6 @@ pub struct SeatView<T> {
     pub put: LinkedList<u64>,
     /// The places of what it took.
     pub taken: LinkedList<u64>,
+    /// No other seat of the queue was made yet.
+    pub alone: bool,
 }
