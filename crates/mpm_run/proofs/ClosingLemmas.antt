@@ -20,11 +20,10 @@ use Rattle.board.specs.Book.{SeenBook, book_with_entry}
 use Rattle.board.specs.Board.{SeenBoard}
 use Rattle.board.specs.Events.{with_recorded}
 use Rattle.worker_group.specs.declared.service.Exit.{Exit}
-use Rattle.worker_group.specs.Acts.{Acts, events_of}
+use Rattle.worker_group.specs.Acts.{Acts, ActsInSteps, events_of}
 use Rattle.worker_group.specs.Service.{LeavesRest, left_events}
-use Rattle.worker_group.proofs.ActsLemmas.{acts_as, acts_more, acts_none, acts_one}
-use Rattle.worker_group.proofs.ExitLemmas.{rest_closed, rest_more}
 use Rattle.mpm_run.specs.ClosingInside.{AllLeftBy, DrainsUntil, IsDrainedWay, LetsGo, LetsOneGo, LettingGo, RefusedWait, letting_events, lingering_given_up, refused_events, state_by}
+use Rattle.mpm_run.proofs.RoundLemmas.{acts-spelled}
 
 -- ## The state that a pass made
 
@@ -61,20 +60,20 @@ acts-state who es has a b here there acts =
 -- ## One connection
 
 -- it was held
-pub held-acts : (name : ConnName) (conns : List (Option SeenConn)) (b b' : SeenBoard)
+pub held-acts : ActsInSteps → (name : ConnName) (conns : List (Option SeenConn)) (b b' : SeenBoard)
     → b' ≡ record (with_recorded 0 (event.Hold name) b) { conns = conns } → Adds 0 b.book.base b.book.history b'.book.history
     → row_of 0 b'.book.history ≡ Some name → Acts 0 (event.Hold name ∷ []) (Some name) b.book b'.book
-held-acts name conns b b' is adds row = acts_one 0 (event.Hold name) (Some name) b.book b'.book (ap (λ (v : SeenBoard). v.book) is) adds row
+held-acts steps name conns b b' is adds row = steps.one 0 (event.Hold name) (Some name) b.book b'.book (ap (λ (v : SeenBoard). v.book) is) adds row
 
 -- and then left
-pub let-go : (Way : Exit → Type 0) (way : Exit) (name named : ConnName) (a b c : SeenBook) → Way way
+pub let-go : ActsInSteps → (Way : Exit → Type 0) (way : Exit) (name named : ConnName) (a b c : SeenBook) → Way way
     → Acts 0 (event.Hold name ∷ []) (Some name) a b → named ≡ name → Acts 0 (left_events way named) None b c → LetsOneGo Way name a c
-let-go Way way name named a b c is_way held same left = record {
+let-go steps Way way name named a b c is_way held same left = record {
   way = way;
   is_way = is_way;
   acts =
-      acts_more 0 (event.Hold name ∷ []) (left_events way name) (Some name) None a b c held
-      (acts_as 0 _ (left_events way name) None None b c left (ap (left_events way) same) refl);
+      steps.more 0 (event.Hold name ∷ []) (left_events way name) (Some name) None a b c held
+      (acts-spelled _ (left_events way name) b c left (ap (left_events way) same));
 }
 
 -- a hold leaves alone what the listener decides
@@ -87,12 +86,13 @@ pub rest-held_closed : (why : Cause) (how : Tail) (name named : ConnName) (conns
     → b' ≡ record (with_recorded 0 (event.Hold name) b) { conns = conns } → d ≡ book_with_entry 0 (event.Close named why how) b'.book
     → LeavesRest b.book d
 rest-held_closed why how name named conns b b' d is closed =
-    rest_more b.book b'.book d (rest-held name conns b b' is) (rest_closed 0 named why how b'.book d closed)
+    subst (LeavesRest b.book) (sym (closed ∙ ap (λ (v : SeenBoard). book_with_entry 0 (event.Close named why how) v.book) is))
+    (record { moment = refl; accepted = refl; up = λ up. up })
 
 -- ## Several
 
-pub lets-none : (Way : Exit → Type 0) (b : SeenBook) → row_of 0 b.history ≡ None → LetsGo Way b b
-lets-none Way b row = record { gone = []; ways = tt; acts = acts_none 0 None b row }
+pub lets-none : ActsInSteps → (Way : Exit → Type 0) (b : SeenBook) → row_of 0 b.history ≡ None → LetsGo Way b b
+lets-none steps Way b row = record { gone = []; ways = tt; acts = steps.none 0 None b row }
 
 ways-more : (Way : Exit → Type 0) (gone : List LettingGo) (l : LettingGo) → AllLeftBy Way gone → Way l.way → AllLeftBy Way (gone ++ l ∷ [])
 ways-more Way [] l all one = (one, tt)
@@ -104,13 +104,13 @@ letting-more gone l =
     ap (λ (es : List Event). flat_map letting_events gone ++ es) (sym (append-nil (letting_events l))) ∙ sym (flat_map-append letting_events gone (l ∷ []))
 
 -- one more was let go of
-pub lets-more : (Way : Exit → Type 0) (name : ConnName) (a b c : SeenBook) → LetsGo Way a b → LetsOneGo Way name b c → LetsGo Way a c
-lets-more Way name a b c lets one =
+pub lets-more : ActsInSteps → (Way : Exit → Type 0) (name : ConnName) (a b c : SeenBook) → LetsGo Way a b → LetsOneGo Way name b c → LetsGo Way a c
+lets-more steps Way name a b c lets one =
     let l : LettingGo = record { name = name; way = one.way } in
     record {
       gone = lets.gone ++ l ∷ [];
       ways = ways-more Way lets.gone l lets.ways one.is_way;
-      acts = acts_as 0 _ _ None None a c (acts_more 0 _ _ None None a b c lets.acts one.acts) (letting-more lets.gone l) refl;
+      acts = acts-spelled _ _ a c (steps.more 0 _ _ None None a b c lets.acts one.acts) (letting-more lets.gone l);
     }
 
 -- no further one could wait on
@@ -118,25 +118,25 @@ pub drains-refused : (w : RefusedWait) (a b : SeenBook) → Acts 0 (refused_even
 drains-refused w a b acts = record { gone = []; ways = tt; last = w; acts = acts }
 
 -- one that was held could not
-pub refused-wait : (name named : ConnName) (why : Cause) (fault : BoardFault) (a b c : SeenBook) → Acts 0 (event.Hold name ∷ []) (Some name) a b
+pub refused-wait : ActsInSteps → (name named : ConnName) (why : Cause) (fault : BoardFault) (a b c : SeenBook) → Acts 0 (event.Hold name ∷ []) (Some name) a b
     → named ≡ name → Acts 0 (lingering_given_up fault why named) None b c → DrainsUntil a c
-refused-wait name named why fault a b c held same given =
+refused-wait steps name named why fault a b c held same given =
     drains-refused (record { name = name; ending = why; refused = fault }) a c
-    (acts_more 0 (event.Hold name ∷ []) (lingering_given_up fault why name) (Some name) None a b c held
-    (acts_as 0 _ (lingering_given_up fault why name) None None b c given (ap (lingering_given_up fault why) same) refl))
+    (steps.more 0 (event.Hold name ∷ []) (lingering_given_up fault why name) (Some name) None a b c held
+    (acts-spelled _ (lingering_given_up fault why name) b c given (ap (lingering_given_up fault why) same)))
 
 ways-both : (Way : Exit → Type 0) (gone more : List LettingGo) → AllLeftBy Way gone → AllLeftBy Way more → AllLeftBy Way (gone ++ more)
 ways-both Way [] more all rest = rest
 ways-both Way (x ∷ gone) more all rest = (all.0, ways-both Way gone more all.1 rest)
 
 -- some were drained, until one could not wait on
-pub drains-until : (a b c : SeenBook) → LetsGo IsDrainedWay a b → DrainsUntil b c → DrainsUntil a c
-drains-until a b c drains until = record {
+pub drains-until : ActsInSteps → (a b c : SeenBook) → LetsGo IsDrainedWay a b → DrainsUntil b c → DrainsUntil a c
+drains-until steps a b c drains until = record {
   gone = drains.gone ++ until.gone;
   ways = ways-both IsDrainedWay drains.gone until.gone drains.ways until.ways;
   last = until.last;
   acts =
-      acts_as 0 _ _ None None a c (acts_more 0 _ _ None None a b c drains.acts until.acts)
+      acts-spelled _ _ a c (steps.more 0 _ _ None None a b c drains.acts until.acts)
       (sym (append_assoc (flat_map letting_events drains.gone) (flat_map letting_events until.gone) (refused_events until.last))
-      ∙ ap (λ (es : List Event). es ++ refused_events until.last) (sym (flat_map-append letting_events drains.gone until.gone))) refl;
+      ∙ ap (λ (es : List Event). es ++ refused_events until.last) (sym (flat_map-append letting_events drains.gone until.gone)));
 }

@@ -1,7 +1,9 @@
 -- A connection that waited and is held: what its row says, and how it may be left.
-use Rattle.std.proofs.Common.{◌≡◌, ◌==◌, Bool, true, false, not, ◌&&◌, List, nat_le, nat_lt, cond, Option, None, Some, slice_get, is_some, refl, sym, ap, subst, ◌∙◌, inl, inr, eq-eqb}
+use Rattle.std.proofs.Common.{◌≡◌, ◌==◌, ℕ, Bool, true, false, not, ◌&&◌, List, length, nat_le, nat_lt, cond, Option, None, Some, IfSome, option_map, slice_get, is_some, refl, sym, ap, subst, ◌∙◌, inl, inr, eq-eqb}
+use Rattle.std.proofs.lemmas.Bool.{and_parts}
 use Rattle.std.specs.Option.{option_and_then, option_map_or}
 use Rattle.mpm_base.specs.Cause.{cause_number}
+use Rattle.mpm_base.specs.Link.{LinkTold, with_received}
 use Rattle.mpm_base.specs.declared.conn.ConnName.{ConnName}
 use Rattle.mpm_base.specs.declared.conn.Cause.{Cause}
 use Rattle.mpm_base.specs.declared.conn.Cause.TheVariants as cause
@@ -34,9 +36,8 @@ use Rattle.board.specs.Book.{full_stop}
 use Rattle.board.specs.Fits.{Fits, FoundNoMore, IsOnItsWay, IsSettled, IsSettledFrom, IsTakenUp, LingersFor, NotesEnd, WaitsAs}
 use Rattle.board.specs.Finds.{cause_of, kind_of, waits_for}
 use Rattle.worker_group.specs.InHand.{IsClosable, IsInHand, IsLingeringFor}
-use Rattle.worker_group.proofs.AnswerLemmas.{live_row-update}
-use Rattle.worker_group.proofs.ServeLemmas.{alive, rank-map, served-row, test-at}
 use Rattle.mpm_run.specs.ClosingInside.{cause_of_late, tail_of}
+use Rattle.mpm_run.proofs.FoundLemmas.{ChangesInPlace, found-at, found-changed, found-fits, found-named, passes-found}
 
 -- ## Its row
 
@@ -47,11 +48,12 @@ pub record IsHeldFrom (s : State) (was : Row) (c : SeenConn) : Type 0 where
   pub settled : IsSettledFrom was.from was.cause c
 
 -- so is one that was held
-pub held-from : (s s' : State) (name : ConnName) (was : Row) (c : SeenConn) → live_row s.rows name ≡ Some was → s' ≡ next s (event.Hold name)
+pub held-from : ChangesInPlace → (s s' : State) (name : ConnName) (was : Row) (c : SeenConn) → live_row s.rows name ≡ Some was → s' ≡ next s (event.Hold name)
     → c.name ≡ name → IsTakenUp s' c → IsHeldFrom s' was c
-held-from s s' name was c found is named handed =
-    let here = alive s.rows name was found in
-    let held : live_row s'.rows name ≡ Some (held_row was) = rw is (live_row-update s.rows name was held_row here.at (rw here.life refl)) in
+held-from law s s' name was c found is named handed =
+    let life = (found-named s.rows name was found).1 in
+    let held : live_row s'.rows name ≡ Some (held_row was) =
+    rw is (found-changed law s.rows name was held_row (found-at s.rows name was found) (and_parts _ (was.life == name.life) life).1) in
     let same : handed.row ≡ held_row was = cc (subst (λ (n : ConnName). live_row s'.rows n ≡ Some handed.row) named handed.found, held) in
     record {
       found = subst (λ (r : Row). live_row s'.rows c.name ≡ Some r) same handed.found;
@@ -70,18 +72,18 @@ pub record IsHolding (s s' : State) (name : ConnName) (was : Row) (c : SeenConn)
 pub cause-of : (s : State) (name : ConnName) (was : Row) → live_row s.rows name ≡ Some was → cause_of s name ≡ was.cause
 cause-of s name was found = ap (λ (o : Option Row). option_and_then (λ (r : Row). r.cause) o) found
 
-pub holding : (s s' : State) (name : ConnName) (was : Row) (c : SeenConn) → live_row s.rows name ≡ Some was → s' ≡ next s (event.Hold name)
+pub holding : ChangesInPlace → (s s' : State) (name : ConnName) (was : Row) (c : SeenConn) → live_row s.rows name ≡ Some was → s' ≡ next s (event.Hold name)
     → c.name ≡ name → IsTakenUp s' c → IsOnItsWay (cause_of s name) c → IsHolding s s' name was c
-holding s s' name was c found is named handed way = record {
+holding law s s' name was c found is named handed way = record {
   was_found = found;
   state = is;
-  held = held-from s s' name was c found is named handed;
+  held = held-from law s s' name was c found is named handed;
   way = subst (λ (o : Option Cause). IsOnItsWay o c) (cause-of s name was found) way;
 }
 
 -- its row stood in its slot
 pub was-at : (s s' : State) (name : ConnName) (was : Row) (c : SeenConn) → IsHolding s s' name was c → slice_get s.rows name.slot ≡ Some was
-was-at s s' name was c holds = (alive s.rows name was holds.was_found).at
+was-at s s' name was c holds = found-at s.rows name was holds.was_found
 
 -- a row that waits waits for something
 kind-parked : (p : Place) → is_parked p ≡ true → kind_of p ≡ None → ⊥
@@ -111,7 +113,7 @@ pub waited-for : (s : State) (name : ConnName) (was : Row) (kind : Kind) → IsS
     → WaitsFor kind was
 waited-for s name was kind sound found is =
     let at : kind_of was.place ≡ Some kind = sym (ap (λ (o : Option Row). option_and_then (λ (r : Row). kind_of r.place) o) found) ∙ is in
-    subst (λ (p : Place). KindFits p was) (parked-by was.place kind at) (served-row s name was sound found).kind
+    subst (λ (p : Place). KindFits p was) (parked-by was.place kind at) (found-fits s name was sound found)
 
 -- ## A connection that doesn't linger
 
@@ -192,10 +194,10 @@ late-fits s ShortLinger was signalled from serves none late = absurd (cc)
 pub late-lingers : (s s' : State) (name : ConnName) (was : Row) (c : SeenConn) (kind : Kind) → s' ≡ next s (event.Hold name) → IsHeldFrom s' was c
     → WaitsFor kind was → was.cause ≡ None → nat_le was.deadline s.moment ≡ true → is_allowed s' (event.Linger c.name (cause_of_late kind)) ≡ true
 late-lingers s s' name was c kind is held waits none late =
-    test-at s'.rows c.name (held_row was)
-    (λ (r : Row). not (is_lingering r) && linger_cause_fits s' (cause_of_late kind) (is_signalled s' c.name.slot) r) held.found
-    ∙ late-fits s' kind was (is_signalled s' c.name.slot) waits.own (serves-by kind was waits none) none
-    (ap (λ (t : State). nat_le was.deadline t.moment) is ∙ late)
+    passes-found (λ (r : Row). not (is_lingering r) && linger_cause_fits s' (cause_of_late kind) (is_signalled s' c.name.slot) r) s'.rows c.name (held_row was)
+    held.found
+    (late-fits s' kind was (is_signalled s' c.name.slot) waits.own (serves-by kind was waits none) none
+    (ap (λ (t : State). nat_le was.deadline t.moment) is ∙ late))
 
 -- ## A connection that lingers
 
@@ -284,6 +286,12 @@ half-closed_after left.Sated = refl
 half-closed_after left.NotReady = refl
 half-closed_after left.LinkFailed = refl
 
+-- its link is the one that it was
+rank-turned : (told told' : Option LinkTold) (got rank : ℕ) → told' ≡ option_map (with_received got) told → IfSome told (λ t. t.rank ≡ rank)
+    → IfSome told' (λ t. t.rank ≡ rank)
+rank-turned None told' got rank is same = rw is tt
+rank-turned (Some t) told' got rank is same = rw is same
+
 -- it lingers for its cause still
 pub lingers-turned : (s : State) (why : Cause) (c c' : SeenConn) (answer : LingerTurn) → IsLingeringFor why s c → LingersOn c c' answer → MayLinger why c'
     → IsLingeringFor why s c'
@@ -297,7 +305,7 @@ lingers-turned s why c c' answer held turned may = record {
         child = turned.child ∙ held.fits.child;
         generation = turned.generation ∙ held.fits.generation;
         notes = turned.notes ∙ held.fits.notes;
-        rank = rank-map _ c.told c'.told held.row.arrival (λ t. refl) turned.told held.fits.rank;
+        rank = rank-turned c.told c'.told (length turned.got) held.row.arrival turned.told held.fits.rank;
       };
   shut = ap is_half_closed turned.linger ∙ half-closed_after answer;
   shows = may;
@@ -360,8 +368,8 @@ pub may-wait_on : (s s' : State) (name named : ConnName) (was : Row) (kind : Kin
     → is_halted s'.going ≡ false → is_allowed s' (event.Park named kind) ≡ true
 may-wait_on s s' name named was kind why is found waits some later going =
     let passes =
-    test-at s'.rows named (held_row was) (may_wait s'.moment kind) found
-    ∙ wait-fits s' kind was why waits.own (lingers-by kind was why waits some) some (ap (λ (t : State). nat_lt t.moment was.deadline) is ∙ later) in
+    passes-found (may_wait s'.moment kind) s'.rows named (held_row was) found
+    (wait-fits s' kind was why waits.own (lingers-by kind was why waits some) some (ap (λ (t : State). nat_lt t.moment was.deadline) is ∙ later)) in
     rw (going, passes) refl
 
 -- the connection may wait so, for its kind

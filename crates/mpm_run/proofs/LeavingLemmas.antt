@@ -15,13 +15,14 @@ use Rattle.conn_machine.specs.declared.state.State.{State}
 use Rattle.conn_machine.specs.Rows.{is_from, is_linger_kind, is_lingering, is_parked, kind_number, live_row, lives_and}
 use Rattle.conn_machine.specs.Children.{is_stopping}
 use Rattle.conn_machine.specs.States.{child_of, is_halted, is_signalled}
-use Rattle.conn_machine.specs.Table.{held_row, is_allowed, linger_cause_fits, may_be_held, next, signal_after_hold}
+use Rattle.conn_machine.specs.Table.{direct_cause_fits, held_row, is_allowed, linger_cause_fits, may_be_held, next, signal_after_hold}
 use Rattle.conn_machine.specs.Sound.{IsSound, KindFits}
+use Rattle.conn_state.specs.Answered.{ShowsAtOnce}
 use Rattle.conn_state.specs.Conn.{SeenConn}
 use Rattle.board.specs.Finds.{cause_of, has_to_be_drained, is_let_go}
-use Rattle.worker_group.specs.InHand.{IsClosable}
-use Rattle.worker_group.proofs.ServeLemmas.{closable, served-row, test-at}
-use Rattle.worker_group.proofs.StartLemmas.{lives}
+use Rattle.board.specs.Fits.{NotesEnd}
+use Rattle.worker_group.specs.InHand.{IsClosable, IsInHand}
+use Rattle.mpm_run.proofs.FoundLemmas.{found-fits, lives, passes-found}
 use Rattle.mpm_run.proofs.HeldLemmas.{IsHolding, cause-of, closes-lingering, held-hand, held-lingering}
 
 -- ## Parts of tests
@@ -80,8 +81,8 @@ retires s name found =
 -- it may be held
 pub may-hold_retiring : (s : State) (name : ConnName) (r : Row) → Retires s name r → is_allowed s (event.Hold name) ≡ true
 may-hold_retiring s name r is =
-    test-at s.rows name r (may_be_held s (is_signalled s name.slot)) is.found
-    ∙ rw (is.waits, is.from_it, is.stops, is.none_came) (second-of-four (nat_le r.deadline s.moment) (is_lingering r) (is_halted s.going))
+    passes-found (may_be_held s (is_signalled s name.slot)) s.rows name r is.found
+    (rw (is.waits, is.from_it, is.stops, is.none_came) (second-of-four (nat_le r.deadline s.moment) (is_lingering r) (is_halted s.going)))
 
 from-kept : (o : Option Kind) → option_map_or (λ k. kind_number k == 1) o false ≡ true → o ≡ Some KeepAlive
 from-kept None is = absurd (cc)
@@ -108,7 +109,7 @@ parked-fits (Working cell phase) r at fits from = absurd (cc)
 -- it doesn't linger yet
 pub retires-serves : (s : State) (name : ConnName) (r : Row) → IsSound s → Retires s name r → r.cause ≡ None
 retires-serves s name r sound is =
-    none-some r.cause (parked-fits r.place r is.waits (served-row s name r sound is.found).kind (from-kept r.from is.from_it))
+    none-some r.cause (parked-fits r.place r is.waits (found-fits s name r sound is.found) (from-kept r.from is.from_it))
 
 pub retires-from : (s : State) (name : ConnName) (r : Row) → Retires s name r → r.from ≡ Some KeepAlive
 retires-from s name r is = from-kept r.from is.from_it
@@ -131,9 +132,8 @@ retiring-lingers s s' name r c holds is none named =
     let quiet : is_signalled s' c.name.slot ≡ false =
     ap (λ (n : ConnName). is_signalled s' n.slot) named ∙ ap (λ (t : State). is_signalled t name.slot) holds.state ∙ stays-unsignalled s name is.none_came in
     let stops : is_stopping (child_of s' (held_row r)).phase ≡ true = ap (λ (t : State). is_stopping (child_of t r).phase) holds.state ∙ is.stops in
-    test-at s'.rows c.name (held_row r)
-    (λ (x : Row). not (is_lingering x) && linger_cause_fits s' cause.Retiring (is_signalled s' c.name.slot) x) holds.held.found
-    ∙ rw (none, is.from_it, stops, quiet) refl
+    passes-found (λ (x : Row). not (is_lingering x) && linger_cause_fits s' cause.Retiring (is_signalled s' c.name.slot) x) s'.rows c.name (held_row r)
+    holds.held.found (rw (none, is.from_it, stops, quiet) refl)
 
 -- ## One that lingers, and for which something came
 
@@ -153,9 +153,9 @@ to-drain s name found =
 -- it may be held
 pub may-hold_draining : (s : State) (name : ConnName) (r : Row) → IsToDrain s name r → is_allowed s (event.Hold name) ≡ true
 may-hold_draining s name r is =
-    test-at s.rows name r (may_be_held s (is_signalled s name.slot)) is.found
-    ∙ rw (is.waits, is.lingers, is.came)
-    (third-of-four (nat_le r.deadline s.moment) (is_from KeepAlive r) (is_stopping (child_of s r).phase) (is_halted s.going))
+    passes-found (may_be_held s (is_signalled s name.slot)) s.rows name r is.found
+    (rw (is.waits, is.lingers, is.came)
+    (third-of-four (nat_le r.deadline s.moment) (is_from KeepAlive r) (is_stopping (child_of s r).phase) (is_halted s.going)))
 
 -- it has a cause
 pub drains-some : (s : State) (name : ConnName) (r : Row) → IsToDrain s name r → cause_of s name ≡ None → ⊥
@@ -185,9 +185,15 @@ halted-closes s s' name r c why holds some halted =
     let held = held-lingering s s' name r c why holds some in
     closes-lingering s' why tail.Halted c held (ap (λ (t : State). is_halted t.going) holds.state ∙ halted) held.shut
 
+-- the law of the service: a connection in hand may be closed for each cause that fits its row, and that it shows
+abbrev pub ClosesDirectly : Type 0
+ClosesDirectly =
+    (s : State) (why : Cause) (c : SeenConn) (hand : IsInHand s c) → direct_cause_fits s why hand.row ≡ true → ShowsAtOnce why c
+    → NotesEnd why c.notes hand.row.notes → IsClosable s why tail.Direct c
+
 -- and another one as stopped
-pub halted-stops : (s s' : State) (name : ConnName) (r : Row) (c : SeenConn) → IsHolding s s' name r c → r.cause ≡ None
+pub halted-stops : ClosesDirectly → (s s' : State) (name : ConnName) (r : Row) (c : SeenConn) → IsHolding s s' name r c → r.cause ≡ None
     → is_halted s.going ≡ true → IsClosable s' cause.Stopped tail.Direct c
-halted-stops s s' name r c holds none halted =
+halted-stops law s s' name r c holds none halted =
     let hand = held-hand s s' name r c holds none in
-    closable s' cause.Stopped c hand (ap (λ (t : State). is_halted t.going) holds.state ∙ halted) tt hand.fits.notes
+    law s' cause.Stopped c hand (ap (λ (t : State). is_halted t.going) holds.state ∙ halted) tt hand.fits.notes

@@ -5,6 +5,7 @@ pub mod ClosingLemmas
 pub mod EndLemmas
 pub mod EventLemmas
 pub mod ExitStatusLemmas
+pub mod FoundLemmas
 pub mod FrontLemmas
 pub mod HeldLemmas
 pub mod InformLemmas

@@ -27,8 +27,7 @@ use Rattle.conn_machine.proofs.UpdateLemmas.{count_cons}
 use Rattle.board.specs.Finds.{startable, FindsRow, FindsRetirable, is_waiting, is_quiet}
 use Rattle.mpm_run.specs.Listen.{HasNoLive, AllEmpty}
 use Rattle.mpm_run.proofs.PassLemmas.{idle-place}
-use Rattle.worker_group.proofs.ServeLemmas.{alive, test-at}
-use Rattle.worker_group.proofs.StartLemmas.{Lives, lives}
+use Rattle.mpm_run.proofs.FoundLemmas.{Lives, found-at, found-named, lives, passes-found}
 
 -- ## Counts
 
@@ -121,8 +120,7 @@ or-true false = refl
 pub may-hold : (s : State) (name : ConnName) → FindsRow is_waiting s (Some name) → is_halted s.going ≡ true → is_allowed s (event.Hold name) ≡ true
 may-hold s name found halted =
     let live = waits s name found in
-    let passes = test-at s.rows name live.row (may_be_held s (is_signalled s name.slot)) live.found in
-    passes ∙ rw (live.passes, halted) (or-true _)
+    passes-found (may_be_held s (is_signalled s name.slot)) s.rows name live.row live.found (rw (live.passes, halted) (or-true _))
 
 -- ## Letting go of children
 
@@ -259,5 +257,5 @@ pub found-live : (s : State) (o : Option ConnName) (quiet found : Bool) → quie
 found-live s None quiet found at rest finds is = is ∙ sym (none-live s (sym at ∙ rest) finds)
 found-live s (Some name) quiet found at rest finds is =
     let live = waits s name finds in
-    let lives = alive s.rows name live.row live.found in
-    is ∙ sym (live-at s.rows name.slot live.row lives.at lives.live)
+    is
+    ∙ sym (live-at s.rows name.slot live.row (found-at s.rows name live.row live.found) (found-named s.rows name live.row live.found).0)

@@ -24,9 +24,8 @@ use Rattle.worker_group.specs.declared.service.Exit.{Exit}
 use Rattle.worker_group.specs.Service.{IsWayOut, left_events}
 use Rattle.mpm_run.specs.ClosingInside.{late_weight, parked_count, serving_count, signal_count, state_by}
 use Rattle.board.specs.Finds.{is_late}
-use Rattle.worker_group.proofs.ServeLemmas.{alive}
-use Rattle.worker_group.proofs.StartLemmas.{lives}
 use Rattle.mpm_run.specs.ListenInside.{NoneOverdue}
+use Rattle.mpm_run.proofs.FoundLemmas.{found-at, lives}
 use Rattle.mpm_run.proofs.ListenLemmas.{count-less}
 
 -- ## A row that was closed
@@ -229,7 +228,7 @@ none-parked_on s name kind was at lingers later none =
 pub late-found : (s : State) (name : ConnName) → lives_and (is_late s name.slot) s.rows name ≡ true → NoneOverdue s → ⊥
 late-found s name found none =
     let live = lives (is_late s name.slot) s.rows name found in
-    let off = none-at (is_overdue s.moment) s.rows name.slot live.row (alive s.rows name live.row live.found).at none in
+    let off = none-at (is_overdue s.moment) s.rows name.slot live.row (found-at s.rows name live.row live.found) none in
     let on = live.passes in
     absurd (cc)
 
@@ -245,7 +244,7 @@ pub parked-after : (s s' s2 : State) (name named : ConnName) (why : Cause) (how 
     → is_parked was.place ≡ true → s' ≡ next s (event.Hold name) → named ≡ name → s2 ≡ next s' (event.Close named why how) → parked_count s2 < parked_count s
 parked-after s s' s2 name named why how was found waits held same is =
     subst (λ (t : State). parked_count t < parked_count s) (sym (after-both s s' s2 name named (λ n. event.Close n why how) held same is))
-    (parked-closed s name why how was (alive s.rows name was found).at waits)
+    (parked-closed s name why how was (found-at s.rows name was found) waits)
 
 -- the weight of the late ones is less after a hold and a close
 pub weight-after : (s s' s2 : State) (name named : ConnName) (why : Cause) (how : Tail) (was : Row) → live_row s.rows name ≡ Some was
@@ -253,7 +252,7 @@ pub weight-after : (s s' s2 : State) (name named : ConnName) (why : Cause) (how 
     → late_weight s2 < late_weight s
 weight-after s s' s2 name named why how was found late held same is =
     subst (λ (t : State). late_weight t < late_weight s) (sym (after-both s s' s2 name named (λ n. event.Close n why how) held same is))
-    (weight-closed s name why how was (alive s.rows name was found).at late)
+    (weight-closed s name why how was (found-at s.rows name was found) late)
 
 -- and after a hold, where it lingers then or was closed
 pub weight-out : (s s' s2 : State) (name named : ConnName) (why : Cause) (way : Exit) (was : Row) → live_row s.rows name ≡ Some was
@@ -264,7 +263,7 @@ weight-out s s' s2 name named why way was found late none held same out is =
       | inl lingers ↦
           (let ends : s2 ≡ next s' (event.Linger named why) = is ∙ ap (λ (w : Exit). state_by s' (left_events w named)) lingers in
           subst (λ (t : State). late_weight t < late_weight s) (sym (after-both s s' s2 name named (λ n. event.Linger n why) held same ends))
-          (weight-lingers s name why was (alive s.rows name was found).at late none))
+          (weight-lingers s name why was (found-at s.rows name was found) late none))
       | inr closed ↦
           weight-after s s' s2 name named cause.LinkFailed tail.Direct was found late held same
           (is ∙ ap (λ (w : Exit). state_by s' (left_events w named)) closed)
@@ -279,12 +278,12 @@ serving-out s s' s2 name named why way was found waits none held same out is =
       | inl lingers ↦
           (let ends : s2 ≡ next s' (event.Linger named why) = is ∙ ap (λ (w : Exit). state_by s' (left_events w named)) lingers in
           subst (λ (t : State). serving_count t < serving_count s) (sym (after-both s s' s2 name named (λ n. event.Linger n why) held same ends))
-          (serving-lingers s name why was (alive s.rows name was found).at waits none))
+          (serving-lingers s name why was (found-at s.rows name was found) waits none))
       | inr closed ↦
           (let ends : s2 ≡ next s' (event.Close named cause.LinkFailed tail.Direct) = is ∙ ap (λ (w : Exit). state_by s' (left_events w named)) closed in
           subst (λ (t : State). serving_count t < serving_count s)
           (sym (after-both s s' s2 name named (λ n. event.Close n cause.LinkFailed tail.Direct) held same ends))
-          (serving-closed s name cause.LinkFailed tail.Direct was (alive s.rows name was found).at waits none))
+          (serving-closed s name cause.LinkFailed tail.Direct was (found-at s.rows name was found) waits none))
     ]
 
 -- a drained connection that was closed: fewer slots are signalled, and none is late
@@ -295,7 +294,7 @@ drained-closed s s' s2 name named why how was found lingers came held same is =
     subst (λ (t : State). signal_count t < signal_count s) (sym (after-both s s' s2 name named (λ n. event.Close n why how) held same is))
     (omega (
       arith,
-      held-signals s name was (alive s.rows name was found).at lingers came,
+      held-signals s name was (found-at s.rows name was found) lingers came,
       closed-signals (next s (event.Hold name)) name why how,
     ))
 
@@ -303,18 +302,18 @@ pub none-after_close : (s s' s2 : State) (name named : ConnName) (why : Cause) (
     → s' ≡ next s (event.Hold name) → named ≡ name → s2 ≡ next s' (event.Close named why how) → NoneOverdue s2
 none-after_close s s' s2 name named why how was found none held same is =
     subst NoneOverdue (sym (after-both s s' s2 name named (λ n. event.Close n why how) held same is))
-    (none-closed s name why how was (alive s.rows name was found).at none)
+    (none-closed s name why how was (found-at s.rows name was found) none)
 
 -- and one that waits on
 pub drained-parked : (s s' s2 : State) (name named : ConnName) (kind : Kind) (was : Row) → live_row s.rows name ≡ Some was → is_lingering was ≡ true
     → is_signalled s name.slot ≡ true → s' ≡ next s (event.Hold name) → named ≡ name → s2 ≡ next s' (event.Park named kind) → signal_count s2 < signal_count s
 drained-parked s s' s2 name named kind was found lingers came held same is =
     subst (λ (t : State). signal_count t < signal_count s) (sym (after-both s s' s2 name named (λ n. event.Park n kind) held same is))
-    (held-signals s name was (alive s.rows name was found).at lingers came)
+    (held-signals s name was (found-at s.rows name was found) lingers came)
 
 pub none-after_park : (s s' s2 : State) (name named : ConnName) (kind : Kind) (was : Row) → live_row s.rows name ≡ Some was → is_parked was.place ≡ true
     → is_linger_kind kind ≡ true → NoneOverdue s → s' ≡ next s (event.Hold name) → named ≡ name → s2 ≡ next s' (event.Park named kind) → NoneOverdue s2
 none-after_park s s' s2 name named kind was found waits lingers none held same is =
-    let at = (alive s.rows name was found).at in
+    let at = (found-at s.rows name was found) in
     subst NoneOverdue (sym (after-both s s' s2 name named (λ n. event.Park n kind) held same is))
     (none-parked_on s name kind was at lingers (deadline-later s name.slot was at waits none) none)

@@ -20,10 +20,9 @@ use Rattle.worker_group.specs.Acts.{Acts, events_of}
 use Rattle.worker_group.specs.Service.{IsUp}
 use Rattle.mpm_run.specs.Listen.{HasNoLive}
 use Rattle.board.specs.Finds.{FindsRow, is_due}
-use Rattle.worker_group.proofs.ServeLemmas.{alive}
-use Rattle.worker_group.proofs.StartLemmas.{lives}
 use Rattle.mpm_run.specs.Patient.{NoneDue}
 use Rattle.mpm_run.specs.ListenInside.{NoneParked}
+use Rattle.mpm_run.proofs.FoundLemmas.{found-at, lives}
 
 -- ## What the other passes leave
 
@@ -114,5 +113,5 @@ pub due-none : (s : State) (name : ConnName) → FindsRow (is_due s) s (Some nam
 due-none s name found none =
     let live = lives (is_due s name.slot) s.rows name found in
     let due = live.passes in
-    let not_due = none name.slot live.row (alive s.rows name live.row live.found).at in
+    let not_due = none name.slot live.row (found-at s.rows name live.row live.found) in
     absurd (cc (due, not_due))

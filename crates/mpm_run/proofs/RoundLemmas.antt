@@ -1,5 +1,5 @@
 -- The parts of the listener's round, one behind the other.
-use Rattle.std.proofs.Common.{◌≡◌, inl, inr, ℕ, ◌<◌, ◌≤◌, Bool, Result, Ok, Err, IfErr, OnOk, OnErr, arith, true, false, ◌==◌, cond, nat_lt, List, [], ◌∷◌, ◌++◌, length, map, None, Some, refl, sym, ap, subst, ◌∙◌, append-nil, append_assoc, eq-eqb, eqb-true}
+use Rattle.std.proofs.Common.{◌≡◌, inl, inr, ℕ, ◌<◌, ◌≤◌, Bool, Result, Ok, Err, IfErr, OnOk, OnErr, arith, true, false, ◌==◌, cond, nat_lt, List, [], ◌∷◌, ◌++◌, length, map, fold, Option, None, Some, refl, sym, ap, subst, ◌∙◌, append-nil, append_assoc, eq-eqb, eqb-true}
 use Rattle.std.proofs.lemmas.Bool.{false≢true}
 use Rattle.std.proofs.lemmas.Bool.Decides.{nat_tests}
 use Rattle.std.proofs.lemmas.Grind.{flat_map-append}
@@ -9,16 +9,15 @@ use Rattle.std.specs.List.{flat_map}
 use Rattle.mpm_base.specs.declared.conn.ConnName.{ConnName}
 use Rattle.conn_machine.specs.declared.event.Event.{Event}
 use Rattle.conn_machine.specs.declared.event.Event.TheVariants as event
-use Rattle.conn_machine.specs.Runs.{row_of}
+use Rattle.conn_machine.specs.declared.event.Entry.{Entry}
+use Rattle.conn_machine.specs.Runs.{Adds, has_after, row_of}
 use Rattle.board.specs.declared.faults.BoardFault.{BoardFault}
 use Rattle.board.specs.declared.faults.BoardFault.TheVariants as fault
 use Rattle.board.specs.Book.{SeenBook, book_with_entry}
 use Rattle.board.specs.Board.{SeenBoard}
 use Rattle.board.specs.Events.{with_recorded}
 use Rattle.worker_group.specs.declared.service.Exit.TheVariants as exit
-use Rattle.worker_group.specs.Acts.{Acts, events_of}
-use Rattle.worker_group.proofs.ActsLemmas.{acts_as, acts_more, acts_none, acts-row_other}
-use Rattle.worker_group.proofs.ExitLemmas.{rest_none}
+use Rattle.worker_group.specs.Acts.{Acts, ActsInSteps, events_of}
 use Rattle.worker_group.specs.Service.{LeavesRest, RefusalLasts, left_events}
 use Rattle.mpm_run.specs.ListenInside.{MustStop}
 use Rattle.mpm_run.specs.ClosingInside.{DrainsUntil, IsDrainedWay, IsLateWay, IsRetiringWay, LetsGo, LettingGo, RefusedWait, letting_events, refused_events}
@@ -27,46 +26,59 @@ use Rattle.mpm_run.specs.Times.{known_slots, ticks_to}
 
 -- ## No pass has a connection
 
-none-by : (who p : ℕ) (es : List Event) (a b : SeenBook) (own : Bool) → (p == who) ≡ own → NoneHas a → Acts who es None a b → row_of p b.history ≡ None
-none-by who p es a b true own none acts = ap (λ (q : ℕ). row_of q b.history) (eqb-true p who own) ∙ acts.row
-none-by who p es a b false own none acts =
-    acts-row_other who p es None a b acts (λ (same : p ≡ who). false≢true (sym own ∙ eq-eqb p who same)) ∙ none p
+none-by : ActsInSteps → (who p : ℕ) (es : List Event) (a b : SeenBook) (own : Bool) → (p == who) ≡ own → NoneHas a → Acts who es None a b → row_of p b.history ≡ None
+none-by steps who p es a b true own none acts = ap (λ (q : ℕ). row_of q b.history) (eqb-true p who own) ∙ acts.row
+none-by steps who p es a b false own none acts =
+    ap (fold (λ (had : Option ConnName) (e : Entry). has_after had e.event e.reply) None)
+    (steps.others who p es None a b acts (λ (same : p ≡ who). false≢true (sym own ∙ eq-eqb p who same)))
+    ∙ none p
 
 -- so it is after what a pass did that has none then
-pub none-has : (who : ℕ) (es : List Event) (a b : SeenBook) → NoneHas a → Acts who es None a b → NoneHas b
-none-has who es a b none acts p = none-by who p es a b (p == who) refl none acts
+pub none-has : ActsInSteps → (who : ℕ) (es : List Event) (a b : SeenBook) → NoneHas a → Acts who es None a b → NoneHas b
+none-has steps who es a b none acts p = none-by steps who p es a b (p == who) refl none acts
+
+-- ## Steps
+
+-- the events by another spelling
+pub acts-spelled : (es fs : List Event) (a b : SeenBook) → Acts 0 es None a b → es ≡ fs → Acts 0 fs None a b
+acts-spelled es fs a b acts same = subst (λ (xs : List Event). Acts 0 xs None a b) same acts
+
+-- a call of the board that records an event, and changes nothing else of the book
+pub acts-added : ActsInSteps → (e : Event) (has : Option ConnName) (b b' : SeenBoard) → b' ≡ with_recorded 0 e b
+    → Adds 0 b.book.base b.book.history b'.book.history → row_of 0 b'.book.history ≡ has → Acts 0 (e ∷ []) has b.book b'.book
+acts-added steps e has b b' is adds row = steps.one 0 e has b.book b'.book (ap (λ (v : SeenBoard). v.book) is) adds row
 
 -- ## Starts and ends of children
 
-pub starts-none : (b : SeenBook) → row_of 0 b.history ≡ None → StartsSome b b
-starts-none b row = record { children = []; acts = acts_none 0 None b row }
+pub starts-none : ActsInSteps → (b : SeenBook) → row_of 0 b.history ≡ None → StartsSome b b
+starts-none steps b row = record { children = []; acts = steps.none 0 None b row }
 
-pub starts-more : (k : ℕ) (a b c : SeenBook) → StartsSome a b → Acts 0 (event.StartChild k ∷ []) None b c → StartsSome a c
-starts-more k a b c starts one = record {
+pub starts-more : ActsInSteps → (k : ℕ) (a b c : SeenBook) → StartsSome a b → Acts 0 (event.StartChild k ∷ []) None b c → StartsSome a c
+starts-more steps k a b c starts one = record {
   children = starts.children ++ k ∷ [];
   acts =
-      acts_as 0 _ (map event.StartChild (starts.children ++ k ∷ [])) None None a c (acts_more 0 _ _ None None a b c starts.acts one)
-      (sym (map-append event.StartChild starts.children (k ∷ []))) refl;
+      acts-spelled _ (map event.StartChild (starts.children ++ k ∷ [])) a c (steps.more 0 _ _ None None a b c starts.acts one)
+      (sym (map-append event.StartChild starts.children (k ∷ [])));
 }
 
-pub retires-none : (b : SeenBook) → row_of 0 b.history ≡ None → RetiresSome b b
-retires-none b row = record { children = []; acts = acts_none 0 None b row }
+pub retires-none : ActsInSteps → (b : SeenBook) → row_of 0 b.history ≡ None → RetiresSome b b
+retires-none steps b row = record { children = []; acts = steps.none 0 None b row }
 
-pub retires-more : (k : ℕ) (a b c : SeenBook) → RetiresSome a b → Acts 0 (event.Retire k ∷ []) None b c → RetiresSome a c
-retires-more k a b c retires one = record {
+pub retires-more : ActsInSteps → (k : ℕ) (a b c : SeenBook) → RetiresSome a b → Acts 0 (event.Retire k ∷ []) None b c → RetiresSome a c
+retires-more steps k a b c retires one = record {
   children = retires.children ++ k ∷ [];
   acts =
-      acts_as 0 _ (map event.Retire (retires.children ++ k ∷ [])) None None a c (acts_more 0 _ _ None None a b c retires.acts one)
-      (sym (map-append event.Retire retires.children (k ∷ []))) refl;
+      acts-spelled _ (map event.Retire (retires.children ++ k ∷ [])) a c (steps.more 0 _ _ None None a b c retires.acts one)
+      (sym (map-append event.Retire retires.children (k ∷ [])));
 }
 
 -- ## Connections that are taken
 
-pub takes-none : (b : SeenBook) → row_of 0 b.history ≡ None → TakesSome b b
-takes-none b row = record { takes = []; left = tt; acts = acts_none 0 None b row }
+pub takes-none : ActsInSteps → (b : SeenBook) → row_of 0 b.history ≡ None → TakesSome b b
+takes-none steps b row = record { takes = []; left = tt; acts = steps.none 0 None b row }
 
-pub until-none : (b : SeenBook) → row_of 0 b.history ≡ None → TakesUntil b b
-until-none b row = record { takes = []; acts = acts_none 0 None b row }
+pub until-none : ActsInSteps → (b : SeenBook) → row_of 0 b.history ≡ None → TakesUntil b b
+until-none steps b row = record { takes = []; acts = steps.none 0 None b row }
 
 left-more : (takes : List Taking) (t : Taking) → AllLeft takes → IsLeft t.way → AllLeft (takes ++ t ∷ [])
 left-more [] t all one = (one, tt)
@@ -78,36 +90,36 @@ taking-more takes t =
     ap (λ (es : List Event). flat_map taking_events takes ++ es) (sym (append-nil (taking_events t))) ∙ sym (flat_map-append taking_events takes (t ∷ []))
 
 -- one more was taken and left
-pub takes-more : (t : Taking) (a b c : SeenBook) → TakesSome a b → IsLeft t.way → Acts 0 (taking_events t) None b c → TakesSome a c
-takes-more t a b c takes left one = record {
+pub takes-more : ActsInSteps → (t : Taking) (a b c : SeenBook) → TakesSome a b → IsLeft t.way → Acts 0 (taking_events t) None b c → TakesSome a c
+takes-more steps t a b c takes left one = record {
   takes = takes.takes ++ t ∷ [];
   left = left-more takes.takes t takes.left left;
   acts =
-      acts_as 0 _ _ None None a c (acts_more 0 _ _ None None a b c takes.acts one) (taking-more takes.takes t) refl;
+      acts-spelled _ _ a c (steps.more 0 _ _ None None a b c takes.acts one) (taking-more takes.takes t);
 }
 
 -- and then it was so until one was refused or given up
-pub takes-until : (a b c : SeenBook) → TakesSome a b → TakesUntil b c → TakesUntil a c
-takes-until a b c takes until = record {
+pub takes-until : ActsInSteps → (a b c : SeenBook) → TakesSome a b → TakesUntil b c → TakesUntil a c
+takes-until steps a b c takes until = record {
   takes = takes.takes ++ until.takes;
   acts =
-      acts_as 0 _ (flat_map taking_events (takes.takes ++ until.takes)) None None a c (acts_more 0 _ _ None None a b c takes.acts until.acts)
-      (sym (flat_map-append taking_events takes.takes until.takes)) refl;
+      acts-spelled _ (flat_map taking_events (takes.takes ++ until.takes)) a c (steps.more 0 _ _ None None a b c takes.acts until.acts)
+      (sym (flat_map-append taking_events takes.takes until.takes));
 }
 
 -- a connection that was taken was left so
-pub takes-one : (name : ConnName) (way : _) (a b c : SeenBook) → Acts 0 (event.Accept name.slot ∷ []) (Some name) a b
+pub takes-one : ActsInSteps → (name : ConnName) (way : _) (a b c : SeenBook) → Acts 0 (event.Accept name.slot ∷ []) (Some name) a b
     → Acts 0 (left_events way name) None b c → Acts 0 (taking_events (record { name = name; way = way })) None a c
-takes-one name way a b c taken left = acts_more 0 (event.Accept name.slot ∷ []) (left_events way name) (Some name) None a b c taken left
+takes-one steps name way a b c taken left = steps.more 0 (event.Accept name.slot ∷ []) (left_events way name) (Some name) None a b c taken left
 
 -- one that was taken was given up
-pub takes-given_up : (fault : BoardFault) (name : ConnName) (a b c : SeenBook) → Acts 0 (event.Accept name.slot ∷ []) (Some name) a b
+pub takes-given_up : ActsInSteps → (fault : BoardFault) (name : ConnName) (a b c : SeenBook) → Acts 0 (event.Accept name.slot ∷ []) (Some name) a b
     → GivesUp fault name b c → TakesUntil a c
-takes-given_up fault name a b c taken given = record {
+takes-given_up steps fault name a b c taken given = record {
   takes = record { name = name; way = exit.GiveUp fault } ∷ [];
   acts =
-      acts_as 0 _ _ None None a c (takes-one name (exit.GiveUp fault) a b c taken given)
-      (sym (append-nil (taking_events (record { name = name; way = exit.GiveUp fault })))) refl;
+      acts-spelled _ _ a c (takes-one steps name (exit.GiveUp fault) a b c taken given)
+      (sym (append-nil (taking_events (record { name = name; way = exit.GiveUp fault }))));
 }
 
 -- ## A round
@@ -124,18 +136,18 @@ gone-none a b went same =
     (sym went.acts.made ∙ ap (λ (x : SeenBook). events_of 0 x.history) same ∙ sym (append-nil (events_of 0 a.history))))
 
 -- time passed to a moment that is later
-pub passes-later : (to : ℕ) (a b c d : SeenBook) → ticks_to a.state.moment to ≡ to ∷ [] → (early : LetsGo IsLateWay a b) → NoneEarly a early.gone
+pub passes-later : ActsInSteps → (to : ℕ) (a b c d : SeenBook) → ticks_to a.state.moment to ≡ to ∷ [] → (early : LetsGo IsLateWay a b) → NoneEarly a early.gone
     → Acts 0 (event.Tick to ∷ []) None b c → LetsGo IsLateWay c d → PassesTime to a d
-passes-later to a b c d later early soon tick late = record {
+passes-later steps to a b c d later early soon tick late = record {
   early = early.gone;
   soon = soon;
   late = late.gone;
   early_ways = early.ways;
   late_ways = late.ways;
   acts =
-      acts_as 0 _ (time_events early.gone (ticks_to a.state.moment to) late.gone) None None a d
-      (acts_more 0 _ _ None None a c d (acts_more 0 _ _ None None a b c early.acts tick) late.acts)
-      (ap (λ (ticks : List ℕ). time_events early.gone ticks late.gone) (sym later)) refl;
+      acts-spelled _ (time_events early.gone (ticks_to a.state.moment to) late.gone) a d
+      (steps.more 0 _ _ None None a c d (steps.more 0 _ _ None None a b c early.acts tick) late.acts)
+      (ap (λ (ticks : List ℕ). time_events early.gone ticks late.gone) (sym later));
 }
 
 -- it didn't pass to one that isn't
@@ -148,9 +160,9 @@ passes-none to a b none early soon = record {
   early_ways = early.ways;
   late_ways = tt;
   acts =
-      acts_as 0 _ (time_events early.gone (ticks_to a.state.moment to) []) None None a b early.acts
+      acts-spelled _ (time_events early.gone (ticks_to a.state.moment to) []) a b early.acts
       (sym (append-nil (gone_events early.gone)) ∙ sym (append-nil (gone_events early.gone ++ []))
-      ∙ ap (λ (ticks : List ℕ). time_events early.gone ticks []) (sym none)) refl;
+      ∙ ap (λ (ticks : List ℕ). time_events early.gone ticks []) (sym none));
 }
 
 -- all the slots are the first of them
@@ -158,48 +170,45 @@ pub signals-all : (slots : List ℕ) (a b : SeenBook) → Acts 0 (signal_events 
 signals-all slots a b acts =
     record { first = known_slots (length a.base.rows) slots; front = ([], sym (append-nil (known_slots (length a.base.rows) slots))); acts = acts }
 
-pub signals-none : (slots : List ℕ) (b : SeenBook) → row_of 0 b.history ≡ None → SignalsFirst slots b b
-signals-none slots b row = record { first = []; front = (known_slots (length b.base.rows) slots, refl); acts = acts_none 0 None b row }
-
 -- connections that retire, that were late at once, and that linger were let go of
-pub lets-go-conns : (a b c d : SeenBook) → LetsGo IsRetiringWay a b → LetsGo IsLateWay b c → LetsGo IsDrainedWay c d → LetsGoOfConns [] a d
-lets-go-conns a b c d retiring cut drained = record {
+pub lets-go-conns : ActsInSteps → (a b c d : SeenBook) → LetsGo IsRetiringWay a b → LetsGo IsLateWay b c → LetsGo IsDrainedWay c d → LetsGoOfConns [] a d
+lets-go-conns steps a b c d retiring cut drained = record {
   lettings = record { retiring = retiring.gone; cut = cut.gone; drained = drained.gone };
   ways = record { retiring = retiring.ways; cut = cut.ways; drained = drained.ways };
   acts =
-      acts_as 0 _ _ None None a d
-      (acts_more 0 _ _ None None a c d (acts_more 0 _ _ None None a b c retiring.acts cut.acts) drained.acts)
-      (sym (append-nil (gone_events retiring.gone ++ gone_events cut.gone ++ gone_events drained.gone))) refl;
+      acts-spelled _ _ a d
+      (steps.more 0 _ _ None None a c d (steps.more 0 _ _ None None a b c retiring.acts cut.acts) drained.acts)
+      (sym (append-nil (gone_events retiring.gone ++ gone_events cut.gone ++ gone_events drained.gone)));
 }
 
 -- until one could not wait on
-pub lets-go-until : (a b c d : SeenBook) → LetsGo IsRetiringWay a b → LetsGo IsLateWay b c → DrainsUntil c d → LetsGoUntil a d
-lets-go-until a b c d retiring cut until = (
+pub lets-go-until : ActsInSteps → (a b c d : SeenBook) → LetsGo IsRetiringWay a b → LetsGo IsLateWay b c → DrainsUntil c d → LetsGoUntil a d
+lets-go-until steps a b c d retiring cut until = (
   until.last,
   record {
     lettings = record { retiring = retiring.gone; cut = cut.gone; drained = until.gone };
     ways = record { retiring = retiring.ways; cut = cut.ways; drained = until.ways };
     acts =
-        acts_as 0 _ _ None None a d
-        (acts_more 0 _ _ None None a c d (acts_more 0 _ _ None None a b c retiring.acts cut.acts) until.acts)
+        acts-spelled _ _ a d
+        (steps.more 0 _ _ None None a c d (steps.more 0 _ _ None None a b c retiring.acts cut.acts) until.acts)
         (sym (append_assoc (gone_events retiring.gone ++ gone_events cut.gone) (gone_events until.gone) (refused_events until.last))
         ∙ ap (λ (es : List Event). gone_events retiring.gone ++ gone_events cut.gone ++ gone_events until.gone ++ es)
-        (sym (append-nil (refused_events until.last)))) refl;
+        (sym (append-nil (refused_events until.last))));
   },
 )
 
 -- nothing was let go of
-pub lets-go-none : (b : SeenBook) → row_of 0 b.history ≡ None → LetsGoOfConns [] b b
-lets-go-none b row = record {
+pub lets-go-none : ActsInSteps → (b : SeenBook) → row_of 0 b.history ≡ None → LetsGoOfConns [] b b
+lets-go-none steps b row = record {
   lettings = record { retiring = []; cut = []; drained = [] };
   ways = record { retiring = tt; cut = tt; drained = tt };
-  acts = acts_none 0 None b row;
+  acts = steps.none 0 None b row;
 }
 
 -- the parts of a round
-pub goes-round : (to : ℕ) (slots : List ℕ) (a b c d e f h : SeenBook) → PassesTime to a b → Acts 0 (signal_events b slots) None b c
+pub goes-round : ActsInSteps → (to : ℕ) (slots : List ℕ) (a b c d e f h : SeenBook) → PassesTime to a b → Acts 0 (signal_events b slots) None b c
     → LetsGoOfConns [] c d → RetiresSome d e → StartsSome e f → TakesSome f h → GoesRound to slots a h
-goes-round to slots a b c d e f h time signals lets retires starts takes = record {
+goes-round steps to slots a b c d e f h time signals lets retires starts takes = record {
   round =
       record {
         early = time.early;
@@ -219,16 +228,16 @@ goes-round to slots a b c d e f h time signals lets retires starts takes = recor
   none_refused = refl;
   left = takes.left;
   acts =
-      acts_more 0 _ _ None None a f h
-      (acts_more 0 _ _ None None a e f
-      (acts_more 0 _ _ None None a d e
-      (acts_more 0 _ _ None None a c d (acts_more 0 _ _ None None a b c time.acts signals) lets.acts) retires.acts) starts.acts) takes.acts;
+      steps.more 0 _ _ None None a f h
+      (steps.more 0 _ _ None None a e f
+      (steps.more 0 _ _ None None a d e
+      (steps.more 0 _ _ None None a c d (steps.more 0 _ _ None None a b c time.acts signals) lets.acts) retires.acts) starts.acts) takes.acts;
 }
 
 -- and of one that was broken off behind the time
-pub breaks-behind : (to : ℕ) (slots : List ℕ) (refused : List RefusedWait) (a b c d e f h : SeenBook) → PassesTime to a b → SignalsFirst slots b c
+pub breaks-behind : ActsInSteps → (to : ℕ) (slots : List ℕ) (refused : List RefusedWait) (a b c d e f h : SeenBook) → PassesTime to a b → SignalsFirst slots b c
     → LetsGoOfConns refused c d → RetiresSome d e → StartsSome e f → TakesUntil f h → BreaksOff to slots a h
-breaks-behind to slots refused a b c d e f h time signals lets retires starts takes = record {
+breaks-behind steps to slots refused a b c d e f h time signals lets retires starts takes = record {
   round =
       record {
         early = time.early;
@@ -246,10 +255,10 @@ breaks-behind to slots refused a b c d e f h time signals lets retires starts ta
   signals = (signals.front.0, ap (λ (s : _). known_slots (length s.rows) slots) (sym time.acts.base) ∙ signals.front.1);
   ways = record { early = time.early_ways; late = time.late_ways; lettings = lets.ways };
   acts =
-      acts_more 0 _ _ None None a f h
-      (acts_more 0 _ _ None None a e f
-      (acts_more 0 _ _ None None a d e
-      (acts_more 0 _ _ None None a c d (acts_more 0 _ _ None None a b c time.acts signals.acts) lets.acts) retires.acts) starts.acts) takes.acts;
+      steps.more 0 _ _ None None a f h
+      (steps.more 0 _ _ None None a e f
+      (steps.more 0 _ _ None None a d e
+      (steps.more 0 _ _ None None a c d (steps.more 0 _ _ None None a b c time.acts signals.acts) lets.acts) retires.acts) starts.acts) takes.acts;
 }
 
 -- or before time passed
@@ -272,7 +281,7 @@ breaks-early to slots a b early =
       ticks = (ticks_to a.state.moment to, refl);
       signals = (known_slots (length a.base.rows) slots, refl);
       ways = record { early = early.ways; late = tt; lettings = record { retiring = tt; cut = tt; drained = tt } };
-      acts = acts_as 0 _ (round_events only) None None a b early.acts (simp append-nil) refl;
+      acts = acts-spelled _ (round_events only) a b early.acts (simp append-nil);
     }
 
 -- ## What the listener alone changes
@@ -293,7 +302,7 @@ rest_ready slot b b' is = rest_added (event.Ready slot) b b' is (record { moment
 
 -- so does what left the book as it was
 pub rest_same : (b b' : SeenBook) → b' ≡ b → LeavesRest b b'
-rest_same b b' same = subst (LeavesRest b) (sym same) (rest_none b)
+rest_same b b' same = subst (LeavesRest b) (sym same) (record { moment = refl; accepted = refl; up = λ up. up })
 
 -- ## Signals
 
@@ -310,13 +319,13 @@ pub known-none : (slot : ℕ) (b : SeenBook) → nat_lt slot (length b.base.rows
 known-none slot b without = ap (map event.Ready) (known-by slot (length b.base.rows) false without)
 
 -- the slots so far, and one more
-pub signals-more : (slots : List ℕ) (slot : ℕ) (a b c : SeenBook) → Acts 0 (signal_events a slots) None a b → Acts 0 (signal_events b (slot ∷ [])) None b c
+pub signals-more : ActsInSteps → (slots : List ℕ) (slot : ℕ) (a b c : SeenBook) → Acts 0 (signal_events a slots) None a b → Acts 0 (signal_events b (slot ∷ [])) None b c
     → Acts 0 (signal_events a (slots ++ slot ∷ [])) None a c
-signals-more slots slot a b c done one =
-    acts_as 0 _ (signal_events a (slots ++ slot ∷ [])) None None a c (acts_more 0 _ _ None None a b c done one)
+signals-more steps slots slot a b c done one =
+    acts-spelled _ (signal_events a (slots ++ slot ∷ [])) a c (steps.more 0 _ _ None None a b c done one)
     (ap (λ (s : _). signal_events a slots ++ map event.Ready (known_slots (length s.rows) (slot ∷ []))) done.base
     ∙ sym (map-append event.Ready (known_slots (length a.base.rows) slots) (known_slots (length a.base.rows) (slot ∷ [])))
-    ∙ ap (map event.Ready) (sym (filter-append (λ (x : ℕ). nat_lt x (length a.base.rows)) slots (slot ∷ [])))) refl
+    ∙ ap (map event.Ready) (sym (filter-append (λ (x : ℕ). nat_lt x (length a.base.rows)) slots (slot ∷ []))))
 
 -- the slots so far are the first of all
 pub signals-begun : (slots front back : List ℕ) (a b : SeenBook) → slots ≡ front ++ back → Acts 0 (signal_events a front) None a b → SignalsFirst slots a b

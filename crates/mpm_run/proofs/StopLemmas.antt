@@ -12,31 +12,30 @@ use Rattle.conn_machine.specs.Runs.{Adds, row_of}
 use Rattle.conn_machine.specs.Table.{may_command}
 use Rattle.board.specs.Board.{SeenBoard}
 use Rattle.board.specs.Events.{with_recorded}
-use Rattle.worker_group.proofs.ActsLemmas.{acts_as, acts_recorded, acts_same}
 use Rattle.conn_machine.specs.States.{is_halted}
 use Rattle.board.specs.declared.faults.BoardFault.{BoardFault}
 use Rattle.board.specs.Book.{SeenBook}
-use Rattle.worker_group.specs.Acts.{Acts}
+use Rattle.worker_group.specs.Acts.{Acts, ActsInSteps}
 use Rattle.worker_group.specs.Service.{LeavesRest}
 use Rattle.mpm_run.specs.declared.listen.End.{End}
 use Rattle.mpm_run.specs.declared.listen.End.TheVariants as end
 use Rattle.mpm_run.specs.Listen.{IsClosedDown}
 use Rattle.mpm_run.specs.ListenInside.{HaltsAs, HasStopped, MustHalt, TurnsEnd, why_of}
 use Rattle.mpm_run.specs.ClosingInside.{IsHaltedWay, LetsGo}
-use Rattle.mpm_run.specs.RoundInside.{NoneHas, RetiresSome, end_events, halt_events, stop_events}
+use Rattle.mpm_run.specs.RoundInside.{NoneHas, RetiresSome, end_events, halt_events}
 use Rattle.mpm_run.specs.Times.{IsInformed, IsInformedSoFar, WasInformed}
 use Rattle.mpm_run.proofs.EventLemmas.{AreSilent, silent-gone, silent-none, silent-retires, silent-stops}
 use Rattle.mpm_run.proofs.FrontLemmas.{given-hushed}
 use Rattle.mpm_run.proofs.InformLemmas.{TellsAs, informed-as, so_far-as, tells-silent}
-use Rattle.mpm_run.proofs.RoundLemmas.{none-has}
+use Rattle.mpm_run.proofs.RoundLemmas.{acts-added, acts-spelled, none-has}
 
 -- what was done told nothing of time and signals, and left no pass with a connection
 pub record IsQuietStep (old new : SeenBook) : Type 0 where
   pub free : NoneHas new
   pub alike : TellsAs old new
 
-quiet-acts : (a b : SeenBook) (es : List _) → NoneHas a → Acts 0 es None a b → AreSilent es → IsQuietStep a b
-quiet-acts a b es free acts silent = record { free = none-has 0 es a b free acts; alike = tells-silent es a b acts silent }
+quiet-acts : ActsInSteps → (a b : SeenBook) (es : List _) → NoneHas a → Acts 0 es None a b → AreSilent es → IsQuietStep a b
+quiet-acts steps a b es free acts silent = record { free = none-has steps 0 es a b free acts; alike = tells-silent es a b acts silent }
 
 silent-ends : (b : SeenBook) (turns : Result End BoardFault) → AreSilent (end_events b turns)
 silent-ends b (Ok end) = record { ticks = refl; signals = refl }
@@ -47,16 +46,16 @@ silent-halts true b turns = silent-none
 silent-halts false b turns = silent-ends b turns
 
 -- the server was stopped
-pub quiet-halted : (turns : Result End BoardFault) (a b : SeenBook) → NoneHas a → Acts 0 (halt_events a turns) None a b → IsQuietStep a b
-quiet-halted turns a b free acts = quiet-acts a b _ free acts (silent-halts (is_halted a.state.going) a turns)
+pub quiet-halted : ActsInSteps → (turns : Result End BoardFault) (a b : SeenBook) → NoneHas a → Acts 0 (halt_events a turns) None a b → IsQuietStep a b
+quiet-halted steps turns a b free acts = quiet-acts steps a b _ free acts (silent-halts (is_halted a.state.going) a turns)
 
 -- closes
-pub quiet-closed : (a b : SeenBook) → NoneHas a → LetsGo IsHaltedWay a b → IsQuietStep a b
-quiet-closed a b free closes = quiet-acts a b _ free closes.acts (silent-gone closes.gone)
+pub quiet-closed : ActsInSteps → (a b : SeenBook) → NoneHas a → LetsGo IsHaltedWay a b → IsQuietStep a b
+quiet-closed steps a b free closes = quiet-acts steps a b _ free closes.acts (silent-gone closes.gone)
 
 -- ends of children
-pub quiet-retired : (a b : SeenBook) → NoneHas a → RetiresSome a b → IsQuietStep a b
-quiet-retired a b free retires = quiet-acts a b _ free retires.acts (silent-retires retires.children)
+pub quiet-retired : ActsInSteps → (a b : SeenBook) → NoneHas a → RetiresSome a b → IsQuietStep a b
+quiet-retired steps a b free retires = quiet-acts steps a b _ free retires.acts (silent-retires retires.children)
 
 -- the server was stopped, each connection that waited closed, and each child let go of
 pub record GoesDown (turns : Result End BoardFault) (a b c d : SeenBook) : Type 0 where
@@ -69,8 +68,8 @@ pub record GoesDown (turns : Result End BoardFault) (a b c d : SeenBook) : Type 
   pub retire_rest : LeavesRest c d
 
 -- then no pass has a connection
-pub free-halted : (turns : Result End BoardFault) (a b : SeenBook) → NoneHas a → Acts 0 (halt_events a turns) None a b → NoneHas b
-free-halted turns a b free acts = none-has 0 _ a b free acts
+pub free-halted : ActsInSteps → (turns : Result End BoardFault) (a b : SeenBook) → NoneHas a → Acts 0 (halt_events a turns) None a b → NoneHas b
+free-halted steps turns a b free acts = none-has steps 0 _ a b free acts
 
 -- the history is informed still
 pub informed-quiet : (waits : Option (List WaitTold)) (calls : Option (List (ℕ × ℕ))) (a b : SeenBook) → IsQuietStep a b
@@ -92,13 +91,13 @@ informed-down (Err f) waits calls a b c d down halted closed retired halts infor
     inr (halts, so_far-quiet waits calls c d retired (so_far-quiet waits calls b c closed (so_far-quiet waits calls a b halted begun)))
 
 -- and what the turns left of it stays
-pub was-informed : (turns : Result End BoardFault) (waits : Option (List WaitTold)) (calls : Option (List (ℕ × ℕ))) (a b c d : SeenBook)
+pub was-informed : ActsInSteps → (turns : Result End BoardFault) (waits : Option (List WaitTold)) (calls : Option (List (ℕ × ℕ))) (a b c d : SeenBook)
     → GoesDown turns a b c d → HaltsAs turns d.state.going → OnOk turns (IsInformed waits calls a) → OnErr turns (IsInformedSoFar waits calls a)
     → WasInformed waits calls d
-was-informed turns waits calls a b c d down halts informed begun =
-    let halted = quiet-halted turns a b down.free down.halts in
-    let closed = quiet-closed b c halted.free down.closes in
-    let retired = quiet-retired c d closed.free down.retires in
+was-informed steps turns waits calls a b c d down halts informed begun =
+    let halted = quiet-halted steps turns a b down.free down.halts in
+    let closed = quiet-closed steps b c halted.free down.closes in
+    let retired = quiet-retired steps c d closed.free down.retires in
     informed-down turns waits calls a b c d down halted closed retired halts informed begun
 
 -- why the server stopped
@@ -148,33 +147,21 @@ may-halt turns e reason b is reason_is must =
     (may-stop e b (subst (λ (t : Result End BoardFault). MustHalt t b) is must))
 
 -- and the server stops by it
-pub acts-stopped : (turns : Result End BoardFault) (e : End) (reason : Why) (b b' : SeenBoard) → turns ≡ Ok e → reason ≡ why_of e → MustHalt turns b.book
+pub acts-stopped : ActsInSteps → (turns : Result End BoardFault) (e : End) (reason : Why) (b b' : SeenBoard) → turns ≡ Ok e → reason ≡ why_of e → MustHalt turns b.book
     → row_of 0 b.book.history ≡ None → b' ≡ with_recorded 0 (event.Command (Stop reason)) b → Adds 0 b.book.base b.book.history b'.book.history
     → row_of 0 b'.book.history ≡ row_of 0 b.book.history → Acts 0 (halt_events b.book turns) None b.book b'.book
-acts-stopped turns e reason b b' is reason_is must free new_is adds row =
+acts-stopped steps turns e reason b b' is reason_is must free new_is adds row =
     let going = goes-on e b.book (subst (λ (t : Result End BoardFault). MustHalt t b.book) is must) in
     let events : event.Command (Stop reason) ∷ [] ≡ halt_events b.book turns =
     ap (λ (w : Why). event.Command (Stop w) ∷ []) reason_is ∙ ap (end_events b.book) (sym is)
     ∙ ap (λ (halted : Bool). if halted then [] else end_events b.book turns) (sym going) in
-    acts_as 0 (event.Command (Stop reason) ∷ []) (halt_events b.book turns) None None b.book b'.book
-    (acts_recorded 0 (event.Command (Stop reason)) None b b' new_is adds (row ∙ free)) events refl
+    acts-spelled (event.Command (Stop reason) ∷ []) (halt_events b.book turns) b.book b'.book
+    (acts-added steps (event.Command (Stop reason)) None b b' new_is adds (row ∙ free)) events
 
 pub halts-as : (turns : Result End BoardFault) (e : End) (reason : Why) (going : Going) → turns ≡ Ok e → reason ≡ why_of e → going ≡ Halted reason
     → HaltsAs turns going
 halts-as turns e reason going is reason_is halted =
     subst (λ (t : Result End BoardFault). HaltsAs t going) (sym is) (halted ∙ ap Halted reason_is)
-
--- a stop for a fault, unless the server was stopped
-pub acts-fault : (turns : Result End BoardFault) (f : BoardFault) (halted : Bool) (a b : SeenBoard) → turns ≡ Err f → is_halted a.book.state.going ≡ halted
-    → row_of 0 a.book.history ≡ None → (is_halted a.book.state.going ≡ false → Acts 0 (stop_events a.book f) None a.book b.book)
-    → (is_halted a.book.state.going ≡ true → b ≡ a) → Acts 0 (halt_events a.book turns) None a.book b.book
-acts-fault turns f true a b turns_is is free stops stays =
-    acts_as 0 [] (halt_events a.book turns) None None a.book b.book
-    (acts_same 0 None a.book b.book (ap (λ (v : SeenBoard). v.book) (stays is)) free)
-    (ap (λ (h : Bool). if h then [] else end_events a.book turns) (sym is)) refl
-acts-fault turns f false a b turns_is is free stops stays =
-    acts_as 0 (stop_events a.book f) (halt_events a.book turns) None None a.book b.book (stops is)
-    (ap (end_events a.book) (sym turns_is) ∙ ap (λ (h : Bool). if h then [] else end_events a.book turns) (sym is)) refl
 
 -- a server that stopped so has stopped
 pub has-halted : (turns : Result End BoardFault) (going : Going) → HaltsAs turns going → is_halted going ≡ true

@@ -22,7 +22,7 @@ use Rattle.board.specs.Book.{SeenBook, book_with_entry}
 use Rattle.board.specs.Events.{IsTaken}
 use Rattle.board.specs.Finds.{acceptable}
 use Rattle.mpm_run.specs.ListenInside.{HasTaken, TookAll}
-use Rattle.worker_group.proofs.AnswerLemmas.{live_row-update}
+use Rattle.mpm_run.proofs.FoundLemmas.{ChangesInPlace, found-changed, passed}
 
 -- ## Where a connection is taken
 
@@ -73,21 +73,16 @@ accept-allowed who slot b b' state is_history is =
     let here = subst (λ (x : SeenBook). IsHistory x.base x.history) is is_history in
     subst (λ (s : State). is_allowed s (event.Accept slot) ≡ true) state (last-allowed b.base b.history _ here.run)
 
--- the row of a slot that passes a test
-slot-row : (test : Row → Bool) (o : Option Row) → option_map_or test o false ≡ true → (r : Row) × (o ≡ Some r)
-slot-row test None passes = absurd (cc)
-slot-row test (Some r) passes = (r, refl)
-
-taken-of : (s : State) (slot : ℕ) (name : ConnName) (child generation : ℕ) (r : Row) → slice_get s.rows slot ≡ Some r → name.slot ≡ slot
+taken-of : ChangesInPlace → (s : State) (slot : ℕ) (name : ConnName) (child generation : ℕ) (r : Row) → slice_get s.rows slot ≡ Some r → name.slot ≡ slot
     → IsTaken s name child generation → HasTaken (next s (event.Accept slot)) name child generation s.accepted
-taken-of s slot name child generation r at slot_is taken =
+taken-of law s slot name child generation r at slot_is taken =
     let life : life_at s.rows name.slot ≡ r.life = ap (λ (o : Option Row). option_map_or (λ (x : Row). x.life) o 0) (ap (slice_get s.rows) slot_is ∙ at) in
     let named : name ≡ record { slot = name.slot; life = life_at s.rows name.slot } = cc taken in
     let child_is : child ≡ picked_child s = cc taken in
     let generation_is : generation ≡ (child_at s.children (picked_child s)).generation = cc taken in
     let life_is : r.life ≡ name.life = sym (ap (λ (n : ConnName). n.life) named ∙ life) in
     let found : live_row (update s.rows name.slot (taken_row s)) name ≡ Some (taken_row s r) =
-    live_row-update s.rows name r (taken_row s) (ap (slice_get s.rows) slot_is ∙ at) (eq-eqb r.life name.life life_is) in
+    found-changed law s.rows name r (taken_row s) (ap (slice_get s.rows) slot_is ∙ at) (eq-eqb r.life name.life life_is) in
     record {
       row = taken_row s r;
       found = subst (λ (n : ℕ). live_row (update s.rows n (taken_row s)) name ≡ Some (taken_row s r)) slot_is found;
@@ -101,13 +96,13 @@ taken-of s slot name child generation r at slot_is taken =
     }
 
 -- what was taken is held
-pub has-taken : (s s' : State) (name : ConnName) (child generation : ℕ) → is_allowed s (event.Accept name.slot) ≡ true
+pub has-taken : ChangesInPlace → (s s' : State) (name : ConnName) (child generation : ℕ) → is_allowed s (event.Accept name.slot) ≡ true
     → s' ≡ next s (event.Accept name.slot) → IsTaken s name child generation → HasTaken s' name child generation s.accepted
-has-taken s s' name child generation may is taken =
+has-taken law s s' name child generation may is taken =
     let both = and_parts (is_serving s.going && is_vacant_at s name.slot) (is_some (pick_child s)) may in
     let parts = and_parts (is_serving s.going) (is_vacant_at s name.slot) both.0 in
-    let found = slot-row (λ (r : Row). is_vacant r.place) (slice_get s.rows name.slot) parts.1 in
-    subst (λ (t : State). HasTaken t name child generation s.accepted) (sym is) (taken-of s name.slot name child generation found.0 found.1 refl taken)
+    let found = passed (λ (r : Row). is_vacant r.place) (slice_get s.rows name.slot) parts.1 in
+    subst (λ (t : State). HasTaken t name child generation s.accepted) (sym is) (taken-of law s name.slot name child generation found.0 found.1 refl taken)
 
 -- ## No further one is taken
 

@@ -1,5 +1,5 @@
 -- Time that passes, and the connections that are late.
-use Rattle.std.proofs.Common.{◌≡◌, ◌||◌, ℕ, zero, suc, ◌<◌, ◌≤◌, Bool, true, false, List, [], ◌∷◌, nat_lt, nat_le, None, Some, slice_get, refl, ◌∙◌, arith}
+use Rattle.std.proofs.Common.{◌≡◌, ◌||◌, ℕ, zero, suc, ◌<◌, ◌≤◌, Bool, true, false, List, [], ◌∷◌, nat_lt, nat_le, None, Some, slice_get, refl, arith}
 use Rattle.std.proofs.lemmas.Bool.{and_parts}
 use Rattle.std.proofs.lemmas.Bool.Decides.{nat_tests}
 use Rattle.std.specs.List.{list_any}
@@ -13,8 +13,7 @@ use Rattle.mpm_base.specs.Moment.{greatest_moment}
 use Rattle.conn_machine.specs.Table.{is_allowed, may_be_held}
 use Rattle.board.specs.Finds.{FindsRow, is_late}
 use Rattle.mpm_run.specs.ListenInside.{NoneOverdue}
-use Rattle.worker_group.proofs.ServeLemmas.{alive, test-at}
-use Rattle.worker_group.proofs.StartLemmas.{Lives, lives}
+use Rattle.mpm_run.proofs.FoundLemmas.{Lives, found-at, lives, passes-found}
 
 -- ## A connection that is late
 
@@ -30,7 +29,7 @@ pub may-hold_late : (s : State) (name : ConnName) → FindsRow (is_late s) s (So
 may-hold_late s name found =
     let live = late-row s name found in
     let parts = late-parts s.moment live.row live.passes in
-    test-at s.rows name live.row (may_be_held s (is_signalled s name.slot)) live.found ∙ rw (parts.0, parts.1) refl
+    passes-found (may_be_held s (is_signalled s name.slot)) s.rows name live.row live.found (rw (parts.0, parts.1) refl)
 
 -- ## No connection is late
 
@@ -66,5 +65,5 @@ any-at test (x ∷ rows) (suc slot) r at passes = any-behind (test x) (list_any 
 pub late-none : (s : State) (name : ConnName) → FindsRow (is_late s) s (Some name) → NoneOverdue s → ⊥
 late-none s name found none =
     let live = late-row s name found in
-    let any = any-at (is_overdue s.moment) s.rows name.slot live.row (alive s.rows name live.row live.found).at live.passes in
+    let any = any-at (is_overdue s.moment) s.rows name.slot live.row (found-at s.rows name live.row live.found) live.passes in
     absurd (cc (any, none))

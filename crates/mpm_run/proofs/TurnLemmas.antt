@@ -1,19 +1,18 @@
 -- What holds of a listener between two turns, and how a turn keeps it.
-use Rattle.std.proofs.Common.{◌≡◌, ◌≢◌, ◌<◌, inl, ℕ, false, List, [], Option, None, IfSome, max, ap, sym, subst, refl, ◌∙◌, arith}
+use Rattle.std.proofs.Common.{◌≡◌, ◌≢◌, ◌<◌, inl, ℕ, false, List, [], Option, None, IfSome, map, max, ap, sym, subst, refl, ◌∙◌, arith}
 use Rattle.mpm_base.specs.Count.{RisesExactlyWhere}
 use Rattle.mpm_base.specs.Front.{GivesOnlyAwake, GoesForward, TellsOn, WaitTold, is_ended, moments_in}
 use Rattle.mpm_base.specs.declared.front.Woke.{Woke}
 use Rattle.mpm_base.specs.declared.front.Woke.TheVariants as woke
+use Rattle.conn_machine.specs.declared.event.Entry.{Entry}
 use Rattle.conn_machine.specs.declared.event.Event.{Event}
 use Rattle.conn_machine.specs.Made.{AreOfPasses}
 use Rattle.conn_machine.specs.Passes.{OnlyServes}
-use Rattle.conn_machine.proofs.HistoryLemmas.{adds_few}
 use Rattle.conn_machine.specs.States.{is_halted}
 use Rattle.board.specs.Book.{SeenBook}
 use Rattle.board.specs.Board.{SeenBoard}
-use Rattle.worker_group.specs.Acts.{Acts}
+use Rattle.worker_group.specs.Acts.{Acts, ActsInSteps}
 use Rattle.worker_group.specs.Service.{IsUp, LeavesRest}
-use Rattle.worker_group.proofs.ActsLemmas.{acts-events_other}
 use Rattle.mpm_run.specs.declared.listen.Pause.{Pause}
 use Rattle.mpm_run.specs.declared.listen.Rest.{Rest}
 use Rattle.mpm_run.specs.Listen.{HasNoLive}
@@ -36,9 +35,10 @@ abbrev pub OfPasses : SeenListener → SeenListener → Type 0
 OfPasses first now = AreOfPasses first.board.book.passes now.board.book.history
 
 -- so it is after what one of them did
-pub few-acts : (passes who : ℕ) (es : List Event) (has : _) (a b : SeenBook) → who < passes → Acts who es has a b → AreOfPasses passes a.history
+pub few-acts : ActsInSteps → (passes who : ℕ) (es : List Event) (has : _) (a b : SeenBook) → who < passes → Acts who es has a b → AreOfPasses passes a.history
     → AreOfPasses passes b.history
-few-acts passes who es has a b less acts few = adds_few passes who a.base a.history b.history less few acts.entries
+few-acts steps passes who es has a b less acts few p beyond =
+    steps.others who p es has a b acts (λ (same : p ≡ who). omega (arith, less, beyond, same)) ∙ few p beyond
 
 -- what holds of a listener that began as the first
 pub record IsBetween (tells : Type 0) (first now : SeenListener) : Type 0 where
@@ -56,17 +56,17 @@ pub record IsBetween (tells : Type 0) (first now : SeenListener) : Type 0 where
   pub informed : IsInformed (waits_of now.front.told) now.calls now.board.book
 
 -- at the start, once children were started
-pub between-started : (tells : Type 0) (l m : SeenListener) → 1 < l.board.book.passes → NoneHas l.board.book → is_halted l.board.book.state.going ≡ false → IsInStep l.front.told l.board.book.state
+pub between-started : ActsInSteps → (tells : Type 0) (l m : SeenListener) → 1 < l.board.book.passes → NoneHas l.board.book → is_halted l.board.book.state.going ≡ false → IsInStep l.front.told l.board.book.state
     → IsInformed (waits_of l.front.told) l.calls l.board.book → m ≡ record l { board = m.board } → StartsSome l.board.book m.board.book
     → m.board.book.state.going ≡ l.board.book.state.going → LeavesRest l.board.book m.board.book → IsBetween tells l m
-between-started tells l m some free going step informed is starts same rest =
+between-started steps tells l m some free going step informed is starts same rest =
     subst (IsBetween tells l) (sym is)
     (record {
       some = some;
-      few = few-acts l.board.book.passes 0 _ None l.board.book m.board.book (omega (arith, some)) starts.acts;
+      few = few-acts steps l.board.book.passes 0 _ None l.board.book m.board.book (omega (arith, some)) starts.acts;
       base = starts.acts.base;
       passes = starts.acts.passes;
-      free = none-has 0 _ l.board.book m.board.book free starts.acts;
+      free = none-has steps 0 _ l.board.book m.board.book free starts.acts;
       up = inl (ap is_halted same ∙ going);
       step = step-kept l.front.told l.board.book.state m.board.book.state rest.accepted step;
       follows = follows-same l.front;
@@ -146,21 +146,21 @@ module _ (tells : Type 0) (rest : Rest) (pause : Pause) (first a w : SeenListene
       }
 
   -- after a round
-  pub between-round : (b : SeenListener) → IsBetween tells first a → HasWaited rest pause a w → GoesRound (moment_for pause.moment) w.ready w.board.book b.board.book
+  pub between-round : ActsInSteps → (b : SeenListener) → IsBetween tells first a → HasWaited rest pause a w → GoesRound (moment_for pause.moment) w.ready w.board.book b.board.book
       → b.board.book.state.moment ≡ max w.board.book.state.moment (moment_for pause.moment) → IsInStep b.front.told b.board.book.state
       → IsUp b.board.book.state.going → Follows w.front b.front → TellsOn OnlyTakes w.front.told b.front.told → (Watching tells w → Watching tells b) → b.calls ≡ w.calls
       → IsBetween tells first b
-  between-round b before waited round later step up follows takes watched calls =
+  between-round steps b before waited round later step up follows takes watched calls =
       let here : GoesRound (moment_for pause.moment) w.ready a.board.book b.board.book =
       subst (λ (v : SeenBook). GoesRound (moment_for pause.moment) w.ready v b.board.book) (waited-book waited) round in
       let waits = waits-kept w.front.told b.front.told takes in
       record {
         some = before.some;
         few =
-            λ began. few-acts first.board.book.passes 0 _ None a.board.book b.board.book (omega (arith, before.some)) here.acts (before.few began);
+            λ began. few-acts steps first.board.book.passes 0 _ None a.board.book b.board.book (omega (arith, before.some)) here.acts (before.few began);
         base = here.acts.base ∙ before.base;
         passes = here.acts.passes ∙ before.passes;
-        free = none-has 0 _ a.board.book b.board.book before.free here.acts;
+        free = none-has steps 0 _ a.board.book b.board.book before.free here.acts;
         up = up;
         step = step;
         follows = follows-trans _ _ _ (waited-follows before waited) follows;
@@ -244,19 +244,19 @@ broken-between tells l m between = record {
 }
 
 -- in a round
-pub broken-round : (tells : Type 0) (rest : Rest) (pause : Pause) (first a w b : SeenListener) → IsBetween tells first a → HasWaited rest pause a w
+pub broken-round : ActsInSteps → (tells : Type 0) (rest : Rest) (pause : Pause) (first a w b : SeenListener) → IsBetween tells first a → HasWaited rest pause a w
     → BreaksOff (moment_for pause.moment) w.ready w.board.book b.board.book → IsUp b.board.book.state.going → Follows w.front b.front
     → TellsOn OnlyTakes w.front.told b.front.told → (Watching tells w → Watching tells b) → b.calls ≡ w.calls → HasBroken tells first b
-broken-round tells rest pause first a w b before waited round up follows takes watched calls =
+broken-round steps tells rest pause first a w b before waited round up follows takes watched calls =
     let here : BreaksOff (moment_for pause.moment) w.ready a.board.book b.board.book =
     subst (λ (v : SeenBook). BreaksOff (moment_for pause.moment) w.ready v b.board.book) (waited-book tells rest pause first a w waited) round in
     let waits = waits-kept w.front.told b.front.told takes in
     record {
       few =
-          λ began. few-acts first.board.book.passes 0 _ None a.board.book b.board.book (omega (arith, before.some)) here.acts (before.few began);
+          λ began. few-acts steps first.board.book.passes 0 _ None a.board.book b.board.book (omega (arith, before.some)) here.acts (before.few began);
       base = here.acts.base ∙ before.base;
       passes = here.acts.passes ∙ before.passes;
-      free = none-has 0 _ a.board.book b.board.book before.free here.acts;
+      free = none-has steps 0 _ a.board.book b.board.book before.free here.acts;
       up = up;
       follows = follows-trans _ _ _ (waited-follows tells rest pause first a w before waited) follows;
       bound = bound-kept w.front.told b.front.told takes ∙ waited-bound tells rest pause first a w before waited;
@@ -277,11 +277,11 @@ pub record HasServed (a b : SeenListener) : Type 0 where
   pub serves : OnlyServes a.board.book.state b.board.book.state
   pub others : b ≡ record a { board = b.board }
 
-served-informed : (tells : Type 0) (first a b : SeenListener) → IsBetween tells first a → HasServed a b → IsInformed (waits_of a.front.told) a.calls b.board.book
-served-informed tells first a b before served =
+served-informed : ActsInSteps → (tells : Type 0) (first a b : SeenListener) → IsBetween tells first a → HasServed a b → IsInformed (waits_of a.front.told) a.calls b.board.book
+served-informed steps tells first a b before served =
     informed-as (waits_of a.front.told) a.calls a.board.book b.board.book
     (tells-same a.board.book b.board.book served.acts.base
-    (acts-events_other 1 0 served.events None a.board.book b.board.book served.acts another)) served.serves.moment before.informed
+    (ap (map (λ (e : Entry). e.event)) (steps.others 1 0 served.events None a.board.book b.board.book served.acts another))) served.serves.moment before.informed
 
 served-watched : (tells : Type 0) (first a b : SeenListener) → IsBetween tells first a → HasServed a b → Watching tells first → tells
     → IfSome a.front.told (WatchesAll b.board.book)
@@ -290,37 +290,37 @@ served-watched tells first a b before served began holds =
     served.serves.accepted (before.watched began holds)
 
 -- after it
-pub between-served : (tells : Type 0) (first a b : SeenListener) → IsBetween tells first a → HasServed a b → IsBetween tells first b
-between-served tells first a b before served =
+pub between-served : ActsInSteps → (tells : Type 0) (first a b : SeenListener) → IsBetween tells first a → HasServed a b → IsBetween tells first b
+between-served steps tells first a b before served =
     subst (IsBetween tells first) (sym served.others)
     (record {
       some = before.some;
-      few = λ began. few-acts first.board.book.passes 1 served.events None a.board.book b.board.book before.some served.acts (before.few began);
+      few = λ began. few-acts steps first.board.book.passes 1 served.events None a.board.book b.board.book before.some served.acts (before.few began);
       base = served.acts.base ∙ before.base;
       passes = served.acts.passes ∙ before.passes;
-      free = none-has 1 served.events a.board.book b.board.book before.free served.acts;
+      free = none-has steps 1 served.events a.board.book b.board.book before.free served.acts;
       up = up-served a.board.book.state b.board.book.state served.serves before.up;
       step = step-kept a.front.told a.board.book.state b.board.book.state served.serves.accepted before.step;
       follows = before.follows;
       bound = before.bound;
       watched = served-watched tells first a b before served;
       time = before.time;
-      informed = served-informed tells first a b before served;
+      informed = served-informed steps tells first a b before served;
     })
 
 -- where it was broken off
-pub broken-served : (tells : Type 0) (first a b : SeenListener) → IsBetween tells first a → HasServed a b → HasBroken tells first b
-broken-served tells first a b before served =
+pub broken-served : ActsInSteps → (tells : Type 0) (first a b : SeenListener) → IsBetween tells first a → HasServed a b → HasBroken tells first b
+broken-served steps tells first a b before served =
     subst (HasBroken tells first) (sym served.others)
     (record {
-      few = λ began. few-acts first.board.book.passes 1 served.events None a.board.book b.board.book before.some served.acts (before.few began);
+      few = λ began. few-acts steps first.board.book.passes 1 served.events None a.board.book b.board.book before.some served.acts (before.few began);
       base = served.acts.base ∙ before.base;
       passes = served.acts.passes ∙ before.passes;
-      free = none-has 1 served.events a.board.book b.board.book before.free served.acts;
+      free = none-has steps 1 served.events a.board.book b.board.book before.free served.acts;
       up = up-served a.board.book.state b.board.book.state served.serves before.up;
       follows = before.follows;
       bound = before.bound;
       watched = served-watched tells first a b before served;
       time = before.time;
-      so_far = informed-so_far _ _ _ (served-informed tells first a b before served);
+      so_far = informed-so_far _ _ _ (served-informed steps tells first a b before served);
     })

@@ -26,9 +26,11 @@ use crate::listen::LISTENER;
 use crate::round::show_none_live;
 use board::{Board, BoardFault};
 use conn_machine::Why;
+use conn_machine::laws_of_runs::{histories_go_on_by_one_entry, rows_change_one_at_a_time};
 use conn_state::laws::lingering_connections_keep_their_cause;
 use conn_state::{Conn, Known, LingerTurn};
 use mpm_base::{Cause, ConnName, Kind, Link, Tail};
+use worker_group::laws::{connections_in_hand_may_be_closed, passes_act_in_steps};
 use worker_group::{close, let_linger};
 
 /// Lets go of each connection that is late: one that lingers is closed, and another one begins to linger, or is closed where its
@@ -41,6 +43,7 @@ pub(crate) fn let_go_late<L: Link, N: Known>(board: &mut Board<L, N>)
     ensures still { NoneOverdue board.old.book.state → board.new ≡ board.old }
     ensures rest { LeavesRest board.old.book board.new.book }
 {
+    passes_act_in_steps();
     while let Some(name) = board.overdue() {
         let_go_late_one(board, name);
     }
@@ -55,6 +58,8 @@ fn let_go_late_one<L: Link, N: Known>(board: &mut Board<L, N>, name: ConnName)
     ensures fewer { late_weight board.new.book.state < late_weight board.old.book.state }
     ensures rest { LeavesRest board.old.book board.new.book }
 {
+    rows_change_one_at_a_time();
+    passes_act_in_steps();
     board.show();
     let cause = board.cause(name);
     let Some(kind) = board.kind(name) else {
@@ -105,6 +110,7 @@ pub(crate) fn let_go_retiring<L: Link, N: Known>(board: &mut Board<L, N>)
     ensures none { NoneToLetGo board.new.book.state }
     ensures rest { LeavesRest board.old.book board.new.book }
 {
+    passes_act_in_steps();
     while let Some(name) = board.retiring() {
         let_go_retiring_one(board, name);
     }
@@ -119,6 +125,8 @@ fn let_go_retiring_one<L: Link, N: Known>(board: &mut Board<L, N>, name: ConnNam
     ensures fewer { serving_count board.new.book.state < serving_count board.old.book.state }
     ensures rest { LeavesRest board.old.book board.new.book }
 {
+    rows_change_one_at_a_time();
+    passes_act_in_steps();
     board.show();
     let conn = board.hold(LISTENER, name);
     linger_for(board, conn, Cause::Retiring);
@@ -136,6 +144,7 @@ pub(crate) fn drain_all<L: Link, N: Known>(board: &mut Board<L, N>) -> Result<()
     ensures rest { LeavesRest board.old.book board.new.book }
     ensures err { IfErr result (λ fault. MustStop fault board.new.book) }
 {
+    passes_act_in_steps();
     while let Some(name) = board.signalled_linger() {
         drain(board, name)?;
     }
@@ -155,6 +164,8 @@ fn drain<L: Link, N: Known>(board: &mut Board<L, N>, name: ConnName) -> Result<(
     ensures rest { LeavesRest board.old.book board.new.book }
     ensures err { IfErr result (λ fault. MustStop fault board.new.book) }
 {
+    rows_change_one_at_a_time();
+    passes_act_in_steps();
     lingering_connections_keep_their_cause();
     board.show();
     let (Some(cause), Some(kind)) = (board.cause(name), board.kind(name)) else {
@@ -201,6 +212,7 @@ fn linger_on<L: Link, N: Known>(
     ensures lasts { IfErr result (λ fault. RefusalLasts fault board.new.book) }
     ensures rest { LeavesRest board.old.book board.new.book }
 {
+    passes_act_in_steps();
     conn.show();
     match board.park(LISTENER, kind, conn) {
         Ok(()) => Ok(()),
@@ -226,6 +238,8 @@ fn give_up_lingering<L: Link, N: Known>(
     ensures lasts { RefusalLasts fault board.new.book }
     ensures rest { LeavesRest board.old.book board.new.book }
 {
+    histories_go_on_by_one_entry();
+    passes_act_in_steps();
     match fault {
         BoardFault::Halted => close(board, LISTENER, conn, cause, Tail::Halted),
         BoardFault::Full => {
@@ -248,6 +262,7 @@ pub(crate) fn close_all<L: Link, N: Known>(board: &mut Board<L, N>)
     ensures going { board.new.book.state.going ≡ board.old.book.state.going }
     ensures rest { LeavesRest board.old.book board.new.book }
 {
+    passes_act_in_steps();
     while let Some(name) = board.parked() {
         close_one(board, name);
     }
@@ -265,6 +280,9 @@ fn close_one<L: Link, N: Known>(board: &mut Board<L, N>, name: ConnName)
     ensures going { board.new.book.state.going ≡ board.old.book.state.going }
     ensures rest { LeavesRest board.old.book board.new.book }
 {
+    rows_change_one_at_a_time();
+    passes_act_in_steps();
+    connections_in_hand_may_be_closed();
     let cause = board.cause(name);
     let conn = board.hold(LISTENER, name);
     match cause {

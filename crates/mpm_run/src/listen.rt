@@ -36,6 +36,7 @@ use mpm_base::{Arrival, Clock, Front, Link, Moment, Ready, Woke};
 use std::alloc::Global;
 use std::marker::Model;
 use std::sync::Wait;
+use worker_group::laws::passes_act_in_steps;
 
 /// The pass of the listener.
 pub(crate) const LISTENER: u32 = 0;
@@ -137,6 +138,7 @@ impl<L: Link + Send, F: Front<L = L>, C: Clock, N: Known> Listener<L, F, C, N> {
         ensures patient { IsAtStart self.old.front.told self.old.board.book → IsPatientRun self.new.front.told self.new.calls self.new.board.book }
         ensures informed { WasInformed (waits_of self.new.front.told) self.new.calls self.new.board.book }
     {
+        passes_act_in_steps();
         let turns = self.take_turns(rt);
         halt(&mut self.board, turns);
         self.front.hush();
@@ -170,6 +172,7 @@ impl<L: Link + Send, F: Front<L = L>, C: Clock, N: Known> Listener<L, F, C, N> {
         ensures informed { OnOk result (IsInformed (waits_of self.new.front.told) self.new.calls self.new.board.book) }
         ensures begun { OnErr result (IsInformedSoFar (waits_of self.new.front.told) self.new.calls self.new.board.book) }
     {
+        passes_act_in_steps();
         let first = self.start()?;
         let mut rest = first;
         for _ in rt.forever() {
@@ -262,6 +265,7 @@ impl<L: Link + Send, F: Front<L = L>, C: Clock, N: Known> Listener<L, F, C, N> {
         ensures calls { self.new.calls ≡ self.old.calls }
         ensures err { IfErr result (λ fault. MustStop fault self.new.board.book) }
     {
+        passes_act_in_steps();
         pass_time(&mut self.board, moment)?;
         signal_all(&mut self.board, self.ready.slots())?;
         let_go_of_conns(&mut self.board)?;
@@ -290,6 +294,7 @@ impl<L: Link + Send, F: Front<L = L>, C: Clock, N: Known> Listener<L, F, C, N> {
         ensures ready { self.new.ready ≡ self.old.ready }
         ensures err { IfErr result (λ fault. MustStop fault self.new.board.book) }
     {
+        passes_act_in_steps();
         for _ in rt.forever() {
             if self.board.can_accept().is_none() {
                 return Ok(());
@@ -326,6 +331,7 @@ impl<L: Link + Send, F: Front<L = L>, C: Clock, N: Known> Listener<L, F, C, N> {
         ensures ready { self.new.ready ≡ self.old.ready }
         ensures err { IfErr result (λ fault. MustStop fault self.new.board.book) }
     {
+        passes_act_in_steps();
         let mut link = link;
         let taken = match accept(&mut self.board) {
             Ok(taken) => taken,

@@ -33,8 +33,10 @@ use crate::listen::{End, LISTENER, Rest, SERVER};
 use board::{AcceptFault, Board, BoardFault, Taken};
 use conn_machine::Why;
 use conn_machine::laws::{each_pass_has_its_own_connection, passes_leave_the_rest_to_the_listener};
+use conn_machine::laws_of_runs::rows_change_one_at_a_time;
 use conn_state::{Conn, Known};
 use mpm_base::{Cause, Clock, GREATEST_MOMENT, Kind, Link, Moment, Tail, Woke};
+use worker_group::laws::passes_act_in_steps;
 use worker_group::{close, park, serve};
 
 /// A connection that was just taken waits for its first request, where the front watches it; else it is closed.
@@ -76,6 +78,8 @@ pub fn accept<L: Link, N: Known>(board: &mut Board<L, N>) -> Result<Taken, Board
     ensures moment { board.new.book.state.moment ≡ board.old.book.state.moment }
     ensures err { IfErr result (λ fault. MustStop fault board.new.book) }
 {
+    rows_change_one_at_a_time();
+    passes_act_in_steps();
     board.show();
     match board.accept(LISTENER) {
         Ok(taken) => {
@@ -143,6 +147,7 @@ pub fn pass_time<L: Link, N: Known>(
     ensures taken { board.new.book.state.accepted ≡ board.old.book.state.accepted }
     ensures err { IfErr result (λ fault. MustStop fault board.new.book) }
 {
+    passes_act_in_steps();
     let_go_late(board);
     let moment = moment.min(GREATEST_MOMENT);
     if moment > board.moment() {
@@ -165,6 +170,7 @@ pub fn signal_all<L: Link, N: Known>(
     ensures rest { LeavesRest board.old.book board.new.book }
     ensures err { IfErr result (λ fault. MustStop fault board.new.book) }
 {
+    passes_act_in_steps();
     for slot in slots {
         signal(board, *slot)?;
     }
@@ -180,6 +186,7 @@ fn signal<L: Link, N: Known>(board: &mut Board<L, N>, slot: u32) -> Result<(), B
     ensures refused { OnErr result (board.new ≡ board.old) }
     ensures err { IfErr result (λ fault. MustStop fault board.new.book) }
 {
+    passes_act_in_steps();
     board.show();
     if slot as usize >= board.state().rows.len() {
         return Ok(());
@@ -197,6 +204,7 @@ pub fn let_go_of_conns<L: Link, N: Known>(board: &mut Board<L, N>) -> Result<(),
     ensures rest { LeavesRest board.old.book board.new.book }
     ensures err { IfErr result (λ fault. MustStop fault board.new.book) }
 {
+    passes_act_in_steps();
     let_go_retiring(board);
     let_go_late(board);
     drain_all(board)
@@ -213,6 +221,7 @@ pub fn start_children<L: Link, N: Known>(board: &mut Board<L, N>) -> Result<(), 
     ensures rest { LeavesRest board.old.book board.new.book }
     ensures err { IfErr result (λ fault. MustStop fault board.new.book) }
 {
+    passes_act_in_steps();
     show_state(board);
     while let Some(child) = board.can_start() {
         board.show();
@@ -231,6 +240,7 @@ pub fn serve_all<L: Link, N: Known>(board: &mut Board<L, N>) -> Result<(), Board
     ensures still { NoneDue board.old.book.state → board.new ≡ board.old }
     ensures err { IfErr result (λ fault. MustStop fault board.new.book) }
 {
+    passes_act_in_steps();
     passes_leave_the_rest_to_the_listener();
     show_state(board);
     while let Some(name) = board.signalled() {
@@ -251,6 +261,7 @@ pub fn halt<L: Link, N: Known>(board: &mut Board<L, N>, turns: Result<End, Board
     ensures moment { board.new.book.state.moment ≡ board.old.book.state.moment }
     ensures taken { board.new.book.state.accepted ≡ board.old.book.state.accepted }
 {
+    passes_act_in_steps();
     match turns {
         Ok(end) => board.halt(LISTENER, end.why()),
         Err(fault) => stop(board, fault),
@@ -316,6 +327,7 @@ pub fn retire_all<L: Link, N: Known>(board: &mut Board<L, N>)
     ensures going { board.new.book.state.going ≡ board.old.book.state.going }
     ensures rest { LeavesRest board.old.book board.new.book }
 {
+    passes_act_in_steps();
     while let Some(child) = board.can_retire() {
         board.retire(LISTENER, child);
     }

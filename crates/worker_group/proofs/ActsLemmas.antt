@@ -1,12 +1,12 @@
 -- What a pass does, in steps, and what another pass keeps meanwhile.
-use Rattle.std.proofs.Common.{◌≡◌, ◌≢◌, ℕ, true, false, List, [], ◌∷◌, ◌++◌, map, fold, Option, None, Some, ap, refl, sym, subst, ◌∙◌, append_assoc, append-nil, eq-eqb, ne_eqb}
+use Rattle.std.proofs.Common.{◌≡◌, ◌≢◌, ℕ, true, false, List, [], ◌∷◌, ◌++◌, map, Option, ap, refl, sym, subst, ◌∙◌, append_assoc, append-nil, eq-eqb, ne_eqb}
 use Rattle.std.proofs.lemmas.List.{map-append}
 use Rattle.std.proofs.lemmas.List.Elements.{filter-append}
 use Rattle.mpm_base.specs.declared.conn.ConnName.{ConnName}
 use Rattle.conn_machine.specs.declared.event.Event.{Event}
 use Rattle.conn_machine.specs.declared.event.Entry.{Entry}
 use Rattle.conn_machine.specs.declared.state.State.{State}
-use Rattle.conn_machine.specs.Runs.{is_of_pass, entries_of, has_after, row_of, AreEntriesOf, Adds}
+use Rattle.conn_machine.specs.Runs.{is_of_pass, entries_of, row_of, AreEntriesOf, Adds}
 use Rattle.board.specs.Book.{SeenBook, book_with_entry, entry_of}
 use Rattle.board.specs.Board.{SeenBoard}
 use Rattle.board.specs.Events.{with_recorded}
@@ -35,15 +35,6 @@ entries-others p q base old new adds differs =
     ap (entries_of q) adds.1 ∙ filter-append (is_of_pass q) old adds.0
     ∙ ap (λ (es : List Entry). entries_of q old ++ es) (none-of_other p q base old adds.0 adds.2 differs)
     ∙ append-nil (entries_of q old)
-
--- so does its connection
-row-others : (p q : ℕ) (base : State) (old new : List Entry) → Adds p base old new → q ≢ p → row_of q new ≡ row_of q old
-row-others p q base old new adds differs =
-    ap (λ (es : List Entry). fold (λ had x. has_after had x.event x.reply) None es) (entries-others p q base old new adds differs)
-
--- and so do their events
-pub events-others : (p q : ℕ) (base : State) (old new : List Entry) → Adds p base old new → q ≢ p → events_of q new ≡ events_of q old
-events-others p q base old new adds differs = ap (map (λ (x : Entry). x.event)) (entries-others p q base old new adds differs)
 
 -- ## Steps of a pass
 
@@ -119,20 +110,9 @@ pub acts_as : (who : ℕ) (es fs : List Event) (had has : Option ConnName) (a b 
 acts_as who es fs had has a b acts same_events same_row =
     subst (λ (xs : List Event). Acts who xs has a b) same_events (subst (λ (o : Option ConnName). Acts who es o a b) same_row acts)
 
--- the connection by another spelling of its name
-pub acts_named : (who : ℕ) (es : List Event) (name name' : ConnName) (a b : SeenBook) → Acts who es (Some name) a b → name' ≡ name
-    → Acts who es (Some name') a b
-acts_named who es name name' a b acts same =
-    acts_as who es es (Some name) (Some name') a b acts refl (ap (λ (n : ConnName). Some n) (sym same))
-
 -- ## Other passes
 
--- another pass has the connection that it had
-pub acts-row_other : (who other : ℕ) (es : List Event) (has : Option ConnName) (a b : SeenBook) → Acts who es has a b → other ≢ who
-    → row_of other b.history ≡ row_of other a.history
-acts-row_other who other es has a b acts differs = row-others who other a.base a.history b.history acts.entries differs
-
--- and made no event
-pub acts-events_other : (who other : ℕ) (es : List Event) (has : Option ConnName) (a b : SeenBook) → Acts who es has a b → other ≢ who
-    → events_of other b.history ≡ events_of other a.history
-acts-events_other who other es has a b acts differs = events-others who other a.base a.history b.history acts.entries differs
+-- another pass has made what it had made
+pub acts-entries_other : (who other : ℕ) (es : List Event) (has : Option ConnName) (a b : SeenBook) → Acts who es has a b → other ≢ who
+    → entries_of other b.history ≡ entries_of other a.history
+acts-entries_other who other es has a b acts differs = entries-others who other a.base a.history b.history acts.entries differs

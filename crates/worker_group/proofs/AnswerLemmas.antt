@@ -86,10 +86,6 @@ decided-row s c name ask note served named decided =
     let same : decided.row ≡ served.row = cc (found', served.found) in
     decided.note_is ∙ ap (note_for s ask) same
 
--- the row of the response
-abbrev row_after : State → Ask → Row → Row
-row_after s ask r = answered_row s ask r
-
 -- it is found after the response was decided
 answered-found : (s : State) (c : SeenConn) (ask : Ask) → (served : IsServed s c)
     → live_row (next s (event.Answer c.name ask)).rows c.name ≡ Some (answered_row s ask served.row)
@@ -170,13 +166,7 @@ fewer-answered s s' c c' name ask note sound served goes_on is answers =
 
 -- ## The events
 
--- one response was decided
-pub answers_one : (who : ℕ) (name name' : ConnName) (ask : Ask) (b b' : SeenBook) → Acts who (event.Answer name' ask ∷ []) (Some name') b b' → name' ≡ name
-    → (asks : List Ask) × Acts who (answer_events name asks) (Some name) b b'
-answers_one who name name' ask b b' acts same =
-    (ask ∷ [], subst (λ (n : ConnName). Acts who (event.Answer n ask ∷ []) (Some n) b b') same acts)
-
--- none was, and the pass has the connection still
+-- no response was decided, and the pass has the connection still
 pub answers_none : (who : ℕ) (name : ConnName) (b b' : SeenBook) → b' ≡ b → row_of who b.history ≡ Some name
     → (asks : List Ask) × Acts who (answer_events name asks) (Some name) b b'
 answers_none who name b b' same row = ([], acts_same who (Some name) b b' same row)

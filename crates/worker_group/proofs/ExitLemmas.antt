@@ -1,5 +1,5 @@
 -- How a connection is left: the kind that it waits for, what lasts of a refusal, and what only the listener changes.
-use Rattle.std.proofs.Common.{◌≡◌, ◌==◌, ℕ, ◌+◌, ◌<◌, ◌≤◌, not, ◌&&◌, true, false, List, [], ◌∷◌, ◌++◌, length, cond, count_by, refl, Option, None, Some, slice_set, Result, Ok, Err, OnOk, IfErr, sym, ap, subst, ◌∙◌, inl, inr, arith}
+use Rattle.std.proofs.Common.{◌≡◌, ◌==◌, ℕ, ◌+◌, ◌<◌, ◌≤◌, not, true, List, [], ◌∷◌, ◌++◌, length, cond, count_by, refl, Option, None, Some, slice_set, Result, Ok, Err, OnOk, IfErr, sym, ap, subst, ◌∙◌, inl, inr, arith}
 use Rattle.std.proofs.lemmas.List.{get_or-set_same, length_push}
 use Rattle.std.proofs.lemmas.Option.{slice_get_within}
 use Rattle.std.proofs.lemmas.List.Sums.{sum_by-append}
@@ -8,7 +8,7 @@ use Rattle.mpm_base.specs.declared.conn.Ask.{Ask}
 use Rattle.mpm_base.specs.declared.conn.Cause.{Cause}
 use Rattle.mpm_base.specs.declared.conn.Cause.TheVariants as cause
 use Rattle.mpm_base.specs.declared.conn.Kind.{Kind}
-use Rattle.mpm_base.specs.declared.conn.Kind.TheVariants.{Reading, KeepAlive}
+use Rattle.mpm_base.specs.declared.conn.Kind.TheVariants.{KeepAlive}
 use Rattle.mpm_base.specs.declared.conn.Tail.{Tail}
 use Rattle.mpm_base.specs.declared.conn.Tail.TheVariants.{Direct}
 use Rattle.conn_machine.specs.declared.event.Entry.{Entry}
@@ -40,10 +40,6 @@ use Rattle.worker_group.proofs.ServeLemmas.{alive}
 -- the next request, where it was answered and nothing of one came
 pub keeps-alive : (c : SeenConn) → not (length c.notes == 0) ≡ true → (length c.rest == 0) ≡ true → KeepAlive ≡ kept_kind c
 keeps-alive c noted empty = rw (noted, empty) refl
-
--- else the one that it reads
-pub keeps-reading : (c : SeenConn) → (not (length c.notes == 0) && (length c.rest == 0)) ≡ false → Reading ≡ kept_kind c
-keeps-reading c not_both = rw not_both refl
 
 -- ## Ways out
 
@@ -146,11 +142,7 @@ full-closed who name reason how b b1 b2 heavy stopped closed =
 
 -- ## What only the listener changes
 
--- it is as it was
-pub rest_none : (b : SeenBook) → LeavesRest b b
-rest_none b = record { moment = refl; accepted = refl; up = λ up. up }
-
--- it is so after a park
+-- it is as it was after a park
 pub rest_parked : (who : ℕ) (name : ConnName) (kind : Kind) (b b' : SeenBook) → b' ≡ book_with_entry who (event.Park name kind) b → LeavesRest b b'
 rest_parked who name kind b b' is =
     subst (LeavesRest b) (sym is) (record { moment = refl; accepted = refl; up = λ up. up })
@@ -159,12 +151,6 @@ rest_parked who name kind b b' is =
 pub rest_closed : (who : ℕ) (name : ConnName) (reason : Cause) (how : Tail) (b b' : SeenBook)
     → b' ≡ book_with_entry who (event.Close name reason how) b → LeavesRest b b'
 rest_closed who name reason how b b' is =
-    subst (LeavesRest b) (sym is) (record { moment = refl; accepted = refl; up = λ up. up })
-
--- after the service ended, and the connection lingers
-pub rest_lingering : (who : ℕ) (name : ConnName) (reason : Cause) (b b' : SeenBook) → b' ≡ book_with_entry who (event.Linger name reason) b
-    → LeavesRest b b'
-rest_lingering who name reason b b' is =
     subst (LeavesRest b) (sym is) (record { moment = refl; accepted = refl; up = λ up. up })
 
 -- after a stop because the history is full

@@ -8,6 +8,7 @@
 //! bytes that a connection receives and is sent is a fact of its type (`conn_state`).
 #![tactic(auto)]
 
+pub mod laws;
 mod service;
 
 pub use service::{Exit, close, give_up, let_linger, park, serve};

@@ -25,7 +25,7 @@ close-requires-clause-may g c =
     let s' = c.hold-conn.new.self.book.state in
     let live = waits s c.args.name c.requires.waits in
     let holds =
-    holding s s' c.args.name live.row c.hold-conn.result live.found (ap (λ (b : SeenBoard). b.book.state) c.hold-conn.ensures.is) c.hold-conn.ensures.name
+    holding c.rows_change_one_at_a_time.ensures.there s s' c.args.name live.row c.hold-conn.result live.found (ap (λ (b : SeenBoard). b.book.state) c.hold-conn.ensures.is) c.hold-conn.ensures.name
     c.hold-conn.ensures.handed c.hold-conn.ensures.way in
     halted-closes s s' c.args.name live.row c.hold-conn.result c.in-Some.cause holds
     (row-cause s c.args.name live.row (Some c.in-Some.cause) live.found (sym c.cause-cause.ensures ∙ c.in-Some.is)) c.requires.halted
@@ -39,16 +39,16 @@ close-requires-in-None-clause-may g c =
     let s' = c.hold-conn.new.self.book.state in
     let live = waits s c.args.name c.requires.waits in
     let holds =
-    holding s s' c.args.name live.row c.hold-conn.result live.found (ap (λ (b : SeenBoard). b.book.state) c.hold-conn.ensures.is) c.hold-conn.ensures.name
+    holding c.rows_change_one_at_a_time.ensures.there s s' c.args.name live.row c.hold-conn.result live.found (ap (λ (b : SeenBoard). b.book.state) c.hold-conn.ensures.is) c.hold-conn.ensures.name
     c.hold-conn.ensures.handed c.hold-conn.ensures.way in
-    halted-stops s s' c.args.name live.row c.hold-conn.result holds
+    halted-stops c.connections_in_hand_may_be_closed.ensures s s' c.args.name live.row c.hold-conn.result holds
     (row-cause s c.args.name live.row None live.found (sym c.cause-cause.ensures ∙ c.in-None.is)) c.requires.halted
 
 pub returns-in-Some-clause-gone : goal.returns-in-Some-clause-gone
 returns-in-Some-clause-gone g c =
-    let-go IsHaltedWay (exit.Close c.in-Some.cause tail.Halted) c.args.name c.hold-conn.result.name c.args.board.now.book c.hold-conn.new.self.book
+    let-go c.passes_act_in_steps.ensures.acts IsHaltedWay (exit.Close c.in-Some.cause tail.Halted) c.args.name c.hold-conn.result.name c.args.board.now.book c.hold-conn.new.self.book
     c.close.new.board.book (inr (c.in-Some.cause, refl))
-    (held-acts c.args.name _ c.args.board.now c.hold-conn.new.self c.hold-conn.ensures.is c.hold-conn.ensures.entries c.hold-conn.ensures.row)
+    (held-acts c.passes_act_in_steps.ensures.acts c.args.name _ c.args.board.now c.hold-conn.new.self c.hold-conn.ensures.is c.hold-conn.ensures.entries c.hold-conn.ensures.row)
     c.hold-conn.ensures.name c.close.ensures.acts
 
 pub returns-in-Some-clause-fewer : goal.returns-in-Some-clause-fewer
@@ -70,9 +70,9 @@ returns-in-Some-clause-rest g c =
 
 pub returns-in-None-clause-gone : goal.returns-in-None-clause-gone
 returns-in-None-clause-gone g c =
-    let-go IsHaltedWay (exit.Close cause.Stopped tail.Direct) c.args.name c.hold-conn.result.name c.args.board.now.book c.hold-conn.new.self.book
+    let-go c.passes_act_in_steps.ensures.acts IsHaltedWay (exit.Close cause.Stopped tail.Direct) c.args.name c.hold-conn.result.name c.args.board.now.book c.hold-conn.new.self.book
     c.close-in-None.new.board.book (inl refl)
-    (held-acts c.args.name _ c.args.board.now c.hold-conn.new.self c.hold-conn.ensures.is c.hold-conn.ensures.entries c.hold-conn.ensures.row)
+    (held-acts c.passes_act_in_steps.ensures.acts c.args.name _ c.args.board.now c.hold-conn.new.self c.hold-conn.ensures.is c.hold-conn.ensures.entries c.hold-conn.ensures.row)
     c.hold-conn.ensures.name c.close-in-None.ensures.acts
 
 pub returns-in-None-clause-fewer : goal.returns-in-None-clause-fewer

@@ -10,13 +10,13 @@ use Rattle.board.specs.Board.{SeenBoard}
 use Rattle.board.specs.Finds.{has_to_be_drained}
 use Rattle.worker_group.specs.declared.service.Exit.TheVariants as exit
 use Rattle.worker_group.specs.Acts.{Acts}
-use Rattle.worker_group.proofs.StartLemmas.{lives}
 use Rattle.mpm_run.specs.ClosingInside.{DrainsUntil, IsDrainedWay, lingering_given_up}
 use Rattle.mpm_run.proofs.ClosingLemmas.{held-acts, let-go, refused-wait}
 use Rattle.mpm_run.proofs.HeldLemmas.{closes-turned, held-lingering, holding, lingers-by, lingers-turned, may-wait_on, waited-for, was-at}
 use Rattle.mpm_run.proofs.LeavingLemmas.{row-cause, to-drain}
 use Rattle.mpm_run.proofs.MeasureLemmas.{deadline-later, drained-closed, drained-parked, later-than, none-after_close, none-after_park}
 use Rattle.mpm_run.proofs.RoundLemmas.{err-on}
+use Rattle.mpm_run.proofs.FoundLemmas.{lives}
 use Rattle.mpm_run.proofs.closing.drain.Goals as goal
 
 pub close-requires-clause-may : goal.close-requires-clause-may
@@ -26,7 +26,7 @@ close-requires-clause-may g c =
     let conn' = c.linger_turn.new.self in
     let is = to-drain s c.args.name c.requires.lingers in
     let held = ap (λ (b : SeenBoard). b.book.state) c.hold-conn.ensures.is in
-    let holds = holding s s' c.args.name _ c.hold-conn.result is.found held c.hold-conn.ensures.name c.hold-conn.ensures.handed c.hold-conn.ensures.way in
+    let holds = holding c.rows_change_one_at_a_time.ensures.there s s' c.args.name _ c.hold-conn.result is.found held c.hold-conn.ensures.name c.hold-conn.ensures.handed c.hold-conn.ensures.way in
     let why = c.in-Some-Some.cause in
     let some = row-cause s c.args.name _ (Some why) is.found (sym c.cause.ensures ∙ c.in-Some-Some.is-0) in
     let lingering = held-lingering s s' c.args.name _ c.hold-conn.result why holds some in
@@ -42,7 +42,7 @@ linger_on-requires-clause-lingers g c =
     let conn' = c.linger_turn.new.self in
     let is = to-drain s c.args.name c.requires.lingers in
     let held = ap (λ (b : SeenBoard). b.book.state) c.hold-conn.ensures.is in
-    let holds = holding s s' c.args.name _ c.hold-conn.result is.found held c.hold-conn.ensures.name c.hold-conn.ensures.handed c.hold-conn.ensures.way in
+    let holds = holding c.rows_change_one_at_a_time.ensures.there s s' c.args.name _ c.hold-conn.result is.found held c.hold-conn.ensures.name c.hold-conn.ensures.handed c.hold-conn.ensures.way in
     let why = c.in-Some-Some.cause in
     let some = row-cause s c.args.name _ (Some why) is.found (sym c.cause.ensures ∙ c.in-Some-Some.is-0) in
     let lingering = held-lingering s s' c.args.name _ c.hold-conn.result why holds some in
@@ -67,7 +67,7 @@ linger_on-requires-clause-allowed g c going =
     let conn' = c.linger_turn.new.self in
     let is = to-drain s c.args.name c.requires.lingers in
     let held = ap (λ (b : SeenBoard). b.book.state) c.hold-conn.ensures.is in
-    let holds = holding s s' c.args.name _ c.hold-conn.result is.found held c.hold-conn.ensures.name c.hold-conn.ensures.handed c.hold-conn.ensures.way in
+    let holds = holding c.rows_change_one_at_a_time.ensures.there s s' c.args.name _ c.hold-conn.result is.found held c.hold-conn.ensures.name c.hold-conn.ensures.handed c.hold-conn.ensures.way in
     let why = c.in-Some-Some.cause in
     let some = row-cause s c.args.name _ (Some why) is.found (sym c.cause.ensures ∙ c.in-Some-Some.is-0) in
     let waits = waited-for s c.args.name _ c.in-Some-Some.kind c.show.ensures.sound is.found (sym c.kind.ensures ∙ c.in-Some-Some.is-1) in
@@ -79,7 +79,7 @@ linger_on-requires-clause-allowed g c going =
 pub returns-in-Some-clause-drains : goal.returns-in-Some-clause-drains
 returns-in-Some-clause-drains g c =
     let way = exit.Close c.in-Some-Some.cause c.in-Some.tail in
-    let-go IsDrainedWay way c.args.name c.linger_turn.new.self.name c.args.board.now.book c.hold-conn.new.self.book c.close.new.board.book
+    let-go c.passes_act_in_steps.ensures.acts IsDrainedWay way c.args.name c.linger_turn.new.self.name c.args.board.now.book c.hold-conn.new.self.book c.close.new.board.book
     (inr (record {
       why = c.in-Some-Some.cause;
       how = c.in-Some.tail;
@@ -87,7 +87,7 @@ returns-in-Some-clause-drains g c =
       shown = sym c.tail_of.ensures ∙ c.in-Some.is;
       way_is = refl;
     }))
-    (held-acts c.args.name _ c.args.board.now c.hold-conn.new.self c.hold-conn.ensures.is c.hold-conn.ensures.entries c.hold-conn.ensures.row)
+    (held-acts c.passes_act_in_steps.ensures.acts c.args.name _ c.args.board.now c.hold-conn.new.self c.hold-conn.ensures.is c.hold-conn.ensures.entries c.hold-conn.ensures.row)
     (c.linger_turn.ensures.name ∙ c.hold-conn.ensures.name) c.close.ensures.acts
 
 pub returns-in-Some-clause-fewer : goal.returns-in-Some-clause-fewer
@@ -115,10 +115,10 @@ returns-in-None-clause-drains g c =
     let waits = waited-for s c.args.name _ c.in-Some-Some.kind c.show.ensures.sound is.found (sym c.kind.ensures ∙ c.in-Some-Some.is-1) in
     on_ok_weaker c.linger_on.result
     (λ (parked : Acts 0 (event.Park c.linger_turn.new.self.name c.in-Some-Some.kind ∷ []) None c.hold-conn.new.self.book c.linger_on.new.board.book).
-    let-go IsDrainedWay (exit.Park c.in-Some-Some.kind) c.args.name c.linger_turn.new.self.name c.args.board.now.book c.hold-conn.new.self.book
+    let-go c.passes_act_in_steps.ensures.acts IsDrainedWay (exit.Park c.in-Some-Some.kind) c.args.name c.linger_turn.new.self.name c.args.board.now.book c.hold-conn.new.self.book
     c.linger_on.new.board.book
     (inl (record { kind = c.in-Some-Some.kind; lingers = lingers-by c.in-Some-Some.kind _ why waits some; way_is = refl }))
-    (held-acts c.args.name _ c.args.board.now c.hold-conn.new.self c.hold-conn.ensures.is c.hold-conn.ensures.entries c.hold-conn.ensures.row)
+    (held-acts c.passes_act_in_steps.ensures.acts c.args.name _ c.args.board.now c.hold-conn.new.self c.hold-conn.ensures.is c.hold-conn.ensures.entries c.hold-conn.ensures.row)
     (c.linger_turn.ensures.name ∙ c.hold-conn.ensures.name) parked)
     c.linger_on.ensures.parked
 
@@ -127,9 +127,9 @@ returns-in-None-clause-until g c =
     err-on c.linger_on.result
     (λ (fault : BoardFault). Acts 0 (lingering_given_up fault c.in-Some-Some.cause c.linger_turn.new.self.name) None c.hold-conn.new.self.book c.linger_on.new.board.book)
     (DrainsUntil c.args.board.now.book c.linger_on.new.board.book)
-    (λ fault given. refused-wait c.args.name c.linger_turn.new.self.name c.in-Some-Some.cause fault c.args.board.now.book c.hold-conn.new.self.book
+    (λ fault given. refused-wait c.passes_act_in_steps.ensures.acts c.args.name c.linger_turn.new.self.name c.in-Some-Some.cause fault c.args.board.now.book c.hold-conn.new.self.book
     c.linger_on.new.board.book
-    (held-acts c.args.name _ c.args.board.now c.hold-conn.new.self c.hold-conn.ensures.is c.hold-conn.ensures.entries c.hold-conn.ensures.row)
+    (held-acts c.passes_act_in_steps.ensures.acts c.args.name _ c.args.board.now c.hold-conn.new.self c.hold-conn.ensures.is c.hold-conn.ensures.entries c.hold-conn.ensures.row)
     (c.linger_turn.ensures.name ∙ c.hold-conn.ensures.name) given)
     c.linger_on.ensures.given_up
 

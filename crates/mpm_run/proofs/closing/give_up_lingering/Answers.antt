@@ -1,7 +1,8 @@
-use Rattle.std.proofs.Common.{◌≡◌, true, ◌∷◌, [], None, Some, ap, sym, subst, ◌∙◌}
+use Rattle.std.proofs.Common.{◌≡◌, true, ◌∷◌, [], None, Some, inr, ap, sym, subst, ◌∙◌, refl, arith}
 use Rattle.std.proofs.lemmas.Bool.{le-leb}
 use Rattle.mpm_base.specs.declared.conn.ConnName.{ConnName}
 use Rattle.mpm_base.specs.declared.conn.Cause.{Cause}
+use Rattle.mpm_base.specs.declared.conn.Tail.{Tail}
 use Rattle.mpm_base.specs.declared.conn.Tail.TheVariants as tail
 use Rattle.conn_machine.specs.Runs.{full_load, load}
 use Rattle.conn_machine.specs.declared.event.Event.TheVariants as event
@@ -9,14 +10,13 @@ use Rattle.conn_machine.specs.States.{is_halted}
 use Rattle.board.specs.declared.faults.BoardFault.{BoardFault}
 use Rattle.board.specs.declared.faults.BoardFault.TheVariants as fault
 use Rattle.board.specs.Faults.{IsFull, IsRefusedFor}
-use Rattle.board.specs.Book.{SeenBook, full_stop}
+use Rattle.board.specs.Book.{SeenBook, book_with_entry, full_stop}
 use Rattle.board.specs.Board.{SeenBoard}
 use Rattle.worker_group.specs.Acts.{Acts}
-use Rattle.worker_group.specs.Service.{RefusalLasts}
-use Rattle.worker_group.proofs.ActsLemmas.{acts_more, acts_recorded}
-use Rattle.worker_group.proofs.ExitLemmas.{full-closed, halted-closed, rest_closed, rest_more, rest_stopped}
+use Rattle.worker_group.specs.Service.{LeavesRest, RefusalLasts}
 use Rattle.mpm_run.specs.ClosingInside.{lingering_given_up}
 use Rattle.mpm_run.proofs.HeldLemmas.{closes-lingering}
+use Rattle.mpm_run.proofs.RoundLemmas.{acts-added}
 use Rattle.mpm_run.proofs.closing.give_up_lingering.Goals as goal
 
 pub halt-requires-clause-role : goal.halt-requires-clause-role
@@ -39,6 +39,10 @@ acts-for why name f g a b is acts = subst (λ (x : BoardFault). Acts 0 (lingerin
 lasts-for : (f g : BoardFault) (b : SeenBook) → f ≡ g → RefusalLasts g b → RefusalLasts f b
 lasts-for f g b is lasts = subst (λ (x : BoardFault). RefusalLasts x b) (sym is) lasts
 
+-- a close leaves what only the listener changes
+rest-after : (name : ConnName) (why : Cause) (how : Tail) (b b' : SeenBook) → b' ≡ book_with_entry 0 (event.Close name why how) b → LeavesRest b b'
+rest-after name why how b b' is = subst (LeavesRest b) (sym is) (record { moment = refl; accepted = refl; up = λ up. up })
+
 pub returns-in-Halted-clause-acts : goal.returns-in-Halted-clause-acts
 returns-in-Halted-clause-acts g c =
     acts-for c.args.cause c.args.conn.name c.args.fault fault.Halted c.args.board.now.book c.close.new.board.book c.in-Halted.is
@@ -49,33 +53,39 @@ returns-in-Halted-clause-lasts g c =
     let halted : is_halted c.args.board.now.book.state.going ≡ true =
     subst (λ (f : BoardFault). IsRefusedFor f c.args.board.now.book) c.in-Halted.is c.requires.why in
     lasts-for c.args.fault fault.Halted c.close.new.board.book c.in-Halted.is
-    (halted-closed 0 c.args.conn.name c.args.cause tail.Halted c.args.board.now.book c.close.new.board.book halted c.close.ensures.closed)
+    (ap (λ (b : SeenBook). is_halted b.state.going) c.close.ensures.closed ∙ halted)
 
 pub returns-in-Halted-clause-rest : goal.returns-in-Halted-clause-rest
 returns-in-Halted-clause-rest g c =
-    rest_closed 0 c.args.conn.name c.args.cause tail.Halted c.args.board.now.book c.close.new.board.book c.close.ensures.closed
+    rest-after c.args.conn.name c.args.cause tail.Halted c.args.board.now.book c.close.new.board.book c.close.ensures.closed
 
 pub returns-in-Full-clause-acts : goal.returns-in-Full-clause-acts
 returns-in-Full-clause-acts g c =
     let halted : Acts 0 (full_stop ∷ []) (Some c.args.conn.name) c.args.board.now.book c.halt.new.self.book =
-    acts_recorded 0 full_stop (Some c.args.conn.name) c.args.board.now c.halt.new.self c.halt.ensures.is c.halt.ensures.entries
+    acts-added c.passes_act_in_steps.ensures.acts full_stop (Some c.args.conn.name) c.args.board.now c.halt.new.self c.halt.ensures.is c.halt.ensures.entries
     (c.halt.ensures.row ∙ c.requires.row) in
     acts-for c.args.cause c.args.conn.name c.args.fault fault.Full c.args.board.now.book c.close-in-Full.new.board.book c.in-Full.is
-    (acts_more 0 (full_stop ∷ []) (event.Close c.args.conn.name c.args.cause tail.Halted ∷ []) (Some c.args.conn.name) None
+    (c.passes_act_in_steps.ensures.acts.more 0 (full_stop ∷ []) (event.Close c.args.conn.name c.args.cause tail.Halted ∷ []) (Some c.args.conn.name) None
     c.args.board.now.book c.halt.new.self.book c.close-in-Full.new.board.book halted c.close-in-Full.ensures.acts)
 
 pub returns-in-Full-clause-lasts : goal.returns-in-Full-clause-lasts
 returns-in-Full-clause-lasts g c =
     let why : IsFull c.args.board.now.book = subst (λ (f : BoardFault). IsRefusedFor f c.args.board.now.book) c.in-Full.is c.requires.why in
-    lasts-for c.args.fault fault.Full c.close-in-Full.new.board.book c.in-Full.is
-    (full-closed 0 c.args.conn.name c.args.cause tail.Halted c.args.board.now.book c.halt.new.self.book c.close-in-Full.new.board.book why.heavy
-    (ap (λ (b : SeenBoard). b.book) c.halt.ensures.is) c.close-in-Full.ensures.closed)
+    let load_more = c.histories_go_on_by_one_entry.ensures.load in
+    let stopped = ap (λ (b : SeenBoard). b.book) c.halt.ensures.is in
+    let stop_load = ap (λ (b : SeenBook). load b.history) stopped ∙ load_more c.args.board.now.book.history _ in
+    let close_load = ap (λ (b : SeenBook). load b.history) c.close-in-Full.ensures.closed ∙ load_more c.halt.new.self.book.history _ in
+    lasts-for c.args.fault fault.Full c.close-in-Full.new.board.book c.in-Full.is (
+      ap (λ (b : SeenBook). is_halted b.state.going) c.close-in-Full.ensures.closed ∙ ap (λ (b : SeenBook). is_halted b.state.going) stopped,
+      omega (arith, why.heavy, stop_load, close_load),
+    )
 
 pub returns-in-Full-clause-rest : goal.returns-in-Full-clause-rest
 returns-in-Full-clause-rest g c =
-    rest_more c.args.board.now.book c.halt.new.self.book c.close-in-Full.new.board.book
-    (rest_stopped 0 c.args.board.now.book c.halt.new.self.book (ap (λ (b : SeenBoard). b.book) c.halt.ensures.is))
-    (rest_closed 0 c.args.conn.name c.args.cause tail.Halted c.halt.new.self.book c.close-in-Full.new.board.book c.close-in-Full.ensures.closed)
+    c.passes_act_in_steps.ensures.rest c.args.board.now.book c.halt.new.self.book c.close-in-Full.new.board.book
+    (subst (LeavesRest c.args.board.now.book) (ap (λ (b : SeenBoard). b.book) (sym c.halt.ensures.is))
+    (record { moment = refl; accepted = refl; up = λ up. inr refl }))
+    (rest-after c.args.conn.name c.args.cause tail.Halted c.halt.new.self.book c.close-in-Full.new.board.book c.close-in-Full.ensures.closed)
 
 pub returns-in-NoMemory-clause-acts : goal.returns-in-NoMemory-clause-acts
 returns-in-NoMemory-clause-acts g c =
@@ -87,5 +97,5 @@ returns-in-NoMemory-clause-lasts g c = lasts-for c.args.fault fault.NoMemory c.c
 
 pub returns-in-NoMemory-clause-rest : goal.returns-in-NoMemory-clause-rest
 returns-in-NoMemory-clause-rest g c =
-    rest_closed 0 c.args.conn.name c.args.cause tail.NoMemory c.args.board.now.book c.close-in-NoMemory.new.board.book
+    rest-after c.args.conn.name c.args.cause tail.NoMemory c.args.board.now.book c.close-in-NoMemory.new.board.book
     c.close-in-NoMemory.ensures.closed

@@ -9,7 +9,6 @@ use Rattle.board.specs.Book.{SeenBook}
 use Rattle.board.specs.Board.{SeenBoard}
 use Rattle.worker_group.specs.declared.service.Exit.TheVariants as exit
 use Rattle.worker_group.specs.Service.{IsWayOut}
-use Rattle.worker_group.proofs.ExitLemmas.{rest_more}
 use Rattle.mpm_run.specs.ClosingInside.{IsLateWay}
 use Rattle.mpm_run.proofs.ClosingLemmas.{held-acts, let-go, rest-held, rest-held_closed}
 use Rattle.mpm_run.proofs.HeldLemmas.{held-hand, held-open, holding, late-lingers, late-shows, serves-by, waited-for}
@@ -30,7 +29,7 @@ close-requires-clause-may g c =
     let s' = c.hold-conn.new.self.book.state in
     let live = late-row s c.args.name c.requires.late in
     let holds =
-    holding s s' c.args.name live.row c.hold-conn.result live.found (ap (λ (b : SeenBoard). b.book.state) c.hold-conn.ensures.is) c.hold-conn.ensures.name
+    holding c.rows_change_one_at_a_time.ensures.there s s' c.args.name live.row c.hold-conn.result live.found (ap (λ (b : SeenBoard). b.book.state) c.hold-conn.ensures.is) c.hold-conn.ensures.name
     c.hold-conn.ensures.handed c.hold-conn.ensures.way in
     late-closes s s' c.args.name live.row c.hold-conn.result c.in-Some-cause.cause holds
     (row-cause s c.args.name live.row (Some c.in-Some-cause.cause) live.found (sym c.cause-cause.ensures ∙ c.in-Some-cause.is))
@@ -52,7 +51,7 @@ linger_for-requires-clause-hand g c =
     let s' = c.hold-conn.new.self.book.state in
     let live = late-row s c.args.name c.requires.late in
     let holds =
-    holding s s' c.args.name live.row c.hold-conn.result live.found (ap (λ (b : SeenBoard). b.book.state) c.hold-conn.ensures.is) c.hold-conn.ensures.name
+    holding c.rows_change_one_at_a_time.ensures.there s s' c.args.name live.row c.hold-conn.result live.found (ap (λ (b : SeenBoard). b.book.state) c.hold-conn.ensures.is) c.hold-conn.ensures.name
     c.hold-conn.ensures.handed c.hold-conn.ensures.way in
     held-hand s s' c.args.name live.row c.hold-conn.result holds
     (row-cause s c.args.name live.row None live.found (sym c.cause-cause.ensures ∙ c.in-None.is))
@@ -63,7 +62,7 @@ linger_for-requires-clause-open g c =
     let s' = c.hold-conn.new.self.book.state in
     let live = late-row s c.args.name c.requires.late in
     let holds =
-    holding s s' c.args.name live.row c.hold-conn.result live.found (ap (λ (b : SeenBoard). b.book.state) c.hold-conn.ensures.is) c.hold-conn.ensures.name
+    holding c.rows_change_one_at_a_time.ensures.there s s' c.args.name live.row c.hold-conn.result live.found (ap (λ (b : SeenBoard). b.book.state) c.hold-conn.ensures.is) c.hold-conn.ensures.name
     c.hold-conn.ensures.handed c.hold-conn.ensures.way in
     held-open s s' c.args.name live.row c.hold-conn.result holds
     (row-cause s c.args.name live.row None live.found (sym c.cause-cause.ensures ∙ c.in-None.is))
@@ -76,7 +75,7 @@ linger_for-requires-clause-allowed g c =
     let kind = c.in-Some.kind in
     let is = ap (λ (b : SeenBoard). b.book.state) c.hold-conn.ensures.is in
     let holds =
-    holding s s' c.args.name live.row c.hold-conn.result live.found is c.hold-conn.ensures.name c.hold-conn.ensures.handed c.hold-conn.ensures.way in
+    holding c.rows_change_one_at_a_time.ensures.there s s' c.args.name live.row c.hold-conn.result live.found is c.hold-conn.ensures.name c.hold-conn.ensures.handed c.hold-conn.ensures.way in
     subst (λ (why : Cause). is_allowed s' (event.Linger c.hold-conn.result.name why) ≡ true) (sym c.cause_of_late.ensures)
     (late-lingers s s' c.args.name live.row c.hold-conn.result kind is holds.held
     (waited-for s c.args.name live.row kind c.show.ensures.sound live.found (sym c.kind.ensures ∙ c.in-Some.is))
@@ -89,7 +88,7 @@ linger_for-requires-clause-shows g c =
     let live = late-row s c.args.name c.requires.late in
     let kind = c.in-Some.kind in
     let holds =
-    holding s s' c.args.name live.row c.hold-conn.result live.found (ap (λ (b : SeenBoard). b.book.state) c.hold-conn.ensures.is) c.hold-conn.ensures.name
+    holding c.rows_change_one_at_a_time.ensures.there s s' c.args.name live.row c.hold-conn.result live.found (ap (λ (b : SeenBoard). b.book.state) c.hold-conn.ensures.is) c.hold-conn.ensures.name
     c.hold-conn.ensures.handed c.hold-conn.ensures.way in
     let waits = waited-for s c.args.name live.row kind c.show.ensures.sound live.found (sym c.kind.ensures ∙ c.in-Some.is) in
     subst (λ (why : Cause). MayLinger why c.hold-conn.result) (sym c.cause_of_late.ensures)
@@ -99,9 +98,9 @@ linger_for-requires-clause-shows g c =
 pub returns-in-Some-cause-clause-gone : goal.returns-in-Some-cause-clause-gone
 returns-in-Some-cause-clause-gone g c =
     let why = c.in-Some-cause.cause in
-    let-go IsLateWay (exit.Close why tail.Late) c.args.name c.hold-conn.result.name c.args.board.now.book c.hold-conn.new.self.book
+    let-go c.passes_act_in_steps.ensures.acts IsLateWay (exit.Close why tail.Late) c.args.name c.hold-conn.result.name c.args.board.now.book c.hold-conn.new.self.book
     c.close.new.board.book (inr (why, refl))
-    (held-acts c.args.name _ c.args.board.now c.hold-conn.new.self c.hold-conn.ensures.is c.hold-conn.ensures.entries c.hold-conn.ensures.row)
+    (held-acts c.passes_act_in_steps.ensures.acts c.args.name _ c.args.board.now c.hold-conn.new.self c.hold-conn.ensures.is c.hold-conn.ensures.entries c.hold-conn.ensures.row)
     c.hold-conn.ensures.name c.close.ensures.acts
 
 pub returns-in-Some-cause-clause-fewer : goal.returns-in-Some-cause-clause-fewer
@@ -125,10 +124,10 @@ returns-in-None-clause-gone g c =
     let left = c.linger_for.ensures.left in
     let waits = waited-for s c.args.name live.row kind c.show.ensures.sound live.found (sym c.kind.ensures ∙ c.in-Some.is) in
     let serves = serves-by kind live.row waits (row-cause s c.args.name live.row None live.found (sym c.cause-cause.ensures ∙ c.in-None.is)) in
-    let-go IsLateWay left.way c.args.name c.hold-conn.result.name c.args.board.now.book c.hold-conn.new.self.book
+    let-go c.passes_act_in_steps.ensures.acts IsLateWay left.way c.args.name c.hold-conn.result.name c.args.board.now.book c.hold-conn.new.self.book
     c.linger_for.new.board.book
     (inl (record { kind = kind; serves = serves; out = subst (λ (why : Cause). IsWayOut why left.way) c.cause_of_late.ensures left.out }))
-    (held-acts c.args.name _ c.args.board.now c.hold-conn.new.self c.hold-conn.ensures.is c.hold-conn.ensures.entries c.hold-conn.ensures.row)
+    (held-acts c.passes_act_in_steps.ensures.acts c.args.name _ c.args.board.now c.hold-conn.new.self c.hold-conn.ensures.is c.hold-conn.ensures.entries c.hold-conn.ensures.row)
     c.hold-conn.ensures.name left.acts
 
 pub returns-in-None-clause-fewer : goal.returns-in-None-clause-fewer
@@ -142,5 +141,5 @@ returns-in-None-clause-fewer g c =
 
 pub returns-in-None-clause-rest : goal.returns-in-None-clause-rest
 returns-in-None-clause-rest g c =
-    rest_more c.args.board.now.book c.hold-conn.new.self.book c.linger_for.new.board.book
+    c.passes_act_in_steps.ensures.rest c.args.board.now.book c.hold-conn.new.self.book c.linger_for.new.board.book
     (rest-held c.args.name _ c.args.board.now c.hold-conn.new.self c.hold-conn.ensures.is) c.linger_for.ensures.rest

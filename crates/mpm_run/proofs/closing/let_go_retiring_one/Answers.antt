@@ -2,7 +2,6 @@ use Rattle.std.proofs.Common.{Some, ap, sym, ◌∙◌}
 use Rattle.mpm_base.specs.declared.conn.ConnName.{ConnName}
 use Rattle.mpm_base.specs.declared.conn.Cause.TheVariants as cause
 use Rattle.board.specs.Board.{SeenBoard}
-use Rattle.worker_group.proofs.ExitLemmas.{rest_more}
 use Rattle.mpm_run.specs.ClosingInside.{IsRetiringWay}
 use Rattle.mpm_run.proofs.ClosingLemmas.{held-acts, let-go, rest-held}
 use Rattle.mpm_run.proofs.HeldLemmas.{held-hand, held-open, holding, retiring-shows}
@@ -23,7 +22,7 @@ linger_for-requires-clause-hand g c =
     let s' = c.hold-conn.new.self.book.state in
     let is = retires s c.args.name c.requires.retires in
     let holds =
-    holding s s' c.args.name _ c.hold-conn.result is.found (ap (λ (b : SeenBoard). b.book.state) c.hold-conn.ensures.is) c.hold-conn.ensures.name
+    holding c.rows_change_one_at_a_time.ensures.there s s' c.args.name _ c.hold-conn.result is.found (ap (λ (b : SeenBoard). b.book.state) c.hold-conn.ensures.is) c.hold-conn.ensures.name
     c.hold-conn.ensures.handed c.hold-conn.ensures.way in
     held-hand s s' c.args.name _ c.hold-conn.result holds (retires-serves s c.args.name _ c.show.ensures.sound is)
 
@@ -33,7 +32,7 @@ linger_for-requires-clause-open g c =
     let s' = c.hold-conn.new.self.book.state in
     let is = retires s c.args.name c.requires.retires in
     let holds =
-    holding s s' c.args.name _ c.hold-conn.result is.found (ap (λ (b : SeenBoard). b.book.state) c.hold-conn.ensures.is) c.hold-conn.ensures.name
+    holding c.rows_change_one_at_a_time.ensures.there s s' c.args.name _ c.hold-conn.result is.found (ap (λ (b : SeenBoard). b.book.state) c.hold-conn.ensures.is) c.hold-conn.ensures.name
     c.hold-conn.ensures.handed c.hold-conn.ensures.way in
     held-open s s' c.args.name _ c.hold-conn.result holds (retires-serves s c.args.name _ c.show.ensures.sound is)
 
@@ -43,7 +42,7 @@ linger_for-requires-clause-allowed g c =
     let s' = c.hold-conn.new.self.book.state in
     let is = retires s c.args.name c.requires.retires in
     let holds =
-    holding s s' c.args.name _ c.hold-conn.result is.found (ap (λ (b : SeenBoard). b.book.state) c.hold-conn.ensures.is) c.hold-conn.ensures.name
+    holding c.rows_change_one_at_a_time.ensures.there s s' c.args.name _ c.hold-conn.result is.found (ap (λ (b : SeenBoard). b.book.state) c.hold-conn.ensures.is) c.hold-conn.ensures.name
     c.hold-conn.ensures.handed c.hold-conn.ensures.way in
     retiring-lingers s s' c.args.name _ c.hold-conn.result holds is (retires-serves s c.args.name _ c.show.ensures.sound is) c.hold-conn.ensures.name
 
@@ -53,15 +52,15 @@ linger_for-requires-clause-shows g c =
     let s' = c.hold-conn.new.self.book.state in
     let is = retires s c.args.name c.requires.retires in
     let holds =
-    holding s s' c.args.name _ c.hold-conn.result is.found (ap (λ (b : SeenBoard). b.book.state) c.hold-conn.ensures.is) c.hold-conn.ensures.name
+    holding c.rows_change_one_at_a_time.ensures.there s s' c.args.name _ c.hold-conn.result is.found (ap (λ (b : SeenBoard). b.book.state) c.hold-conn.ensures.is) c.hold-conn.ensures.name
     c.hold-conn.ensures.handed c.hold-conn.ensures.way in
     retiring-shows s' _ c.hold-conn.result holds.held (retires-from s c.args.name _ is)
 
 pub returns-clause-gone : goal.returns-clause-gone
 returns-clause-gone g c =
     let left = c.linger_for.ensures.left in
-    let-go IsRetiringWay left.way c.args.name c.hold-conn.result.name c.args.board.now.book c.hold-conn.new.self.book c.linger_for.new.board.book left.out
-    (held-acts c.args.name _ c.args.board.now c.hold-conn.new.self c.hold-conn.ensures.is c.hold-conn.ensures.entries c.hold-conn.ensures.row)
+    let-go c.passes_act_in_steps.ensures.acts IsRetiringWay left.way c.args.name c.hold-conn.result.name c.args.board.now.book c.hold-conn.new.self.book c.linger_for.new.board.book left.out
+    (held-acts c.passes_act_in_steps.ensures.acts c.args.name _ c.args.board.now c.hold-conn.new.self c.hold-conn.ensures.is c.hold-conn.ensures.entries c.hold-conn.ensures.row)
     c.hold-conn.ensures.name left.acts
 
 pub returns-clause-fewer : goal.returns-clause-fewer
@@ -75,5 +74,5 @@ returns-clause-fewer g c =
 
 pub returns-clause-rest : goal.returns-clause-rest
 returns-clause-rest g c =
-    rest_more c.args.board.now.book c.hold-conn.new.self.book c.linger_for.new.board.book
+    c.passes_act_in_steps.ensures.rest c.args.board.now.book c.hold-conn.new.self.book c.linger_for.new.board.book
     (rest-held c.args.name _ c.args.board.now c.hold-conn.new.self c.hold-conn.ensures.is) c.linger_for.ensures.rest

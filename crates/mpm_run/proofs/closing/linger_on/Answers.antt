@@ -1,4 +1,4 @@
-use Rattle.std.proofs.Common.{None, Some, ap, subst, sym, ◌∙◌}
+use Rattle.std.proofs.Common.{None, Some, ap, subst, sym, ◌∙◌, refl}
 use Rattle.conn_machine.specs.Runs.{row_of}
 use Rattle.conn_machine.specs.declared.event.Event.TheVariants as event
 use Rattle.conn_state.specs.Conn.{SeenConn}
@@ -7,8 +7,6 @@ use Rattle.board.specs.Faults.{IsRefusedFor}
 use Rattle.worker_group.specs.Acts.{Acts}
 use Rattle.worker_group.specs.InHand.{IsLingeringFor}
 use Rattle.worker_group.specs.Service.{LeavesRest}
-use Rattle.worker_group.proofs.ActsLemmas.{acts_one}
-use Rattle.worker_group.proofs.ExitLemmas.{rest_parked}
 use Rattle.mpm_run.specs.ClosingInside.{lingering_given_up}
 use Rattle.mpm_run.proofs.HeldLemmas.{found-no_more, settled-on}
 use Rattle.mpm_run.proofs.closing.linger_on.Goals as goal
@@ -36,7 +34,7 @@ give_up_lingering-requires-clause-why g c =
 
 pub returns-in-Ok-clause-parked : goal.returns-in-Ok-clause-parked
 returns-in-Ok-clause-parked g c =
-    acts_one 0 (event.Park c.args.conn.name c.args.kind) None c.args.board.now.book c.park.new.self.book
+    c.passes_act_in_steps.ensures.acts.one 0 (event.Park c.args.conn.name c.args.kind) None c.args.board.now.book c.park.new.self.book
     (ap (λ (b : SeenBoard). b.book) c.in-Ok.ensures.ok.new_is) c.park.ensures.entries c.in-Ok.ensures.row
 
 pub returns-in-Ok-clause-state : goal.returns-in-Ok-clause-state
@@ -44,8 +42,8 @@ returns-in-Ok-clause-state g c = ap (λ (b : SeenBoard). b.book.state) c.in-Ok.e
 
 pub returns-in-Ok-clause-rest : goal.returns-in-Ok-clause-rest
 returns-in-Ok-clause-rest g c =
-    rest_parked 0 c.args.conn.name c.args.kind c.args.board.now.book c.park.new.self.book
-    (ap (λ (b : SeenBoard). b.book) c.in-Ok.ensures.ok.new_is)
+    subst (LeavesRest c.args.board.now.book) (ap (λ (b : SeenBoard). b.book) (sym c.in-Ok.ensures.ok.new_is))
+    (record { moment = refl; accepted = refl; up = λ up. up })
 
 pub returns-in-Err-clause-given_up : goal.returns-in-Err-clause-given_up
 returns-in-Err-clause-given_up g c =

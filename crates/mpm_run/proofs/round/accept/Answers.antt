@@ -1,8 +1,8 @@
 use Rattle.std.proofs.Common.{Some, ap, refl}
 use Rattle.conn_machine.specs.declared.event.Event.TheVariants as event
 use Rattle.board.specs.Board.{SeenBoard}
-use Rattle.worker_group.proofs.ActsLemmas.{acts_recorded}
 use Rattle.mpm_run.proofs.TakeLemmas.{takes-child, takes-slot, accept-allowed, has-taken}
+use Rattle.mpm_run.proofs.RoundLemmas.{acts-added}
 use Rattle.mpm_run.proofs.round.accept.Goals as goal
 
 pub unreachable-requires : goal.unreachable-requires
@@ -18,12 +18,12 @@ unreachable-requires-in-Err-NoSlot g c =
 pub returns-in-Ok-clause-held : goal.returns-in-Ok-clause-held
 returns-in-Ok-clause-held g c =
     let t = c.in-Ok.taken in
-    has-taken c.args.board.now.book.state c.accept.new.self.book.state t.name t.child t.generation
+    has-taken c.rows_change_one_at_a_time.ensures.there c.args.board.now.book.state c.accept.new.self.book.state t.name t.child t.generation
     (accept-allowed 0 t.name.slot c.args.board.now.book c.accept.new.self.book c.show.ensures.state c.show-in-Ok.ensures.history
     (ap (λ (b : SeenBoard). b.book) c.in-Ok.ensures.ok.new_is))
     (ap (λ (b : SeenBoard). b.book.state) c.in-Ok.ensures.ok.new_is) c.in-Ok.ensures.taken
 
 pub returns-in-Ok-clause-acts : goal.returns-in-Ok-clause-acts
 returns-in-Ok-clause-acts g c =
-    acts_recorded 0 (event.Accept c.in-Ok.taken.name.slot) (Some c.in-Ok.taken.name) c.args.board.now c.accept.new.self c.in-Ok.ensures.ok.new_is
+    acts-added c.passes_act_in_steps.ensures.acts (event.Accept c.in-Ok.taken.name.slot) (Some c.in-Ok.taken.name) c.args.board.now c.accept.new.self c.in-Ok.ensures.ok.new_is
     c.accept.ensures.entries c.in-Ok.ensures.row

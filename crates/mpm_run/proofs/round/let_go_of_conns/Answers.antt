@@ -1,5 +1,4 @@
 use Rattle.std.proofs.lemmas.Result.{on_err_weaker, on_ok_weaker}
-use Rattle.worker_group.proofs.ExitLemmas.{rest_more}
 use Rattle.mpm_run.specs.ClosingInside.{DrainsSome, DrainsUntil}
 use Rattle.mpm_run.proofs.RoundLemmas.{lets-go-conns, lets-go-until}
 use Rattle.mpm_run.proofs.round.let_go_of_conns.Goals as goal
@@ -8,7 +7,7 @@ pub returns-clause-gone : goal.returns-clause-gone
 returns-clause-gone g c =
     on_ok_weaker c.drain_all.result
     (λ (drains : DrainsSome c.let_go_late.new.board.book c.drain_all.new.board.book).
-    lets-go-conns c.args.board.now.book c.let_go_retiring.new.board.book c.let_go_late.new.board.book c.drain_all.new.board.book
+    lets-go-conns c.passes_act_in_steps.ensures.acts c.args.board.now.book c.let_go_retiring.new.board.book c.let_go_late.new.board.book c.drain_all.new.board.book
     c.let_go_retiring.ensures.gone c.let_go_late.ensures.gone drains)
     c.drain_all.ensures.drains
 
@@ -16,12 +15,12 @@ pub returns-clause-until : goal.returns-clause-until
 returns-clause-until g c =
     on_err_weaker c.drain_all.result
     (λ (until : DrainsUntil c.let_go_late.new.board.book c.drain_all.new.board.book).
-    lets-go-until c.args.board.now.book c.let_go_retiring.new.board.book c.let_go_late.new.board.book c.drain_all.new.board.book
+    lets-go-until c.passes_act_in_steps.ensures.acts c.args.board.now.book c.let_go_retiring.new.board.book c.let_go_late.new.board.book c.drain_all.new.board.book
     c.let_go_retiring.ensures.gone c.let_go_late.ensures.gone until)
     c.drain_all.ensures.until
 
 pub returns-clause-rest : goal.returns-clause-rest
 returns-clause-rest g c =
-    rest_more c.args.board.now.book c.let_go_late.new.board.book c.drain_all.new.board.book
-    (rest_more c.args.board.now.book c.let_go_retiring.new.board.book c.let_go_late.new.board.book c.let_go_retiring.ensures.rest c.let_go_late.ensures.rest)
+    c.passes_act_in_steps.ensures.rest c.args.board.now.book c.let_go_late.new.board.book c.drain_all.new.board.book
+    (c.passes_act_in_steps.ensures.rest c.args.board.now.book c.let_go_retiring.new.board.book c.let_go_late.new.board.book c.let_go_retiring.ensures.rest c.let_go_late.ensures.rest)
     c.drain_all.ensures.rest

@@ -4,15 +4,13 @@ use Rattle.conn_machine.specs.Rows.{is_live}
 use Rattle.conn_machine.specs.States.{is_halted}
 use Rattle.conn_machine.specs.declared.event.Event.TheVariants as event
 use Rattle.board.specs.Board.{SeenBoard}
-use Rattle.worker_group.proofs.ActsLemmas.{acts_recorded}
-use Rattle.worker_group.proofs.ExitLemmas.{rest_more, rest_none}
 use Rattle.mpm_run.proofs.ListenLemmas.{fewer-stopping, all-gone}
-use Rattle.mpm_run.proofs.RoundLemmas.{retires-none, retires-more, rest_retire}
+use Rattle.mpm_run.proofs.RoundLemmas.{acts-added, rest_retire, rest_same, retires-more, retires-none}
 use Rattle.mpm_run.proofs.round.retire_all.Goals as goal
 
 pub loop-child-init : goal.loop-child-init
 loop-child-init g c =
-    record { retires = retires-none c.args.board.now.book c.requires.free; rest = rest_none c.args.board.now.book; going = refl; rows = refl }
+    record { retires = retires-none c.passes_act_in_steps.ensures.acts c.args.board.now.book c.requires.free; rest = rest_same c.args.board.now.book c.args.board.now.book refl; going = refl; rows = refl }
 
 pub loop-child-smaller : goal.loop-child-smaller
 loop-child-smaller g c =
@@ -23,11 +21,11 @@ pub loop-child-preserved : goal.loop-child-preserved
 loop-child-preserved g c =
     record {
       retires =
-          retires-more c.in-Some.child c.args.board.now.book c.loop-child.board.book c.retire.new.self.book c.loop-child.invariant.retires
-          (acts_recorded 0 (event.Retire c.in-Some.child) None c.loop-child.board c.retire.new.self c.retire.ensures.is c.retire.ensures.entries
+          retires-more c.passes_act_in_steps.ensures.acts c.in-Some.child c.args.board.now.book c.loop-child.board.book c.retire.new.self.book c.loop-child.invariant.retires
+          (acts-added c.passes_act_in_steps.ensures.acts (event.Retire c.in-Some.child) None c.loop-child.board c.retire.new.self c.retire.ensures.is c.retire.ensures.entries
           (c.retire.ensures.row ∙ c.loop-child.invariant.retires.acts.row));
       rest =
-          rest_more c.args.board.now.book c.loop-child.board.book c.retire.new.self.book c.loop-child.invariant.rest
+          c.passes_act_in_steps.ensures.rest c.args.board.now.book c.loop-child.board.book c.retire.new.self.book c.loop-child.invariant.rest
           (rest_retire c.in-Some.child c.loop-child.board c.retire.new.self c.retire.ensures.is);
       going = ap (λ (b : SeenBoard). b.book.state.going) c.retire.ensures.is ∙ c.loop-child.invariant.going;
       rows = ap (λ (b : SeenBoard). b.book.state.rows) c.retire.ensures.is ∙ c.loop-child.invariant.rows;

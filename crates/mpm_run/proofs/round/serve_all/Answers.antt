@@ -2,13 +2,12 @@ use Rattle.std.proofs.Common.{◌≡◌, [], None, refl, sym, subst}
 use Rattle.conn_machine.specs.Passes.{OnlyServes}
 use Rattle.board.specs.Board.{SeenBoard}
 use Rattle.worker_group.specs.Acts.{Acts}
-use Rattle.worker_group.proofs.ActsLemmas.{acts_more, acts_none}
 use Rattle.mpm_run.specs.Patient.{NoneDue}
 use Rattle.mpm_run.proofs.PassLemmas.{due-none, fewer-asking, only-serves}
 use Rattle.mpm_run.proofs.round.serve_all.Goals as goal
 
 pub loop-name-init : goal.loop-name-init
-loop-name-init g c = record { still = λ none. refl; acts = ([], acts_none 1 None c.args.board.now.book c.requires.free); state = c.show_state.ensures.after }
+loop-name-init g c = record { still = λ none. refl; acts = ([], c.passes_act_in_steps.ensures.acts.none 1 None c.args.board.now.book c.requires.free); state = c.show_state.ensures.after }
 
 pub serve-requires-clause-free : goal.serve-requires-clause-free
 serve-requires-clause-free g c = c.loop-name.invariant.acts.1.row
@@ -27,7 +26,7 @@ loop-name-preserved g c =
           (subst (λ (b : SeenBoard). NoneDue b.book.state) (sym (c.loop-name.invariant.still none)) none));
       acts = (
         _,
-        acts_more 1 c.loop-name.invariant.acts.0 _ None None c.args.board.now.book c.loop-name.board.book c.serve.new.board.book
+        c.passes_act_in_steps.ensures.acts.more 1 c.loop-name.invariant.acts.0 _ None None c.args.board.now.book c.loop-name.board.book c.serve.new.board.book
             c.loop-name.invariant.acts.1 served.acts,
       );
       state = c.show.ensures.state;

@@ -1,8 +1,6 @@
+use Rattle.std.proofs.Common.{subst, sym, refl}
 use Rattle.board.specs.declared.faults.BoardFault.{BoardFault}
-use Rattle.worker_group.specs.Service.{RefusalLasts}
-use Rattle.worker_group.proofs.ExitLemmas.{rest_closed}
-use Rattle.mpm_base.specs.declared.conn.Cause.TheVariants as cause
-use Rattle.mpm_base.specs.declared.conn.Tail.TheVariants.{Direct}
+use Rattle.worker_group.specs.Service.{LeavesRest, RefusalLasts}
 use Rattle.mpm_run.specs.ListenInside.{MustStop}
 use Rattle.mpm_run.proofs.RoundLemmas.{if-err, must-stop}
 use Rattle.mpm_run.proofs.round.settle.Goals as goal
@@ -19,4 +17,5 @@ pub returns-else-watched-clause-left : goal.returns-else-watched-clause-left
 returns-else-watched-clause-left g c = rw c.if-watched.false c.close.ensures.acts
 
 pub returns-else-watched-clause-rest : goal.returns-else-watched-clause-rest
-returns-else-watched-clause-rest g c = rest_closed 0 c.args.conn.name cause.LinkFailed Direct c.args.board.now.book c.close.new.board.book c.close.ensures.closed
+returns-else-watched-clause-rest g c =
+    subst (LeavesRest c.args.board.now.book) (sym c.close.ensures.closed) (record { moment = refl; accepted = refl; up = λ up. up })

@@ -1,11 +1,10 @@
-use Rattle.std.proofs.Common.{◌≡◌, true, false, [], ◌∷◌, None, nat_lt, length, refl, sym, ap, ◌∙◌, arith}
+use Rattle.std.proofs.Common.{◌≡◌, true, false, [], ◌∷◌, None, nat_lt, length, sym, ap, ◌∙◌, arith}
 use Rattle.std.proofs.lemmas.Result.{on_ok_weaker}
 use Rattle.conn_machine.specs.declared.event.Event.TheVariants as event
 use Rattle.conn_machine.specs.declared.state.State.{State}
-use Rattle.worker_group.proofs.ActsLemmas.{acts_as, acts_none, acts_recorded}
 use Rattle.board.specs.Events.{IsAdded}
 use Rattle.mpm_run.proofs.PassLemmas.{rows-kept}
-use Rattle.mpm_run.proofs.RoundLemmas.{is-below, known-none, known-one, not-below}
+use Rattle.mpm_run.proofs.RoundLemmas.{acts-added, acts-spelled, is-below, known-none, known-one, not-below}
 use Rattle.mpm_run.proofs.round.signal.Goals as goal
 
 pub returns-then-slot-len-clause-signals : goal.returns-then-slot-len-clause-signals
@@ -14,7 +13,7 @@ returns-then-slot-len-clause-signals g c =
     let rows = rows-kept b c.show.ensures.state in
     let seen = ap (λ (s : State). length s.rows) c.state.ensures in
     let without : nat_lt c.args.slot (length b.base.rows) ≡ false = not-below c.args.slot (length b.base.rows) (omega (arith, rows, seen)) in
-    acts_as 0 [] _ None None b b (acts_none 0 None b c.requires.free) (sym (known-none c.args.slot b without)) refl
+    acts-spelled [] _ b b (c.passes_act_in_steps.ensures.acts.none 0 None b c.requires.free) (sym (known-none c.args.slot b without))
 
 pub returns-clause-signals : goal.returns-clause-signals
 returns-clause-signals g c =
@@ -24,7 +23,7 @@ returns-clause-signals g c =
     let within : nat_lt c.args.slot (length b.book.base.rows) ≡ true = is-below c.args.slot (length b.book.base.rows) (omega (arith, rows, seen)) in
     on_ok_weaker c.ready.result
     (λ (added : IsAdded 0 (event.Ready c.args.slot) b c.ready.new.self).
-    acts_as 0 (event.Ready c.args.slot ∷ []) _ None None b.book c.ready.new.self.book
-    (acts_recorded 0 (event.Ready c.args.slot) None b c.ready.new.self added.new_is c.ready.ensures.entries
+    acts-spelled (event.Ready c.args.slot ∷ []) _ b.book c.ready.new.self.book
+    (acts-added c.passes_act_in_steps.ensures.acts (event.Ready c.args.slot) None b c.ready.new.self added.new_is c.ready.ensures.entries
     (c.ready.ensures.row ∙ c.requires.free))
-    (sym (known-one c.args.slot b.book within)) refl) c.ready.ensures.ok
+    (sym (known-one c.args.slot b.book within))) c.ready.ensures.ok

@@ -1,10 +1,8 @@
-use Rattle.std.proofs.Common.{◌≡◌, ◌+◌, take, drop, slice_index, [], ◌∷◌, ◌++◌, None, sym, ap, subst, refl}
+use Rattle.std.proofs.Common.{◌≡◌, ◌+◌, take, drop, slice_index, [], ◌∷◌, ◌++◌, sym, ap, subst}
 use Rattle.std.proofs.lemmas.List.{take_more, take-append-drop}
 use Rattle.board.specs.Board.{SeenBoard}
-use Rattle.worker_group.proofs.ActsLemmas.{acts_as}
-use Rattle.worker_group.proofs.ExitLemmas.{rest_more}
 use Rattle.mpm_run.specs.RoundInside.{SignalsFirst, signal_events}
-use Rattle.mpm_run.proofs.RoundLemmas.{on-err, signals-begun, signals-more}
+use Rattle.mpm_run.proofs.RoundLemmas.{acts-spelled, on-err, signals-begun, signals-more}
 use Rattle.mpm_run.proofs.round.signal_all.Goals as goal
 
 pub returns-in_err-signal-clause-first : goal.returns-in_err-signal-clause-first
@@ -21,8 +19,8 @@ loop-slot-preserved g c =
     let more : take (i + 1) slots ≡ take i slots ++ slice_index slots i ∷ [] = take_more slots i 0 c.loop-slot-test.true in
     record {
       acts =
-          acts_as 0 _ (signal_events c.args.board.now.book (take (i + 1) slots)) None None c.args.board.now.book c.signal.new.board.book
-          (signals-more (take i slots) (slice_index slots i) c.args.board.now.book c.loop-slot.board.book c.signal.new.board.book
-          c.loop-slot.invariant.acts c.in_ok-signal.ensures.signals) (ap (signal_events c.args.board.now.book) (sym more)) refl;
-      rest = rest_more c.args.board.now.book c.loop-slot.board.book c.signal.new.board.book c.loop-slot.invariant.rest c.signal.ensures.rest;
+          acts-spelled _ (signal_events c.args.board.now.book (take (i + 1) slots)) c.args.board.now.book c.signal.new.board.book
+          (signals-more c.passes_act_in_steps.ensures.acts (take i slots) (slice_index slots i) c.args.board.now.book c.loop-slot.board.book c.signal.new.board.book
+          c.loop-slot.invariant.acts c.in_ok-signal.ensures.signals) (ap (signal_events c.args.board.now.book) (sym more));
+      rest = c.passes_act_in_steps.ensures.rest c.args.board.now.book c.loop-slot.board.book c.signal.new.board.book c.loop-slot.invariant.rest c.signal.ensures.rest;
     }

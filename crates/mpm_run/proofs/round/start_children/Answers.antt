@@ -2,20 +2,18 @@ use Rattle.std.proofs.Common.{None, ap, subst, sym, ◌∙◌, refl}
 use Rattle.conn_machine.specs.declared.event.Event.TheVariants as event
 use Rattle.board.specs.Board.{SeenBoard}
 use Rattle.worker_group.specs.Service.{LeavesRest}
-use Rattle.worker_group.proofs.ActsLemmas.{acts_recorded}
-use Rattle.worker_group.proofs.ExitLemmas.{rest_more, rest_none}
 use Rattle.mpm_run.specs.RoundInside.{StartsSome}
 use Rattle.mpm_run.proofs.ChildrenLemmas.{all-started, opens-in-order, starts-next}
 use Rattle.mpm_run.proofs.ListenLemmas.{may-start_child, fewer-gone}
-use Rattle.mpm_run.proofs.RoundLemmas.{starts-none, starts-more, rest_start}
+use Rattle.mpm_run.proofs.RoundLemmas.{acts-added, rest_same, rest_start, starts-more, starts-none}
 use Rattle.mpm_run.proofs.round.start_children.Goals as goal
 
 pub loop-child-init : goal.loop-child-init
 loop-child-init g c =
     record {
-      starts = starts-none c.args.board.now.book c.requires.free;
+      starts = starts-none c.passes_act_in_steps.ensures.acts c.args.board.now.book c.requires.free;
       first = opens-in-order c.args.board.now.book c.show_state.ensures.after;
-      rest = rest_none c.args.board.now.book;
+      rest = rest_same c.args.board.now.book c.args.board.now.book refl;
       going = refl;
     }
 
@@ -32,14 +30,14 @@ pub loop-child-preserved : goal.loop-child-preserved
 loop-child-preserved g c =
     record {
       starts =
-          starts-more c.in-Some.child c.args.board.now.book c.loop-child.board.book c.start_child.new.self.book c.loop-child.invariant.starts
-          (acts_recorded 0 (event.StartChild c.in-Some.child) None c.loop-child.board c.start_child.new.self c.in_ok-start_child.ensures.ok.new_is
+          starts-more c.passes_act_in_steps.ensures.acts c.in-Some.child c.args.board.now.book c.loop-child.board.book c.start_child.new.self.book c.loop-child.invariant.starts
+          (acts-added c.passes_act_in_steps.ensures.acts (event.StartChild c.in-Some.child) None c.loop-child.board c.start_child.new.self c.in_ok-start_child.ensures.ok.new_is
           c.start_child.ensures.entries (c.start_child.ensures.row ∙ c.loop-child.invariant.starts.acts.row));
       first =
           λ opening. starts-next c.args.board.now.book.base c.loop-child.board c.start_child.new.self c.in-Some.child (sym c.can_start.ensures ∙ c.in-Some.is)
           c.in_ok-start_child.ensures.ok.new_is (c.loop-child.invariant.first opening);
       rest =
-          rest_more c.args.board.now.book c.loop-child.board.book c.start_child.new.self.book c.loop-child.invariant.rest
+          c.passes_act_in_steps.ensures.rest c.args.board.now.book c.loop-child.board.book c.start_child.new.self.book c.loop-child.invariant.rest
           (rest_start c.in-Some.child c.loop-child.board c.start_child.new.self c.in_ok-start_child.ensures.ok.new_is);
       going = ap (λ (b : SeenBoard). b.book.state.going) c.in_ok-start_child.ensures.ok.new_is ∙ c.loop-child.invariant.going;
     }

@@ -21,7 +21,7 @@ returns-clause-stopped g c =
     let free = rw (← c.self.view_is) at c.take_turns-turns.ensures.free in
     let ends = rw (← c.self.view_is) at c.take_turns-turns.ensures.ends in
     let turns = c.take_turns-turns.result in
-    let halted = free-halted turns c.self.inside.board.book c.halt.new.board.book free c.halt.ensures.acts in
+    let halted = free-halted c.passes_act_in_steps.ensures.acts turns c.self.inside.board.book c.halt.new.board.book free c.halt.ensures.acts in
     has-stopped turns c.args.self.now.front _ (g.F.Front.seen c.hush.new.self) c.self.inside.board.book c.retire_all.new.board.book.state ends
     (subst (HaltsAs turns) (sym (c.retire_all.ensures.going ∙ c.close_all.ensures.going)) c.halt.ensures.stopped)
     (c.retire_all.ensures.rest.accepted ∙ c.close_all.ensures.rest.accepted ∙ c.halt.ensures.taken) c.hush.ensures
@@ -39,7 +39,7 @@ returns-clause-informed g c =
     let begun = rw (← c.self.view_is) at c.take_turns-turns.ensures.begun in
     let turns = c.take_turns-turns.result in
     subst (λ (o : Option (List WaitTold)). WasInformed o (g.C.Clock.told c.self.inside.clock) c.retire_all.new.board.book) (sym (waits-hushed _ _ c.hush.ensures))
-    (was-informed turns _ _ c.self.inside.board.book c.halt.new.board.book c.close_all.new.board.book c.retire_all.new.board.book
+    (was-informed c.passes_act_in_steps.ensures.acts turns _ _ c.self.inside.board.book c.halt.new.board.book c.close_all.new.board.book c.retire_all.new.board.book
     (record {
       free = free;
       halts = c.halt.ensures.acts;
@@ -73,9 +73,9 @@ returns-clause-few g c began =
     let passes = c.args.self.now.board.book.passes in
     let some : 0 < passes = omega (arith, c.requires.passes) in
     let few = rw (← c.self.view_is) at c.take_turns-turns.ensures.few in
-    few-acts passes 0 _ None c.close_all.new.board.book c.retire_all.new.board.book some c.retire_all.ensures.retires.acts
-    (few-acts passes 0 _ None c.halt.new.board.book c.close_all.new.board.book some c.close_all.ensures.gone.acts
-    (few-acts passes 0 _ None c.self.inside.board.book c.halt.new.board.book some c.halt.ensures.acts (few began)))
+    few-acts c.passes_act_in_steps.ensures.acts passes 0 _ None c.close_all.new.board.book c.retire_all.new.board.book some c.retire_all.ensures.retires.acts
+    (few-acts c.passes_act_in_steps.ensures.acts passes 0 _ None c.halt.new.board.book c.close_all.new.board.book some c.close_all.ensures.gone.acts
+    (few-acts c.passes_act_in_steps.ensures.acts passes 0 _ None c.self.inside.board.book c.halt.new.board.book some c.halt.ensures.acts (few began)))
 
 pub returns-clause-started : goal.returns-clause-started
 returns-clause-started g c none =

@@ -1,4 +1,4 @@
-use Rattle.std.proofs.Common.{Option, None, Some, IfSome, inl, inr, ap, subst, sym, refl, ◌∙◌}
+use Rattle.std.proofs.Common.{Option, None, Some, IfSome, inl, inr, ap, subst, sym, ◌∙◌}
 use Rattle.std.proofs.lemmas.Result.{on_ok_weaker}
 use Rattle.mpm_base.specs.Front.{FrontSeen}
 use Rattle.mpm_base.specs.Link.{LinkTold}
@@ -7,12 +7,11 @@ use Rattle.conn_state.specs.Known.{IsOfClient}
 use Rattle.board.specs.declared.faults.BoardFault.{BoardFault}
 use Rattle.board.specs.Board.{SeenBoard}
 use Rattle.worker_group.specs.Acts.{Acts}
-use Rattle.worker_group.proofs.ActsLemmas.{acts_as}
 use Rattle.mpm_run.specs.ListenInside.{IsArrival, WatchesAll}
 use Rattle.worker_group.specs.Service.{left_events}
 use Rattle.mpm_run.specs.RoundInside.{GivesUp, TakesUntil, way_of}
 use Rattle.mpm_run.proofs.FrontLemmas.{follows-turned, follows-watch, step-watch, takes-turned, takes-watch}
-use Rattle.mpm_run.proofs.RoundLemmas.{err-on, on-err, on-ok, takes-given_up, takes-one, until-none}
+use Rattle.mpm_run.proofs.RoundLemmas.{acts-spelled, err-on, on-err, on-ok, takes-given_up, takes-one, until-none}
 use Rattle.mpm_run.proofs.WatchLemmas.{takes-one-left, watched-took, watched-turned}
 use Rattle.mpm_run.proofs.listen.Listener.take.Goals as goal
 
@@ -36,7 +35,7 @@ pub returns-in-Err-clause-until : goal.returns-in-Err-clause-until
 returns-in-Err-clause-until g c =
     rw (← c.self.view_is)
     (subst (λ (b : SeenBoard). TakesUntil c.self.inside.board.book b.book) (sym c.in-Err.ensures.refused)
-    (until-none c.self.inside.board.book (rw (← c.self.view_is) at c.requires.free)))
+    (until-none c.passes_act_in_steps.ensures.acts c.self.inside.board.book (rw (← c.self.view_is) at c.requires.free)))
 
 pub returns-in-Err-clause-follows : goal.returns-in-Err-clause-follows
 returns-in-Err-clause-follows g c = rw (← c.self.view_is) (follows-turned _ _ _ c.turn_away.ensures)
@@ -62,10 +61,10 @@ returns-clause-takes g c =
       watched = c.watch-watched.result;
       told = ap (λ (f : FrontSeen). f.told) c.watch-watched.ensures.watches.front;
       acts =
-          takes-one c.in-Ok.taken.name (way_of c.watch-watched.result) c.self.inside.board.book c.accept.new.board.book c.settle.new.board.book
+          takes-one c.passes_act_in_steps.ensures.acts c.in-Ok.taken.name (way_of c.watch-watched.result) c.self.inside.board.book c.accept.new.board.book c.settle.new.board.book
           c.in-Ok.ensures.acts
-          (acts_as 0 _ (left_events (way_of c.watch-watched.result) c.in-Ok.taken.name) None None c.accept.new.board.book c.settle.new.board.book left
-          (ap (λ (x : SeenConn). left_events (way_of c.watch-watched.result) x.name) c.new-conn.ensures) refl);
+          (acts-spelled _ (left_events (way_of c.watch-watched.result) c.in-Ok.taken.name) c.accept.new.board.book c.settle.new.board.book left
+          (ap (λ (x : SeenConn). left_events (way_of c.watch-watched.result) x.name) c.new-conn.ensures));
     }) c.settle.ensures.left)
 
 pub returns-clause-until : goal.returns-clause-until
@@ -74,7 +73,7 @@ returns-clause-until g c =
     (err-on c.settle.result (λ (f : BoardFault). GivesUp f c.new-conn.result.name c.accept.new.board.book c.settle.new.board.book)
     (TakesUntil c.self.inside.board.book c.settle.new.board.book)
     (λ f given.
-    takes-given_up f c.in-Ok.taken.name c.self.inside.board.book c.accept.new.board.book c.settle.new.board.book c.in-Ok.ensures.acts
+    takes-given_up c.passes_act_in_steps.ensures.acts f c.in-Ok.taken.name c.self.inside.board.book c.accept.new.board.book c.settle.new.board.book c.in-Ok.ensures.acts
     (subst (λ (x : SeenConn). GivesUp f x.name c.accept.new.board.book c.settle.new.board.book) c.new-conn.ensures given))
     c.settle.ensures.given_up)
 

@@ -10,7 +10,7 @@ use Rattle.mpm_run.proofs.listen.Listener.take_all.Goals as goal
 pub loop-init : goal.loop-init
 loop-init g c =
     record {
-      takes = takes-none c.args.self.now.board.book c.requires.free;
+      takes = takes-none c.passes_act_in_steps.ensures.acts c.args.self.now.board.book c.requires.free;
       up = c.requires.up;
       moment = refl;
       step = c.requires.step;
@@ -48,7 +48,7 @@ loop-preserved g c =
     let taking = c.in_ok-take-in-Some-accept.ensures.takes in
     record {
       takes =
-          takes-more (record { name = taking.name; way = way_of taking.watched }) c.args.self.now.board.book c.self.inside.board.book
+          takes-more c.passes_act_in_steps.ensures.acts (record { name = taking.name; way = way_of taking.watched }) c.args.self.now.board.book c.self.inside.board.book
           c.take.new.self.board.book before.takes (record { watched = taking.watched; way_is = refl }) taking.acts;
       up = c.take.ensures.up;
       moment = c.take.ensures.moment ∙ before.moment;
@@ -74,7 +74,7 @@ pub returns-in_err-take-in-Some-accept-clause-until : goal.returns-in_err-take-i
 returns-in_err-take-in-Some-accept-clause-until g c =
     let takes = rw (← c.self.view_is) at c.loop.invariant.takes in
     on-err c.from_residual.result _
-    (takes-until c.args.self.now.board.book c.self.inside.board.book c.take.new.self.board.book takes c.in_err-take-in-Some-accept.ensures.until)
+    (takes-until c.passes_act_in_steps.ensures.acts c.args.self.now.board.book c.self.inside.board.book c.take.new.self.board.book takes c.in_err-take-in-Some-accept.ensures.until)
 
 pub returns-in_err-take-in-Some-accept-clause-moment : goal.returns-in_err-take-in-Some-accept-clause-moment
 returns-in_err-take-in-Some-accept-clause-moment g c =

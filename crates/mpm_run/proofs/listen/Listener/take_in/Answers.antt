@@ -88,9 +88,9 @@ returns-in_err-signal_all-clause-broken g c =
     subst (λ (xs : List ℕ). SignalsFirst xs c.pass_time.new.board.book c.signal_all.new.board.book) c.slots.ensures.is c.in_err-signal_all.ensures.first in
     rw (← c.self.view_is)
     (on-err c.from_residual-in_err-signal_all.result _
-    (breaks-behind (moment_for c.args.moment) c.self.inside.ready [] c.self.inside.board.book c.pass_time.new.board.book b b b b b
-    c.in_ok-pass_time.ensures.passes first (lets-go-none b first.acts.row) (retires-none b first.acts.row) (starts-none b first.acts.row)
-    (until-none b first.acts.row)))
+    (breaks-behind c.passes_act_in_steps.ensures.acts (moment_for c.args.moment) c.self.inside.ready [] c.self.inside.board.book c.pass_time.new.board.book b b b b b
+    c.in_ok-pass_time.ensures.passes first (lets-go-none c.passes_act_in_steps.ensures.acts b first.acts.row) (retires-none c.passes_act_in_steps.ensures.acts b first.acts.row) (starts-none c.passes_act_in_steps.ensures.acts b first.acts.row)
+    (until-none c.passes_act_in_steps.ensures.acts b first.acts.row)))
 
 pub returns-in_err-let_go_of_conns-clause-broken : goal.returns-in_err-let_go_of_conns-clause-broken
 returns-in_err-let_go_of_conns-clause-broken g c =
@@ -102,10 +102,10 @@ returns-in_err-let_go_of_conns-clause-broken g c =
     c.slots.ensures.is c.in_ok-signal_all.ensures.signals in
     rw (← c.self.view_is)
     (on-err c.from_residual-in_err-let_go_of_conns.result _
-    (breaks-behind (moment_for c.args.moment) c.self.inside.ready (until.0 ∷ []) c.self.inside.board.book c.pass_time.new.board.book
+    (breaks-behind c.passes_act_in_steps.ensures.acts (moment_for c.args.moment) c.self.inside.ready (until.0 ∷ []) c.self.inside.board.book c.pass_time.new.board.book
     c.signal_all.new.board.book b b b b c.in_ok-pass_time.ensures.passes
-    (signals-all c.self.inside.ready c.pass_time.new.board.book c.signal_all.new.board.book signals) until.1 (retires-none b row) (starts-none b row)
-    (until-none b row)))
+    (signals-all c.self.inside.ready c.pass_time.new.board.book c.signal_all.new.board.book signals) until.1 (retires-none c.passes_act_in_steps.ensures.acts b row) (starts-none c.passes_act_in_steps.ensures.acts b row)
+    (until-none c.passes_act_in_steps.ensures.acts b row)))
 
 pub returns-in_err-start_children-clause-broken : goal.returns-in_err-start_children-clause-broken
 returns-in_err-start_children-clause-broken g c =
@@ -115,10 +115,10 @@ returns-in_err-start_children-clause-broken g c =
     c.slots.ensures.is c.in_ok-signal_all.ensures.signals in
     rw (← c.self.view_is)
     (on-err c.from_residual-in_err-start_children.result _
-    (breaks-behind (moment_for c.args.moment) c.self.inside.ready [] c.self.inside.board.book c.pass_time.new.board.book c.signal_all.new.board.book
+    (breaks-behind c.passes_act_in_steps.ensures.acts (moment_for c.args.moment) c.self.inside.ready [] c.self.inside.board.book c.pass_time.new.board.book c.signal_all.new.board.book
     c.let_go_of_conns.new.board.book c.retire_all.new.board.book b b c.in_ok-pass_time.ensures.passes
     (signals-all c.self.inside.ready c.pass_time.new.board.book c.signal_all.new.board.book signals) c.in_ok-let_go_of_conns.ensures.gone
-    c.retire_all.ensures.retires c.start_children.ensures.starts (until-none b c.start_children.ensures.starts.acts.row)))
+    c.retire_all.ensures.retires c.start_children.ensures.starts (until-none c.passes_act_in_steps.ensures.acts b c.start_children.ensures.starts.acts.row)))
 
 pub returns-clause-round : goal.returns-clause-round
 returns-clause-round g c =
@@ -128,7 +128,7 @@ returns-clause-round g c =
     rw (← c.self.view_is)
     (on_ok_weaker c.take_all.result
     (λ (takes : TakesSome c.start_children.new.board.book c.take_all.new.self.board.book).
-    goes-round (moment_for c.args.moment) c.self.inside.ready c.self.inside.board.book c.pass_time.new.board.book c.signal_all.new.board.book
+    goes-round c.passes_act_in_steps.ensures.acts (moment_for c.args.moment) c.self.inside.ready c.self.inside.board.book c.pass_time.new.board.book c.signal_all.new.board.book
     c.let_go_of_conns.new.board.book c.retire_all.new.board.book c.start_children.new.board.book c.take_all.new.self.board.book
     c.in_ok-pass_time.ensures.passes signals c.in_ok-let_go_of_conns.ensures.gone c.retire_all.ensures.retires c.start_children.ensures.starts takes)
     c.take_all.ensures.takes)
@@ -141,7 +141,7 @@ returns-clause-broken g c =
     rw (← c.self.view_is)
     (on_err_weaker c.take_all.result
     (λ (until : TakesUntil c.start_children.new.board.book c.take_all.new.self.board.book).
-    breaks-behind (moment_for c.args.moment) c.self.inside.ready [] c.self.inside.board.book c.pass_time.new.board.book c.signal_all.new.board.book
+    breaks-behind c.passes_act_in_steps.ensures.acts (moment_for c.args.moment) c.self.inside.ready [] c.self.inside.board.book c.pass_time.new.board.book c.signal_all.new.board.book
     c.let_go_of_conns.new.board.book c.retire_all.new.board.book c.start_children.new.board.book c.take_all.new.self.board.book
     c.in_ok-pass_time.ensures.passes (signals-all c.self.inside.ready c.pass_time.new.board.book c.signal_all.new.board.book signals)
     c.in_ok-let_go_of_conns.ensures.gone c.retire_all.ensures.retires c.start_children.ensures.starts until)

@@ -12,7 +12,7 @@ use Rattle.mpm_run.proofs.listen.Listener.take_turns.Goals as goal
 pub loop-init : goal.loop-init
 loop-init g c = record {
   between =
-      between-started (LinksTell g.L.Link.seen) c.args.self.now c.start.new.self c.requires.passes c.requires.free c.requires.going c.requires.step c.requires.informed c.start.ensures.others
+      between-started c.passes_act_in_steps.ensures.acts (LinksTell g.L.Link.seen) c.args.self.now c.start.new.self c.requires.passes c.requires.free c.requires.going c.requires.step c.requires.informed c.start.ensures.others
       c.start.ensures.starts c.start.ensures.going c.start.ensures.rest;
   going = ap is_halted c.start.ensures.going ∙ c.requires.going;
   started = λ none. c.in_ok-first.ensures.first (record { opened = c.requires.opened; none = none });
@@ -23,24 +23,24 @@ loop-init g c = record {
 
 pub returns-in_err-first-clause-free : goal.returns-in_err-first-clause-free
 returns-in_err-first-clause-free g c =
-    (between-started (LinksTell g.L.Link.seen) c.args.self.now c.start.new.self c.requires.passes c.requires.free c.requires.going c.requires.step c.requires.informed c.start.ensures.others
+    (between-started c.passes_act_in_steps.ensures.acts (LinksTell g.L.Link.seen) c.args.self.now c.start.new.self c.requires.passes c.requires.free c.requires.going c.requires.step c.requires.informed c.start.ensures.others
     c.start.ensures.starts c.start.ensures.going c.start.ensures.rest).free
 
 pub returns-in_err-first-clause-few : goal.returns-in_err-first-clause-few
 returns-in_err-first-clause-few g c =
-    (between-started (LinksTell g.L.Link.seen) c.args.self.now c.start.new.self c.requires.passes c.requires.free c.requires.going c.requires.step c.requires.informed c.start.ensures.others
+    (between-started c.passes_act_in_steps.ensures.acts (LinksTell g.L.Link.seen) c.args.self.now c.start.new.self c.requires.passes c.requires.free c.requires.going c.requires.step c.requires.informed c.start.ensures.others
     c.start.ensures.starts c.start.ensures.going c.start.ensures.rest).few
 
 pub returns-in_err-first-clause-watched : goal.returns-in_err-first-clause-watched
 returns-in_err-first-clause-watched g c =
-    (between-started (LinksTell g.L.Link.seen) c.args.self.now c.start.new.self c.requires.passes c.requires.free c.requires.going c.requires.step c.requires.informed c.start.ensures.others
+    (between-started c.passes_act_in_steps.ensures.acts (LinksTell g.L.Link.seen) c.args.self.now c.start.new.self c.requires.passes c.requires.free c.requires.going c.requires.step c.requires.informed c.start.ensures.others
     c.start.ensures.starts c.start.ensures.going c.start.ensures.rest).watched
 
 pub returns-in_err-first-clause-begun : goal.returns-in_err-first-clause-begun
 returns-in_err-first-clause-begun g c =
     on-err c.from_residual.result _
     (broken-between (LinksTell g.L.Link.seen) c.args.self.now c.start.new.self
-    (between-started (LinksTell g.L.Link.seen) c.args.self.now c.start.new.self c.requires.passes c.requires.free c.requires.going c.requires.step c.requires.informed c.start.ensures.others
+    (between-started c.passes_act_in_steps.ensures.acts (LinksTell g.L.Link.seen) c.args.self.now c.start.new.self c.requires.passes c.requires.free c.requires.going c.requires.step c.requires.informed c.start.ensures.others
     c.start.ensures.starts c.start.ensures.going c.start.ensures.rest)).so_far
 
 pub returns-in-Ended-clause-follows : goal.returns-in-Ended-clause-follows
@@ -93,136 +93,136 @@ returns-in-Failed-clause-informed g c =
 
 pub returns-in_err-take_in-clause-free : goal.returns-in_err-take_in-clause-free
 returns-in_err-take_in-clause-free g c =
-    (broken-round (LinksTell g.L.Link.seen) c.loop.rest c.pause-pause.result c.args.self.now c.loop.self c.pause-pause.new.self c.take_in.new.self c.loop.invariant.between c.pause-pause.ensures
+    (broken-round c.passes_act_in_steps.ensures.acts (LinksTell g.L.Link.seen) c.loop.rest c.pause-pause.result c.args.self.now c.loop.self c.pause-pause.new.self c.take_in.new.self c.loop.invariant.between c.pause-pause.ensures
     c.in_err-take_in.ensures.broken c.take_in.ensures.up c.take_in.ensures.follows c.take_in.ensures.front c.take_in.ensures.watched c.take_in.ensures.calls).free
 
 pub returns-in_err-take_in-clause-follows : goal.returns-in_err-take_in-clause-follows
 returns-in_err-take_in-clause-follows g c =
-    (broken-round (LinksTell g.L.Link.seen) c.loop.rest c.pause-pause.result c.args.self.now c.loop.self c.pause-pause.new.self c.take_in.new.self c.loop.invariant.between c.pause-pause.ensures
+    (broken-round c.passes_act_in_steps.ensures.acts (LinksTell g.L.Link.seen) c.loop.rest c.pause-pause.result c.args.self.now c.loop.self c.pause-pause.new.self c.take_in.new.self c.loop.invariant.between c.pause-pause.ensures
     c.in_err-take_in.ensures.broken c.take_in.ensures.up c.take_in.ensures.follows c.take_in.ensures.front c.take_in.ensures.watched c.take_in.ensures.calls).follows
 
 pub returns-in_err-take_in-clause-few : goal.returns-in_err-take_in-clause-few
 returns-in_err-take_in-clause-few g c =
-    (broken-round (LinksTell g.L.Link.seen) c.loop.rest c.pause-pause.result c.args.self.now c.loop.self c.pause-pause.new.self c.take_in.new.self c.loop.invariant.between c.pause-pause.ensures
+    (broken-round c.passes_act_in_steps.ensures.acts (LinksTell g.L.Link.seen) c.loop.rest c.pause-pause.result c.args.self.now c.loop.self c.pause-pause.new.self c.take_in.new.self c.loop.invariant.between c.pause-pause.ensures
     c.in_err-take_in.ensures.broken c.take_in.ensures.up c.take_in.ensures.follows c.take_in.ensures.front c.take_in.ensures.watched c.take_in.ensures.calls).few
 
 pub returns-in_err-take_in-clause-watched : goal.returns-in_err-take_in-clause-watched
 returns-in_err-take_in-clause-watched g c =
-    (broken-round (LinksTell g.L.Link.seen) c.loop.rest c.pause-pause.result c.args.self.now c.loop.self c.pause-pause.new.self c.take_in.new.self c.loop.invariant.between c.pause-pause.ensures
+    (broken-round c.passes_act_in_steps.ensures.acts (LinksTell g.L.Link.seen) c.loop.rest c.pause-pause.result c.args.self.now c.loop.self c.pause-pause.new.self c.take_in.new.self c.loop.invariant.between c.pause-pause.ensures
     c.in_err-take_in.ensures.broken c.take_in.ensures.up c.take_in.ensures.follows c.take_in.ensures.front c.take_in.ensures.watched c.take_in.ensures.calls).watched
 
 pub returns-in_err-take_in-clause-bound : goal.returns-in_err-take_in-clause-bound
 returns-in_err-take_in-clause-bound g c =
-    (broken-round (LinksTell g.L.Link.seen) c.loop.rest c.pause-pause.result c.args.self.now c.loop.self c.pause-pause.new.self c.take_in.new.self c.loop.invariant.between c.pause-pause.ensures
+    (broken-round c.passes_act_in_steps.ensures.acts (LinksTell g.L.Link.seen) c.loop.rest c.pause-pause.result c.args.self.now c.loop.self c.pause-pause.new.self c.take_in.new.self c.loop.invariant.between c.pause-pause.ensures
     c.in_err-take_in.ensures.broken c.take_in.ensures.up c.take_in.ensures.follows c.take_in.ensures.front c.take_in.ensures.watched c.take_in.ensures.calls).bound
 
 pub returns-in_err-take_in-clause-time : goal.returns-in_err-take_in-clause-time
 returns-in_err-take_in-clause-time g c =
-    (broken-round (LinksTell g.L.Link.seen) c.loop.rest c.pause-pause.result c.args.self.now c.loop.self c.pause-pause.new.self c.take_in.new.self c.loop.invariant.between c.pause-pause.ensures
+    (broken-round c.passes_act_in_steps.ensures.acts (LinksTell g.L.Link.seen) c.loop.rest c.pause-pause.result c.args.self.now c.loop.self c.pause-pause.new.self c.take_in.new.self c.loop.invariant.between c.pause-pause.ensures
     c.in_err-take_in.ensures.broken c.take_in.ensures.up c.take_in.ensures.follows c.take_in.ensures.front c.take_in.ensures.watched c.take_in.ensures.calls).time
 
 pub returns-in_err-take_in-clause-begun : goal.returns-in_err-take_in-clause-begun
 returns-in_err-take_in-clause-begun g c =
     on-err c.from_residual-in_err-take_in.result _
-    (broken-round (LinksTell g.L.Link.seen) c.loop.rest c.pause-pause.result c.args.self.now c.loop.self c.pause-pause.new.self c.take_in.new.self c.loop.invariant.between c.pause-pause.ensures
+    (broken-round c.passes_act_in_steps.ensures.acts (LinksTell g.L.Link.seen) c.loop.rest c.pause-pause.result c.args.self.now c.loop.self c.pause-pause.new.self c.take_in.new.self c.loop.invariant.between c.pause-pause.ensures
     c.in_err-take_in.ensures.broken c.take_in.ensures.up c.take_in.ensures.follows c.take_in.ensures.front c.take_in.ensures.watched c.take_in.ensures.calls).so_far
 
 pub serve-requires-clause-free : goal.serve-requires-clause-free
 serve-requires-clause-free g c κs within =
-    (between-round (LinksTell g.L.Link.seen) c.loop.rest c.pause-pause.result c.args.self.now c.loop.self c.pause-pause.new.self c.take_in.new.self c.loop.invariant.between c.pause-pause.ensures
+    (between-round (LinksTell g.L.Link.seen) c.loop.rest c.pause-pause.result c.args.self.now c.loop.self c.pause-pause.new.self c.passes_act_in_steps.ensures.acts c.take_in.new.self c.loop.invariant.between c.pause-pause.ensures
     c.in_ok-take_in.ensures.round c.in_ok-take_in.ensures.moment c.in_ok-take_in.ensures.step c.take_in.ensures.up c.take_in.ensures.follows
     c.take_in.ensures.front c.take_in.ensures.watched c.take_in.ensures.calls).free 1
 
 pub returns-in_err-rest-clause-free : goal.returns-in_err-rest-clause-free
 returns-in_err-rest-clause-free g c =
     let between : IsBetween (LinksTell g.L.Link.seen) c.args.self.now c.take_in.new.self =
-    between-round (LinksTell g.L.Link.seen) c.loop.rest c.pause-pause.result c.args.self.now c.loop.self c.pause-pause.new.self c.take_in.new.self c.loop.invariant.between c.pause-pause.ensures
+    between-round (LinksTell g.L.Link.seen) c.loop.rest c.pause-pause.result c.args.self.now c.loop.self c.pause-pause.new.self c.passes_act_in_steps.ensures.acts c.take_in.new.self c.loop.invariant.between c.pause-pause.ensures
     c.in_ok-take_in.ensures.round c.in_ok-take_in.ensures.moment c.in_ok-take_in.ensures.step c.take_in.ensures.up c.take_in.ensures.follows
     c.take_in.ensures.front c.take_in.ensures.watched c.take_in.ensures.calls in
     let served : HasServed c.take_in.new.self c.serve.new.self =
     record { events = c.serve.ensures.acts.0; acts = c.serve.ensures.acts.1; serves = c.serve.ensures.serves; others = c.serve.ensures.others } in
-    (broken-served (LinksTell g.L.Link.seen) c.args.self.now c.take_in.new.self c.serve.new.self between served).free
+    (broken-served c.passes_act_in_steps.ensures.acts (LinksTell g.L.Link.seen) c.args.self.now c.take_in.new.self c.serve.new.self between served).free
 
 pub returns-in_err-rest-clause-up : goal.returns-in_err-rest-clause-up
 returns-in_err-rest-clause-up g c =
     let between : IsBetween (LinksTell g.L.Link.seen) c.args.self.now c.take_in.new.self =
-    between-round (LinksTell g.L.Link.seen) c.loop.rest c.pause-pause.result c.args.self.now c.loop.self c.pause-pause.new.self c.take_in.new.self c.loop.invariant.between c.pause-pause.ensures
+    between-round (LinksTell g.L.Link.seen) c.loop.rest c.pause-pause.result c.args.self.now c.loop.self c.pause-pause.new.self c.passes_act_in_steps.ensures.acts c.take_in.new.self c.loop.invariant.between c.pause-pause.ensures
     c.in_ok-take_in.ensures.round c.in_ok-take_in.ensures.moment c.in_ok-take_in.ensures.step c.take_in.ensures.up c.take_in.ensures.follows
     c.take_in.ensures.front c.take_in.ensures.watched c.take_in.ensures.calls in
     let served : HasServed c.take_in.new.self c.serve.new.self =
     record { events = c.serve.ensures.acts.0; acts = c.serve.ensures.acts.1; serves = c.serve.ensures.serves; others = c.serve.ensures.others } in
-    (broken-served (LinksTell g.L.Link.seen) c.args.self.now c.take_in.new.self c.serve.new.self between served).up
+    (broken-served c.passes_act_in_steps.ensures.acts (LinksTell g.L.Link.seen) c.args.self.now c.take_in.new.self c.serve.new.self between served).up
 
 pub returns-in_err-rest-clause-follows : goal.returns-in_err-rest-clause-follows
 returns-in_err-rest-clause-follows g c =
     let between : IsBetween (LinksTell g.L.Link.seen) c.args.self.now c.take_in.new.self =
-    between-round (LinksTell g.L.Link.seen) c.loop.rest c.pause-pause.result c.args.self.now c.loop.self c.pause-pause.new.self c.take_in.new.self c.loop.invariant.between c.pause-pause.ensures
+    between-round (LinksTell g.L.Link.seen) c.loop.rest c.pause-pause.result c.args.self.now c.loop.self c.pause-pause.new.self c.passes_act_in_steps.ensures.acts c.take_in.new.self c.loop.invariant.between c.pause-pause.ensures
     c.in_ok-take_in.ensures.round c.in_ok-take_in.ensures.moment c.in_ok-take_in.ensures.step c.take_in.ensures.up c.take_in.ensures.follows
     c.take_in.ensures.front c.take_in.ensures.watched c.take_in.ensures.calls in
     let served : HasServed c.take_in.new.self c.serve.new.self =
     record { events = c.serve.ensures.acts.0; acts = c.serve.ensures.acts.1; serves = c.serve.ensures.serves; others = c.serve.ensures.others } in
-    (broken-served (LinksTell g.L.Link.seen) c.args.self.now c.take_in.new.self c.serve.new.self between served).follows
+    (broken-served c.passes_act_in_steps.ensures.acts (LinksTell g.L.Link.seen) c.args.self.now c.take_in.new.self c.serve.new.self between served).follows
 
 pub returns-in_err-rest-clause-few : goal.returns-in_err-rest-clause-few
 returns-in_err-rest-clause-few g c =
     let between : IsBetween (LinksTell g.L.Link.seen) c.args.self.now c.take_in.new.self =
-    between-round (LinksTell g.L.Link.seen) c.loop.rest c.pause-pause.result c.args.self.now c.loop.self c.pause-pause.new.self c.take_in.new.self c.loop.invariant.between c.pause-pause.ensures
+    between-round (LinksTell g.L.Link.seen) c.loop.rest c.pause-pause.result c.args.self.now c.loop.self c.pause-pause.new.self c.passes_act_in_steps.ensures.acts c.take_in.new.self c.loop.invariant.between c.pause-pause.ensures
     c.in_ok-take_in.ensures.round c.in_ok-take_in.ensures.moment c.in_ok-take_in.ensures.step c.take_in.ensures.up c.take_in.ensures.follows
     c.take_in.ensures.front c.take_in.ensures.watched c.take_in.ensures.calls in
     let served : HasServed c.take_in.new.self c.serve.new.self =
     record { events = c.serve.ensures.acts.0; acts = c.serve.ensures.acts.1; serves = c.serve.ensures.serves; others = c.serve.ensures.others } in
-    (broken-served (LinksTell g.L.Link.seen) c.args.self.now c.take_in.new.self c.serve.new.self between served).few
+    (broken-served c.passes_act_in_steps.ensures.acts (LinksTell g.L.Link.seen) c.args.self.now c.take_in.new.self c.serve.new.self between served).few
 
 pub returns-in_err-rest-clause-watched : goal.returns-in_err-rest-clause-watched
 returns-in_err-rest-clause-watched g c =
     let between : IsBetween (LinksTell g.L.Link.seen) c.args.self.now c.take_in.new.self =
-    between-round (LinksTell g.L.Link.seen) c.loop.rest c.pause-pause.result c.args.self.now c.loop.self c.pause-pause.new.self c.take_in.new.self c.loop.invariant.between c.pause-pause.ensures
+    between-round (LinksTell g.L.Link.seen) c.loop.rest c.pause-pause.result c.args.self.now c.loop.self c.pause-pause.new.self c.passes_act_in_steps.ensures.acts c.take_in.new.self c.loop.invariant.between c.pause-pause.ensures
     c.in_ok-take_in.ensures.round c.in_ok-take_in.ensures.moment c.in_ok-take_in.ensures.step c.take_in.ensures.up c.take_in.ensures.follows
     c.take_in.ensures.front c.take_in.ensures.watched c.take_in.ensures.calls in
     let served : HasServed c.take_in.new.self c.serve.new.self =
     record { events = c.serve.ensures.acts.0; acts = c.serve.ensures.acts.1; serves = c.serve.ensures.serves; others = c.serve.ensures.others } in
-    (broken-served (LinksTell g.L.Link.seen) c.args.self.now c.take_in.new.self c.serve.new.self between served).watched
+    (broken-served c.passes_act_in_steps.ensures.acts (LinksTell g.L.Link.seen) c.args.self.now c.take_in.new.self c.serve.new.self between served).watched
 
 pub returns-in_err-rest-clause-bound : goal.returns-in_err-rest-clause-bound
 returns-in_err-rest-clause-bound g c =
     let between : IsBetween (LinksTell g.L.Link.seen) c.args.self.now c.take_in.new.self =
-    between-round (LinksTell g.L.Link.seen) c.loop.rest c.pause-pause.result c.args.self.now c.loop.self c.pause-pause.new.self c.take_in.new.self c.loop.invariant.between c.pause-pause.ensures
+    between-round (LinksTell g.L.Link.seen) c.loop.rest c.pause-pause.result c.args.self.now c.loop.self c.pause-pause.new.self c.passes_act_in_steps.ensures.acts c.take_in.new.self c.loop.invariant.between c.pause-pause.ensures
     c.in_ok-take_in.ensures.round c.in_ok-take_in.ensures.moment c.in_ok-take_in.ensures.step c.take_in.ensures.up c.take_in.ensures.follows
     c.take_in.ensures.front c.take_in.ensures.watched c.take_in.ensures.calls in
     let served : HasServed c.take_in.new.self c.serve.new.self =
     record { events = c.serve.ensures.acts.0; acts = c.serve.ensures.acts.1; serves = c.serve.ensures.serves; others = c.serve.ensures.others } in
-    (broken-served (LinksTell g.L.Link.seen) c.args.self.now c.take_in.new.self c.serve.new.self between served).bound
+    (broken-served c.passes_act_in_steps.ensures.acts (LinksTell g.L.Link.seen) c.args.self.now c.take_in.new.self c.serve.new.self between served).bound
 
 pub returns-in_err-rest-clause-time : goal.returns-in_err-rest-clause-time
 returns-in_err-rest-clause-time g c =
     let between : IsBetween (LinksTell g.L.Link.seen) c.args.self.now c.take_in.new.self =
-    between-round (LinksTell g.L.Link.seen) c.loop.rest c.pause-pause.result c.args.self.now c.loop.self c.pause-pause.new.self c.take_in.new.self c.loop.invariant.between c.pause-pause.ensures
+    between-round (LinksTell g.L.Link.seen) c.loop.rest c.pause-pause.result c.args.self.now c.loop.self c.pause-pause.new.self c.passes_act_in_steps.ensures.acts c.take_in.new.self c.loop.invariant.between c.pause-pause.ensures
     c.in_ok-take_in.ensures.round c.in_ok-take_in.ensures.moment c.in_ok-take_in.ensures.step c.take_in.ensures.up c.take_in.ensures.follows
     c.take_in.ensures.front c.take_in.ensures.watched c.take_in.ensures.calls in
     let served : HasServed c.take_in.new.self c.serve.new.self =
     record { events = c.serve.ensures.acts.0; acts = c.serve.ensures.acts.1; serves = c.serve.ensures.serves; others = c.serve.ensures.others } in
-    (broken-served (LinksTell g.L.Link.seen) c.args.self.now c.take_in.new.self c.serve.new.self between served).time
+    (broken-served c.passes_act_in_steps.ensures.acts (LinksTell g.L.Link.seen) c.args.self.now c.take_in.new.self c.serve.new.self between served).time
 
 pub returns-in_err-rest-clause-begun : goal.returns-in_err-rest-clause-begun
 returns-in_err-rest-clause-begun g c =
     let between : IsBetween (LinksTell g.L.Link.seen) c.args.self.now c.take_in.new.self =
-    between-round (LinksTell g.L.Link.seen) c.loop.rest c.pause-pause.result c.args.self.now c.loop.self c.pause-pause.new.self c.take_in.new.self c.loop.invariant.between c.pause-pause.ensures
+    between-round (LinksTell g.L.Link.seen) c.loop.rest c.pause-pause.result c.args.self.now c.loop.self c.pause-pause.new.self c.passes_act_in_steps.ensures.acts c.take_in.new.self c.loop.invariant.between c.pause-pause.ensures
     c.in_ok-take_in.ensures.round c.in_ok-take_in.ensures.moment c.in_ok-take_in.ensures.step c.take_in.ensures.up c.take_in.ensures.follows
     c.take_in.ensures.front c.take_in.ensures.watched c.take_in.ensures.calls in
     let served : HasServed c.take_in.new.self c.serve.new.self =
     record { events = c.serve.ensures.acts.0; acts = c.serve.ensures.acts.1; serves = c.serve.ensures.serves; others = c.serve.ensures.others } in
-    on-err c.from_residual-in_err-rest.result _ (broken-served (LinksTell g.L.Link.seen) c.args.self.now c.take_in.new.self c.serve.new.self between served).so_far
+    on-err c.from_residual-in_err-rest.result _ (broken-served c.passes_act_in_steps.ensures.acts (LinksTell g.L.Link.seen) c.args.self.now c.take_in.new.self c.serve.new.self between served).so_far
 
 pub loop-preserved : goal.loop-preserved
 loop-preserved g c =
     let between : IsBetween (LinksTell g.L.Link.seen) c.args.self.now c.take_in.new.self =
-    between-round (LinksTell g.L.Link.seen) c.loop.rest c.pause-pause.result c.args.self.now c.loop.self c.pause-pause.new.self c.take_in.new.self c.loop.invariant.between c.pause-pause.ensures
+    between-round (LinksTell g.L.Link.seen) c.loop.rest c.pause-pause.result c.args.self.now c.loop.self c.pause-pause.new.self c.passes_act_in_steps.ensures.acts c.take_in.new.self c.loop.invariant.between c.pause-pause.ensures
     c.in_ok-take_in.ensures.round c.in_ok-take_in.ensures.moment c.in_ok-take_in.ensures.step c.take_in.ensures.up c.take_in.ensures.follows
     c.take_in.ensures.front c.take_in.ensures.watched c.take_in.ensures.calls in
     let served : HasServed c.take_in.new.self c.serve.new.self =
     record { events = c.serve.ensures.acts.0; acts = c.serve.ensures.acts.1; serves = c.serve.ensures.serves; others = c.serve.ensures.others } in
     record {
-      between = between-served (LinksTell g.L.Link.seen) c.args.self.now c.take_in.new.self c.serve.new.self between served;
+      between = between-served c.passes_act_in_steps.ensures.acts (LinksTell g.L.Link.seen) c.args.self.now c.take_in.new.self c.serve.new.self between served;
       going = c.in_ok-rest.ensures.going;
       started =
           λ none. begins-more 1 c.serve.ensures.acts.0 None (asked_children c.args.self.now.board.book.base) c.take_in.new.self.board.book c.serve.new.self.board.book
@@ -295,7 +295,7 @@ pub returns-in_err-first-clause-links : goal.returns-in_err-first-clause-links
 returns-in_err-first-clause-links g c =
     on-err c.from_residual.result _
     (hands-step g.L.Link.seen c.start.new.self.front.told c.start.new.self.board.book.state
-    (between-started (LinksTell g.L.Link.seen) c.args.self.now c.start.new.self c.requires.passes c.requires.free c.requires.going c.requires.step c.requires.informed c.start.ensures.others
+    (between-started c.passes_act_in_steps.ensures.acts (LinksTell g.L.Link.seen) c.args.self.now c.start.new.self c.requires.passes c.requires.free c.requires.going c.requires.step c.requires.informed c.start.ensures.others
     c.start.ensures.starts c.start.ensures.going c.start.ensures.rest).step)
 
 pub returns-in_err-take_in-clause-links : goal.returns-in_err-take_in-clause-links
@@ -304,11 +304,11 @@ returns-in_err-take_in-clause-links g c = on-err c.from_residual-in_err-take_in.
 pub returns-in_err-rest-clause-links : goal.returns-in_err-rest-clause-links
 returns-in_err-rest-clause-links g c =
     let between : IsBetween (LinksTell g.L.Link.seen) c.args.self.now c.take_in.new.self =
-    between-round (LinksTell g.L.Link.seen) c.loop.rest c.pause-pause.result c.args.self.now c.loop.self c.pause-pause.new.self c.take_in.new.self c.loop.invariant.between c.pause-pause.ensures
+    between-round (LinksTell g.L.Link.seen) c.loop.rest c.pause-pause.result c.args.self.now c.loop.self c.pause-pause.new.self c.passes_act_in_steps.ensures.acts c.take_in.new.self c.loop.invariant.between c.pause-pause.ensures
     c.in_ok-take_in.ensures.round c.in_ok-take_in.ensures.moment c.in_ok-take_in.ensures.step c.take_in.ensures.up c.take_in.ensures.follows
     c.take_in.ensures.front c.take_in.ensures.watched c.take_in.ensures.calls in
     let served : HasServed c.take_in.new.self c.serve.new.self =
     record { events = c.serve.ensures.acts.0; acts = c.serve.ensures.acts.1; serves = c.serve.ensures.serves; others = c.serve.ensures.others } in
     on-err c.from_residual-in_err-rest.result _
     (hands-step g.L.Link.seen c.serve.new.self.front.told c.serve.new.self.board.book.state
-    (between-served (LinksTell g.L.Link.seen) c.args.self.now c.take_in.new.self c.serve.new.self between served).step)
+    (between-served c.passes_act_in_steps.ensures.acts (LinksTell g.L.Link.seen) c.args.self.now c.take_in.new.self c.serve.new.self between served).step)
