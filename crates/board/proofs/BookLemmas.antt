@@ -1,5 +1,6 @@
 -- A kept history that goes on by one entry.
-use Rattle.std.proofs.Common.{◌≡◌, ◌==◌, ℕ, ◌+◌, ◌*◌, ◌<◌, ◌≤◌, Bool, true, false, cond, if◌then◌else◌, List, [], ◌∷◌, ◌++◌, length, get_or, replicate, nat_le, refl, sym, ap, subst, ◌∙◌, length-append, eqb-true, eq-eqb, arith}
+use Rattle.std.proofs.Common.{◌≡◌, ◌==◌, ℕ, zero, suc, ◌+◌, ◌*◌, ◌<◌, ◌≤◌, Bool, true, false, cond, if◌then◌else◌, List, [], ◌∷◌, ◌++◌, length, get_or, replicate, nat_le, refl, sym, ap, subst, ◌∙◌, length-append, eqb-true, eq-eqb, arith}
+use Rattle.std.specs.Prelude.{slice_index}
 use Rattle.std.proofs.Math.ListN.{set, length-set}
 use Rattle.std.proofs.Common.{get_or-set_same, get_or-set_other}
 use Rattle.std.proofs.lemmas.Bool.{leb-false}
@@ -12,7 +13,8 @@ use Rattle.conn_machine.specs.declared.event.Event.TheVariants as event
 use Rattle.conn_machine.specs.declared.event.Entry.{Entry}
 use Rattle.conn_machine.specs.declared.state.State.{State}
 use Rattle.conn_machine.specs.Table.{is_allowed, next, reply}
-use Rattle.conn_machine.specs.Runs.{after, entries_of, is_of_pass, asks_page, load, full_load, may_make, row_of, IsHistory, IsNextOf}
+use Rattle.conn_machine.specs.Runs.{after, entries_of, is_of_pass, asks_page, load, full_load, may_make, row_of, IsHistory, IsInPassOrder, IsNextOf}
+use Rattle.conn_machine.specs.Folds.{IsInPassOrderFrom, IsNumberedFrom, opening_record}
 use Rattle.conn_machine.specs.Made.{AreMade}
 use Rattle.conn_machine.specs.Sizes.{HasSizesOf, IsSized}
 use Rattle.conn_machine.specs.Sound.{IsSound}
@@ -169,13 +171,17 @@ kept_first slots children passes room shape few_slots few_children sound space =
       full = tells_first;
     }
 
--- what a book shows once the entry was put at its end
+-- what is seen of a book that has folded nothing, for so many passes
+abbrev pub shown_book : State → List Entry → State → ℕ → SeenBook
+shown_book base history s n = record { base = base; folded = opening_record n; history = history; state = s; passes = n }
+
+-- the book once the entry was put at its end
 pub recorded_is : (b : SeenBook) (base : State) (history history' : List Entry) (s s' : State) (n n' who : ℕ) (event : Event) (answer : Reply)
-    → (let seen : SeenBook = record { base = base; history = history; state = s; passes = n } in seen ≡ b)
+    → shown_book base history s n ≡ b
     → history' ≡ history ++ numbered_entry who event answer history ∷ [] → s' ≡ next s event → answer ≡ reply s event → n' ≡ n
-    → (let seen : SeenBook = record { base = base; history = history'; state = s'; passes = n' } in seen ≡ book_with_entry who event b)
+    → shown_book base history' s' n' ≡ book_with_entry who event b
 recorded_is b base history history' s s' n n' who event answer seen history_is state_is replied passes =
-    subst (λ (v : SeenBook). (let shown : SeenBook = record { base = base; history = history'; state = s'; passes = n' } in shown ≡ book_with_entry who event v))
+    subst (λ (v : SeenBook). shown_book base history' s' n' ≡ book_with_entry who event v)
     seen (rw (history_is, state_is, replied, passes) refl)
 
 -- a book that is neither halted nor full can be recorded in
@@ -185,3 +191,13 @@ open_if b s halted full state_is halts fills goes has_room = record {
   going = ap (λ (t : State). is_halted t.going) (sym state_is) ∙ sym halts ∙ goes;
   light = leb-false full_load (load b.history) (sym fills ∙ has_room);
 }
+
+-- in the record of a value that never folded the next number of each pass is 0
+no-ordinals : (passes p : ℕ) → slice_index (replicate passes 0) p ≡ 0
+no-ordinals zero p = refl
+no-ordinals (suc passes) zero = refl
+no-ordinals (suc passes) (suc p) = no-ordinals passes p
+
+-- in the order of its passes, a history is so behind that record
+pub order-opening : (passes : ℕ) (history : List Entry) → IsInPassOrder history → IsInPassOrderFrom (opening_record passes) history
+order-opening passes history order = λ p. subst (λ (first : ℕ). IsNumberedFrom first p history) (sym (no-ordinals passes p)) (order p)

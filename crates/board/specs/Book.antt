@@ -6,15 +6,18 @@ use Rattle.conn_machine.specs.declared.event.Event.{Event}
 use Rattle.conn_machine.specs.declared.event.Event.TheVariants as event
 use Rattle.conn_machine.specs.declared.event.Reply.{Reply}
 use Rattle.conn_machine.specs.declared.event.Entry.{Entry}
+use Rattle.conn_machine.specs.declared.folded.Folded.{Folded}
 use Rattle.conn_machine.specs.declared.state.Going.{Going}
 use Rattle.conn_machine.specs.declared.state.Going.TheVariants.{Halted}
 use Rattle.conn_machine.specs.declared.state.State.{State}
 use Rattle.conn_machine.specs.Table.{next, reply}
 use Rattle.conn_machine.specs.Runs.{entries_of, load, full_load}
 
--- a history, the state before it and the state after it, and how many passes may add to it
+-- a history, the state before it, what is known of the entries before that state, the state after it, and how many passes may add to
+-- it
 pub record SeenBook : Type 0 where
   pub base : State
+  pub folded : Folded
   pub history : List Entry
   pub state : State
   pub passes : ℕ
@@ -41,12 +44,12 @@ abbrev pub memory_stop : Event
 memory_stop = event.Command (Stop why.NoMemory)
 
 -- the history has an entry of the event: the entries before it, the entry, and those behind it
-pub record HasEntryOf (event : Event) (history : List Entry) : Type 0 where
+pub record HasEntryOf (e : Event) (history : List Entry) : Type 0 where
   pub before : List Entry
   pub entry : Entry
   pub behind : List Entry
   pub history_is : history ≡ before ++ entry ∷ behind
-  pub event_is : entry.event ≡ event
+  pub event_is : entry.event ≡ e
 
 -- wherever the history has a stop because it is full, the load of the entries before is at its limit, and wherever it has one for
 -- want of memory, below its limit

@@ -3,7 +3,8 @@ ghost use Rattle.std.specs.Prelude.{◌≡◌, ◌<◌, ◌≤◌, true, false, 
 ghost use Rattle.conn_machine.specs.Children.{is_in_bounds};
 ghost use Rattle.conn_machine.specs.States.{is_halted, opening_state};
 ghost use Rattle.conn_machine.specs.Table.{is_allowed, cell_at, reply, taken_reply};
-ghost use Rattle.conn_machine.specs.Runs.{Adds, IsHistory, after, full_load, load, may_order, row_of};
+ghost use Rattle.conn_machine.specs.Runs.{Adds, Run, after, full_load, load, may_order, row_of};
+ghost use Rattle.conn_machine.specs.Folds.{IsInPassOrderFrom, opening_record};
 ghost use Rattle.conn_machine.specs.Made.{AreMade};
 ghost use Rattle.conn_machine.specs.Sizes.{IsSized};
 ghost use Rattle.conn_machine.specs.Sound.{IsSound};
@@ -77,6 +78,7 @@ impl<L: Link, N: Known> Kept for Board<L, N> {
     ghost ledger = { ledger_of };
 
     fn length(&self) -> u64 {
+        self.book.show();
         self.book.history().len() as u64
     }
 }
@@ -96,6 +98,7 @@ impl<L: Link, N: Known> Board<L, N> {
         requires passes { (1 ≤ passes) × (passes ≤ 4099) }
         requires shape { is_in_bounds shape ≡ true }
         ensures base { IfOk result (λ board. board.book.base ≡ opening_state slots children shape) }
+        ensures folded { IfOk result (λ board. board.book.folded ≡ opening_record passes) }
         ensures history { IfOk result (λ board. board.book.history ≡ []) }
         ensures state { IfOk result (λ board. board.book.state ≡ opening_state slots children shape) }
         ensures passes { IfOk result (λ board. board.book.passes ≡ passes) }
@@ -160,12 +163,14 @@ impl<L: Link, N: Known> Board<L, N> {
         self.ended.as_slice()
     }
 
-    /// What holds of every board: its history is one of the machine, from its base to its state, which are sound; each entry
-    /// is one that its pass may make where it stands; a stop because the history is full stands only where it is, and one for want
-    /// of memory only where it isn't; and the connections agree with the history. Where `N` knows what the clients send, each link
-    /// is that of one of them.
+    /// What holds of every board: its history is one of the machine, from its base to its state, which are sound, in the order of
+    /// its passes behind what was folded; each entry is one that its pass may make where it stands; a stop because the history is
+    /// full stands only where it is, and one for want of memory only where it isn't; and the connections agree with the history.
+    /// Where `N` knows what the clients send, each link is that of one of them. Nothing is folded yet.
     pub fn show(&self)
-        ensures history { IsHistory self.now.book.base self.now.book.history }
+        ensures unfolded { self.now.book.folded ≡ opening_record self.now.book.passes }
+        ensures run { Run self.now.book.base self.now.book.history }
+        ensures order { IsInPassOrderFrom self.now.book.folded self.now.book.history }
         ensures made { AreMade self.now.book.base self.now.book.history }
         ensures state { after self.now.book.base self.now.book.history ≡ self.now.book.state }
         ensures opened { IsSound self.now.book.base }

@@ -3,7 +3,8 @@ ghost use Rattle.std.specs.Prelude.{◌≡◌, ◌<◌, ◌≤◌, ◌^◌, true
 ghost use Rattle.conn_machine.specs.Children.{is_in_bounds};
 ghost use Rattle.conn_machine.specs.States.{is_halted, opening_state};
 ghost use Rattle.conn_machine.specs.Table.{is_allowed, reply};
-ghost use Rattle.conn_machine.specs.Runs.{Adds, IsHistory, after, asks_page, full_load, has_after, load, may_make, row_of};
+ghost use Rattle.conn_machine.specs.Runs.{Adds, Run, after, asks_page, full_load, has_after, load, may_make, row_of};
+ghost use Rattle.conn_machine.specs.Folds.{IsInPassOrderFrom, opening_record};
 ghost use Rattle.conn_machine.specs.Made.{AreMade};
 ghost use Rattle.conn_machine.specs.Sizes.{IsSized};
 ghost use Rattle.conn_machine.specs.Sound.{IsSound};
@@ -38,12 +39,14 @@ pub struct Book {
 
 impl Model for Book {
     ghost use Rattle.std.specs.Prelude.{length, vec_capacity};
+    ghost use Rattle.conn_machine.specs.Folds.{opening_record};
     ghost use Rattle.board.specs.Book.{SeenBook};
     ghost use Rattle.board.specs.BookInside.{IsKept};
 
     ghost Value = { SeenBook };
 
-    ghost view = { λ b. record { base = b.base.value; history = b.history.items; state = b.state; passes = length b.ordinals.items } };
+    // Nothing is folded yet.
+    ghost view = { λ b. record { base = b.base.value; folded = opening_record (length b.ordinals.items); history = b.history.items; state = b.state; passes = length b.ordinals.items } };
 
     ghost invariant = { λ b. IsKept b.base.value b.history.items b.state b.ordinals.items b.pages (vec_capacity b.history) };
 }
@@ -61,6 +64,7 @@ impl Book {
         requires children { children ≤ 32 }
         requires shape { is_in_bounds shape ≡ true }
         ensures base { IfOk result (λ book. book.base ≡ opening_state slots children shape) }
+        ensures folded { IfOk result (λ book. book.folded ≡ opening_record passes) }
         ensures history { IfOk result (λ book. book.history ≡ []) }
         ensures state { IfOk result (λ book. book.state ≡ opening_state slots children shape) }
         ensures passes { IfOk result (λ book. book.passes ≡ passes) }
@@ -97,10 +101,13 @@ impl Book {
         self.history.as_slice()
     }
 
-    /// The history is one of the machine, from its base to its state; each entry is one that its pass may make; a stop
-    /// because it is full stands only where it is, and one for want of memory only where it isn't.
+    /// The history is one of the machine, from its base to its state, in the order of its passes behind what was folded, which is
+    /// nothing yet; each entry is one that its pass may make; a stop because it is full stands only where it is, and one for want of
+    /// memory only where it isn't.
     pub fn show(&self)
-        ensures history { IsHistory self.now.base self.now.history }
+        ensures unfolded { self.now.folded ≡ opening_record self.now.passes }
+        ensures run { Run self.now.base self.now.history }
+        ensures order { IsInPassOrderFrom self.now.folded self.now.history }
         ensures made { AreMade self.now.base self.now.history }
         ensures state { after self.now.base self.now.history ≡ self.now.state }
         ensures opened { IsSound self.now.base }

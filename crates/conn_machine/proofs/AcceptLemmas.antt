@@ -14,7 +14,7 @@ use Rattle.conn_machine.specs.Children.{child_at, is_empty, is_running, is_in_bo
 use Rattle.mpm_base.specs.Moment.{greatest_moment}
 use Rattle.conn_machine.specs.Table.{picked_child, taken_row}
 use Rattle.conn_machine.specs.Sound.{IsSound}
-use Rattle.conn_machine.specs.Laws.{idle_in, IsChosen}
+use Rattle.conn_machine.specs.Laws.{admits_in, idle_in}
 use Rattle.conn_machine.proofs.FairLemmas.{IsFair}
 use Rattle.conn_machine.proofs.RowLemmas.{never}
 
@@ -55,13 +55,13 @@ some_response shape bounds =
     leb-true 1 shape.most (and_parts (nat_le 1 shape.most) (nat_le shape.most 65535) most).0
 
 -- a row that is taken is fair
-pub fair-accept : (s : State) (r : Row) → IsSound s → IsChosen s (picked_child s) → r.deadline ≤ greatest_moment
+pub fair-accept : (s : State) (r : Row) → IsSound s → admits_in s (picked_child s) ≡ true → r.deadline ≤ greatest_moment
     → IsFair s r (taken_row s r)
-fair-accept s r sound chosen within =
+fair-accept s r sound admits within =
     let k = picked_child s in
     let child = child_at s.children k in
     let parts = and_parts (is_running child.phase && child.generation == s.newest)
-    (nat_lt (100 * open_count s.rows k) (100 * child.shape.threads + child.shape.factor * idle_in s k)) chosen.admits in
+    (nat_lt (100 * open_count s.rows k) (100 * child.shape.threads + child.shape.factor * idle_in s k)) admits in
     let runs = (and_parts (is_running child.phase) (child.generation == s.newest) parts.0).0 in
     let there = running_there child.phase runs in
     let room = admits_one (open_count s.rows k) child.shape.threads child.shape.factor (carried_count s.rows k)

@@ -20,7 +20,7 @@ use Rattle.conn_machine.specs.States.{is_serving, pick_child}
 use Rattle.conn_machine.specs.Table.{is_allowed, next, reply, is_vacant_at, life_at, picked_child, taken_row, taken_reply, child_passes, may_accept, may_retire, next_command}
 use Rattle.conn_machine.specs.Runs.{after, Run}
 use Rattle.conn_machine.specs.Laws.{idle_in, IsChosen, IsTakenFor}
-use Rattle.conn_machine.proofs.PickLemmas.{pick_is_chosen}
+use Rattle.conn_machine.proofs.PickLemmas.{PicksOne, pick_is_chosen}
 use Rattle.conn_machine.proofs.RunLemmas.{after-append}
 use Rattle.conn_machine.proofs.UpdateLemmas.{get_changed}
 
@@ -77,11 +77,11 @@ taken-named : (s : State) (slot : ℕ) (r : Row) → slice_get s.rows slot ≡ S
 taken-named s slot r at = rw at (eq-eqb r.life r.life refl)
 
 -- where there is a child that takes connections, the connection is taken for it
-taken_by : (s : State) (slot : ℕ) (r : Row) (choice : Option ℕ) → slice_get s.rows slot ≡ Some r → pick_child s ≡ choice
+taken_by : PicksOne → (s : State) (slot : ℕ) (r : Row) (choice : Option ℕ) → slice_get s.rows slot ≡ Some r → pick_child s ≡ choice
     → is_some choice ≡ true → IsTakenFor s slot (taken_reply s slot)
-taken_by s slot r None at is some = absurd (cc)
-taken_by s slot r (Some k) at is some =
-    let chosen = pick_is_chosen s k is in
+taken_by law s slot r None at is some = absurd (cc)
+taken_by law s slot r (Some k) at is some =
+    let chosen = pick_is_chosen law s k is in
     let name : ConnName = record { slot = slot; life = life_at s.rows slot } in
     let child : picked_child s ≡ k = ap (λ (choice : Option ℕ). unwrap_or choice 0) is in
     let newest : (child_at s.children (picked_child s)).generation ≡ s.newest =
@@ -101,15 +101,15 @@ taken_by s slot r (Some k) at is some =
     }
 
 -- a connection is taken for the chosen child
-pub taken-chosen : (s : State) (before rest : List Entry) (e : Entry) (slot : ℕ) → Run s (before ++ e ∷ rest)
+pub taken-chosen : PicksOne → (s : State) (before rest : List Entry) (e : Entry) (slot : ℕ) → Run s (before ++ e ∷ rest)
     → e.event ≡ event.Accept slot → IsTakenFor (after s before) slot e.reply
-taken-chosen s before rest e slot run is =
+taken-chosen law s before rest e slot run is =
     let st = after s before in
     let may : may_accept st slot ≡ true = run-allowed s before rest e (event.Accept slot) run is in
     let parts = and_parts (is_serving st.going && is_vacant_at st slot) (is_some (pick_child st)) may in
     let vacant = (and_parts (is_serving st.going) (is_vacant_at st slot) parts.0).1 in
     let there = row_there (λ r. is_vacant r.place) (slice_get st.rows slot) vacant in
-    rw (run-replied s before rest e (event.Accept slot) run is) (taken_by st slot there.0 (pick_child st) there.1 refl parts.1)
+    rw (run-replied s before rest e (event.Accept slot) run is) (taken_by law st slot there.0 (pick_child st) there.1 refl parts.1)
 
 -- ---- the newest generation
 
@@ -142,21 +142,21 @@ newest-after s [] = omega arith
 newest-after s (e ∷ history) = le_trans (newest-next s e.event) (newest-after (next s e.event) history)
 
 -- a connection that is taken is of the newest generation
-taken-newest : (s : State) (before rest : List Entry) (e : Entry) (slot : ℕ) (name : ConnName) (child generation : ℕ)
+taken-newest : PicksOne → (s : State) (before rest : List Entry) (e : Entry) (slot : ℕ) (name : ConnName) (child generation : ℕ)
     → Run s (before ++ e ∷ rest) → e.event ≡ event.Accept slot → e.reply ≡ Took name child generation
     → generation ≡ (after s before).newest
-taken-newest s before rest e slot name child generation run is replied =
-    let taken = taken-chosen s before rest e slot run is in
+taken-newest law s before rest e slot name child generation run is replied =
+    let taken = taken-chosen law s before rest e slot run is in
     let same = taken.replied in
     cc
 
 -- after a graceful restart it is of a newer one than was the newest before
-pub taken-newer : (s : State) (before between rest : List Entry) (restart taking : Entry) (shape : Shape) (slot : ℕ) (name : ConnName)
+pub taken-newer : PicksOne → (s : State) (before between rest : List Entry) (restart taking : Entry) (shape : Shape) (slot : ℕ) (name : ConnName)
     (child generation : ℕ) → Run s (before ++ restart ∷ between ++ taking ∷ rest) → restart.event ≡ event.Command (Graceful shape)
     → taking.event ≡ event.Accept slot → taking.reply ≡ Took name child generation → (after s before).newest < generation
-taken-newer s before between rest restart taking shape slot name child generation run restarts takes replied =
+taken-newer law s before between rest restart taking shape slot name child generation run restarts takes replied =
     let st = after s before in
-    let own = taken-newest s (before ++ restart ∷ between) rest taking slot name child generation run takes replied in
+    let own = taken-newest law s (before ++ restart ∷ between) rest taking slot name child generation run takes replied in
     let there = ap (λ (t : State). t.newest) (after-append s before (restart ∷ between)) in
     let grown = newest-after (next st restart.event) between in
     let more : (next st restart.event).newest ≡ st.newest + 1 = ap (λ (e : Event). (next st e).newest) restarts in

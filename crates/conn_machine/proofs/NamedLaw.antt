@@ -23,6 +23,7 @@ use Rattle.conn_machine.specs.Laws.{IsTakenFor, is_alive, closes_name, is_alive_
 use Rattle.conn_machine.proofs.AllowedLemmas.{accept-row}
 use Rattle.conn_machine.proofs.ChangeLaw.{is_met, unused-in_phase}
 use Rattle.conn_machine.proofs.LawLemmas.{run_after, taken-chosen}
+use Rattle.conn_machine.proofs.PickLemmas.{PicksOne}
 use Rattle.conn_machine.proofs.RunLemmas.{after-append}
 use Rattle.conn_machine.proofs.NameLaw.{vacant_live}
 
@@ -159,12 +160,12 @@ taken_there : (name : ConnName) (rows : List Row) (r : Row) → row_where (is_li
 taken_there name rows r found = rw found refl
 
 -- each connection that was accepted is live or was closed since
-pub accepted_named : (s : State) (before rest : List Entry) (e : Entry) (slot : ℕ) (name : ConnName) (child generation : ℕ)
+pub accepted_named : PicksOne → (s : State) (before rest : List Entry) (e : Entry) (slot : ℕ) (name : ConnName) (child generation : ℕ)
     → Run s (before ++ e ∷ rest) → e.event ≡ event.Accept slot → e.reply ≡ Took name child generation
     → is_alive_or_closed (after s (before ++ e ∷ rest)) rest name ≡ true
-accepted_named s before rest e slot name child generation run is replied =
+accepted_named law s before rest e slot name child generation run is replied =
     let st = after s before in
-    let taken : IsTakenFor st slot e.reply = taken-chosen s before rest e slot run is in
+    let taken : IsTakenFor st slot e.reply = taken-chosen law s before rest e slot run is in
     let same : taken.name ≡ name = cc (taken.replied, replied) in
     let found = subst (λ (n : ConnName). row_where (is_live_as n) (slice_get (next st (event.Accept slot)).rows n.slot) ≡ Some taken.row) same taken.found in
     let alive : is_alive (next st (event.Accept slot)) name ≡ true = taken_there name (next st (event.Accept slot)).rows taken.row found in

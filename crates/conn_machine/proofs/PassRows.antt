@@ -175,7 +175,7 @@ moved_stays rows rows' has p now owned (inr t) q name ne is = t.others name.slot
 -- ## What an event does
 
 -- each other item stays
-pub get_else : (change : Row → Row) (rows : List Row) (i j : ℕ) → j ≢ i → slice_get (update rows i change) j ≡ slice_get rows j
+pub get_else : {X : Type 0} (change : X → X) (rows : List X) (i j : ℕ) → j ≢ i → slice_get (update rows i change) j ≡ slice_get rows j
 get_else change [] i j ne = refl
 get_else change (x ∷ rows) zero zero ne = absurd (ne refl)
 get_else change (x ∷ rows) zero (suc j) ne = refl

@@ -1,13 +1,14 @@
 -- The child that admission names.
-use Rattle.std.proofs.Common.{◌≡◌, ◌<◌, ◌≤◌, ◌==◌, ℕ, ◌+◌, ◌*◌, true, ◌&&◌, nat_lt, length, get_or, Some, All, inl, inr, sym, ap, ◌∙◌, subst, arith}
+use Rattle.std.proofs.Common.{◌≡◌, ◌<◌, ◌≤◌, ◌==◌, ℕ, ◌+◌, ◌*◌, Bool, true, ◌&&◌, nat_lt, List, [], ◌∷◌, length, map, filter, min, get_or, Some, All, inl, inr, refl, sym, ap, ◌∙◌, subst, arith}
 use Rattle.std.specs.List.{enumerate_from}
+use Rattle.std.specs.Option.{option_map_or}
 use Rattle.std.proofs.lemmas.Bool.{cases_lt, and_parts, and_from}
 use Rattle.std.proofs.lemmas.List.{length-map, get_or-map, get_or_past}
+use Rattle.std.proofs.lemmas.List.Elements.{All-filter, All-head, All-map, All-tail, filter_passes}
 use Rattle.std.proofs.lemmas.List.FromFn.{length-enumerate_from, get_or-enumerate_from}
 use Rattle.admission.specs.declared.ChildCount.{ChildCount}
-use Rattle.admission.specs.Admission.{has_room, is_candidate}
+use Rattle.admission.specs.Admission.{candidates, has_room, is_candidate, least, most_idle, pick_of}
 use Rattle.admission.specs.Picked.{IsPicked}
-use Rattle.admission.proofs.PickLemmas.{picked_if_some}
 use Rattle.conn_machine.specs.declared.child.Child.{Child}
 use Rattle.conn_machine.specs.declared.state.State.{State}
 use Rattle.conn_machine.specs.Rows.{open_count}
@@ -78,6 +79,47 @@ chosen_if_picked s k found =
           at_admitting s (λ c. c.idle ≡ found.child.idle → k ≤ c.child) found.none_lower other admits (as_many ∙ sym idle);
     }
 
--- the child that admission names is the chosen one
-pub pick_is_chosen : (s : State) (k : ℕ) → pick_child s ≡ Some k → IsChosen s k
-pick_is_chosen s k picked = chosen_if_picked s k (picked_if_some (child_counts s) k picked)
+-- the law of admission: the number that it gives is picked
+abbrev pub PicksOne : Type 0
+PicksOne = (cs : List ChildCount) (k : ℕ) → pick_of cs ≡ Some k → IsPicked cs k
+
+-- so the child that admission names is the chosen one
+pub pick_is_chosen : PicksOne → (s : State) (k : ℕ) → pick_child s ≡ Some k → IsChosen s k
+pick_is_chosen law s k picked = chosen_if_picked s k (law (child_counts s) k picked)
+
+-- ## It admits
+
+-- what holds of each of some numbers holds of the least of them
+least_is : (P : ℕ → Type 0) (ns : List ℕ) (k : ℕ) → All P ns → least ns ≡ Some k → P k
+least_is P [] k each is = absurd (cc)
+least_is P (n ∷ []) k each is =
+    let same : n ≡ k = cc in
+    subst P same (All-head P n [] each)
+least_is P (n ∷ m ∷ ns) k each is =
+    let j : ℕ = option_map_or (min m) (least ns) m in
+    let is_min : min n j ≡ k = cc in
+    elim (cases_lt n j) [
+      | inl below ↦
+          let same : n ≡ k = omega (arith, below, is_min) in
+          subst P same (All-head P n (m ∷ ns) each)
+      | inr above ↦
+          let same : j ≡ k = omega (arith, above, is_min) in
+          subst P same (least_is P (m ∷ ns) j (All-tail P n (m ∷ ns) each) refl)
+    ]
+
+-- a child that runs and has room admits
+counts_admit : (s : State) → All (λ c. is_candidate c ≡ true → admits_in s c.child ≡ true) (child_counts s)
+counts_admit s = λ i d below.
+    let within : i < length s.children = omega (arith, below, length-counts s) in
+    subst (λ (c : ChildCount). is_candidate c ≡ true → admits_in s c.child ≡ true) (sym (get_or-counts s i d within)) (λ passes. passes)
+
+-- the child that admission names does
+pub pick_admits : (s : State) (k : ℕ) → pick_child s ≡ Some k → admits_in s k ≡ true
+pick_admits s k picked =
+    let cs = child_counts s in
+    let p : ChildCount → Bool = λ c. c.idle == most_idle cs in
+    let Admits : ChildCount → Type 0 = λ c. admits_in s c.child ≡ true in
+    let each : All Admits (candidates cs) =
+    λ i d below. All-filter is_candidate (λ c. is_candidate c ≡ true → Admits c) cs (counts_admit s) i d below (filter_passes is_candidate cs i d below) in
+    least_is (λ n. admits_in s n ≡ true) (map (λ (c : ChildCount). c.child) (filter p (candidates cs))) k
+    (All-map (λ n. admits_in s n ≡ true) (λ (c : ChildCount). c.child) (filter p (candidates cs)) (All-filter p Admits (candidates cs) each)) picked

@@ -13,7 +13,7 @@ use Rattle.conn_machine.specs.States.{pick_child, is_signalled, is_serving, is_h
 use Rattle.conn_machine.specs.Table.{is_vacant_at, may_accept, picked_child, taken_row, next_accept, may_wait, may_park, parked_row, next_park, may_hold, may_be_held, held_row, signal_after_hold, next_hold, may_queue, may_be_queued, queued_row, next_queue, may_start, served_row, next_start, may_answer, answered_row, next_answer, may_linger, linger_cause_fits, lingering_row, next_linger, may_close, end_fits, greatest_life, closed_row, next_close}
 use Rattle.conn_machine.specs.Sound.{IsSound}
 use Rattle.conn_machine.proofs.FairLemmas.{fair_update}
-use Rattle.conn_machine.proofs.PickLemmas.{pick_is_chosen}
+use Rattle.conn_machine.proofs.PickLemmas.{pick_admits}
 use Rattle.conn_machine.proofs.RowLemmas.{row_of_slot, row_of_name, sound_row}
 use Rattle.conn_machine.proofs.WaitLemmas.{fair-queue, fair-hold, fair-park, fair-linger}
 use Rattle.conn_machine.proofs.ServeLemmas.{fair-start, fair-answer, fair_left, left_arrival}
@@ -25,7 +25,7 @@ sound-accept s slot sound may =
     let parts = and_parts (is_serving s.going && is_vacant_at s slot) (is_some (pick_child s)) may in
     let has = row_of_slot (λ r. is_vacant r.place) s.rows slot (and_parts (is_serving s.going) (is_vacant_at s slot) parts.0).1 in
     fair_update s slot has.row (taken_row s) (slice_set s.signals slot false) (next_count s.accepted) sound has.found
-    (fair-accept s has.row sound (pick_is_chosen s (picked_child s) (picked (pick_child s) parts.1))
+    (fair-accept s has.row sound (pick_admits s (picked_child s) (picked (pick_child s) parts.1))
     (sound.numbers.deadlines slot has.row has.found))
     (inr (record { count = refl; arrival = refl }))
 

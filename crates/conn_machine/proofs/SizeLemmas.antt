@@ -6,6 +6,7 @@ use Rattle.conn_machine.specs.declared.event.Event.{Event}
 use Rattle.conn_machine.specs.declared.event.Event.TheVariants as event
 use Rattle.conn_machine.specs.declared.event.Commanded.{Commanded}
 use Rattle.conn_machine.specs.declared.event.Commanded.TheVariants.{Graceful, Refused, GracefulStop, Stop}
+use Rattle.conn_machine.specs.declared.event.Entry.{Entry}
 use Rattle.conn_machine.specs.declared.state.State.{State}
 use Rattle.conn_machine.specs.Lists.{update}
 use Rattle.conn_machine.specs.Children.{stopped_child}
@@ -13,6 +14,7 @@ use Rattle.std.proofs.lemmas.Bool.{leb-true}
 use Rattle.std.specs.List.{list_any}
 use Rattle.conn_machine.specs.States.{is_halted, is_overdue}
 use Rattle.mpm_base.specs.Moment.{greatest_moment}
+use Rattle.conn_machine.specs.Runs.{after}
 use Rattle.conn_machine.specs.Sizes.{HasSizesOf, IsSized}
 use Rattle.conn_machine.specs.Table.{is_allowed, next, next_command}
 
@@ -121,6 +123,17 @@ sizes_step s s' e made = subst (HasSizesOf s) (sym made) record {
   children = length-children s e;
   signals = length-signals s e;
 }
+
+-- so does a history
+pub sizes-after : (s : State) (history : List Entry) → HasSizesOf s (after s history)
+sizes-after s [] = record { rows = refl; children = refl; signals = refl }
+sizes-after s (e ∷ history) =
+    let later = sizes-after (next s e.event) history in
+    record {
+      rows = later.rows ∙ length-rows s e.event;
+      children = later.children ∙ length-children s e.event;
+      signals = later.signals ∙ length-signals s e.event;
+    }
 
 -- and a size that the machine takes, where the event is allowed
 pub sized_step : (s s' : State) (e : Event) → is_allowed s e ≡ true → s' ≡ next s e → IsSized s → IsSized s'

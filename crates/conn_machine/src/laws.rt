@@ -29,6 +29,8 @@ ghost use Rattle.conn_machine.specs.Events.{count_events, is_accept, is_close};
 ghost use Rattle.conn_machine.specs.Sound.{IsSound};
 ghost use Rattle.conn_machine.specs.Laws.{IsChosen, IsEarned, IsTakenFor, LingersOn, OnlyGrows, StartsFresh, StaysSound, is_alive, is_alive_or_closed};
 
+use admission::pick_is_a_candidate;
+
 /// The opening state is sound, every event that the table allows keeps a sound state sound, and so does every run.
 pub fn events_keep_states_sound()
     ensures opening { (slots children : ℕ) (shape : Shape) → is_in_bounds shape ≡ true → IsSound (opening_state slots children shape) }
@@ -49,7 +51,9 @@ pub fn accepted_connections_are_closed_or_live()
     ensures closed_or_live { (slots children : ℕ) (shape : Shape) (history : List Entry) → Run (opening_state slots children shape) history → count_events is_accept history ≡ count_events is_close history + count_by is_live (after (opening_state slots children shape) history).rows }
     ensures named { (s : State) (before rest : List Entry) (e : Entry) (slot : ℕ) (name : ConnName) (child generation : ℕ) → Run s (before ++ e ∷ rest) → e.event ≡ event.Accept slot → e.reply ≡ Took name child generation → is_alive_or_closed (after s (before ++ e ∷ rest)) rest name ≡ true }
     ensures accepted { (slots children : ℕ) (shape : Shape) (history : List Entry) → (after (opening_state slots children shape) history).accepted ≡ min (count_events is_accept history) greatest_count }
-{}
+{
+    pick_is_a_candidate();
+}
 
 /// Each connection that was taken has a number of its own, by the order in which they were taken, and either it is live or one
 /// entry closed it; no other connection was closed or is live. So it is while fewer were taken than the greatest count.
@@ -80,7 +84,9 @@ pub fn live_connections_have_one_owner()
 /// A connection that is taken after a graceful restart is of the generation that it made, or of a newer one.
 pub fn replaced_generations_take_nothing()
     ensures { (s : State) (before between rest : List Entry) (restart taking : Entry) (shape : Shape) (slot : ℕ) (name : ConnName) (child generation : ℕ) → Run s (before ++ restart ∷ between ++ taking ∷ rest) → restart.event ≡ event.Command (Graceful shape) → taking.event ≡ event.Accept slot → taking.reply ≡ Took name child generation → (after s before).newest < generation }
-{}
+{
+    pick_is_a_candidate();
+}
 
 /// No connection of a child that is let go of is live.
 pub fn retired_children_are_drained()
@@ -92,7 +98,9 @@ pub fn retired_children_are_drained()
 pub fn connections_go_to_the_chosen_child()
     ensures picked { (s : State) (k : ℕ) → pick_child s ≡ Some k → IsChosen s k }
     ensures taken { (s : State) (before rest : List Entry) (e : Entry) (slot : ℕ) → Run s (before ++ e ∷ rest) → e.event ≡ event.Accept slot → IsTakenFor (after s before) slot e.reply }
-{}
+{
+    pick_is_a_candidate();
+}
 
 /// A connection that is taken starts afresh: its row has no flag, no response and no cause, and its slot no signal, of the
 /// one that was there before.

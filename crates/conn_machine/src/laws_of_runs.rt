@@ -1,11 +1,14 @@
 //! Laws of histories that go on: what comes and what stays where one entry is added, or the entries of a pass, and where one
-//! row changes. Each is the contract of a function that does nothing. Who reads what the table is worth begins with `laws`;
+//! row or child changes. Each is the contract of a function that does nothing. Who reads what the table is worth begins with `laws`;
 //! these are for the crates that keep a history.
 ghost use Rattle.std.specs.Prelude.{◌≡◌, ◌≢◌, ◌<◌, ◌≤◌, ◌+◌, ◌*◌, ℕ, Bool, true, false, List, [], ◌∷◌, ◌++◌, count_by, length, None, Some, slice_get, if◌then◌else◌};
+ghost use Rattle.std.specs.List.{list_any};
+ghost use Rattle.conn_machine.specs.declared.child.Child.{Child};
 ghost use Rattle.conn_machine.specs.declared.event.Entry.{Entry};
 ghost use Rattle.conn_machine.specs.declared.row.Row.{Row};
 ghost use Rattle.conn_machine.specs.declared.state.State.{State};
 ghost use Rattle.conn_machine.specs.Lists.{update};
+ghost use Rattle.conn_machine.specs.Sizes.{HasSizesOf};
 ghost use Rattle.conn_machine.specs.Table.{is_allowed, next, reply};
 ghost use Rattle.conn_machine.specs.Runs.{Adds, IsHistory, IsNextOf, Run, after, asks_page, entries_of, has_after, is_of_pass, load, row_of};
 ghost use Rattle.conn_machine.specs.Made.{AreMade, AreOfPasses, HasSeen};
@@ -48,12 +51,25 @@ pub fn made_histories_are_runs()
     ensures none { (p : ℕ) (history : List Entry) → entries_of p history ≡ [] → row_of p history ≡ None }
 {}
 
+/// A history keeps how many rows, children and signals there are.
+pub fn histories_keep_sizes()
+    ensures { (base : State) (history : List Entry) → HasSizesOf base (after base history) }
+{}
+
 /// A change of one row leaves each other row, and how many there are. No more rows pass a test where the changed one passes
-/// only if it did before, and never more than one more.
+/// only if it did before, and never more than one more; and none passes where none did and the changed one doesn't.
 pub fn rows_change_one_at_a_time()
     ensures there { (rows : List Row) (slot : ℕ) (r : Row) (change : Row → Row) → slice_get rows slot ≡ Some r → slice_get (update rows slot change) slot ≡ Some (change r) }
     ensures others { (rows : List Row) (slot other : ℕ) (change : Row → Row) → other ≢ slot → slice_get (update rows slot change) other ≡ slice_get rows other }
     ensures length { (rows : List Row) (slot : ℕ) (change : Row → Row) → length (update rows slot change) ≡ length rows }
     ensures kept { (test : Row → Bool) (rows : List Row) (slot : ℕ) (r : Row) (change : Row → Row) → slice_get rows slot ≡ Some r → (test (change r) ≡ true → test r ≡ true) → count_by test (update rows slot change) ≤ count_by test rows }
     ensures more { (test : Row → Bool) (rows : List Row) (slot : ℕ) (change : Row → Row) → count_by test (update rows slot change) ≤ count_by test rows + 1 }
+    ensures none { (test : Row → Bool) (rows : List Row) (slot : ℕ) (r : Row) (change : Row → Row) → slice_get rows slot ≡ Some r → test (change r) ≡ false → list_any test rows ≡ false → list_any test (update rows slot change) ≡ false }
+{}
+
+/// A change of one child leaves each other child, and how many there are.
+pub fn children_change_one_at_a_time()
+    ensures there { (children : List Child) (k : ℕ) (c : Child) (change : Child → Child) → slice_get children k ≡ Some c → slice_get (update children k change) k ≡ Some (change c) }
+    ensures others { (children : List Child) (k other : ℕ) (change : Child → Child) → other ≢ k → slice_get (update children k change) other ≡ slice_get children other }
+    ensures length { (children : List Child) (k : ℕ) (change : Child → Child) → length (update children k change) ≡ length children }
 {}

@@ -15,9 +15,9 @@ use Rattle.conn_state.specs.declared.turn.LastLinger.{LastLinger}
 use Rattle.conn_state.specs.declared.turn.LastLinger.TheVariants as linger
 use Rattle.conn_state.specs.Items.{Item, SpellsNone}
 use Rattle.conn_state.specs.Replies.{IsFitting, AreReplies}
-use Rattle.conn_state.specs.Conn.{SeenConn, is_usable, is_half_closed, shuts_at, IsFrontOf, LinkFits, LingerFits, Streams, BrokeOff, TurnFits, IsWaiting, IsConn}
+use Rattle.conn_state.specs.Conn.{SeenConn, is_usable, is_half_closed, shuts_at, IsFrontOf, LinkFits, LingerFits, Streams, BrokeOff, TurnFits, IsUntouched, IsWaiting, IsConn}
 use Rattle.conn_state.specs.Answered.{SeenEnded, ShowsAtOnce, SentAll, SentLast, ShowsLingering, MayLinger, ShowsCause, IsLeft, IsShown, SentFor, HasAnswered, shuts_of, IsAnswered, LicensesCause, LicensesTail, IsEnded}
-use Rattle.conn_state.proofs.StreamLemmas.{Stays, interim-none}
+use Rattle.conn_state.proofs.StreamLemmas.{Stays, interim-none, spells_none-empty}
 use Rattle.conn_state.proofs.ConnLemmas.{usable-streams, told-broken}
 
 -- ## What was answered
@@ -350,4 +350,13 @@ ended-shown stays c seen e is same shown closed only notes =
       };
       answered = subst (λ ns. IfSome e.told (IsAnswered e.cause e.tail ns)) (sym notes)
           (subst (λ o. IfSome o (IsAnswered e.cause e.tail c.notes)) (sym closed) answered);
+    }
+
+-- a connection of which nothing was read shows what one shows that is late to send
+pub may_linger-untouched : (c : SeenConn) → IsConn c → c.turn ≡ turn.New → MayLinger cause.ReadLate c
+may_linger-untouched c is new =
+    let fits : IsUntouched c = subst (λ (t : LastTurn). TurnFits t c) new is.turn_fits in
+    record {
+      usable = ap is_usable new;
+      shows = record { none_pending = fits.none_pending; none_whole = subst SpellsNone (sym fits.none_read) spells_none-empty };
     }

@@ -1,8 +1,10 @@
-//! Laws of the items of a connection's bytes, and of connections that linger. Each is the contract of a function that does
+//! Laws of the items of a connection's bytes, and of connections that linger or may. Each is the contract of a function that does
 //! nothing.
 ghost use Rattle.std.specs.Prelude.{◌≡◌, ℕ, Bool, true, List, ◌++◌, IfSome};
 ghost use Rattle.mpm_base.specs.declared.conn.Cause.{Cause};
+ghost use Rattle.mpm_base.specs.declared.conn.Cause.TheVariants.{ReadLate};
 ghost use Rattle.mpm_base.specs.declared.note.Note.{Note};
+ghost use Rattle.conn_state.specs.declared.turn.LastTurn.TheVariants as turn;
 ghost use Rattle.conn_state.specs.declared.turn.LingerTurn.{LingerTurn};
 ghost use Rattle.conn_state.specs.Items.{Item};
 ghost use Rattle.conn_state.specs.Replies.{IsFitting};
@@ -32,4 +34,9 @@ pub fn lingering_connections_are_answered()
 pub fn lingering_connections_keep_their_cause()
     ensures half_close { (old new : SeenConn) (made : Bool) (why : Cause) → ShutsOn old new made → MayLinger why old → MayLinger why new }
     ensures linger_turn { (old new : SeenConn) (answer : LingerTurn) (why : Cause) → LingersOn old new answer → MayLinger why old → MayLinger why new }
+{}
+
+/// A connection of which nothing was read shows what one shows that is late with its request.
+pub fn untouched_connections_may_be_late()
+    ensures { (c : SeenConn) → IsConn c → c.turn ≡ turn.New → MayLinger ReadLate c }
 {}

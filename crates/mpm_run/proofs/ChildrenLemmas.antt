@@ -1,5 +1,5 @@
 -- A server that opens starts its children in order of number, as many as its shape asks for.
-use Rattle.std.proofs.Common.{◌≡◌, ◌⊎◌, inl, inr, ℕ, zero, suc, ◌+◌, ◌<◌, ◌≤◌, Bool, true, false, ◌&&◌, cond, List, [], ◌∷◌, ◌++◌, length, count_by, map, min, nat_lt, replicate, Option, None, Some, IfSome, Result, slice_get, refl, sym, ap, subst, ◌∙◌, append-nil, append_assoc, arith}
+use Rattle.std.proofs.Common.{◌≡◌, ◌≢◌, ◌⊎◌, inl, inr, ℕ, zero, suc, ◌+◌, ◌<◌, ◌≤◌, Bool, true, false, ◌&&◌, cond, List, [], ◌∷◌, ◌++◌, length, count_by, map, min, nat_lt, replicate, Option, None, Some, IfSome, Result, slice_get, refl, sym, ap, subst, ◌∙◌, append-nil, append_assoc, arith}
 use Rattle.std.proofs.lemmas.Bool.{cases_eq, cases_order}
 use Rattle.std.proofs.lemmas.Bool.Decides.{nat_tests}
 use Rattle.std.proofs.lemmas.List.{length-replicate, map-append}
@@ -17,9 +17,8 @@ use Rattle.conn_machine.specs.declared.child.Child.{Child}
 use Rattle.conn_machine.specs.declared.event.Entry.{Entry}
 use Rattle.conn_machine.specs.declared.event.Event.{Event}
 use Rattle.conn_machine.specs.declared.event.Event.TheVariants as event
+use Rattle.conn_machine.specs.declared.folded.Folded.{Folded}
 use Rattle.conn_machine.specs.declared.state.State.{State}
-use Rattle.conn_machine.proofs.SizeLemmas.{length-update}
-use Rattle.conn_machine.proofs.UpdateLemmas.{count_cons, get_changed}
 use Rattle.board.specs.declared.faults.BoardFault.{BoardFault}
 use Rattle.board.specs.Book.{SeenBook, entry_of}
 use Rattle.board.specs.Board.{SeenBoard}
@@ -31,11 +30,11 @@ use Rattle.mpm_run.specs.declared.listen.Pause.{Pause}
 use Rattle.mpm_run.specs.declared.listen.Rest.{Rest}
 use Rattle.mpm_run.specs.declared.run_numbers.RunNumbers.{RunNumbers}
 use Rattle.mpm_run.specs.ClosingInside.{IsHaltedWay, LetsGo}
-use Rattle.mpm_run.specs.FirstNumbers.{folded_by, opened_by}
+use Rattle.mpm_run.specs.FirstNumbers.{opened_by}
 use Rattle.mpm_run.specs.ListenInside.{IsOpening, SeenListener, asked_children, waits_of}
 use Rattle.mpm_run.specs.RoundInside.{HasWaited, RetiresSome, halt_events}
 use Rattle.mpm_run.specs.Started.{BeginsWithStarts, IsStartedFirst, starts_of}
-use Rattle.mpm_run.proofs.ListenLemmas.{child-by, is-startable}
+use Rattle.mpm_run.proofs.ListenLemmas.{child-by, count-cons, is-startable}
 
 -- ## Searches
 
@@ -89,17 +88,15 @@ count-more p (z ∷ xs) zero x change at before after =
     let same : x ≡ z = cc in
     let before' : p z ≡ false = subst (λ y. p y ≡ false) same before in
     let after' : p (change z) ≡ true = subst (λ y. p (change y) ≡ true) same after in
-    rw (count_cons p (change z) xs, count_cons p z xs, before', after') (omega arith)
+    rw (count-cons p (change z) xs, count-cons p z xs, before', after') (omega arith)
 count-more p (z ∷ xs) (suc i) x change at before after =
-    rw (count_cons p z (update xs i change), count_cons p z xs) (omega (arith, count-more p xs i x change at before after))
+    rw (count-cons p z (update xs i change), count-cons p z xs) (omega (arith, count-more p xs i x change at before after))
 
--- the other items stay
-get-kept : {X : Type 0} (xs : List X) (i j : ℕ) (change : X → X) → (j ≡ i → ⊥) → slice_get (update xs i change) j ≡ slice_get xs j
-get-kept [] i j change other = refl
-get-kept (z ∷ xs) zero zero change other = absurd (other refl)
-get-kept (z ∷ xs) zero (suc j) change other = refl
-get-kept (z ∷ xs) (suc i) zero change other = refl
-get-kept (z ∷ xs) (suc i) (suc j) change other = get-kept xs i j change (λ same. other (ap suc same))
+-- the laws of the machine on a changed child: it stands where it stood, each other one stays, and there are as many
+pub record ChildrenChange : Type 0 where
+  pub there : (children : List Child) (k : ℕ) (c : Child) (change : Child → Child) → slice_get children k ≡ Some c → slice_get (update children k change) k ≡ Some (change c)
+  pub others : (children : List Child) (k other : ℕ) (change : Child → Child) → other ≢ k → slice_get (update children k change) other ≡ slice_get children other
+  pub as_many : (children : List Child) (k : ℕ) (change : Child → Child) → length (update children k change) ≡ length children
 
 -- a child that is gone doesn't run
 gone-rests : (c : Child) → is_empty c.phase ≡ true → is_running c.phase ≡ false
@@ -124,16 +121,16 @@ pub record StartsInOrder (base : State) (b : SeenBook) : Type 0 where
 
 none-run : (n : ℕ) → running_count (replicate n no_child) ≡ 0
 none-run zero = refl
-none-run (suc n) = rw (count_cons (λ (c : Child). is_running c.phase) no_child (replicate n no_child)) (omega (arith, none-run n))
+none-run (suc n) = rw (count-cons (λ (c : Child). is_running c.phase) no_child (replicate n no_child)) (omega (arith, none-run n))
 
 all-gone-at : (n k : ℕ) → k < n → option_map_or (λ (c : Child). is_empty c.phase) (slice_get (replicate n no_child) k) false ≡ true
 all-gone-at zero k below = absurd (omega arith)
 all-gone-at (suc n) zero below = refl
 all-gone-at (suc n) (suc k) below = all-gone-at n k (omega arith)
 
-opens-so : (slots children : ℕ) (shape : Shape) (passes : ℕ)
-    → (let s = opening_state slots children shape in let b : SeenBook = record { base = s; history = []; state = s; passes = passes } in StartsInOrder s b)
-opens-so slots children shape passes = record {
+opens-so : (slots children : ℕ) (shape : Shape) (folded : Folded) (passes : ℕ)
+    → (let s = opening_state slots children shape in let b : SeenBook = record { base = s; folded = folded; history = []; state = s; passes = passes } in StartsInOrder s b)
+opens-so slots children shape folded passes = record {
   count = 0;
   events = refl;
   few = omega arith;
@@ -151,12 +148,12 @@ pub opens-in-order : (b : SeenBook) → after b.base b.history ≡ b.state → I
 opens-in-order b state opening =
     let o = opening.opened in
     let here : b.state ≡ b.base = sym state ∙ ap (after b.base) opening.none in
-    let opened : SeenBook = record { base = opening_state o.slots o.children o.shape; history = []; state = opening_state o.slots o.children o.shape; passes = b.passes } in
+    let opened : SeenBook = record { base = opening_state o.slots o.children o.shape; folded = b.folded; history = []; state = opening_state o.slots o.children o.shape; passes = b.passes } in
     let same : b ≡ opened =
-    ap (λ (s : State). let x : SeenBook = record { base = b.base; history = b.history; state = s; passes = b.passes } in x) here
-    ∙ ap (λ (h : List Entry). let x : SeenBook = record { base = b.base; history = h; state = b.base; passes = b.passes } in x) opening.none
-    ∙ ap (λ (s : State). let x : SeenBook = record { base = s; history = []; state = s; passes = b.passes } in x) o.state in
-    subst (λ (x : SeenBook). StartsInOrder x.base x) (sym same) (opens-so o.slots o.children o.shape b.passes)
+    ap (λ (s : State). let x : SeenBook = record { base = b.base; folded = b.folded; history = b.history; state = s; passes = b.passes } in x) here
+    ∙ ap (λ (h : List Entry). let x : SeenBook = record { base = b.base; folded = b.folded; history = h; state = b.base; passes = b.passes } in x) opening.none
+    ∙ ap (λ (s : State). let x : SeenBook = record { base = s; folded = b.folded; history = []; state = s; passes = b.passes } in x) o.state in
+    subst (λ (x : SeenBook). StartsInOrder x.base x) (sym same) (opens-so o.slots o.children o.shape b.folded b.passes)
 
 found-in : (s : State) (may : Bool) (k : ℕ) (found : Option ℕ) → cond may found None ≡ Some k → found ≡ Some k
 found-in s true k found is = is
@@ -189,17 +186,17 @@ next-one base b k o found =
     }
 
 -- the children behind those that were started, and before them, once one more was
-changed-at : (test : Child → Bool) (s : State) (k : ℕ) (c : Child) (change : Child → Child) → slice_get s.children k ≡ Some c
+changed-at : ChildrenChange → (test : Child → Bool) (s : State) (k : ℕ) (c : Child) (change : Child → Child) → slice_get s.children k ≡ Some c
     → child_passes test (record s { children = update s.children k change }) k ≡ test (change c)
-changed-at test s k c change at = ap (λ (o : Option Child). option_map_or test o false) (get_changed s.children k c change at)
+changed-at law test s k c change at = ap (λ (o : Option Child). option_map_or test o false) (law.there s.children k c change at)
 
-kept-at : (test : Child → Bool) (s : State) (k j : ℕ) (change : Child → Child) → (j ≡ k → ⊥)
+kept-at : ChildrenChange → (test : Child → Bool) (s : State) (k j : ℕ) (change : Child → Child) → j ≢ k
     → child_passes test (record s { children = update s.children k change }) j ≡ child_passes test s j
-kept-at test s k j change other = ap (λ (o : Option Child). option_map_or test o false) (get-kept s.children k j change other)
+kept-at law test s k j change other = ap (λ (o : Option Child). option_map_or test o false) (law.others s.children k j change other)
 
-started-then : (base : State) (b : SeenBook) (k : ℕ) (o : StartsInOrder base b) → startable b.state ≡ Some k
+started-then : ChildrenChange → (base : State) (b : SeenBook) (k : ℕ) (o : StartsInOrder base b) → startable b.state ≡ Some k
     → StartsInOrder base (record b { history = b.history ++ entry_of 0 (event.StartChild k) b ∷ []; state = next b.state (event.StartChild k) })
-started-then base b k o found =
+started-then law base b k o found =
     let is = is-startable b.state k found in
     let one = next-one base b k o found in
     let child = child-by (λ (c : Child). is_empty c.phase) b.state.children k (slice_get b.state.children k) refl is.empty in
@@ -215,7 +212,7 @@ started-then base b k o found =
       within = omega (arith, one.within, one.same);
       serving = o.serving;
       shape = o.shape;
-      many = length-update b.state.children k change ∙ o.many;
+      many = law.as_many b.state.children k change ∙ o.many;
       running =
           count-more (λ (c : Child). is_running c.phase) b.state.children k child.child change child.at (gone-rests child.child child.passes) refl
           ∙ ap (λ (n : ℕ). n + 1) o.running;
@@ -223,21 +220,21 @@ started-then base b k o found =
           λ j below. elim (cases_order j k) [
             | inl same ↦
                 ap (child_passes (λ (c : Child). is_empty c.phase) (next b.state (event.StartChild k))) same
-                ∙ changed-at (λ (c : Child). is_empty c.phase) b.state k child.child change child.at
+                ∙ changed-at law (λ (c : Child). is_empty c.phase) b.state k child.child change child.at
             | inr (inl less) ↦
-                kept-at (λ (c : Child). is_empty c.phase) b.state k j change (λ same. omega (arith, same, less))
+                kept-at law (λ (c : Child). is_empty c.phase) b.state k j change (λ same. omega (arith, same, less))
                 ∙ o.there j (omega (arith, less, one.same))
             | inr (inr more) ↦ absurd (omega (arith, more, below, one.same))
           ];
       gone =
-          λ j from below. kept-at (λ (c : Child). is_empty c.phase) b.state k j change (λ same. omega (arith, same, from, one.same))
+          λ j from below. kept-at law (λ (c : Child). is_empty c.phase) b.state k j change (λ same. omega (arith, same, from, one.same))
           ∙ o.gone j (omega (arith, from)) below;
     }
 
 -- one more was started
-pub starts-next : (base : State) (b b' : SeenBoard) (k : ℕ) → startable b.book.state ≡ Some k → b' ≡ with_recorded 0 (event.StartChild k) b
+pub starts-next : ChildrenChange → (base : State) (b b' : SeenBoard) (k : ℕ) → startable b.book.state ≡ Some k → b' ≡ with_recorded 0 (event.StartChild k) b
     → StartsInOrder base b.book → StartsInOrder base b'.book
-starts-next base b b' k found is o = subst (λ (x : SeenBoard). StartsInOrder base x.book) (sym is) (started-then base b.book k o found)
+starts-next law base b b' k found is o = subst (λ (x : SeenBoard). StartsInOrder base x.book) (sym is) (started-then law base b.book k o found)
 
 -- where no child may be started any more all were that the shape asks for
 count-all : (base : State) (b : SeenBook) (o : StartsInOrder base b) (few : Bool) → nat_lt (running_count b.state.children) b.state.shape.target ≡ few
@@ -304,16 +301,16 @@ begins-down n turns a b c d halts closes retires begins =
 -- ## A run
 
 -- where the front waited the children of the run were started before all else
-started-by : (n : RunNumbers) (told : Option FrontTold) (t' : FrontTold) (history : List Entry) → IfSome told (λ t. t.waits ≡ [])
-    → (waits_of (Some t') ≡ waits_of told) ⊎ BeginsWithStarts (asked_children (opened_by n)) history → IsStartedFirst (folded_by n) n history t'
-started-by n told t' history unused (inr begins) none waited =
-    subst (λ (m : ℕ). BeginsWithStarts (min n.shape.target m) history) (length-replicate n.children no_child) begins
-started-by n None t' history unused (inl same) none waited = absurd (cc same)
-started-by n (Some t) t' history unused (inl same) none waited =
+started-by : (n : RunNumbers) (told : Option FrontTold) (t' : FrontTold) (b : SeenBook) → IfSome told (λ t. t.waits ≡ [])
+    → (waits_of (Some t') ≡ waits_of told) ⊎ BeginsWithStarts (asked_children (opened_by n)) b.history → IsStartedFirst n b t'
+started-by n told t' b unused (inr begins) none waited =
+    subst (λ (m : ℕ). BeginsWithStarts (min n.shape.target m) b.history) (length-replicate n.children no_child) begins
+started-by n None t' b unused (inl same) none waited = absurd (cc same)
+started-by n (Some t) t' b unused (inl same) none waited =
     let waits : t'.waits ≡ t.waits = cc same in
     absurd (waited (waits ∙ unused))
 
-pub started-first : (n : RunNumbers) (told told' : Option FrontTold) (history : List Entry) → IfSome told (λ t. t.waits ≡ [])
-    → (waits_of told' ≡ waits_of told) ⊎ BeginsWithStarts (asked_children (opened_by n)) history → IfSome told' (IsStartedFirst (folded_by n) n history)
-started-first n told None history unused started = tt
-started-first n told (Some t') history unused started = started-by n told t' history unused started
+pub started-first : (n : RunNumbers) (told told' : Option FrontTold) (b : SeenBook) → IfSome told (λ t. t.waits ≡ [])
+    → (waits_of told' ≡ waits_of told) ⊎ BeginsWithStarts (asked_children (opened_by n)) b.history → IfSome told' (IsStartedFirst n b)
+started-first n told None b unused started = tt
+started-first n told (Some t') b unused started = started-by n told t' b unused started

@@ -2,6 +2,7 @@
 use Rattle.std.proofs.Common.{◌≡◌, ℕ, List, [], ◌∷◌, ◌++◌, map, Option, None, Some, refl, sym, ap, subst, ◌∙◌, append-nil, append_assoc, eq-eqb}
 use Rattle.std.proofs.lemmas.Grind.{flat_map-append}
 use Rattle.std.proofs.lemmas.List.{append_cancel_left, map-append}
+use Rattle.std.proofs.lemmas.List.Elements.{filter-append}
 use Rattle.std.specs.List.{flat_map}
 use Rattle.mpm_base.specs.declared.conn.ConnName.{ConnName}
 use Rattle.mpm_base.specs.declared.conn.Cause.{Cause}
@@ -10,10 +11,8 @@ use Rattle.conn_machine.specs.declared.event.Event.{Event}
 use Rattle.conn_machine.specs.declared.event.Event.TheVariants as event
 use Rattle.conn_machine.specs.declared.event.Entry.{Entry}
 use Rattle.conn_machine.specs.declared.state.State.{State}
-use Rattle.conn_machine.specs.Runs.{Adds, AreEntriesOf, after, entries_of, row_of}
+use Rattle.conn_machine.specs.Runs.{Adds, AreEntriesOf, after, entries_of, is_of_pass, row_of}
 use Rattle.conn_machine.specs.Table.{next}
-use Rattle.conn_machine.proofs.HistoryLemmas.{entries_of-append}
-use Rattle.conn_machine.proofs.RunLemmas.{after-append}
 use Rattle.conn_state.specs.Conn.{SeenConn}
 use Rattle.board.specs.declared.faults.BoardFault.{BoardFault}
 use Rattle.board.specs.Book.{SeenBook, book_with_entry}
@@ -43,18 +42,22 @@ added-events : (who : ℕ) (base : State) (old added : List Entry) (es : List Ev
     → events_of who (old ++ added) ≡ events_of who old ++ es → map (λ (e : Entry). e.event) added ≡ es
 added-events who base old added es are grown =
     append_cancel_left (events_of who old) (map (λ (e : Entry). e.event) added) es
-    (sym (ap (map (λ (e : Entry). e.event)) (entries_of-append who old added ∙ ap (λ (xs : List Entry). entries_of who old ++ xs) (own-entries who base old added are))
+    (sym (ap (map (λ (e : Entry). e.event)) (filter-append (is_of_pass who) old added ∙ ap (λ (xs : List Entry). entries_of who old ++ xs) (own-entries who base old added are))
     ∙ map-append (λ (e : Entry). e.event) (entries_of who old) added)
     ∙ grown)
 
+-- the law of the machine: a history goes on from the state after its first entries
+abbrev pub GoesOnFrom : Type 0
+GoesOnFrom = (base : State) (a b : List Entry) → after base (a ++ b) ≡ after (after base a) b
+
 -- the state after what a pass did is the one that its events make
-pub acts-state : (who : ℕ) (es : List Event) (has : Option ConnName) (a b : SeenBook) → after a.base a.history ≡ a.state
+pub acts-state : GoesOnFrom → (who : ℕ) (es : List Event) (has : Option ConnName) (a b : SeenBook) → after a.base a.history ≡ a.state
     → after b.base b.history ≡ b.state → Acts who es has a b → b.state ≡ state_by a.state es
-acts-state who es has a b here there acts =
+acts-state law who es has a b here there acts =
     let added = acts.entries.0 in
     let same : map (λ (e : Entry). e.event) added ≡ es =
     added-events who a.base a.history added es acts.entries.2 (ap (events_of who) (sym acts.entries.1) ∙ acts.made) in
-    sym there ∙ ap (λ (s : State). after s b.history) acts.base ∙ ap (after a.base) acts.entries.1 ∙ after-append a.base a.history added
+    sym there ∙ ap (λ (s : State). after s b.history) acts.base ∙ ap (after a.base) acts.entries.1 ∙ law a.base a.history added
     ∙ ap (λ (s : State). after s added) here ∙ after-events a.state added ∙ ap (state_by a.state) same
 
 -- ## One connection

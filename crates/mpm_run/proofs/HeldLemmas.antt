@@ -31,7 +31,6 @@ use Rattle.conn_state.specs.Conn.{IsConn, IsUntouched, IsWaiting, SeenConn, Turn
 use Rattle.conn_state.specs.Answered.{IsLeft, MayLinger, SentAll, ShowsCause}
 use Rattle.conn_state.specs.Items.{SpellsNone}
 use Rattle.conn_state.specs.Turns.{LingersOn, after_linger}
-use Rattle.conn_state.proofs.StreamLemmas.{spells_none-empty}
 use Rattle.board.specs.Book.{full_stop}
 use Rattle.board.specs.Fits.{Fits, FoundNoMore, IsOnItsWay, IsSettled, IsSettledFrom, IsTakenUp, LingersFor, NotesEnd, WaitsAs}
 use Rattle.board.specs.Finds.{cause_of, kind_of, waits_for}
@@ -144,13 +143,9 @@ lingers-by kind was why waits some = waits.lingers ∙ ap (λ (o : Option Cause)
 
 -- ## What it shows
 
-shows-untouched : (c : SeenConn) → c.turn ≡ turn.New → IsConn c → MayLinger cause.ReadLate c
-shows-untouched c new is =
-    let fits : IsUntouched c = subst (λ (t : LastTurn). TurnFits t c) new is.turn_fits in
-    record {
-      usable = ap is_usable new;
-      shows = record { none_pending = fits.none_pending; none_whole = subst SpellsNone (sym fits.none_read) spells_none-empty };
-    }
+-- the law of connections: one of which nothing was read may linger as one that is late with its request
+abbrev pub MayBeLate : Type 0
+MayBeLate = (c : SeenConn) → IsConn c → c.turn ≡ turn.New → MayLinger cause.ReadLate c
 
 waiting-sent : (c : SeenConn) → c.turn ≡ turn.More → IsConn c → SentAll c
 waiting-sent c more is =
@@ -158,21 +153,21 @@ waiting-sent c more is =
     record { none_pending = fits.none_pending; none_whole = fits.none_whole }
 
 -- a connection that waited for this shows the cause for which it lingers where it is late
-shows-late : (kind : Kind) (why : Option Cause) (c : SeenConn) → is_linger_kind kind ≡ false → IsSettled kind why c → MayLinger (cause_of_late kind) c
-shows-late Reading why c serves settled =
+shows-late : MayBeLate → (kind : Kind) (why : Option Cause) (c : SeenConn) → is_linger_kind kind ≡ false → IsSettled kind why c → MayLinger (cause_of_late kind) c
+shows-late law Reading why c serves settled =
     elim settled.waits [
-      | inl new ↦ shows-untouched c new settled.is_conn
+      | inl new ↦ law c settled.is_conn new
       | inr more ↦ record { usable = ap is_usable more; shows = waiting-sent c more settled.is_conn }
     ]
-shows-late KeepAlive why c serves settled =
+shows-late law KeepAlive why c serves settled =
     record { usable = ap is_usable settled.waits.turn; shows = waiting-sent c settled.waits.turn settled.is_conn }
-shows-late Writing why c serves settled = record { usable = ap is_usable settled.waits; shows = tt }
-shows-late Linger why c serves settled = absurd (cc)
-shows-late ShortLinger why c serves settled = absurd (cc)
+shows-late law Writing why c serves settled = record { usable = ap is_usable settled.waits; shows = tt }
+shows-late law Linger why c serves settled = absurd (cc)
+shows-late law ShortLinger why c serves settled = absurd (cc)
 
-pub late-shows : (s : State) (was : Row) (c : SeenConn) (kind : Kind) → IsHeldFrom s was c → WaitsFor kind was → is_linger_kind kind ≡ false
+pub late-shows : MayBeLate → (s : State) (was : Row) (c : SeenConn) (kind : Kind) → IsHeldFrom s was c → WaitsFor kind was → is_linger_kind kind ≡ false
     → MayLinger (cause_of_late kind) c
-late-shows s was c kind held waits serves = shows-late kind was.cause c serves (settled-as kind was.from was.cause c waits.own held.settled)
+late-shows law s was c kind held waits serves = shows-late law kind was.cause c serves (settled-as kind was.from was.cause c waits.own held.settled)
 
 -- and so does one that was kept alive
 pub retiring-shows : (s : State) (was : Row) (c : SeenConn) → IsHeldFrom s was c → was.from ≡ Some KeepAlive → MayLinger cause.Retiring c

@@ -9,12 +9,14 @@ use Rattle.mpm_base.specs.Front.{WaitTold}
 use Rattle.mpm_base.specs.declared.front.Woke.{Woke}
 use Rattle.mpm_base.specs.declared.front.Woke.TheVariants as woke
 use Rattle.conn_machine.specs.declared.event.Event.{Event}
+use Rattle.conn_machine.specs.declared.folded.Folded.{Folded}
+use Rattle.conn_machine.specs.declared.state.State.{State}
 use Rattle.conn_state.specs.Conn.{IsFrontOf}
 use Rattle.board.specs.Book.{SeenBook}
 use Rattle.worker_group.specs.Acts.{Acts, events_of}
 use Rattle.mpm_run.specs.ListenInside.{AsksFor}
 use Rattle.mpm_run.specs.RoundInside.{BreaksOff, GoesRound}
-use Rattle.mpm_run.specs.Times.{IsInformed, IsInformedSoFar, LacksOne, SignalsAre, SignalsBegin, TicksAre, TicksBegin, answers_of, given_slots, known_slots, latest, moment_for, rises, signals_in, signals_of, ticks_in, ticks_of, ticks_to}
+use Rattle.mpm_run.specs.Times.{AreBehind, IsInformed, IsInformedSoFar, LacksOne, SignalsAre, SignalsBegin, TicksAre, TicksBegin, answers_of, given_slots, known_slots, latest, moment_for, rises, signals_in, signals_of, ticks_in, ticks_of, ticks_to}
 use Rattle.mpm_run.proofs.FrontLemmas.{WaitsMore}
 use Rattle.mpm_run.proofs.EventLemmas.{AreSilent, ticks-acts, signals-acts, ticks-kept, signals-kept, ticks-round, signals-round}
 
@@ -98,28 +100,53 @@ given-slots : (rows : ℕ) (w : WaitTold) (ready : List ℕ) (waits : List WaitT
     → given_slots rows (waits ++ w ∷ []) ≡ given_slots rows waits ++ known_slots rows ready
 given-slots rows w ready waits is = given-more rows w waits ∙ ap (λ (slots : List ℕ). given_slots rows waits ++ known_slots rows slots) is
 
+-- ## What the record counts
+
+-- behind as many of all stand the same others
+behind-as : (count count' : ℕ) (all xs ys : List ℕ) → count' ≡ count → ys ≡ xs → AreBehind count all xs → AreBehind count' all ys
+behind-as count count' all xs ys as_many same behind = record {
+  first = behind.first;
+  many = behind.many ∙ sym as_many;
+  all_are = behind.all_are ∙ ap (λ (zs : List ℕ). behind.first ++ zs) (sym same);
+}
+
+-- and some more behind them
+behind-more : (count count' : ℕ) (all xs ys more : List ℕ) → count' ≡ count → ys ≡ xs ++ more → AreBehind count all xs → AreBehind count' (all ++ more) ys
+behind-more count count' all xs ys more as_many same behind =
+    behind-as count count' (all ++ more) (xs ++ more) ys as_many same (record {
+      first = behind.first;
+      many = behind.many;
+      all_are = ap (λ (zs : List ℕ). zs ++ more) behind.all_are ∙ append_assoc behind.first xs more;
+    })
+
 -- ## Books that agree in what is told
 
 -- the history ticks and signals as the other
 pub record TellsAs (a b : SeenBook) : Type 0 where
   pub base : b.base ≡ a.base
+  pub folded : b.folded ≡ a.folded
   pub ticks : ticks_of b.history ≡ ticks_of a.history
   pub signals : signals_of b.history ≡ signals_of a.history
 
 -- so it does after events that do neither
 pub tells-silent : (es : List Event) (a b : SeenBook) → Acts 0 es None a b → AreSilent es → TellsAs a b
 tells-silent es a b acts silent =
-    record { base = acts.base; ticks = ticks-kept es a b acts silent; signals = signals-kept es a b acts silent }
+    record { base = acts.base; folded = acts.folded; ticks = ticks-kept es a b acts silent; signals = signals-kept es a b acts silent }
 
 -- and where the listener made none
-pub tells-same : (a b : SeenBook) → b.base ≡ a.base → events_of 0 b.history ≡ events_of 0 a.history → TellsAs a b
-tells-same a b base same = record { base = base; ticks = ap (flat_map ticks_in) same; signals = ap (flat_map signals_in) same }
+pub tells-same : (a b : SeenBook) → b.base ≡ a.base → b.folded ≡ a.folded → events_of 0 b.history ≡ events_of 0 a.history → TellsAs a b
+tells-same a b base folded same = record { base = base; folded = folded; ticks = ap (flat_map ticks_in) same; signals = ap (flat_map signals_in) same }
 
 ticks-as : (calls : List (ℕ × ℕ)) (a b : SeenBook) → TellsAs a b → b.state.moment ≡ a.state.moment → TicksAre calls a → TicksAre calls b
-ticks-as calls a b alike moment are = record { ticks = alike.ticks ∙ are.ticks; moment = moment ∙ are.moment }
+ticks-as calls a b alike moment are = record {
+  ticks = behind-as a.folded.ticks b.folded.ticks (rises 0 (answers_of calls)) _ _ (ap (λ (f : Folded). f.ticks) alike.folded) alike.ticks are.ticks;
+  moment = moment ∙ are.moment;
+}
 
 signals-as : (waits : List WaitTold) (a b : SeenBook) → TellsAs a b → SignalsAre waits a → SignalsAre waits b
-signals-as waits a b alike are = alike.signals ∙ are ∙ ap (λ (s : _). given_slots (length s.rows) waits) (sym alike.base)
+signals-as waits a b alike are =
+    subst (λ (s : State). AreBehind b.folded.readies (given_slots (length s.rows) waits) (signals_of b.history)) (sym alike.base)
+    (behind-as a.folded.readies b.folded.readies (given_slots (length a.base.rows) waits) _ _ (ap (λ (f : Folded). f.readies) alike.folded) alike.signals are)
 
 if-some : {X : Type 0} (o : Option X) (P Q : X → Type 0) → ((x : X) → P x → Q x) → IfSome o P → IfSome o Q
 if-some None P Q keeps holds = tt
@@ -139,24 +166,33 @@ pub so_far-as : (waits : Option (List WaitTold)) (calls : Option (List (ℕ × �
 so_far-as waits calls a b alike informed = record {
   ticks =
       if-some calls (λ cs. TicksBegin cs a) (λ cs. TicksBegin cs b)
-      (λ cs begun. subst (LacksOne (rises 0 (answers_of cs))) (sym alike.ticks) begun) informed.ticks;
+      (λ cs begun. record {
+        done = begun.done;
+        ticks = behind-as a.folded.ticks b.folded.ticks begun.done _ _ (ap (λ (f : Folded). f.ticks) alike.folded) alike.ticks begun.ticks;
+        lacks = begun.lacks;
+      }) informed.ticks;
   signals =
       if-some waits (λ ws. SignalsBegin ws a) (λ ws. SignalsBegin ws b)
-      (λ ws front. (
-        front.0,
-        ap (λ (s : _). given_slots (length s.rows) ws) alike.base ∙ front.1 ∙ ap (λ (xs : List ℕ). xs ++ front.0) (sym alike.signals),
-      )) informed.signals;
+      (λ ws begun. record {
+        done = begun.done;
+        signals = behind-as a.folded.readies b.folded.readies begun.done _ _ (ap (λ (f : Folded). f.readies) alike.folded) alike.signals begun.signals;
+        begin = subst (λ (s : State). IsFrontOf (given_slots (length s.rows) ws) begun.done) (sym alike.base) begun.begin;
+      }) informed.signals;
 }
 
-front-whole : (xs ys : List ℕ) → ys ≡ xs → IsFrontOf xs ys
-front-whole xs ys same = ([], sym same ∙ sym (append-nil ys))
+front-whole : (xs : List ℕ) → IsFrontOf xs xs
+front-whole xs = ([], sym (append-nil xs))
 
 -- what is whole is so so far
 pub informed-so_far : (waits : Option (List WaitTold)) (calls : Option (List (ℕ × ℕ))) (b : SeenBook) → IsInformed waits calls b
     → IsInformedSoFar waits calls b
 informed-so_far waits calls b informed = record {
-  ticks = if-some calls (λ cs. TicksAre cs b) (λ cs. TicksBegin cs b) (λ cs are. inl are.ticks) informed.ticks;
-  signals = if-some waits (λ ws. SignalsAre ws b) (λ ws. SignalsBegin ws b) (λ ws are. front-whole _ _ are) informed.signals;
+  ticks =
+      if-some calls (λ cs. TicksAre cs b) (λ cs. TicksBegin cs b)
+      (λ cs are. record { done = rises 0 (answers_of cs); ticks = are.ticks; lacks = inl refl }) informed.ticks;
+  signals =
+      if-some waits (λ ws. SignalsAre ws b) (λ ws. SignalsBegin ws b)
+      (λ ws are. record { done = given_slots (length b.base.rows) ws; signals = are; begin = front-whole _ }) informed.signals;
 }
 
 -- ## A round
@@ -164,14 +200,13 @@ informed-so_far waits calls b informed = record {
 -- the history after the events of a round
 record GrowsBy (ticks signals : List ℕ) (a b : SeenBook) : Type 0 where
   pub base : b.base ≡ a.base
+  pub folded : b.folded ≡ a.folded
   pub ticks_are : ticks_of b.history ≡ ticks_of a.history ++ ticks
   pub signals_are : signals_of b.history ≡ signals_of a.history ++ signals
 
-front-more : (done whole grown xs ys : List ℕ) → done ≡ xs → whole ≡ xs ++ ys → IsFrontOf ys grown → IsFrontOf whole (done ++ grown)
-front-more done whole grown xs ys so_far is front = (
-  front.0,
-  is ∙ ap (λ (zs : List ℕ). xs ++ zs) front.1 ∙ sym (append_assoc xs grown front.0) ∙ ap (λ (zs : List ℕ). (zs ++ grown) ++ front.0) (sym so_far),
-)
+front-more : (whole grown xs ys : List ℕ) → whole ≡ xs ++ ys → IsFrontOf ys grown → IsFrontOf whole (xs ++ grown)
+front-more whole grown xs ys is front =
+    (front.0, is ∙ ap (λ (zs : List ℕ). xs ++ zs) front.1 ∙ sym (append_assoc xs grown front.0))
 
 -- a front of one moment at most lacks it or doesn't
 one-of : (later : Bool) (to : ℕ) (xs : List ℕ) → IsFrontOf (if later then to ∷ [] else []) xs → LacksOne (if later then to ∷ [] else []) xs
@@ -183,15 +218,10 @@ one-of true to (x ∷ []) front =
     inl (ap (λ (y : ℕ). y ∷ []) same)
 one-of true to (x ∷ y ∷ xs) front = absurd (cc front.1)
 
-lacks-more : (done whole grown xs ys : List ℕ) → done ≡ xs → whole ≡ xs ++ ys → LacksOne ys grown → LacksOne whole (done ++ grown)
-lacks-more done whole grown xs ys so_far is (inl same) =
-    inl (ap (λ (zs : List ℕ). zs ++ grown) so_far ∙ ap (λ (zs : List ℕ). xs ++ zs) same ∙ sym is)
-lacks-more done whole grown xs ys so_far is (inr (m, lacks)) =
-    inr (
-      m,
-      is ∙ ap (λ (zs : List ℕ). xs ++ zs) lacks ∙ sym (append_assoc xs grown (m ∷ []))
-          ∙ ap (λ (zs : List ℕ). (zs ++ grown) ++ m ∷ []) (sym so_far),
-    )
+lacks-more : (whole grown xs ys : List ℕ) → whole ≡ xs ++ ys → LacksOne ys grown → LacksOne whole (xs ++ grown)
+lacks-more whole grown xs ys is (inl same) = inl (ap (λ (zs : List ℕ). xs ++ zs) same ∙ sym is)
+lacks-more whole grown xs ys is (inr (m, lacks)) =
+    inr (m, is ∙ ap (λ (zs : List ℕ). xs ++ zs) lacks ∙ sym (append_assoc xs grown (m ∷ [])))
 
 -- the ticks that a clock asks for
 ticks-asked : (moment : ℕ) (calls : List (ℕ × ℕ)) (calls' : Option (List (ℕ × ℕ))) (signals : List ℕ) (a b : SeenBook) → AreAsked moment calls calls'
@@ -201,10 +231,10 @@ ticks-asked moment calls calls' signals a b asked grows later are =
     subst (λ (o : Option (List (ℕ × ℕ))). IfSome o (λ cs. TicksAre cs b)) (sym asked.are)
     (record {
       ticks =
-          grows.ticks_are
-          ∙ ap (λ (xs : List ℕ). xs ++ ticks_to a.state.moment (moment_for moment)) are.ticks
-          ∙ ap (λ (m : ℕ). rises 0 (answers_of calls) ++ ticks_to m (moment_for moment)) are.moment
-          ∙ sym asked.rise;
+          subst (λ (xs : List ℕ). AreBehind b.folded.ticks xs (ticks_of b.history))
+          (ap (λ (m : ℕ). rises 0 (answers_of calls) ++ ticks_to m (moment_for moment)) are.moment ∙ sym asked.rise)
+          (behind-more a.folded.ticks b.folded.ticks (rises 0 (answers_of calls)) _ _ (ticks_to a.state.moment (moment_for moment))
+          (ap (λ (f : Folded). f.ticks) grows.folded) grows.ticks_are are.ticks);
       moment = later ∙ ap (λ (m : ℕ). max m (moment_for moment)) are.moment ∙ sym asked.last;
     })
 
@@ -213,10 +243,16 @@ ticks-begun : (moment : ℕ) (calls : List (ℕ × ℕ)) (calls' : Option (List 
     → GrowsBy ticks signals a b → IsFrontOf (ticks_to a.state.moment (moment_for moment)) ticks → TicksAre calls a → IfSome calls' (λ cs. TicksBegin cs b)
 ticks-begun moment calls calls' ticks signals a b asked grows front are =
     subst (λ (o : Option (List (ℕ × ℕ))). IfSome o (λ cs. TicksBegin cs b)) (sym asked.are)
-    (subst (LacksOne (rises 0 (answers_of asked.now))) (sym grows.ticks_are)
-    (lacks-more (ticks_of a.history) (rises 0 (answers_of asked.now)) ticks (rises 0 (answers_of calls)) (ticks_to a.state.moment (moment_for moment)) are.ticks
-    (asked.rise ∙ ap (λ (m : ℕ). rises 0 (answers_of calls) ++ ticks_to m (moment_for moment)) (sym are.moment))
-    (one-of (nat_lt a.state.moment (moment_for moment)) (moment_for moment) ticks front)))
+    (record {
+      done = rises 0 (answers_of calls) ++ ticks;
+      ticks =
+          behind-more a.folded.ticks b.folded.ticks (rises 0 (answers_of calls)) _ _ ticks (ap (λ (f : Folded). f.ticks) grows.folded) grows.ticks_are
+          are.ticks;
+      lacks =
+          lacks-more (rises 0 (answers_of asked.now)) ticks (rises 0 (answers_of calls)) (ticks_to a.state.moment (moment_for moment))
+          (asked.rise ∙ ap (λ (m : ℕ). rises 0 (answers_of calls) ++ ticks_to m (moment_for moment)) (sym are.moment))
+          (one-of (nat_lt a.state.moment (moment_for moment)) (moment_for moment) ticks front);
+    })
 
 clock-round : (answer : Woke) (moment : ℕ) (calls calls' : Option (List (ℕ × ℕ))) (signals : List ℕ) (a b : SeenBook)
     → AsksFor answer a.state.moment calls calls' moment → GrowsBy (ticks_to a.state.moment (moment_for moment)) signals a b
@@ -234,16 +270,21 @@ clock-broken answer moment None calls' ticks signals a b asks grows front are =
 clock-broken answer moment (Some calls) calls' ticks signals a b asks grows front are =
     ticks-begun moment calls calls' ticks signals a b (are-asked answer a.state.moment moment calls calls' asks are.moment) grows front are
 
+-- the slots that were given, with those of one wait more
+given-grown : (ready : List ℕ) (waits : List WaitTold) (w : WaitTold) (a b : SeenBook) → b.base ≡ a.base → w.slots ≡ ready
+    → given_slots (length b.base.rows) (waits ++ w ∷ []) ≡ given_slots (length a.base.rows) waits ++ known_slots (length a.base.rows) ready
+given-grown ready waits w a b base slots =
+    ap (λ (s : State). given_slots (length s.rows) (waits ++ w ∷ [])) base ∙ given-slots (length a.base.rows) w ready waits slots
+
 -- the signals of the slots that a wait gave
 front-round : (answer : Woke) (ready ticks : List ℕ) (waits waits' : Option (List WaitTold)) (a b : SeenBook) → WaitsMore ready answer waits waits'
     → GrowsBy ticks (known_slots (length a.base.rows) ready) a b → IfSome waits (λ ws. SignalsAre ws a) → IfSome waits' (λ ws. SignalsAre ws b)
 front-round answer ready ticks None waits' a b more grows are = subst (λ (o : Option (List WaitTold)). IfSome o (λ ws. SignalsAre ws b)) (sym more) tt
 front-round answer ready ticks (Some waits) waits' a b more grows are =
     subst (λ (o : Option (List WaitTold)). IfSome o (λ ws. SignalsAre ws b)) (sym more.is)
-    (grows.signals_are
-    ∙ ap (λ (xs : List ℕ). xs ++ known_slots (length a.base.rows) ready) are
-    ∙ sym (given-slots (length a.base.rows) more.wait ready waits more.slots)
-    ∙ ap (λ (s : _). given_slots (length s.rows) (waits ++ more.wait ∷ [])) (sym grows.base))
+    (subst (λ (xs : List ℕ). AreBehind b.folded.readies xs (signals_of b.history)) (sym (given-grown ready waits more.wait a b grows.base more.slots))
+    (behind-more a.folded.readies b.folded.readies (given_slots (length a.base.rows) waits) _ _ (known_slots (length a.base.rows) ready)
+    (ap (λ (f : Folded). f.readies) grows.folded) grows.signals_are are))
 
 -- the first of them
 front-broken : (answer : Woke) (ready ticks signals : List ℕ) (waits waits' : Option (List WaitTold)) (a b : SeenBook)
@@ -253,11 +294,15 @@ front-broken answer ready ticks signals None waits' a b more grows front are =
     subst (λ (o : Option (List WaitTold)). IfSome o (λ ws. SignalsBegin ws b)) (sym more) tt
 front-broken answer ready ticks signals (Some waits) waits' a b more grows front are =
     subst (λ (o : Option (List WaitTold)). IfSome o (λ ws. SignalsBegin ws b)) (sym more.is)
-    (subst (IsFrontOf (given_slots (length b.base.rows) (waits ++ more.wait ∷ []))) (sym grows.signals_are)
-    (front-more (signals_of a.history) (given_slots (length b.base.rows) (waits ++ more.wait ∷ [])) signals (given_slots (length a.base.rows) waits)
-    (known_slots (length a.base.rows) ready) are
-    (ap (λ (s : _). given_slots (length s.rows) (waits ++ more.wait ∷ [])) grows.base
-    ∙ given-slots (length a.base.rows) more.wait ready waits more.slots) front))
+    (record {
+      done = given_slots (length a.base.rows) waits ++ signals;
+      signals =
+          behind-more a.folded.readies b.folded.readies (given_slots (length a.base.rows) waits) _ _ signals (ap (λ (f : Folded). f.readies) grows.folded)
+          grows.signals_are are;
+      begin =
+          front-more (given_slots (length b.base.rows) (waits ++ more.wait ∷ [])) signals (given_slots (length a.base.rows) waits)
+          (known_slots (length a.base.rows) ready) (given-grown ready waits more.wait a b grows.base more.slots) front;
+    })
 
 -- a round informs
 pub informed-round : (answer : Woke) (moment : ℕ) (ready : List ℕ) (waits waits' : Option (List WaitTold)) (calls calls' : Option (List (ℕ × ℕ)))
@@ -267,6 +312,7 @@ informed-round answer moment ready waits waits' calls calls' a b informed is ask
     let grows : GrowsBy (ticks_to a.state.moment (moment_for moment)) (known_slots (length a.base.rows) ready) a b =
     record {
       base = round.acts.base;
+      folded = round.acts.folded;
       ticks_are = ticks-acts _ a b round.acts ∙ ap (λ (xs : List ℕ). ticks_of a.history ++ xs) (ticks-round round.round ∙ round.ticks);
       signals_are = signals-acts _ a b round.acts ∙ ap (λ (xs : List ℕ). signals_of a.history ++ xs) (signals-round round.round ∙ round.signals);
     } in
@@ -283,6 +329,7 @@ informed-broken answer moment ready waits waits' calls calls' a b informed is as
     let grows : GrowsBy round.round.ticks round.round.signals a b =
     record {
       base = round.acts.base;
+      folded = round.acts.folded;
       ticks_are = ticks-acts _ a b round.acts ∙ ap (λ (xs : List ℕ). ticks_of a.history ++ xs) (ticks-round round.round);
       signals_are = signals-acts _ a b round.acts ∙ ap (λ (xs : List ℕ). signals_of a.history ++ xs) (signals-round round.round);
     } in
@@ -299,6 +346,7 @@ informed-idle answer ready waits waits' calls b none informed is =
     let grows : GrowsBy [] (known_slots (length b.base.rows) ready) b b =
     record {
       base = refl;
+      folded = refl;
       ticks_are = sym (append-nil (ticks_of b.history));
       signals_are = sym (append-nil (signals_of b.history)) ∙ ap (λ (xs : List ℕ). signals_of b.history ++ xs) (sym slots);
     } in

@@ -1,7 +1,8 @@
 -- What the listener's calls leave of the server.
-use Rattle.std.proofs.Common.{◌≡◌, ◌==◌, ℕ, zero, suc, ◌<◌, Bool, true, false, not, ◌&&◌, ◌||◌, cond, List, [], ◌∷◌, length, count_by, nat_lt, nat_le, Option, None, Some, slice_get, unwrap_or, is_some, refl, sym, ap, subst, ◌∙◌, arith}
+use Rattle.std.proofs.Common.{◌≡◌, ◌==◌, ℕ, zero, suc, ◌+◌, ◌<◌, Bool, true, false, not, ◌&&◌, ◌||◌, cond, List, [], ◌∷◌, length, count_by, nat_lt, nat_le, Option, None, Some, slice_get, unwrap_or, is_some, refl, sym, ap, subst, ◌∙◌, arith}
 use Rattle.std.proofs.lemmas.Bool.{and_parts}
 use Rattle.std.proofs.lemmas.Bool.Decides.{nat_tests}
+use Rattle.std.proofs.lemmas.List.Sums.{sum_by-cons}
 use Rattle.std.proofs.lemmas.Option.{unwrap_or-slice_get}
 use Rattle.std.specs.Option.{option_map_or}
 use Rattle.std.specs.List.{list_any, find, range_with_len}
@@ -23,13 +24,16 @@ use Rattle.conn_machine.specs.States.{is_halted, is_serving, is_signalled}
 use Rattle.conn_machine.specs.Lists.{update}
 use Rattle.conn_machine.specs.Table.{is_allowed, next, child_passes, may_retire, may_be_held}
 use Rattle.conn_machine.specs.Sound.{IsSound}
-use Rattle.conn_machine.proofs.UpdateLemmas.{count_cons}
 use Rattle.board.specs.Finds.{startable, FindsRow, FindsRetirable, is_waiting, is_quiet}
 use Rattle.mpm_run.specs.Listen.{HasNoLive, AllEmpty}
 use Rattle.mpm_run.proofs.PassLemmas.{idle-place}
 use Rattle.mpm_run.proofs.FoundLemmas.{Lives, found-at, found-named, lives, passes-found}
 
 -- ## Counts
+
+-- a count of one more item
+pub count-cons : {X : Type 0} (p : X → Bool) (x : X) (xs : List X) → count_by p (x ∷ xs) ≡ cond (p x) 1 0 + count_by p xs
+count-cons p x xs = sum_by-cons (λ y. cond (p y) 1 0) x xs
 
 -- one item less passes where the changed one did and doesn't
 pub count-less : {X : Type 0} (p : X → Bool) (xs : List X) (i : ℕ) (x : X) (change : X → X) → slice_get xs i ≡ Some x → p x ≡ true
@@ -39,9 +43,9 @@ count-less p (z ∷ xs) zero x change at before after =
     let same : x ≡ z = cc in
     let before' : p z ≡ true = subst (λ y. p y ≡ true) same before in
     let after' : p (change z) ≡ false = subst (λ y. p (change y) ≡ false) same after in
-    rw (count_cons p (change z) xs, count_cons p z xs, before', after') (omega arith)
+    rw (count-cons p (change z) xs, count-cons p z xs, before', after') (omega arith)
 count-less p (z ∷ xs) (suc i) x change at before after =
-    rw (count_cons p z (update xs i change), count_cons p z xs) (omega (arith, count-less p xs i x change at before after))
+    rw (count-cons p z (update xs i change), count-cons p z xs) (omega (arith, count-less p xs i x change at before after))
 
 -- ## Starting children
 

@@ -10,11 +10,11 @@ use Rattle.conn_machine.specs.declared.row.Place.TheVariants.{Vacant, Spent, Hel
 use Rattle.conn_machine.specs.declared.row.Row.{Row}
 use Rattle.conn_machine.specs.declared.state.State.{State}
 use Rattle.conn_machine.specs.Passes.{HasNoneInHand, OnlyServes, asking_count}
+use Rattle.conn_machine.specs.Sizes.{HasSizesOf}
 use Rattle.conn_machine.specs.Rows.{is_live, is_parked, is_unused, is_with_a_pass}
 use Rattle.conn_machine.specs.Runs.{Adds, after}
 use Rattle.conn_machine.specs.States.{is_halted}
 use Rattle.conn_machine.specs.Table.{next}
-use Rattle.conn_machine.proofs.SizeLemmas.{length-rows}
 use Rattle.board.specs.Book.{SeenBook}
 use Rattle.worker_group.specs.Acts.{Acts, events_of}
 use Rattle.worker_group.specs.Service.{IsUp}
@@ -74,13 +74,13 @@ fewer-asking who name es has a b other here there acts law =
 
 -- ## The rows
 
--- the table has as many after any history
-after-rows : (s : State) (history : List Entry) → length (after s history).rows ≡ length s.rows
-after-rows s [] = refl
-after-rows s (e ∷ history) = after-rows (next s e.event) history ∙ length-rows s e.event
+-- the law of the machine: a history keeps the sizes
+abbrev pub KeepsSizes : Type 0
+KeepsSizes = (base : State) (history : List Entry) → HasSizesOf base (after base history)
 
-pub rows-kept : (b : SeenBook) → after b.base b.history ≡ b.state → length b.state.rows ≡ length b.base.rows
-rows-kept b state = ap (λ (s : State). length s.rows) (sym state) ∙ after-rows b.base b.history
+-- the table has as many after any history
+pub rows-kept : KeepsSizes → (b : SeenBook) → after b.base b.history ≡ b.state → length b.state.rows ≡ length b.base.rows
+rows-kept law b state = ap (λ (s : State). length s.rows) (sym state) ∙ (law b.base b.history).rows
 
 -- ## No connection is live
 

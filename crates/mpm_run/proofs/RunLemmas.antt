@@ -12,18 +12,19 @@ use Rattle.conn_machine.specs.declared.row.Row.{Row}
 use Rattle.conn_machine.specs.declared.event.Event.{Event}
 use Rattle.conn_machine.specs.declared.event.Event.TheVariants as event
 use Rattle.conn_machine.specs.declared.event.Entry.{Entry}
+use Rattle.conn_machine.specs.declared.folded.Folded.{Folded}
 use Rattle.conn_machine.specs.declared.state.State.{State}
 use Rattle.conn_machine.specs.Rows.{is_live}
 use Rattle.conn_machine.specs.Table.{next}
-use Rattle.conn_machine.specs.Folds.{IsNumberedFrom, IsInPassOrderFrom, opening_record}
-use Rattle.conn_machine.specs.Runs.{Run, after, IsHistory, IsInPassOrder}
+use Rattle.conn_machine.specs.Folds.{IsInPassOrderFrom, opening_record}
+use Rattle.conn_machine.specs.Runs.{Run, after}
 use Rattle.conn_machine.specs.Made.{AreMade, AreOfPasses}
 use Rattle.conn_machine.specs.Sound.{IsSound}
 use Rattle.conn_machine.specs.Events.{count_events, is_accept, is_close}
 use Rattle.conn_machine.specs.Laws.{StaysSound}
 use Rattle.conn_state.specs.Answered.{SeenEnded, IsAnswered, IsEnded}
 use Rattle.conn_state.specs.Known.{KnownOutside, TellsFrom}
-use Rattle.board.specs.Book.{StopsByLoad, TellsFullStop}
+use Rattle.board.specs.Book.{SeenBook, StopsByLoad, TellsFullStop}
 use Rattle.board.specs.Board.{SeenBoard, Agrees, AreClosed, AreEnded, ClosesFirst, EndedForClients}
 use Rattle.board.specs.Ranks.{AllTell, has_rank}
 use Rattle.mpm_run.specs.Links.{EndsLinks}
@@ -34,33 +35,36 @@ use Rattle.mpm_run.specs.Listen.{HasClosedAll, HasNoLive, IsClosedDown, IsRunFro
 
 -- ## The history
 
--- in the record of a value that never folded the next number of each pass is 0
-no-ordinals : (passes p : ℕ) → slice_index (replicate passes 0) p ≡ 0
-no-ordinals zero p = refl
-no-ordinals (suc passes) zero = refl
-no-ordinals (suc passes) (suc p) = no-ordinals passes p
-
--- in the order of its passes, a history is so behind that record
-order-opening : (passes : ℕ) (history : List Entry) → IsInPassOrder history → IsInPassOrderFrom (opening_record passes) history
-order-opening passes history order = λ p. subst (λ (first : ℕ). IsNumberedFrom first p history) (sym (no-ordinals passes p)) (order p)
+-- nothing was folded, where nothing was for as many passes
+pub unfolded_by : (n : RunNumbers) (b : SeenBook) → b.folded ≡ opening_record b.passes → b.passes ≡ n.passes → b.folded ≡ folded_by n
+unfolded_by n b unfolded passes = unfolded ∙ ap opening_record passes
 
 -- the history of a board that opened so is a run from there, each state of which is sound
-pub run-from : (n : RunNumbers) (b : SeenBoard) → b.book.base ≡ opened_by n → AreOfPasses n.passes b.book.history
+pub run-from : (n : RunNumbers) (b : SeenBoard) → b.book.base ≡ opened_by n → b.book.folded ≡ folded_by n → AreOfPasses n.passes b.book.history
     → ((s : State) (history : List Entry) → IsSound s → Run s history → StaysSound s history)
-    → IsHistory b.book.base b.book.history → AreMade b.book.base b.book.history → after b.book.base b.book.history ≡ b.book.state
-    → IsSound b.book.base → StopsByLoad b.book.history → TellsFullStop b.book.state.going b.book.history → Agrees b → IsRunFrom n b
-run-from n b opened few law is_history made state sound stops full agrees = record {
+    → Run b.book.base b.book.history → IsInPassOrderFrom b.book.folded b.book.history → AreMade b.book.base b.book.history
+    → after b.book.base b.book.history ≡ b.book.state → IsSound b.book.base → StopsByLoad b.book.history
+    → TellsFullStop b.book.state.going b.book.history → Agrees b → IsRunFrom n b
+run-from n b opened folded few law run order made state sound stops full agrees = record {
   opened = opened;
-  run = subst (λ (s : State). Run s b.book.history) opened is_history.run;
-  order = order-opening n.passes b.book.history is_history.order;
-  made = subst (λ (s : State). AreMade s b.book.history) opened made;
+  folded = folded;
+  run = run;
+  order = order;
+  made = made;
   few = few;
-  state = subst (λ (s : State). after s b.book.history ≡ b.book.state) opened state;
-  stays_sound = subst (λ (s : State). StaysSound s b.book.history) opened (law b.book.base b.book.history sound is_history.run);
+  state = state;
+  stays_sound = law b.book.base b.book.history sound run;
   stops = stops;
   full = full;
   agrees = agrees;
 }
+
+-- it is a run from the opening state
+pub run-opened : (n : RunNumbers) (b : SeenBoard) → IsRunFrom n b → Run (opened_by n) b.book.history
+run-opened n b run = subst (λ (s : State). Run s b.book.history) run.opened run.run
+
+state-opened : (n : RunNumbers) (b : SeenBoard) → IsRunFrom n b → after (opened_by n) b.book.history ≡ b.book.state
+state-opened n b run = subst (λ (s : State). after s b.book.history ≡ b.book.state) run.opened run.state
 
 -- ## The connections that were taken
 
@@ -104,7 +108,7 @@ none-counted (r ∷ rows) none = none-cons r rows (is_live r) refl none (none-co
 -- where no connection is live each that was taken ended
 pub closed-all : (n : RunNumbers) (b : SeenBoard) → IsRunFrom n b
     → count_events is_accept b.book.history ≡ count_events is_close b.book.history + count_by is_live (after (opened_by n) b.book.history).rows
-    → IsClosedDown b.book.state → HasClosedAll (folded_by n) b
+    → IsClosedDown b.book.state → HasClosedAll b
 closed-all n b run closed_or_live down = record {
   down = down;
   ended =
@@ -112,10 +116,10 @@ closed-all n b run closed_or_live down = record {
       omega (
         arith,
         closed_or_live,
-        none-counted (after (opened_by n) b.book.history).rows (subst HasNoLive (sym run.state) down.live),
+        none-counted (after (opened_by n) b.book.history).rows (subst HasNoLive (sym (state-opened n b run)) down.live),
         closed-count b.book.base b.book.history b.ended run.agrees.closed,
       ) in
-      ap (λ (m : ℕ). 0 + m) all;
+      subst (λ (f : Folded). f.closed + length b.ended ≡ f.accepted + count_events is_accept b.book.history) (sym run.folded) (ap (λ (m : ℕ). 0 + m) all);
 }
 
 -- ## What ended connections received
@@ -149,9 +153,10 @@ all-tell k [] ends = tt
 all-tell k (e ∷ ended) ends = ((ends.0.t, ends.0.told_is), all-tell k ended ends.1)
 
 -- as many ended as the history took
-closed-plain : (n : RunNumbers) (b : SeenBoard) → HasClosedAll (folded_by n) b → length b.ended ≡ count_events is_accept b.book.history
-closed-plain n b closed =
-    let all : 0 + length b.ended ≡ 0 + count_events is_accept b.book.history = closed.ended in
+closed-plain : (n : RunNumbers) (b : SeenBoard) → b.book.folded ≡ folded_by n → HasClosedAll b → length b.ended ≡ count_events is_accept b.book.history
+closed-plain n b folded closed =
+    let all : 0 + length b.ended ≡ 0 + count_events is_accept b.book.history =
+    subst (λ (f : Folded). f.closed + length b.ended ≡ f.accepted + count_events is_accept b.book.history) folded closed.ended in
     omega (arith, all)
 
 -- what is 1 below a bound and 0 from there on is 1 at most
@@ -171,20 +176,22 @@ pub ends-links : (n : RunNumbers) (b : SeenBoard) → IsRunFrom n b
     → (after (opened_by n) b.book.history).accepted < greatest_count → (after (opened_by n) b.book.history).accepted ≤ number
     → count_by (has_rank number) b.ended ≡ 0)
     → (after (opened_by n) b.book.history).accepted ≡ min (count_events is_accept b.book.history) greatest_count
-    → HasClosedAll (folded_by n) b → AllTell b.ended → EndsLinks (folded_by n) b
+    → HasClosedAll b → AllTell b.ended → EndsLinks b
 ends-links n b run once no_other counted closed tell few =
-    let few' = subst (λ (s : State). s.accepted < greatest_count) (sym run.state) few in
+    let opened = run-opened n b run in
+    let state = state-opened n b run in
+    let few' = subst (λ (s : State). s.accepted < greatest_count) (sym state) few in
     let of_entries = subst (λ (s : State). AreClosed s b.book.history b.ended) run.opened run.agrees.closed in
     let none : (number : ℕ) → b.book.state.accepted ≤ number → count_by (has_rank number) b.ended ≡ 0 =
-    λ number above. no_other number run.run of_entries tell few' (subst (λ (s : State). s.accepted ≤ number) (sym run.state) above) in
+    λ number above. no_other number opened of_entries tell few' (subst (λ (s : State). s.accepted ≤ number) (sym state) above) in
     let one : (number : ℕ) → number < b.book.state.accepted → count_by (has_rank number) b.ended ≡ 1 =
-    λ number below. once number run.run of_entries tell (subst HasNoLive (sym run.state) closed.down.live) few'
-    (subst (λ (s : State). number < s.accepted) (sym run.state) below) in
-    let all : length b.ended ≡ count_events is_accept b.book.history = closed-plain n b closed in
-    let as_many : length b.ended ≡ b.book.state.accepted = omega (arith, all, counted, few', ap (λ (s : State). s.accepted) run.state) in
+    λ number below. once number opened of_entries tell (subst HasNoLive (sym state) closed.down.live) few'
+    (subst (λ (s : State). number < s.accepted) (sym state) below) in
+    let all : length b.ended ≡ count_events is_accept b.book.history = closed-plain n b run.folded closed in
+    let as_many : length b.ended ≡ b.book.state.accepted = omega (arith, all, counted, few', ap (λ (s : State). s.accepted) state) in
     record {
       tell = tell;
       once = λ number. at-most-one number b.book.state.accepted (count_by (has_rank number) b.ended) (one number) (none number);
       taken = none;
-      as_many = omega (arith, as_many);
+      as_many = subst (λ (f : Folded). f.closed + length b.ended ≡ b.book.state.accepted) (sym run.folded) (omega (arith, as_many));
     }

@@ -1,15 +1,16 @@
 -- A server that has just opened.
-use Rattle.std.proofs.Common.{◌≡◌, inl, inr, ℕ, true, List, [], ◌∷◌, ◌++◌, map, Option, None, Some, option_map, IfSome, refl, sym, ap, subst, ◌∙◌, arith}
+use Rattle.std.proofs.Common.{◌≡◌, inl, inr, ℕ, true, List, [], ◌∷◌, ◌++◌, drop, length, map, ◌≤◌, Option, None, Some, option_map, IfSome, refl, sym, ap, subst, ◌∙◌, arith}
 use Rattle.mpm_base.specs.Clock.{asked_at}
 use Rattle.mpm_base.specs.Front.{Binds, BoundTold, FrontSeen, FrontTold, IsUnused, WaitTold, after_bind, moments_of}
 use Rattle.mpm_base.specs.declared.addr.Addr.{Addr}
 use Rattle.conn_machine.specs.Made.{AreOfPasses, IsOpened}
+use Rattle.conn_machine.specs.declared.folded.Folded.{Folded}
 use Rattle.conn_machine.specs.declared.state.State.{State}
 use Rattle.board.specs.Book.{SeenBook}
 use Rattle.mpm_run.specs.FirstNumbers.{AreNumbers, folded_by, opened_book}
 use Rattle.mpm_run.specs.ListenInside.{Follows, HasStopped, IsAtStart, IsInStep, IsInTime, WatchesAll, bound_of, waits_of}
-use Rattle.mpm_run.specs.Times.{IsInformed, SignalsAre, TicksAre}
-use Rattle.mpm_run.specs.Watched.{AreClosedAtOnce, AreWatched, IsBoundOnce, IsHushed, IsOpenedAndHushed, link_watched}
+use Rattle.mpm_run.specs.Times.{AreBehind, IsInformed, SignalsAre, TicksAre}
+use Rattle.mpm_run.specs.Watched.{AreClosedAtOnce, AreWatched, IsBoundOnce, IsHushed, IsOpenedAndHushed, accepted_names, link_watched, links_from}
 use Rattle.mpm_run.specs.declared.run_numbers.RunNumbers.{RunNumbers}
 use Rattle.mpm_run.proofs.FrontLemmas.{rises-after}
 
@@ -24,16 +25,20 @@ opens n b numbers opened =
     subst (λ (s : SeenBook). IsOpened s.base) (sym opened)
     (record { slots = n.slots; children = n.children; shape = n.shape; bounds = numbers.in_bounds; state = refl })
 
+-- nothing was folded, and there is nothing
+behind-none : AreBehind 0 [] []
+behind-none = record { first = []; many = refl; all_are = refl }
+
 -- a clock that wasn't asked, and a history without ticks
 ticks-opened : (n : RunNumbers) (calls : Option (List (ℕ × ℕ))) → IfSome calls (λ calls. calls ≡ []) → IfSome calls (λ calls. TicksAre calls (opened_book n))
 ticks-opened n None none = tt
 ticks-opened n (Some calls) none =
-    subst (λ (calls : List (ℕ × ℕ)). TicksAre calls (opened_book n)) (sym none) (record { ticks = refl; moment = refl })
+    subst (λ (calls : List (ℕ × ℕ)). TicksAre calls (opened_book n)) (sym none) (record { ticks = behind-none; moment = refl })
 
 -- a front that didn't wait, and a history without signals
 signals-opened : (n : RunNumbers) (told : Option FrontTold) → IfSome told (λ t. IsUnused (record t { bound = [] })) → IfSome (waits_of told) (λ waits. SignalsAre waits (opened_book n))
 signals-opened n None none = tt
-signals-opened n (Some t) none = subst (λ (waits : List WaitTold). SignalsAre waits (opened_book n)) (sym none.waits) refl
+signals-opened n (Some t) none = subst (λ (waits : List WaitTold). SignalsAre waits (opened_book n)) (sym none.waits) behind-none
 
 -- so nothing was told and nothing done
 pub informed-opened : (n : RunNumbers) (told : Option FrontTold) (calls : Option (List (ℕ × ℕ))) (b : SeenBook) → b ≡ opened_book n → IsIdle told calls
@@ -148,10 +153,16 @@ watching-opened n (Some t) calls b opened idle =
     })
 
 -- and in the end each link that the table took
-pub are-watched : (n : RunNumbers) (told : Option FrontTold) (b : SeenBook) → IfSome told (WatchesAll b)
-    → IfSome told (AreWatched (folded_by n) b.history)
-are-watched n None b all = tt
-are-watched n (Some t) b all = record { before = omega arith; watches = all.watches.watches; failed = all.watches.failed }
+pub are-watched : (n : RunNumbers) (told : Option FrontTold) (b : SeenBook) → b.folded ≡ folded_by n → IfSome told (WatchesAll b)
+    → IfSome told (AreWatched b)
+are-watched n None b folded all = tt
+are-watched n (Some t) b folded all = record {
+  before = subst (λ (f : Folded). f.accepted ≤ length t.watches) (sym folded) (omega arith);
+  watches =
+      subst (λ (f : Folded). map link_watched (drop f.accepted t.watches) ≡ links_from f.accepted (accepted_names b.history)) (sym folded)
+      all.watches.watches;
+  failed = subst (λ (f : Folded). AreClosedAtOnce b.history (drop f.accepted t.watches)) (sym folded) all.watches.failed;
+}
 
 -- ## Patience
 

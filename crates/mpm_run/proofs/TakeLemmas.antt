@@ -17,7 +17,7 @@ use Rattle.conn_machine.specs.Rows.{is_vacant, row_passes, live_row}
 use Rattle.conn_machine.specs.Children.{child_at}
 use Rattle.conn_machine.specs.States.{is_serving, pick_child}
 use Rattle.conn_machine.specs.Table.{is_allowed, next, is_vacant_at, picked_child, taken_row, life_at}
-use Rattle.conn_machine.specs.Runs.{Run, after, IsHistory}
+use Rattle.conn_machine.specs.Runs.{Run, after}
 use Rattle.board.specs.Book.{SeenBook, book_with_entry}
 use Rattle.board.specs.Events.{IsTaken}
 use Rattle.board.specs.Finds.{acceptable}
@@ -67,11 +67,11 @@ last-allowed s [] e run = run.0
 last-allowed s (x ∷ history) e run = last-allowed (next s x.event) history e run.2
 
 -- the accept was allowed
-pub accept-allowed : (who slot : ℕ) (b b' : SeenBook) → after b.base b.history ≡ b.state → IsHistory b'.base b'.history
+pub accept-allowed : (who slot : ℕ) (b b' : SeenBook) → after b.base b.history ≡ b.state → Run b'.base b'.history
     → b' ≡ book_with_entry who (event.Accept slot) b → is_allowed b.state (event.Accept slot) ≡ true
-accept-allowed who slot b b' state is_history is =
-    let here = subst (λ (x : SeenBook). IsHistory x.base x.history) is is_history in
-    subst (λ (s : State). is_allowed s (event.Accept slot) ≡ true) state (last-allowed b.base b.history _ here.run)
+accept-allowed who slot b b' state run is =
+    let here = subst (λ (x : SeenBook). Run x.base x.history) is run in
+    subst (λ (s : State). is_allowed s (event.Accept slot) ≡ true) state (last-allowed b.base b.history _ here)
 
 taken-of : ChangesInPlace → (s : State) (slot : ℕ) (name : ConnName) (child generation : ℕ) (r : Row) → slice_get s.rows slot ≡ Some r → name.slot ≡ slot
     → IsTaken s name child generation → HasTaken (next s (event.Accept slot)) name child generation s.accepted

@@ -280,7 +280,7 @@ pub record HasServed (a b : SeenListener) : Type 0 where
 served-informed : ActsInSteps → (tells : Type 0) (first a b : SeenListener) → IsBetween tells first a → HasServed a b → IsInformed (waits_of a.front.told) a.calls b.board.book
 served-informed steps tells first a b before served =
     informed-as (waits_of a.front.told) a.calls a.board.book b.board.book
-    (tells-same a.board.book b.board.book served.acts.base
+    (tells-same a.board.book b.board.book served.acts.base served.acts.folded
     (ap (map (λ (e : Entry). e.event)) (steps.others 1 0 served.events None a.board.book b.board.book served.acts another))) served.serves.moment before.informed
 
 served-watched : (tells : Type 0) (first a b : SeenListener) → IsBetween tells first a → HasServed a b → Watching tells first → tells

@@ -10,9 +10,9 @@ use Rattle.conn_machine.specs.declared.state.State.{State}
 use Rattle.conn_machine.specs.Rows.{carried_count, is_carried_at, is_carried_by, is_held, is_lingering, is_parked, is_unused, is_with_a_pass}
 use Rattle.conn_machine.specs.Sound.{IsSound}
 use Rattle.conn_machine.specs.States.{child_of, is_signalled}
-use Rattle.conn_machine.proofs.UpdateLemmas.{count_cons}
 use Rattle.board.specs.Finds.{has_to_be_drained, is_due}
 use Rattle.mpm_run.specs.Patient.{IsAtRest, NoneSignalled}
+use Rattle.mpm_run.proofs.ListenLemmas.{count-cons}
 
 not-carried : (k : ℕ) (r : Row) → is_with_a_pass r.place ≡ false → is_carried_by k r ≡ false
 not-carried k r none = and_right (r.child == k) (is_carried_at r.place) (or_parts (is_held r.place) (is_carried_at r.place) none).1
@@ -23,7 +23,7 @@ none-carried [] k none = refl
 none-carried (r ∷ rows) k none =
     let parts = or_parts (is_with_a_pass r.place) (list_any (λ (x : Row). is_with_a_pass x.place) rows) none in
     let rest : carried_count rows k ≡ 0 = none-carried rows k parts.1 in
-    count_cons (is_carried_by k) r rows ∙ rw (not-carried k r parts.0) (omega (arith, rest))
+    count-cons (is_carried_by k) r rows ∙ rw (not-carried k r parts.0) (omega (arith, rest))
 
 parked-used : (p : Place) → is_parked p ≡ true → not (is_unused p) ≡ true
 parked-used Vacant parked = absurd (cc parked)

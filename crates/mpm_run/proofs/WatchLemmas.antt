@@ -1,5 +1,5 @@
 -- That each link that the table took is watched under the name of its connection, which is closed where that failed.
-use Rattle.std.proofs.Common.{◌≡◌, ◌≢◌, ◌==◌, ℕ, Bool, true, false, if◌then◌else◌, List, [], ◌∷◌, ◌++◌, length, map, Option, None, Some, option_map, is_none, Result, Ok, Err, IfErr, IfSome, OnOk, refl, sym, ap, subst, ◌∙◌, append-nil, append_assoc, eqb-true}
+use Rattle.std.proofs.Common.{◌≡◌, ◌≢◌, ◌==◌, ℕ, Bool, true, false, if◌then◌else◌, List, [], ◌∷◌, ◌++◌, length, map, Option, None, Some, option_map, is_none, Result, Ok, Err, IfErr, IfSome, OnOk, refl, sym, ap, subst, ◌∙◌, append-nil, append_assoc, eq-eqb, eqb-true}
 use Rattle.std.proofs.lemmas.Bool.{and_parts}
 use Rattle.std.proofs.lemmas.Grind.{flat_map-append}
 use Rattle.std.proofs.lemmas.List.{map-append}
@@ -22,7 +22,6 @@ use Rattle.conn_machine.specs.declared.event.Reply.{Reply}
 use Rattle.conn_machine.specs.declared.state.State.{State}
 use Rattle.conn_machine.specs.States.{is_halted}
 use Rattle.conn_machine.specs.Runs.{AreEntriesOf, entries_of, has_after, is_of_pass, may_make, row_of, taken_name}
-use Rattle.conn_machine.proofs.PassRows.{row_own}
 use Rattle.board.specs.declared.faults.BoardFault.{BoardFault}
 use Rattle.board.specs.declared.faults.BoardFault.TheVariants as fault
 use Rattle.board.specs.Book.{SeenBook}
@@ -206,22 +205,26 @@ took-name e answer slot had name is has =
     let took : taken_name answer ≡ Some name = subst (λ (x : Event). has_after had x answer ≡ Some name) is has in
     ap (λ (x : Event). names_given x answer) is ∙ ap name_in took
 
-took-added : (slot : ℕ) (name : ConnName) (base : State) (before after' added : List Entry) → events_in added ≡ event.Accept slot ∷ [] → after' ≡ before ++ added
+-- the law of the machine: the last entry of a pass leaves it the connection that it has
+abbrev pub LeavesItsRow : Type 0
+LeavesItsRow = (p : ℕ) (history : List Entry) (e : Entry) → is_of_pass p e ≡ true → row_of p (history ++ e ∷ []) ≡ has_after (row_of p history) e.event e.reply
+
+took-added : LeavesItsRow → (slot : ℕ) (name : ConnName) (base : State) (before after' added : List Entry) → events_in added ≡ event.Accept slot ∷ [] → after' ≡ before ++ added
     → AreEntriesOf 0 base before added → row_of 0 after' ≡ Some name → accepted_names added ≡ name ∷ []
-took-added slot name base before after' [] events is are row = absurd (cc events)
-took-added slot name base before after' (e ∷ []) events is are row =
+took-added law slot name base before after' [] events is are row = absurd (cc events)
+took-added law slot name base before after' (e ∷ []) events is are row =
     let event_is : e.event ≡ event.Accept slot = cc events in
-    let has : has_after (row_of 0 before) e.event e.reply ≡ Some name = sym (row_own 0 before e are.0.pass) ∙ ap (row_of 0) (sym is) ∙ row in
+    let has : has_after (row_of 0 before) e.event e.reply ≡ Some name = sym (law 0 before e (eq-eqb e.pass 0 are.0.pass)) ∙ ap (row_of 0) (sym is) ∙ row in
     append-nil (names_given e.event e.reply) ∙ took-name e.event e.reply slot (row_of 0 before) name event_is has
-took-added slot name base before after' (e ∷ f ∷ added) events is are row = absurd (cc events)
+took-added law slot name base before after' (e ∷ f ∷ added) events is are row = absurd (cc events)
 
 -- a connection that was taken is named last
-names-took : (slot : ℕ) (name : ConnName) (a b : SeenBook) → Acts 0 (event.Accept slot ∷ []) (Some name) a b
+names-took : LeavesItsRow → (slot : ℕ) (name : ConnName) (a b : SeenBook) → Acts 0 (event.Accept slot ∷ []) (Some name) a b
     → accepted_names b.history ≡ accepted_names a.history ++ name ∷ []
-names-took slot name a b acts =
+names-took law slot name a b acts =
     names-added 0 _ (Some name) a b acts
     ∙ ap (λ (names : List ConnName). accepted_names a.history ++ names)
-    (took-added slot name a.base a.history b.history acts.entries.0 (added-events 0 _ (Some name) a b acts) acts.entries.1 acts.entries.2 acts.row)
+    (took-added law slot name a.base a.history b.history acts.entries.0 (added-events 0 _ (Some name) a b acts) acts.entries.1 acts.entries.2 acts.row)
 
 -- ## A connection that was taken, and left
 
@@ -240,12 +243,12 @@ entries-added es has a b acts =
     ∙ ap (λ (xs : List Entry). entries_of 0 a.history ++ xs) (added-own 0 a.base a.history acts.entries.0 acts.entries.2)
 
 -- a connection that was taken, and closed by the next entry of the listener
-closed-at-once : (slot : ℕ) (name : ConnName) (a m b : SeenBook) → Acts 0 (event.Accept slot ∷ []) (Some name) a m
+closed-at-once : LeavesItsRow → (slot : ℕ) (name : ConnName) (a m b : SeenBook) → Acts 0 (event.Accept slot ∷ []) (Some name) a m
     → Acts 0 (event.Close name LinkFailed Direct ∷ []) None m b → IsClosedAtOnce b.history name
-closed-at-once slot name a m b took left =
+closed-at-once law slot name a m b took left =
     let first = one-entry took.entries.0 (event.Accept slot) (added-events 0 _ (Some name) a m took) in
     let second = one-entry left.entries.0 (event.Close name LinkFailed Direct) (added-events 0 _ None m b left) in
-    let named = took-added slot name a.base a.history m.history took.entries.0 (added-events 0 _ (Some name) a m took) took.entries.1 took.entries.2 took.row in
+    let named = took-added law slot name a.base a.history m.history took.entries.0 (added-events 0 _ (Some name) a m took) took.entries.1 took.entries.2 took.row in
     record {
       before = entries_of 0 a.history;
       took = first.0;
@@ -268,13 +271,13 @@ pub record TakesOne (name : ConnName) (watched : Bool) (a b : SeenBook) : Type 0
   pub names : accepted_names b.history ≡ accepted_names a.history ++ name ∷ []
   pub failed : watched ≡ false → IsClosedAtOnce b.history name
 
-takes-left : (name : ConnName) (watched : Bool) (a m b : SeenBook) → Acts 0 (event.Accept name.slot ∷ []) (Some name) a m → TakesNobody m b
+takes-left : LeavesItsRow → (name : ConnName) (watched : Bool) (a m b : SeenBook) → Acts 0 (event.Accept name.slot ∷ []) (Some name) a m → TakesNobody m b
     → (watched ≡ false → IsClosedAtOnce b.history name) → TakesOne name watched a b
-takes-left name watched a m b took nobody closed = record {
+takes-left law name watched a m b took nobody closed = record {
   more = took.entries.0 ++ nobody.more;
   history =
       nobody.history ∙ ap (λ (es : List Entry). es ++ nobody.more) took.entries.1 ∙ append_assoc a.history took.entries.0 nobody.more;
-  names = nobody-named m b nobody ∙ names-took name.slot name a m took;
+  names = nobody-named m b nobody ∙ names-took law name.slot name a m took;
   failed = closed;
 }
 
@@ -285,12 +288,12 @@ nobody-left (Ok x) way name name' a b left given = nobody-acts 0 _ None a b left
 nobody-left (Err f) way name name' a b left given = nobody-acts 0 _ None a b given (none-left (exit.GiveUp f) name')
 
 -- so it is of a connection that was taken and left
-pub takes-one-left : {T : Type 0} (r : Result T BoardFault) (name name' : ConnName) (watched : Bool) (a m b : SeenBook)
+pub takes-one-left : {T : Type 0} → LeavesItsRow → (r : Result T BoardFault) (name name' : ConnName) (watched : Bool) (a m b : SeenBook)
     → Acts 0 (event.Accept name.slot ∷ []) (Some name) a m → name' ≡ name → OnOk r (Acts 0 (left_events (way_of watched) name') None m b)
     → IfErr r (λ f. GivesUp f name' m b) → (watched ≡ false → Acts 0 (left_events (way_of false) name') None m b) → TakesOne name watched a b
-takes-one-left r name name' watched a m b took same left given closed =
-    takes-left name watched a m b took (nobody-left r (way_of watched) name' name' m b left given)
-    (λ failed. closed-at-once name.slot name a m b took
+takes-one-left law r name name' watched a m b took same left given closed =
+    takes-left law name watched a m b took (nobody-left r (way_of watched) name' name' m b left given)
+    (λ failed. closed-at-once law name.slot name a m b took
     (subst (λ (n : ConnName). Acts 0 (left_events (way_of false) n) None m b) same (closed failed)))
 
 -- ## Connections that were closed at once

@@ -13,12 +13,11 @@ use Rattle.mpm_script.specs.declared.script.ScriptFault.TheVariants as script
 use Rattle.conn_machine.specs.declared.event.Why.TheVariants as why
 use Rattle.conn_machine.specs.declared.state.Going.{Going}
 use Rattle.conn_machine.specs.declared.state.Going.TheVariants.{Halted}
-use Rattle.conn_machine.specs.Folds.{opening_record}
 use Rattle.conn_machine.specs.Runs.{full_load, load}
 use Rattle.board.specs.Book.{HasEntryOf, full_stop}
 use Rattle.board.specs.Board.{SeenBoard}
 use Rattle.mpm_run.specs.Invocations.{IsNoInvocation, script_words}
-use Rattle.mpm_run.specs.FirstNumbers.{first_numbers, folded_by}
+use Rattle.mpm_run.specs.FirstNumbers.{first_numbers}
 use Rattle.mpm_run.specs.Listen.{HasClosedAll, IsRunFrom}
 use Rattle.mpm_run.specs.Patient.{ArePatient}
 use Rattle.mpm_run.specs.Report.{report_of}
@@ -132,9 +131,9 @@ EndsRefused call = EndsTooLarge call ⊎ EndsAtLine call
 
 -- ## Where a run opened
 
--- the report of a board, which never folded
+-- the report of a board: of the record of what was folded, of the history behind it, and of the connections that ended in that
 abbrev pub board_report : SeenBoard → List ℕ
-board_report b = report_of (opening_record b.book.passes) b.book.history b.book.state.newest b.ended
+board_report b = report_of b.book.folded b.book.history b.book.state.newest b.ended
 
 -- the report of the board was written whole
 abbrev pub Reports : SinkSeen → SinkSeen → SeenBoard → Type 0
@@ -144,7 +143,7 @@ Reports old new b = new.told ≡ option_map (λ written. written ++ board_report
 -- received a front of what its client sends, and all of it where the client had done
 pub record HasRun (clients : List (List ℕ)) (b : SeenBoard) : Type 0 where
   pub run : IsRunFrom first_numbers b
-  pub closed : HasClosedAll (folded_by first_numbers) b
+  pub closed : HasClosedAll b
   pub receive : AllReceive clients b.ended
 
 -- a script was read, and what is left is of a run of it: a board, and the front that played the script

@@ -45,4 +45,4 @@ folded_by n = opening_record n.passes
 
 -- the book of a board that opens by these numbers
 abbrev pub opened_book : RunNumbers → SeenBook
-opened_book n = record { base = opened_by n; history = []; state = opened_by n; passes = n.passes }
+opened_book n = record { base = opened_by n; folded = folded_by n; history = []; state = opened_by n; passes = n.passes }

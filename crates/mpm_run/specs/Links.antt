@@ -3,7 +3,6 @@ use Rattle.std.specs.Prelude.{◌≡◌, ◌⊎◌, ◌<◌, ◌≤◌, ◌+◌,
 use Rattle.mpm_base.specs.Count.{greatest_count, next_count}
 use Rattle.mpm_base.specs.Front.{FrontTold, client_at}
 use Rattle.mpm_base.specs.Link.{after_close, fresh_link}
-use Rattle.conn_machine.specs.declared.folded.Folded.{Folded}
 use Rattle.conn_machine.specs.declared.state.State.{State}
 use Rattle.board.specs.Board.{SeenBoard}
 use Rattle.board.specs.Ranks.{AllTell, has_rank}
@@ -30,20 +29,20 @@ TakesLinks s t = HandsOutTaken s t ⊎ (IsBrokenOff s.going × TurnsOneAway s t)
 
 -- the links of the connections that ended tell; they are, each once, links that the table took, and no other link; and with those of
 -- the connections that were folded they are as many as the table took
-pub record EndsEachOnce (f : Folded) (b : SeenBoard) : Type 0 where
+pub record EndsEachOnce (b : SeenBoard) : Type 0 where
   pub tell : AllTell b.ended
   pub once : (number : ℕ) → count_by (has_rank number) b.ended ≤ 1
   pub taken : (number : ℕ) → b.book.state.accepted ≤ number → count_by (has_rank number) b.ended ≡ 0
-  pub as_many : f.closed + length b.ended ≡ b.book.state.accepted
+  pub as_many : b.book.folded.closed + length b.ended ≡ b.book.state.accepted
 
 -- the same, while fewer connections were taken than the greatest count
-abbrev pub EndsLinks : Folded → SeenBoard → Type 0
-EndsLinks f b = b.book.state.accepted < greatest_count → EndsEachOnce f b
+abbrev pub EndsLinks : SeenBoard → Type 0
+EndsLinks b = b.book.state.accepted < greatest_count → EndsEachOnce b
 
 -- ## Both
 
 -- what became of the links that the front handed out: the table took each but for one at most, which was turned away, and each that
 -- it took is the link of one connection that ended
-pub record KeepsLinks (f : Folded) (b : SeenBoard) (t : FrontTold) : Type 0 where
+pub record KeepsLinks (b : SeenBoard) (t : FrontTold) : Type 0 where
   pub taken : TakesLinks b.book.state t
-  pub ended : EndsLinks f b
+  pub ended : EndsLinks b

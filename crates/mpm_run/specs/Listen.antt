@@ -6,7 +6,6 @@ use Rattle.conn_machine.specs.Rows.{is_live}
 use Rattle.conn_machine.specs.Children.{child_at, is_empty}
 use Rattle.conn_machine.specs.Events.{count_events, is_accept}
 use Rattle.conn_machine.specs.Folds.{IsInPassOrderFrom}
-use Rattle.conn_machine.specs.declared.folded.Folded.{Folded}
 use Rattle.conn_machine.specs.Runs.{Run, after}
 use Rattle.conn_machine.specs.Made.{AreMade, AreOfPasses}
 use Rattle.conn_machine.specs.Laws.{StaysSound}
@@ -32,24 +31,25 @@ pub record IsClosedDown (s : State) : Type 0 where
 
 -- ## A run
 
--- the history that is kept is one of the machine, from the opening state of these numbers on, in the order of its passes, and
+-- the history that is kept is one of the machine, from the state before it, in the order of its passes behind what was folded, and
 -- each entry is one that its pass, one of so many, may make where it stands; each state on its way is sound; a stop because the history is full
 -- stands only where it is, and one for want of memory only where it isn't; the first is told by the state; and the connections agree
--- with the history
+-- with the history. The state before it is the opening one of these numbers, and nothing was folded
 pub record IsRunFrom (n : RunNumbers) (b : SeenBoard) : Type 0 where
   pub opened : b.book.base ≡ opened_by n
-  pub run : Run (opened_by n) b.book.history
-  pub order : IsInPassOrderFrom (folded_by n) b.book.history
-  pub made : AreMade (opened_by n) b.book.history
+  pub folded : b.book.folded ≡ folded_by n
+  pub run : Run b.book.base b.book.history
+  pub order : IsInPassOrderFrom b.book.folded b.book.history
+  pub made : AreMade b.book.base b.book.history
   pub few : AreOfPasses n.passes b.book.history
-  pub state : after (opened_by n) b.book.history ≡ b.book.state
-  pub stays_sound : StaysSound (opened_by n) b.book.history
+  pub state : after b.book.base b.book.history ≡ b.book.state
+  pub stays_sound : StaysSound b.book.base b.book.history
   pub stops : StopsByLoad b.book.history
   pub full : TellsFullStop b.book.state.going b.book.history
   pub agrees : Agrees b
 
 -- it closed each connection: none is live, each child is gone, and as many connections ended as were taken, those that were folded
 -- among both
-pub record HasClosedAll (f : Folded) (b : SeenBoard) : Type 0 where
+pub record HasClosedAll (b : SeenBoard) : Type 0 where
   pub down : IsClosedDown b.book.state
-  pub ended : f.closed + length b.ended ≡ f.accepted + count_events is_accept b.book.history
+  pub ended : b.book.folded.closed + length b.ended ≡ b.book.folded.accepted + count_events is_accept b.book.history

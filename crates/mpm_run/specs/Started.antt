@@ -3,9 +3,9 @@ use Rattle.std.specs.Prelude.{◌≡◌, ◌≢◌, ℕ, List, [], ◌++◌, map
 use Rattle.std.specs.List.{range_with_len}
 use Rattle.mpm_base.specs.Front.{FrontTold}
 use Rattle.conn_machine.specs.declared.event.Entry.{Entry}
-use Rattle.conn_machine.specs.declared.folded.Folded.{Folded}
 use Rattle.conn_machine.specs.declared.event.Event.{Event}
 use Rattle.conn_machine.specs.declared.event.Event.TheVariants as event
+use Rattle.board.specs.Book.{SeenBook}
 use Rattle.mpm_run.specs.declared.run_numbers.RunNumbers.{RunNumbers}
 
 -- the starts of the first so many children, in order of number
@@ -21,5 +21,5 @@ abbrev pub first_children : RunNumbers → ℕ
 first_children n = min n.shape.target n.children
 
 -- where nothing was folded, and the front waited at all, these children were started before all else, in order of number
-abbrev pub IsStartedFirst : Folded → RunNumbers → List Entry → FrontTold → Type 0
-IsStartedFirst f n history t = f.entries ≡ 0 → t.waits ≢ [] → BeginsWithStarts (first_children n) history
+abbrev pub IsStartedFirst : RunNumbers → SeenBook → FrontTold → Type 0
+IsStartedFirst n b t = b.folded.entries ≡ 0 → t.waits ≢ [] → BeginsWithStarts (first_children n) b.history

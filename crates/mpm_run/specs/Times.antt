@@ -1,4 +1,5 @@
--- How the ticks and signals of a history come from the clock and the front.
+-- How the ticks and signals of a history come from the clock and the front. Those of what was folded stand first, and the record counts
+-- them.
 use Rattle.std.specs.Prelude.{◌≡◌, ◌⊎◌, ℕ, List, [], ◌∷◌, ◌++◌, length, map, filter, max, min, nat_lt, if◌then◌else◌, Option, IfSome}
 use Rattle.std.specs.List.{flat_map}
 use Rattle.mpm_base.specs.Moment.{greatest_moment}
@@ -12,6 +13,14 @@ use Rattle.conn_machine.specs.declared.state.Going.TheVariants.{Halted}
 use Rattle.conn_state.specs.Conn.{IsFrontOf}
 use Rattle.board.specs.Book.{SeenBook}
 use Rattle.worker_group.specs.Acts.{events_of}
+
+-- ## What the record counts
+
+-- behind the first so many of all, which were folded, these are the others in order
+pub record AreBehind (count : ℕ) (all others : List ℕ) : Type 0 where
+  pub first : List ℕ
+  pub many : length first ≡ count
+  pub all_are : all ≡ first ++ others
 
 -- ## Ticks
 
@@ -57,9 +66,10 @@ latest moment (a ∷ answers) = latest (max moment (moment_for a)) answers
 abbrev pub answers_of : List (ℕ × ℕ) → List ℕ
 answers_of calls = map (λ call. call.1) calls
 
--- time passed to each answer of the clock that was later than those before it, and to no other moment
+-- time passed to each answer of the clock that was later than those before it, and to no other moment: the moments are those of the
+-- ticks that were folded, and then those of the history
 pub record TicksAre (calls : List (ℕ × ℕ)) (b : SeenBook) : Type 0 where
-  pub ticks : ticks_of b.history ≡ rises 0 (answers_of calls)
+  pub ticks : AreBehind b.folded.ticks (rises 0 (answers_of calls)) (ticks_of b.history)
   pub moment : b.state.moment ≡ latest 0 (answers_of calls)
 
 -- these are all of the moments, or all but the last
@@ -67,8 +77,10 @@ abbrev pub LacksOne : List ℕ → List ℕ → Type 0
 LacksOne whole done = (done ≡ whole) ⊎ ((m : ℕ) × (whole ≡ done ++ m ∷ []))
 
 -- the same, perhaps but for the last of them
-abbrev pub TicksBegin : List (ℕ × ℕ) → SeenBook → Type 0
-TicksBegin calls b = LacksOne (rises 0 (answers_of calls)) (ticks_of b.history)
+pub record TicksBegin (calls : List (ℕ × ℕ)) (b : SeenBook) : Type 0 where
+  pub done : List ℕ
+  pub ticks : AreBehind b.folded.ticks done (ticks_of b.history)
+  pub lacks : LacksOne (rises 0 (answers_of calls)) done
 
 -- ## Signals
 
@@ -100,13 +112,16 @@ known_slots rows slots = filter (λ slot. nat_lt slot rows) slots
 abbrev pub given_slots : ℕ → List WaitTold → List ℕ
 given_slots rows waits = flat_map (λ wait. known_slots rows wait.slots) waits
 
--- each slot that a wait gave was signalled once, in order, and no other
+-- each slot that a wait gave was signalled once, in order, and no other: they are those of the signals that were folded, and then those
+-- of the history
 abbrev pub SignalsAre : List WaitTold → SeenBook → Type 0
-SignalsAre waits b = signals_of b.history ≡ given_slots (length b.base.rows) waits
+SignalsAre waits b = AreBehind b.folded.readies (given_slots (length b.base.rows) waits) (signals_of b.history)
 
 -- the same of the first of them
-abbrev pub SignalsBegin : List WaitTold → SeenBook → Type 0
-SignalsBegin waits b = IsFrontOf (given_slots (length b.base.rows) waits) (signals_of b.history)
+pub record SignalsBegin (waits : List WaitTold) (b : SeenBook) : Type 0 where
+  pub done : List ℕ
+  pub signals : AreBehind b.folded.readies done (signals_of b.history)
+  pub begin : IsFrontOf (given_slots (length b.base.rows) waits) done
 
 -- ## Both
 

@@ -7,11 +7,11 @@ use Rattle.mpm_base.specs.declared.conn.Cause.TheVariants.{LinkFailed}
 use Rattle.mpm_base.specs.declared.conn.ConnName.{ConnName}
 use Rattle.mpm_base.specs.declared.conn.Tail.TheVariants.{Direct}
 use Rattle.conn_machine.specs.declared.event.Entry.{Entry}
-use Rattle.conn_machine.specs.declared.folded.Folded.{Folded}
 use Rattle.conn_machine.specs.declared.event.Event.{Event}
 use Rattle.conn_machine.specs.declared.event.Event.TheVariants as event
 use Rattle.conn_machine.specs.declared.event.Reply.{Reply}
 use Rattle.conn_machine.specs.Runs.{entries_of, taken_name}
+use Rattle.board.specs.Book.{SeenBook}
 use Rattle.mpm_run.specs.declared.run_numbers.RunNumbers.{RunNumbers}
 
 -- ## Opening and closing
@@ -82,7 +82,7 @@ AreClosedAtOnce history (w ∷ watches) = (w.answer ≡ false → IsClosedAtOnce
 
 -- behind the watches of the connections whose entries were folded, each link that the table took was watched once, in order, under
 -- the name of its connection, and no other link was; and where the watch failed the connection was closed at once
-pub record AreWatched (f : Folded) (history : List Entry) (t : FrontTold) : Type 0 where
-  pub before : f.accepted ≤ length t.watches
-  pub watches : map link_watched (drop f.accepted t.watches) ≡ links_from f.accepted (accepted_names history)
-  pub failed : AreClosedAtOnce history (drop f.accepted t.watches)
+pub record AreWatched (b : SeenBook) (t : FrontTold) : Type 0 where
+  pub before : b.folded.accepted ≤ length t.watches
+  pub watches : map link_watched (drop b.folded.accepted t.watches) ≡ links_from b.folded.accepted (accepted_names b.history)
+  pub failed : AreClosedAtOnce b.history (drop b.folded.accepted t.watches)

@@ -26,8 +26,10 @@ use crate::listen::LISTENER;
 use crate::round::show_none_live;
 use board::{Board, BoardFault};
 use conn_machine::Why;
-use conn_machine::laws_of_runs::{histories_go_on_by_one_entry, rows_change_one_at_a_time};
-use conn_state::laws::lingering_connections_keep_their_cause;
+use conn_machine::laws_of_runs::{
+    histories_go_on_by_one_entry, histories_join, rows_change_one_at_a_time,
+};
+use conn_state::laws::{lingering_connections_keep_their_cause, untouched_connections_may_be_late};
 use conn_state::{Conn, Known, LingerTurn};
 use mpm_base::{Cause, ConnName, Kind, Link, Tail};
 use worker_group::laws::{connections_in_hand_may_be_closed, passes_act_in_steps};
@@ -58,6 +60,7 @@ fn let_go_late_one<L: Link, N: Known>(board: &mut Board<L, N>, name: ConnName)
     ensures fewer { late_weight board.new.book.state < late_weight board.old.book.state }
     ensures rest { LeavesRest board.old.book board.new.book }
 {
+    untouched_connections_may_be_late();
     rows_change_one_at_a_time();
     passes_act_in_steps();
     board.show();
@@ -96,6 +99,7 @@ fn linger_for<L: Link, N: Known>(board: &mut Board<L, N>, conn: Conn<L, N>, caus
     ensures left { LetsLinger cause conn.name board.old.book board.new.book }
     ensures rest { LeavesRest board.old.book board.new.book }
 {
+    histories_join();
     board.show();
     let_linger(board, LISTENER, conn, cause);
     board.show();

@@ -1,7 +1,6 @@
 //! What the report of a board says: counts of its history's entries.
 ghost use Rattle.std.specs.Prelude.{◌≡◌, map, IfOk};
 ghost use Rattle.conn_machine.specs.Events as events;
-ghost use Rattle.conn_machine.specs.Folds.{opening_record};
 ghost use Rattle.mpm_run.specs.Report as spec;
 
 use crate::report::{Tally, ended_lines};
@@ -13,8 +12,9 @@ use std::alloc::Global;
 
 /// What the report of the board says.
 pub fn tally<L: Link, N: Known>(alloc: Global, board: &Board<L, N>) -> Result<Tally, NoMemory>
-    ensures { IfOk result (λ view. view ≡ spec.tally_of (opening_record board.now.book.passes) board.now.book.history board.now.book.state.newest board.now.ended) }
+    ensures { IfOk result (λ view. view ≡ spec.tally_of board.now.book.folded board.now.book.history board.now.book.state.newest board.now.ended) }
 {
+    board.show();
     let history = board.history();
     Ok(Tally {
         generation: board.state().newest,

@@ -31,6 +31,7 @@ use crate::round::{
 };
 use board::{Board, BoardFault};
 use conn_machine::Why;
+use conn_machine::laws_of_runs::histories_go_on_by_one_entry;
 use conn_state::{Conn, Known};
 use mpm_base::{Arrival, Clock, Front, Link, Moment, Ready, Woke};
 use std::alloc::Global;
@@ -126,6 +127,7 @@ impl<L: Link + Send, F: Front<L = L>, C: Clock, N: Known> Listener<L, F, C, N> {
         requires step { IsInStep self.old.front.told self.old.board.book.state }
         requires informed { IsInformed (waits_of self.old.front.told) self.old.calls self.old.board.book }
         ensures base { self.new.board.book.base ≡ self.old.board.book.base }
+        ensures passes { self.new.board.book.passes ≡ self.old.board.book.passes }
         ensures few { AreOfPasses self.old.board.book.passes self.old.board.book.history → AreOfPasses self.old.board.book.passes self.new.board.book.history }
         ensures stopped { HasStopped self.old.front self.new.front self.new.board.book.state }
         ensures follows { Follows self.old.front self.new.front }
@@ -331,6 +333,7 @@ impl<L: Link + Send, F: Front<L = L>, C: Clock, N: Known> Listener<L, F, C, N> {
         ensures ready { self.new.ready ≡ self.old.ready }
         ensures err { IfErr result (λ fault. MustStop fault self.new.board.book) }
     {
+        histories_go_on_by_one_entry();
         passes_act_in_steps();
         let mut link = link;
         let taken = match accept(&mut self.board) {

@@ -33,7 +33,9 @@ use crate::listen::{End, LISTENER, Rest, SERVER};
 use board::{AcceptFault, Board, BoardFault, Taken};
 use conn_machine::Why;
 use conn_machine::laws::{each_pass_has_its_own_connection, passes_leave_the_rest_to_the_listener};
-use conn_machine::laws_of_runs::rows_change_one_at_a_time;
+use conn_machine::laws_of_runs::{
+    children_change_one_at_a_time, histories_keep_sizes, rows_change_one_at_a_time,
+};
 use conn_state::{Conn, Known};
 use mpm_base::{Cause, Clock, GREATEST_MOMENT, Kind, Link, Moment, Tail, Woke};
 use worker_group::laws::passes_act_in_steps;
@@ -186,6 +188,7 @@ fn signal<L: Link, N: Known>(board: &mut Board<L, N>, slot: u32) -> Result<(), B
     ensures refused { OnErr result (board.new ≡ board.old) }
     ensures err { IfErr result (λ fault. MustStop fault board.new.book) }
 {
+    histories_keep_sizes();
     passes_act_in_steps();
     board.show();
     if slot as usize >= board.state().rows.len() {
@@ -221,6 +224,7 @@ pub fn start_children<L: Link, N: Known>(board: &mut Board<L, N>) -> Result<(), 
     ensures rest { LeavesRest board.old.book board.new.book }
     ensures err { IfErr result (λ fault. MustStop fault board.new.book) }
 {
+    children_change_one_at_a_time();
     passes_act_in_steps();
     show_state(board);
     while let Some(child) = board.can_start() {

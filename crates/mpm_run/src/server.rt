@@ -58,15 +58,15 @@ pub fn run_server<R: Wait, L: Link + Send, F: Front<L = L> + Drop, C: Clock + Dr
     requires unused { IfSome (F.seen front).told IsUnused }
     requires unasked { IfSome (C.told clock) (λ calls. calls ≡ []) }
     ensures run { IfOk result (λ s. IsRunFrom numbers s.board) }
-    ensures closed { IfOk result (λ s. HasClosedAll (folded_by numbers) s.board) }
+    ensures closed { IfOk result (λ s. HasClosedAll s.board) }
     ensures clients { IfOk result (λ s. AreOfClients N.known s.board) }
     ensures stopped { IfOk result (λ s. HasStopped (F.seen front) (F.seen s.front) s.board.book.state) }
     ensures follows { IfOk result (λ s. Follows (F.seen front) (F.seen s.front)) }
     ensures front { IfOk result (λ s. IfSome (F.seen s.front).told (IsOpenedAndHushed numbers)) }
-    ensures started { IfOk result (λ s. IfSome (F.seen s.front).told (IsStartedFirst (folded_by numbers) numbers s.board.book.history)) }
-    ensures watched { LinksTell L.seen → IfOk result (λ s. IfSome (F.seen s.front).told (AreWatched (folded_by numbers) s.board.book.history)) }
+    ensures started { IfOk result (λ s. IfSome (F.seen s.front).told (IsStartedFirst numbers s.board.book)) }
+    ensures watched { LinksTell L.seen → IfOk result (λ s. IfSome (F.seen s.front).told (AreWatched s.board.book)) }
     ensures links { LinksTell L.seen → IfOk result (λ s. IfSome (F.seen s.front).told (TakesLinks s.board.book.state)) }
-    ensures ended { IfOk result (λ s. AllTell s.board.ended → EndsLinks (folded_by numbers) s.board) }
+    ensures ended { IfOk result (λ s. AllTell s.board.ended → EndsLinks s.board) }
     ensures time { IfOk result (λ s. IsInTime (waits_of (F.seen s.front).told) (C.told s.clock)) }
     ensures informed { IfOk result (λ s. WasInformed (waits_of (F.seen s.front).told) (C.told s.clock) s.board.book) }
     ensures patient { IfOk result (λ s. IsPatientRun (F.seen s.front).told (C.told s.clock) s.board.book) }
@@ -140,10 +140,12 @@ fn open_board<L: Link, N: Known>(
 /// ended, and the links that tell are, each once, those that were taken. Does nothing.
 fn show_run<L: Link, N: Known>(board: &Board<L, N>, numbers: RunNumbers)
     requires base { board.now.book.base ≡ opened_by numbers }
+    requires passes { board.now.book.passes ≡ numbers.passes }
     requires few { AreOfPasses numbers.passes board.now.book.history }
+    ensures unfolded { board.now.book.folded ≡ folded_by numbers }
     ensures run { IsRunFrom numbers board.now }
-    ensures closed { IsClosedDown board.now.book.state → HasClosedAll (folded_by numbers) board.now }
-    ensures links { IsClosedDown board.now.book.state → AllTell board.now.ended → EndsLinks (folded_by numbers) board.now }
+    ensures closed { IsClosedDown board.now.book.state → HasClosedAll board.now }
+    ensures links { IsClosedDown board.now.book.state → AllTell board.now.ended → EndsLinks board.now }
     ensures clients { AreOfClients N.known board.now }
 {
     events_keep_states_sound();

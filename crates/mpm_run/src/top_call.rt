@@ -80,15 +80,15 @@ pub fn run<R: Threads + Wait + Sync, D: Store, K: Sink>(
     ensures front { IfSome result.scripted (λ s. IsOpenedAndHushed opening.first_numbers s.front.told) }
 
     // Where its front waited at all, the children that its shape asks for were started before all else, in order of number.
-    ensures started { IfSome result.scripted (λ s. IsStartedFirst (opening.folded_by opening.first_numbers) opening.first_numbers s.board.book.history s.front.told) }
+    ensures started { IfSome result.scripted (λ s. IsStartedFirst opening.first_numbers s.board.book s.front.told) }
 
     // It watched each link that the table took, once and in order, under the name of its connection, which was closed at once where
     // the watch failed.
-    ensures watched { IfSome result.scripted (λ s. AreWatched (opening.folded_by opening.first_numbers) s.board.book.history s.front.told) }
+    ensures watched { IfSome result.scripted (λ s. AreWatched s.board.book s.front.told) }
 
     // The table took each link that it handed out, or the server was broken off and the last one was turned away; and each that the
     // table took is that of one connection that ended.
-    ensures links { IfSome result.scripted (λ s. KeepsLinks (opening.folded_by opening.first_numbers) s.board s.front.told) }
+    ensures links { IfSome result.scripted (λ s. KeepsLinks s.board s.front.told) }
 
     // Its clock was told what the waits of its front gave, all of which the front tells, and answered that; and the ticks and signals
     // of its history come from them.
@@ -213,9 +213,9 @@ fn play_script<R: Wait, K: Sink>(rt: &R, alloc: Global, script: Script, out: &mu
     ensures kept { IfSome result.scripted (λ s. HasRun (clients_of script) s.board) }
     ensures script { IfSome result.scripted (λ s. s.front.script ≡ script) }
     ensures front { IfSome result.scripted (λ s. IsOpenedAndHushed opening.first_numbers s.front.told) }
-    ensures started { IfSome result.scripted (λ s. IsStartedFirst (opening.folded_by opening.first_numbers) opening.first_numbers s.board.book.history s.front.told) }
-    ensures watched { IfSome result.scripted (λ s. AreWatched (opening.folded_by opening.first_numbers) s.board.book.history s.front.told) }
-    ensures links { IfSome result.scripted (λ s. KeepsLinks (opening.folded_by opening.first_numbers) s.board s.front.told) }
+    ensures started { IfSome result.scripted (λ s. IsStartedFirst opening.first_numbers s.board.book s.front.told) }
+    ensures watched { IfSome result.scripted (λ s. AreWatched s.board.book s.front.told) }
+    ensures links { IfSome result.scripted (λ s. KeepsLinks s.board s.front.told) }
     ensures time { IfSome result.scripted (λ s. KeepsTime s.board s.front s.clock) }
     ensures patient { IfSome result.scripted (λ s. IsPatient s.board s.front) }
     ensures ended { IfSome result.scripted (λ s. s.board.book.state.going ≡ Halted why.FrontEnded → HasEnd s.board s.front) }

@@ -7,7 +7,9 @@ use Rattle.atomic_table.specs.Table.{Me}
 use Rattle.mpm_base.specs.declared.shape.Shape.{Shape}
 use Rattle.conn_machine.specs.declared.event.Entry.{Entry}
 use Rattle.conn_machine.specs.declared.event.Event.TheVariants.{StartChild}
+use Rattle.conn_machine.specs.declared.folded.Folded.{Folded}
 use Rattle.conn_machine.specs.Children.{is_in_bounds}
+use Rattle.conn_machine.specs.Folds.{opening_record}
 use Rattle.conn_machine.specs.Runs.{after, Adds, AreEntriesOf}
 use Rattle.conn_machine.specs.States.{opening_state}
 use Rattle.table_rule.specs.declared.view.Origin.{Origin}
@@ -26,14 +28,14 @@ use Rattle.board.specs.ReportLine.{line_of}
 
 -- a board without a history may be put into a lock
 pub opens : (b : SeenBoard) (slots children : ℕ) (shape : Shape) → is_in_bounds shape ≡ true → b.book.base ≡ opening_state slots children shape
-    → b.book.history ≡ [] → b.book.passes ≡ 2 → b.ended ≡ [] → IsNew (ledger_of b)
-opens b slots children shape bounds base history passes ended = record {
+    → b.book.folded ≡ opening_record 2 → b.book.history ≡ [] → b.book.passes ≡ 2 → b.ended ≡ [] → IsNew (ledger_of b)
+opens b slots children shape bounds base folded history passes ended = record {
   opened = record { slots = slots; children = children; shape = shape; bounds = bounds; state = base };
   some = omega (arith, passes);
   few = omega (arith, passes);
   history = history;
   texts = ap (map line_of) ended;
-  folded = refl;
+  folded = folded ∙ ap opening_record (sym passes);
 }
 
 -- a fresh pass has no turn
@@ -56,17 +58,21 @@ empty : (l : List Entry) → 0 ≡ length l → l ≡ []
 empty [] e = refl
 empty (x ∷ l) e = absurd (omega arith)
 
--- nothing of a board is folded, so its history is all that the pass has seen
-seen_is : {K : Type 0} (v w : Me (Option K) View) (b : SeenBoard) → TookTurn v w (ledger_of b) → w.0.seen ≡ b.book.history
-seen_is v w b took =
-    let f = took.is_found in
-    f.parts.whole_is ∙ ap (λ l. l ++ b.book.history) (empty f.left.entries f.parts.counted)
+-- nothing of a board is folded, so no entry is left out of its history
+none_left : {K : Type 0} (v w : Me (Option K) View) (b : SeenBoard) (took : TookTurn v w (ledger_of b)) → b.book.folded ≡ opening_record b.book.passes
+    → took.is_found.left.entries ≡ []
+none_left v w b took unfolded = empty took.is_found.left.entries (sym (ap (λ (f : Folded). f.entries) unfolded) ∙ took.is_found.parts.counted)
+
+-- so its history is all that the pass has seen
+seen_is : {K : Type 0} (v w : Me (Option K) View) (b : SeenBoard) → TookTurn v w (ledger_of b) → b.book.folded ≡ opening_record b.book.passes
+    → w.0.seen ≡ b.book.history
+seen_is v w b took unfolded = took.is_found.parts.whole_is ∙ ap (λ l. l ++ b.book.history) (none_left v w b took unfolded)
 
 -- it begins where the board's history does
-base_is : {K : Type 0} (v w : Me (Option K) View) (b : SeenBoard) → TookTurn v w (ledger_of b) → w.0.origin.state ≡ b.book.base
-base_is v w b took =
-    let f = took.is_found in
-    ap (λ (u : View). u.origin.state) took.view ∙ sym (f.parts.base ∙ ap (after v.0.origin.state) (empty f.left.entries f.parts.counted))
+base_is : {K : Type 0} (v w : Me (Option K) View) (b : SeenBoard) → TookTurn v w (ledger_of b) → b.book.folded ≡ opening_record b.book.passes
+    → w.0.origin.state ≡ b.book.base
+base_is v w b took unfolded =
+    ap (λ (u : View). u.origin.state) took.view ∙ sym (took.is_found.parts.base ∙ ap (after v.0.origin.state) (none_left v w b took unfolded))
 
 -- ## What a turn may leave
 
@@ -85,39 +91,39 @@ may_stay v w b took = (
 )
 
 -- an entry of pass 0 is one that it may make behind what it has seen
-own_entry : {K : Type 0} (v w : Me (Option K) View) (b : SeenBoard) (e : Entry) → TookTurn v w (ledger_of b) → v.0.who.number ≡ 0
-    → Adds 0 b.book.base b.book.history (b.book.history ++ e ∷ []) → AreEntriesOf w.0.who.number w.0.origin.state w.0.seen (e ∷ [])
-own_entry v w b e took number adds =
+own_entry : {K : Type 0} (v w : Me (Option K) View) (b : SeenBoard) (e : Entry) → TookTurn v w (ledger_of b) → b.book.folded ≡ opening_record b.book.passes
+    → v.0.who.number ≡ 0 → Adds 0 b.book.base b.book.history (b.book.history ++ e ∷ []) → AreEntriesOf w.0.who.number w.0.origin.state w.0.seen (e ∷ [])
+own_entry v w b e took unfolded number adds =
     let who : w.0.who.number ≡ 0 = ap (λ (u : View). u.who.number) took.view ∙ number in
     let is : adds.0 ≡ e ∷ [] = append_cancel_left b.book.history adds.0 (e ∷ []) (sym adds.1) in
     let own = subst (AreEntriesOf 0 b.book.base b.book.history) is adds.2 in
     subst (λ q. AreEntriesOf q w.0.origin.state w.0.seen (e ∷ [])) (sym who)
-    (subst (λ s. AreEntriesOf 0 s w.0.seen (e ∷ [])) (sym (base_is v w b took))
-    (subst (λ h. AreEntriesOf 0 b.book.base h (e ∷ [])) (sym (seen_is v w b took)) own))
+    (subst (λ s. AreEntriesOf 0 s w.0.seen (e ∷ [])) (sym (base_is v w b took unfolded))
+    (subst (λ h. AreEntriesOf 0 b.book.base h (e ∷ [])) (sym (seen_is v w b took unfolded)) own))
 
 -- the board with the entry that starts the child
-may_start : {K : Type 0} (v w : Me (Option K) View) (b : SeenBoard) (k : ℕ) → TookTurn v w (ledger_of b) → v.0.who.number ≡ 0
-    → Adds 0 b.book.base b.book.history (with_recorded 0 (StartChild k) b).book.history → MayGiveBack w.0 (ledger_of (with_recorded 0 (StartChild k) b))
-may_start v w b k took number adds = (
+may_start : {K : Type 0} (v w : Me (Option K) View) (b : SeenBoard) (k : ℕ) → TookTurn v w (ledger_of b) → b.book.folded ≡ opening_record b.book.passes
+    → v.0.who.number ≡ 0 → Adds 0 b.book.base b.book.history (with_recorded 0 (StartChild k) b).book.history → MayGiveBack w.0 (ledger_of (with_recorded 0 (StartChild k) b))
+may_start v w b k took unfolded number adds = (
   ledger_of b,
   ap (λ (u : View). u.turn) took.view,
   record {
     added = entry_of 0 (StartChild k) b.book ∷ [];
     change = inl record { base = refl; record_is = refl; history = refl; texts = ([], sym (append-nil (map line_of b.ended))) };
     passes = refl;
-    entries = own_entry v w b (entry_of 0 (StartChild k) b.book) took number adds;
+    entries = own_entry v w b (entry_of 0 (StartChild k) b.book) took unfolded number adds;
     permitted = (tt, tt);
   },
 )
 
 -- the board after the call that starts a child, whatever it answers
 pub may_end : {K T : Type 0} (v w : Me (Option K) View) (old new : SeenBoard) (k : ℕ) (result : Result T BoardFault) → TookTurn v w (ledger_of old)
-    → v.0.who.number ≡ 0 → OnOk result (IsAdded 0 (StartChild k) old new) → OnErr result (new ≡ old)
+    → old.book.folded ≡ opening_record old.book.passes → v.0.who.number ≡ 0 → OnOk result (IsAdded 0 (StartChild k) old new) → OnErr result (new ≡ old)
     → Adds 0 old.book.base old.book.history new.book.history → MayGiveBack w.0 (ledger_of new)
-may_end v w old new k (Ok x) took number ok err adds =
+may_end v w old new k (Ok x) took unfolded number ok err adds =
     subst (λ b. MayGiveBack w.0 (ledger_of b)) (sym ok.new_is)
-    (may_start v w old k took number (subst (λ b. Adds 0 old.book.base old.book.history b.book.history) ok.new_is adds))
-may_end v w old new k (Err e) took number ok err adds =
+    (may_start v w old k took unfolded number (subst (λ b. Adds 0 old.book.base old.book.history b.book.history) ok.new_is adds))
+may_end v w old new k (Err e) took unfolded number ok err adds =
     subst (λ b. MayGiveBack w.0 (ledger_of b)) (sym err) (may_stay v w old took)
 
 -- ## Lists

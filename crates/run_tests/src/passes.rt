@@ -77,6 +77,7 @@ fn starts(
     ensures free { HasNoTurn pass.new.seat.me }
 {
     let mut turn = shared.turn(rt, pass);
+    turn.kept.show();
     allow(rt, &turn.kept);
     let started = turn.kept.start_child(0, 0);
     shared.done(pass, turn);

@@ -42,6 +42,7 @@ entries-others p q base old new adds differs =
 pub acts_none : (who : ℕ) (has : Option ConnName) (b : SeenBook) → row_of who b.history ≡ has → Acts who [] has b b
 acts_none who has b row = record {
   base = refl;
+  folded = refl;
   passes = refl;
   entries = ([], sym (append-nil b.history), tt);
   made = sym (append-nil (events_of who b.history));
@@ -57,6 +58,7 @@ pub acts_one : (who : ℕ) (e : Event) (has : Option ConnName) (b b' : SeenBook)
     → row_of who b'.history ≡ has → Acts who (e ∷ []) has b b'
 acts_one who e has b b' is adds row = record {
   base = ap (λ (v : SeenBook). v.base) is;
+  folded = ap (λ (v : SeenBook). v.folded) is;
   passes = ap (λ (v : SeenBook). v.passes) is;
   entries = adds;
   made =
@@ -96,6 +98,7 @@ pub acts_more : (who : ℕ) (es fs : List Event) (had has : Option ConnName) (a 
     → Acts who (es ++ fs) has a c
 acts_more who es fs had has a b c before behind = record {
   base = behind.base ∙ before.base;
+  folded = behind.folded ∙ before.folded;
   passes = behind.passes ∙ before.passes;
   entries = adds-more who a.base b.base a.history b.history c.history before.base before.entries behind.entries;
   made =

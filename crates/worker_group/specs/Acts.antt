@@ -14,6 +14,7 @@ events_of who history = map (λ e. e.event) (entries_of who history)
 -- none
 pub record Acts (who : ℕ) (events : List Event) (has : Option ConnName) (old new : SeenBook) : Type 0 where
   pub base : new.base ≡ old.base
+  pub folded : new.folded ≡ old.folded
   pub passes : new.passes ≡ old.passes
   pub entries : Adds who old.base old.history new.history
   pub made : events_of who new.history ≡ events_of who old.history ++ events

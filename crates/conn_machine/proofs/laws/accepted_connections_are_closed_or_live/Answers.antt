@@ -6,7 +6,7 @@ pub returns-clause-closed_or_live : goal.returns-clause-closed_or_live
 returns-clause-closed_or_live c = accepted_balanced
 
 pub returns-clause-named : goal.returns-clause-named
-returns-clause-named c = accepted_named
+returns-clause-named c = accepted_named c.pick_is_a_candidate.ensures.chosen
 
 pub returns-clause-accepted : goal.returns-clause-accepted
 returns-clause-accepted c = accepted_counted

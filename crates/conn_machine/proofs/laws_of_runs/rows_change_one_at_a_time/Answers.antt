@@ -1,6 +1,6 @@
 use Rattle.conn_machine.proofs.PassRows.{get_else}
 use Rattle.conn_machine.proofs.SizeLemmas.{length-update}
-use Rattle.conn_machine.proofs.UpdateLemmas.{count_update_kept, count_update_more, get_changed}
+use Rattle.conn_machine.proofs.UpdateLemmas.{count_update_kept, count_update_more, get_changed, none_update}
 use Rattle.conn_machine.proofs.laws_of_runs.rows_change_one_at_a_time.Goals as goal
 
 pub returns-clause-there : goal.returns-clause-there
@@ -17,3 +17,6 @@ returns-clause-kept c = count_update_kept
 
 pub returns-clause-more : goal.returns-clause-more
 returns-clause-more c = count_update_more
+
+pub returns-clause-none : goal.returns-clause-none
+returns-clause-none c = none_update

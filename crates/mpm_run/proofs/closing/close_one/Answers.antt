@@ -53,9 +53,11 @@ returns-in-Some-clause-gone g c =
 
 pub returns-in-Some-clause-fewer : goal.returns-in-Some-clause-fewer
 returns-in-Some-clause-fewer g c =
+    let law = c.rows_change_one_at_a_time.ensures in
     let s = c.args.board.now.book.state in
     let live = waits s c.args.name c.requires.waits in
-    parked-after s c.hold-conn.new.self.book.state c.close.new.board.book.state c.args.name c.hold-conn.result.name c.in-Some.cause tail.Halted live.row
+    parked-after (record { there = law.there; kept = law.kept; more = law.more; none = law.none })
+    s c.hold-conn.new.self.book.state c.close.new.board.book.state c.args.name c.hold-conn.result.name c.in-Some.cause tail.Halted live.row
     live.found live.passes (ap (λ (b : SeenBoard). b.book.state) c.hold-conn.ensures.is) c.hold-conn.ensures.name
     (ap (λ (b : SeenBook). b.state) c.close.ensures.closed)
 
@@ -77,9 +79,11 @@ returns-in-None-clause-gone g c =
 
 pub returns-in-None-clause-fewer : goal.returns-in-None-clause-fewer
 returns-in-None-clause-fewer g c =
+    let law = c.rows_change_one_at_a_time.ensures in
     let s = c.args.board.now.book.state in
     let live = waits s c.args.name c.requires.waits in
-    parked-after s c.hold-conn.new.self.book.state c.close-in-None.new.board.book.state c.args.name c.hold-conn.result.name cause.Stopped tail.Direct live.row
+    parked-after (record { there = law.there; kept = law.kept; more = law.more; none = law.none })
+    s c.hold-conn.new.self.book.state c.close-in-None.new.board.book.state c.args.name c.hold-conn.result.name cause.Stopped tail.Direct live.row
     live.found live.passes (ap (λ (b : SeenBoard). b.book.state) c.hold-conn.ensures.is) c.hold-conn.ensures.name
     (ap (λ (b : SeenBook). b.state) c.close-in-None.ensures.closed)
 

@@ -100,9 +100,11 @@ returns-in-Some-clause-fewer g c =
 
 pub returns-in-Some-clause-none_late : goal.returns-in-Some-clause-none_late
 returns-in-Some-clause-none_late g c =
+    let law = c.rows_change_one_at_a_time.ensures in
     let s = c.args.board.now.book.state in
     let is = to-drain s c.args.name c.requires.lingers in
-    none-after_close s c.hold-conn.new.self.book.state c.close.new.board.book.state c.args.name c.linger_turn.new.self.name c.in-Some-Some.cause c.in-Some.tail _
+    none-after_close (record { there = law.there; kept = law.kept; more = law.more; none = law.none })
+    s c.hold-conn.new.self.book.state c.close.new.board.book.state c.args.name c.linger_turn.new.self.name c.in-Some-Some.cause c.in-Some.tail _
     is.found c.requires.none_late (ap (λ (b : SeenBoard). b.book.state) c.hold-conn.ensures.is) (c.linger_turn.ensures.name ∙ c.hold-conn.ensures.name)
     (ap (λ (b : SeenBook). b.state) c.close.ensures.closed)
 
@@ -145,6 +147,7 @@ returns-in-None-clause-fewer g c =
 
 pub returns-in-None-clause-none_late : goal.returns-in-None-clause-none_late
 returns-in-None-clause-none_late g c =
+    let law = c.rows_change_one_at_a_time.ensures in
     let s = c.args.board.now.book.state in
     let is = to-drain s c.args.name c.requires.lingers in
     let why = c.in-Some-Some.cause in
@@ -152,7 +155,8 @@ returns-in-None-clause-none_late g c =
     let waits = waited-for s c.args.name _ c.in-Some-Some.kind c.show.ensures.sound is.found (sym c.kind.ensures ∙ c.in-Some-Some.is-1) in
     on_ok_weaker c.linger_on.result
     (λ (parked : c.linger_on.new.board.book.state ≡ next c.hold-conn.new.self.book.state (event.Park c.linger_turn.new.self.name c.in-Some-Some.kind)).
-    none-after_park s c.hold-conn.new.self.book.state c.linger_on.new.board.book.state c.args.name c.linger_turn.new.self.name c.in-Some-Some.kind _ is.found
+    none-after_park (record { there = law.there; kept = law.kept; more = law.more; none = law.none })
+    s c.hold-conn.new.self.book.state c.linger_on.new.board.book.state c.args.name c.linger_turn.new.self.name c.in-Some-Some.kind _ is.found
     is.waits (lingers-by c.in-Some-Some.kind _ why waits some) c.requires.none_late (ap (λ (b : SeenBoard). b.book.state) c.hold-conn.ensures.is)
     (c.linger_turn.ensures.name ∙ c.hold-conn.ensures.name) parked)
     c.linger_on.ensures.state

@@ -92,7 +92,7 @@ linger_for-requires-clause-shows g c =
     c.hold-conn.ensures.handed c.hold-conn.ensures.way in
     let waits = waited-for s c.args.name live.row kind c.show.ensures.sound live.found (sym c.kind.ensures ∙ c.in-Some.is) in
     subst (λ (why : Cause). MayLinger why c.hold-conn.result) (sym c.cause_of_late.ensures)
-    (late-shows s' live.row c.hold-conn.result kind holds.held waits
+    (late-shows c.untouched_connections_may_be_late.ensures s' live.row c.hold-conn.result kind holds.held waits
     (serves-by kind live.row waits (row-cause s c.args.name live.row None live.found (sym c.cause-cause.ensures ∙ c.in-None.is))))
 
 pub returns-in-Some-cause-clause-gone : goal.returns-in-Some-cause-clause-gone
@@ -105,9 +105,11 @@ returns-in-Some-cause-clause-gone g c =
 
 pub returns-in-Some-cause-clause-fewer : goal.returns-in-Some-cause-clause-fewer
 returns-in-Some-cause-clause-fewer g c =
+    let law = c.rows_change_one_at_a_time.ensures in
     let s = c.args.board.now.book.state in
     let live = late-row s c.args.name c.requires.late in
-    weight-after s c.hold-conn.new.self.book.state c.close.new.board.book.state c.args.name c.hold-conn.result.name c.in-Some-cause.cause tail.Late live.row
+    weight-after (record { there = law.there; kept = law.kept; more = law.more; none = law.none })
+    s c.hold-conn.new.self.book.state c.close.new.board.book.state c.args.name c.hold-conn.result.name c.in-Some-cause.cause tail.Late live.row
     live.found live.passes (ap (λ (b : SeenBoard). b.book.state) c.hold-conn.ensures.is) c.hold-conn.ensures.name
     (ap (λ (b : SeenBook). b.state) c.close.ensures.closed)
 
@@ -132,10 +134,12 @@ returns-in-None-clause-gone g c =
 
 pub returns-in-None-clause-fewer : goal.returns-in-None-clause-fewer
 returns-in-None-clause-fewer g c =
+    let law = c.rows_change_one_at_a_time.ensures in
     let s = c.args.board.now.book.state in
     let live = late-row s c.args.name c.requires.late in
     let left = c.linger_for.ensures.left in
-    weight-out s c.hold-conn.new.self.book.state c.linger_for.new.board.book.state c.args.name c.hold-conn.result.name c.cause_of_late.result left.way live.row
+    weight-out (record { there = law.there; kept = law.kept; more = law.more; none = law.none })
+    s c.hold-conn.new.self.book.state c.linger_for.new.board.book.state c.args.name c.hold-conn.result.name c.cause_of_late.result left.way live.row
     live.found live.passes (row-cause s c.args.name live.row None live.found (sym c.cause-cause.ensures ∙ c.in-None.is))
     (ap (λ (b : SeenBoard). b.book.state) c.hold-conn.ensures.is) c.hold-conn.ensures.name left.out left.state
 

@@ -65,10 +65,12 @@ returns-clause-gone g c =
 
 pub returns-clause-fewer : goal.returns-clause-fewer
 returns-clause-fewer g c =
+    let law = c.rows_change_one_at_a_time.ensures in
     let s = c.args.board.now.book.state in
     let is = retires s c.args.name c.requires.retires in
     let left = c.linger_for.ensures.left in
-    serving-out s c.hold-conn.new.self.book.state c.linger_for.new.board.book.state c.args.name c.hold-conn.result.name cause.Retiring left.way _ is.found
+    serving-out (record { there = law.there; kept = law.kept; more = law.more; none = law.none })
+    s c.hold-conn.new.self.book.state c.linger_for.new.board.book.state c.args.name c.hold-conn.result.name cause.Retiring left.way _ is.found
     is.waits (retires-serves s c.args.name _ c.show.ensures.sound is) (ap (λ (b : SeenBoard). b.book.state) c.hold-conn.ensures.is)
     c.hold-conn.ensures.name left.out left.state
 

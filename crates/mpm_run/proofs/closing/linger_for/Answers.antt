@@ -10,5 +10,5 @@ returns-clause-left g c =
       out = left.1;
       acts = left.2;
       state =
-          acts-state 0 _ None c.args.board.now.book c.let_linger.new.board.book c.show.ensures.state c.show-2.ensures.state left.2;
+          acts-state c.histories_join.ensures.state 0 _ None c.args.board.now.book c.let_linger.new.board.book c.show.ensures.state c.show-2.ensures.state left.2;
     }

@@ -4,6 +4,7 @@ use Rattle.mpm_run.proofs.counting.tally.Goals as goal
 pub returns : goal.returns
 returns g c =
     rw (
+      c.show.ensures.unfolded,
       c.state.ensures,
       c.count_accepts.ensures,
       c.count_closes.ensures,

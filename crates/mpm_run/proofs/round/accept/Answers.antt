@@ -19,7 +19,7 @@ pub returns-in-Ok-clause-held : goal.returns-in-Ok-clause-held
 returns-in-Ok-clause-held g c =
     let t = c.in-Ok.taken in
     has-taken c.rows_change_one_at_a_time.ensures.there c.args.board.now.book.state c.accept.new.self.book.state t.name t.child t.generation
-    (accept-allowed 0 t.name.slot c.args.board.now.book c.accept.new.self.book c.show.ensures.state c.show-in-Ok.ensures.history
+    (accept-allowed 0 t.name.slot c.args.board.now.book c.accept.new.self.book c.show.ensures.state c.show-in-Ok.ensures.run
     (ap (λ (b : SeenBoard). b.book) c.in-Ok.ensures.ok.new_is))
     (ap (λ (b : SeenBoard). b.book.state) c.in-Ok.ensures.ok.new_is) c.in-Ok.ensures.taken
 

@@ -10,7 +10,7 @@ use Rattle.mpm_run.proofs.round.signal.Goals as goal
 pub returns-then-slot-len-clause-signals : goal.returns-then-slot-len-clause-signals
 returns-then-slot-len-clause-signals g c =
     let b = c.args.board.now.book in
-    let rows = rows-kept b c.show.ensures.state in
+    let rows = rows-kept c.histories_keep_sizes.ensures b c.show.ensures.state in
     let seen = ap (λ (s : State). length s.rows) c.state.ensures in
     let without : nat_lt c.args.slot (length b.base.rows) ≡ false = not-below c.args.slot (length b.base.rows) (omega (arith, rows, seen)) in
     acts-spelled [] _ b b (c.passes_act_in_steps.ensures.acts.none 0 None b c.requires.free) (sym (known-none c.args.slot b without))
@@ -18,7 +18,7 @@ returns-then-slot-len-clause-signals g c =
 pub returns-clause-signals : goal.returns-clause-signals
 returns-clause-signals g c =
     let b = c.args.board.now in
-    let rows = rows-kept b.book c.show.ensures.state in
+    let rows = rows-kept c.histories_keep_sizes.ensures b.book c.show.ensures.state in
     let seen = ap (λ (s : State). length s.rows) c.state.ensures in
     let within : nat_lt c.args.slot (length b.book.base.rows) ≡ true = is-below c.args.slot (length b.book.base.rows) (omega (arith, rows, seen)) in
     on_ok_weaker c.ready.result

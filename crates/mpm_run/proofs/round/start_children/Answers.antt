@@ -28,13 +28,14 @@ loop-child-smaller g c =
 
 pub loop-child-preserved : goal.loop-child-preserved
 loop-child-preserved g c =
+    let law = c.children_change_one_at_a_time.ensures in
     record {
       starts =
           starts-more c.passes_act_in_steps.ensures.acts c.in-Some.child c.args.board.now.book c.loop-child.board.book c.start_child.new.self.book c.loop-child.invariant.starts
           (acts-added c.passes_act_in_steps.ensures.acts (event.StartChild c.in-Some.child) None c.loop-child.board c.start_child.new.self c.in_ok-start_child.ensures.ok.new_is
           c.start_child.ensures.entries (c.start_child.ensures.row ∙ c.loop-child.invariant.starts.acts.row));
       first =
-          λ opening. starts-next c.args.board.now.book.base c.loop-child.board c.start_child.new.self c.in-Some.child (sym c.can_start.ensures ∙ c.in-Some.is)
+          λ opening. starts-next (record { there = law.there; others = law.others; as_many = law.length }) c.args.board.now.book.base c.loop-child.board c.start_child.new.self c.in-Some.child (sym c.can_start.ensures ∙ c.in-Some.is)
           c.in_ok-start_child.ensures.ok.new_is (c.loop-child.invariant.first opening);
       rest =
           c.passes_act_in_steps.ensures.rest c.args.board.now.book c.loop-child.board.book c.start_child.new.self.book c.loop-child.invariant.rest

@@ -1,11 +1,11 @@
-use Rattle.std.proofs.Common.{◌≡◌, ◌⊎◌, ℕ, IfSome, ap, sym, subst}
+use Rattle.std.proofs.Common.{◌≡◌, ◌⊎◌, ℕ, IfSome, ap, sym, subst, ◌∙◌}
 use Rattle.conn_machine.specs.Made.{AreOfPasses}
 use Rattle.conn_machine.specs.declared.state.State.{State}
 use Rattle.board.specs.Board.{SeenBoard}
 use Rattle.board.specs.Book.{SeenBook}
-use Rattle.mpm_run.specs.FirstNumbers.{folded_by, opened_by}
+use Rattle.mpm_run.specs.FirstNumbers.{opened_by}
 use Rattle.mpm_run.specs.Links.{TakesLinks}
-use Rattle.mpm_run.specs.ListenInside.{Follows, HasStopped, SeenListener, IsInTime, asked_children, waits_of}
+use Rattle.mpm_run.specs.ListenInside.{Follows, HasStopped, SeenListener, IsInTime, WatchesAll, asked_children, waits_of}
 use Rattle.mpm_run.specs.Patient.{IsPatientRun}
 use Rattle.mpm_run.specs.Started.{BeginsWithStarts, IsStartedFirst}
 use Rattle.mpm_run.specs.Times.{WasInformed}
@@ -68,8 +68,9 @@ returns-clause-watched g c tells =
     idle-bound c.args.numbers (g.F.Front.seen c.args.front) (g.F.Front.seen c.in-Ok.front) _ c.in-Ok.ensures.bound c.requires.unused c.requires.unasked in
     let all =
     c.listen.ensures.watched (λ holds. watching-opened c.args.numbers (g.F.Front.seen c.in-Ok.front).told _ c.in-Ok-open_board.board.book c.in-Ok-open_board.ensures.book idle) tells in
-    subst (λ (b : SeenBoard). IfSome (g.F.Front.seen c.listener.inside.front).told (AreWatched (folded_by c.args.numbers) b.book.history)) (sym c.forget.ensures.same)
-    (subst (λ (l : SeenListener). IfSome l.front.told (AreWatched (folded_by c.args.numbers) l.board.book.history)) (sym c.listener.view_is) (are-watched c.args.numbers _ _ all))
+    let here = subst (λ (l : SeenListener). IfSome l.front.told (WatchesAll l.board.book)) (sym c.listener.view_is) all in
+    subst (λ (b : SeenBoard). IfSome (g.F.Front.seen c.listener.inside.front).told (AreWatched b.book)) (sym c.forget.ensures.same)
+    (are-watched c.args.numbers _ c.listener.inside.board.book c.show_run.ensures.unfolded here)
 
 pub returns-clause-patient : goal.returns-clause-patient
 returns-clause-patient g c =
@@ -79,6 +80,11 @@ returns-clause-patient g c =
     subst (λ (b : SeenBoard). IsPatientRun (g.F.Front.seen c.listener.inside.front).told (g.C.Clock.told c.listener.inside.clock) b.book)
     (sym c.forget.ensures.same)
     (subst (λ (l : SeenListener). IsPatientRun l.front.told l.calls l.board.book) (sym c.listener.view_is) (c.listen.ensures.patient start))
+
+pub show_run-requires-clause-passes : goal.show_run-requires-clause-passes
+show_run-requires-clause-passes g c =
+    subst (λ (l : SeenListener). l.board.book.passes ≡ c.args.numbers.passes) (sym c.listener.view_is)
+    (c.listen.ensures.passes ∙ ap (λ (b : SeenBook). b.passes) c.in-Ok-open_board.ensures.book)
 
 pub show_run-requires-clause-few : goal.show_run-requires-clause-few
 show_run-requires-clause-few g c =
@@ -95,9 +101,9 @@ returns-clause-started g c =
     let started = c.listen.ensures.started (ap (λ (b : SeenBook). b.history) c.in-Ok-open_board.ensures.book) in
     let here = subst (λ (s : State). (waits_of c.listen.new.self.front.told ≡ waits_of (g.F.Front.seen c.in-Ok.front).told)
     ⊎ BeginsWithStarts (asked_children s) c.listen.new.self.board.book.history) base started in
-    subst (λ (b : SeenBoard). IfSome (g.F.Front.seen c.listener.inside.front).told (IsStartedFirst (folded_by c.args.numbers) c.args.numbers b.book.history)) (sym c.forget.ensures.same)
-    (subst (λ (l : SeenListener). IfSome l.front.told (IsStartedFirst (folded_by c.args.numbers) c.args.numbers l.board.book.history)) (sym c.listener.view_is)
-    (started-first c.args.numbers (g.F.Front.seen c.in-Ok.front).told c.listen.new.self.front.told c.listen.new.self.board.book.history (unwaited _ _ idle) here))
+    subst (λ (b : SeenBoard). IfSome (g.F.Front.seen c.listener.inside.front).told (IsStartedFirst c.args.numbers b.book)) (sym c.forget.ensures.same)
+    (subst (λ (l : SeenListener). IfSome l.front.told (IsStartedFirst c.args.numbers l.board.book)) (sym c.listener.view_is)
+    (started-first c.args.numbers (g.F.Front.seen c.in-Ok.front).told c.listen.new.self.front.told c.listen.new.self.board.book (unwaited _ _ idle) here))
 
 pub returns-clause-links : goal.returns-clause-links
 returns-clause-links g c tells =

@@ -6,7 +6,7 @@ use Rattle.board.specs.Board.{SeenBoard}
 use Rattle.conn_machine.specs.declared.event.Why.TheVariants as why
 use Rattle.conn_machine.specs.declared.state.Going.TheVariants.{Halted}
 use Rattle.mpm_run.specs.ExitStatuses.{EndsFull, HasEnd, HasRun, IsPatient, KeepsTime}
-use Rattle.mpm_run.specs.FirstNumbers.{first_numbers, folded_by}
+use Rattle.mpm_run.specs.FirstNumbers.{first_numbers}
 use Rattle.mpm_run.specs.Links.{EndsLinks, KeepsLinks}
 use Rattle.mpm_run.specs.Listen.{HasClosedAll, IsRunFrom}
 use Rattle.mpm_run.specs.Started.{IsStartedFirst}
@@ -30,7 +30,7 @@ returns-in-Ok-run_server-clause-kept g c =
     (subst (λ (x : SeenBoard). HasRun (clients_of c.args.script) x) (sym c.played.ensures.board)
     (record {
       run = run;
-      closed = subst (λ (n : RunNumbers). HasClosedAll (folded_by n) b) c.first_numbers.ensures c.in-Ok-run_server.ensures.closed;
+      closed = c.in-Ok-run_server.ensures.closed;
       receive =
           subst (λ (clients : List (List ℕ)). AllReceive clients b.ended) (ap (λ (f : SeenFront). f.told.clients) c.in-Ok.ensures)
           (all-receive (record { clients = c.in-Ok.front.told.clients }) b.ended run.agrees.answered c.in-Ok-run_server.ensures.clients.ended);
@@ -61,19 +61,18 @@ unreachable-requires g c =
 pub returns-in-Ok-run_server-clause-started : goal.returns-in-Ok-run_server-clause-started
 returns-in-Ok-run_server-clause-started g c =
     let s = c.in-Ok-run_server.served in
-    left-if c.finish.result.scripted _ (λ s. IsStartedFirst (folded_by first_numbers) first_numbers s.board.book.history s.front.told) c.finish.ensures.scripted
-    (kept-by s.board s.front s.clock c.played.result (λ b f calls. IsStartedFirst (folded_by first_numbers) first_numbers b.book.history f.told) c.played.ensures.board c.played.ensures.front
+    left-if c.finish.result.scripted _ (λ s. IsStartedFirst first_numbers s.board.book s.front.told) c.finish.ensures.scripted
+    (kept-by s.board s.front s.clock c.played.result (λ b f calls. IsStartedFirst first_numbers b.book f.told) c.played.ensures.board c.played.ensures.front
     c.played.ensures.clock
-    (subst (λ (n : RunNumbers). IsStartedFirst (folded_by n) n s.board.book.history s.front.told) c.first_numbers.ensures c.in-Ok-run_server.ensures.started))
+    (subst (λ (n : RunNumbers). IsStartedFirst n s.board.book s.front.told) c.first_numbers.ensures c.in-Ok-run_server.ensures.started))
 
 pub returns-in-Ok-run_server-clause-watched : goal.returns-in-Ok-run_server-clause-watched
 returns-in-Ok-run_server-clause-watched g c =
     let s = c.in-Ok-run_server.served in
-    left-if c.finish.result.scripted _ (λ s. AreWatched (folded_by first_numbers) s.board.book.history s.front.told) c.finish.ensures.scripted
-    (kept-by s.board s.front s.clock c.played.result (λ b f calls. AreWatched (folded_by first_numbers) b.book.history f.told) c.played.ensures.board c.played.ensures.front
+    left-if c.finish.result.scripted _ (λ s. AreWatched s.board.book s.front.told) c.finish.ensures.scripted
+    (kept-by s.board s.front s.clock c.played.result (λ b f calls. AreWatched b.book f.told) c.played.ensures.board c.played.ensures.front
     c.played.ensures.clock
-    (subst (λ (n : RunNumbers). AreWatched (folded_by n) s.board.book.history s.front.told) c.first_numbers.ensures
-    (c.in-Ok-run_server.ensures.watched (record { each = λ link. (link.told, refl) }))))
+    (c.in-Ok-run_server.ensures.watched (record { each = λ link. (link.told, refl) })))
 
 pub returns-in-Ok-run_server-clause-full : goal.returns-in-Ok-run_server-clause-full
 returns-in-Ok-run_server-clause-full g c seven =
@@ -92,12 +91,11 @@ returns-in-Ok-run_server-clause-patient g c =
 pub returns-in-Ok-run_server-clause-links : goal.returns-in-Ok-run_server-clause-links
 returns-in-Ok-run_server-clause-links g c =
     let s = c.in-Ok-run_server.served in
-    left-if c.finish.result.scripted _ (λ s. KeepsLinks (folded_by first_numbers) s.board s.front.told) c.finish.ensures.scripted
-    (kept-by s.board s.front s.clock c.played.result (λ b f calls. KeepsLinks (folded_by first_numbers) b f.told) c.played.ensures.board c.played.ensures.front
+    left-if c.finish.result.scripted _ (λ s. KeepsLinks s.board s.front.told) c.finish.ensures.scripted
+    (kept-by s.board s.front s.clock c.played.result (λ b f calls. KeepsLinks b f.told) c.played.ensures.board c.played.ensures.front
     c.played.ensures.clock
     (record {
       taken = c.in-Ok-run_server.ensures.links (record { each = λ link. (link.told, refl) });
       ended =
-          subst (λ (n : RunNumbers). EndsLinks (folded_by n) s.board) c.first_numbers.ensures
-          (c.in-Ok-run_server.ensures.ended (all-tell (record { clients = c.in-Ok.front.told.clients }) s.board.ended c.in-Ok-run_server.ensures.clients.ended));
+          c.in-Ok-run_server.ensures.ended (all-tell (record { clients = c.in-Ok.front.told.clients }) s.board.ended c.in-Ok-run_server.ensures.clients.ended);
     }))

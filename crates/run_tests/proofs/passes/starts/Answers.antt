@@ -6,5 +6,6 @@ start_child-started-requires-clause-who g c = has_passes _ _ c.turn-turn.result.
 
 pub done-requires-clause-left : goal.done-requires-clause-left
 done-requires-clause-left g c =
-    may_end _ _ c.turn-turn.result.kept c.start_child-started.new.self 0 c.start_child-started.result c.turn-turn.ensures.turn c.requires.number
+    may_end _ _ c.turn-turn.result.kept c.start_child-started.new.self 0 c.start_child-started.result c.turn-turn.ensures.turn
+    c.show.ensures.unfolded c.requires.number
     c.start_child-started.ensures.ok c.start_child-started.ensures.err c.start_child-started.ensures.entries

@@ -122,7 +122,7 @@ returns-clause-watched g c =
     watched-took c.in-Ok.taken.name c.watch-watched.result (g.L.Link.seen c.args.link).told link.0 (g.F.Front.seen c.self.inside.front).told
     (g.F.Front.seen c.watch-watched.new.self).told c.self.inside.board.book c.settle.new.board.book link.1 arrives.rank
     (ap (λ (f : FrontSeen). f.told) c.watch-watched.ensures.watches.front)
-    (takes-one-left c.settle.result c.in-Ok.taken.name c.new-conn.result.name c.watch-watched.result c.self.inside.board.book c.accept.new.board.book
+    (takes-one-left c.histories_go_on_by_one_entry.ensures.row c.settle.result c.in-Ok.taken.name c.new-conn.result.name c.watch-watched.result c.self.inside.board.book c.accept.new.board.book
     c.settle.new.board.book c.in-Ok.ensures.acts (ap (λ (x : SeenConn). x.name) c.new-conn.ensures) c.settle.ensures.left c.settle.ensures.given_up
     c.settle.ensures.closed)
     (c.settle.ensures.rest.accepted ∙ c.in-Ok.ensures.taken) (before tells))
