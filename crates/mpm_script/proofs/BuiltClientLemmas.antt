@@ -5,13 +5,14 @@ use Rattle.std.specs.List.{position, position_or_len}
 use Rattle.std.proofs.lemmas.Bool.Decides.{nat_tests}
 use Rattle.std.proofs.lemmas.Grind.{common_steps}
 use Rattle.std.proofs.lemmas.Slice.Eq.{bytes_eq-Decides}
-use Rattle.mpm_script.specs.BuiltLines.{IsBuilt}
+use Rattle.mpm_script.specs.BuiltLines.{IsBuilt, IsBuiltSite}
 use Rattle.mpm_script.specs.BuiltClientsInside.{AreFollowed, IsCourse, ends, is_course_named, spot_of, with_spot}
 use Rattle.mpm_script.specs.Clients.{sent_from_line}
 use Rattle.mpm_script.specs.declared.built_clients.Course.{Course}
 use Rattle.mpm_script.specs.declared.built_requests.Spot.{Spot}
 use Rattle.mpm_script.specs.declared.built_requests.Spot.TheVariants as spot
 use Rattle.mpm_base.specs.declared.script_line.ClientAct.{ClientAct}
+use Rattle.mpm_base.specs.declared.script_line.SiteLine.{SiteLine}
 use Rattle.mpm_base.specs.declared.script_line.ScriptLine.{ScriptLine}
 use Rattle.mpm_base.specs.declared.script_line.ScriptLine.TheVariants as line
 use Rattle.mpm_script.proofs.BuiltLemmas.{course_stays, others_stay}
@@ -95,6 +96,10 @@ at_past before m courses followed = (tt, followed_past before (line.At m) course
 pub conn_past : (before : List ScriptLine) (conn : List ℕ) (courses : List Course) → AreFollowed before courses
     → IsBuilt before (line.Conn conn) × AreFollowed (before ++ line.Conn conn ∷ []) courses
 conn_past before conn courses followed = (tt, followed_past before (line.Conn conn) courses (λ name. refl) (λ name. refl) followed)
+
+pub site_past : (before : List ScriptLine) (site : SiteLine) (courses : List Course) → IsBuiltSite site → AreFollowed before courses
+    → IsBuilt before (line.Site site) × AreFollowed (before ++ line.Site site ∷ []) courses
+site_past before site courses built followed = (built, followed_past before (line.Site site) courses (λ name. refl) (λ name. refl) followed)
 
 -- what happens to the link of one brings that one on
 pub followed_act : (before : List ScriptLine) (name : List ℕ) (act : ClientAct) (at : Option Spot) (courses : List Course)

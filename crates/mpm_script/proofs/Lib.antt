@@ -7,6 +7,7 @@ pub mod BuiltProgressLemmas
 pub mod BuiltSpotLemmas
 pub mod CutLemmas
 pub mod EscapeLemmas
+pub mod FileNameLemmas
 pub mod FirstLineLemmas
 pub mod LineLemmas
 pub mod LineWordLemmas

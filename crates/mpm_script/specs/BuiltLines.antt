@@ -5,6 +5,8 @@ use Rattle.mpm_script.specs.Clients.{sent_by}
 use Rattle.mpm_base.specs.RootRequest.{IsHost, IsStarted, request_of}
 use Rattle.mpm_base.specs.declared.script_line.ClientAct.{ClientAct}
 use Rattle.mpm_base.specs.declared.script_line.ClientAct.TheVariants as act
+use Rattle.mpm_base.specs.declared.script_line.SiteLine.{SiteLine}
+use Rattle.mpm_base.specs.declared.script_line.SiteLine.TheVariants as site
 use Rattle.mpm_base.specs.declared.script_line.ScriptLine.{ScriptLine}
 use Rattle.mpm_base.specs.declared.script_line.ScriptLine.TheVariants as line
 
@@ -25,13 +27,20 @@ IsBuiltAct before name act.Drop = ⊤
 IsBuiltAct before name (act.Room room) = ⊤
 IsBuiltAct before name (act.Fail which number) = ⊤
 
--- the line is built, where these stand before it: what asks the server for something, or changes the site, isn't
+-- the line of the site is built: what writes or empties the configuration is, what sets or removes a file isn't
+abbrev pub IsBuiltSite : SiteLine → Type 0
+IsBuiltSite (site.Conf bytes) = ⊤
+IsBuiltSite site.Clear = ⊤
+IsBuiltSite (site.File name bytes) = ⊥
+IsBuiltSite (site.Unfile name) = ⊥
+
+-- the line is built, where these stand before it: what asks the server for something isn't
 abbrev pub IsBuilt : List ScriptLine → ScriptLine → Type 0
 IsBuilt before (line.At m) = ⊤
 IsBuilt before (line.Conn name) = ⊤
 IsBuilt before (line.Client name act) = IsBuiltAct before name act
 IsBuilt before (line.Command word) = ⊥
-IsBuilt before (line.Site site) = ⊥
+IsBuilt before (line.Site site) = IsBuiltSite site
 
 -- each of the lines is, where these stand before all of them
 abbrev pub AreBuilt : List ScriptLine → List ScriptLine → Type 0

@@ -4,6 +4,7 @@ pub mod BuiltProgressInside
 pub mod Clients
 pub mod Escapes
 pub mod EscapesInside
+pub mod FileNames
 pub mod LineWordsInside
 pub mod Script
 pub mod ScriptLine

@@ -1,11 +1,11 @@
 //! Finds the first line of a script that isn't built yet. Which lines are built stands in `specs/BuiltLines.antt`.
-ghost use Rattle.std.specs.Prelude.{◌≡◌, true, false, List, IfOk, MatchOption, [], ◌∷◌, ◌++◌};
-ghost use Rattle.mpm_script.specs.BuiltLines.{IsBuilt, AreBuilt, FirstUnbuilt};
+ghost use Rattle.std.specs.Prelude.{◌≡◌, ◌↔◌, true, false, List, IsTrue, IfOk, MatchOption, [], ◌∷◌, ◌++◌};
+ghost use Rattle.mpm_script.specs.BuiltLines.{IsBuilt, IsBuiltSite, AreBuilt, FirstUnbuilt};
 ghost use Rattle.mpm_script.specs.BuiltClientsInside.{AreFollowed};
 ghost use Rattle.mpm_base.specs.declared.script_line.ScriptLine.{ScriptLine as Line};
 
 use crate::built_clients::Courses;
-use mpm_base::{NoMemory, ScriptLine};
+use mpm_base::{NoMemory, ScriptLine, SiteLine};
 use std::alloc::Global;
 
 /// The place, from 0, of the first line that isn't built yet.
@@ -33,6 +33,13 @@ fn is_built(alloc: Global, courses: &mut Courses, line: &ScriptLine) -> Result<b
         ScriptLine::Conn(_) => Ok(true),
         ScriptLine::Client(name, act) => courses.act(alloc, name.as_slice(), act),
         ScriptLine::Command(_) => Ok(false),
-        ScriptLine::Site(_) => Ok(false),
+        ScriptLine::Site(site) => Ok(is_built_site(site)),
     }
+}
+
+// Whether the line of the site is built.
+fn is_built_site(site: &SiteLine) -> bool
+    ensures { IsTrue result ↔ IsBuiltSite site.now }
+{
+    matches!(site, SiteLine::Conf(_) | SiteLine::Clear)
 }

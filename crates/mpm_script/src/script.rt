@@ -5,6 +5,7 @@
 //! `specs/BuiltLines.antt`.
 ghost use Rattle.std.specs.Prelude.{◌≡◌, ◌≢◌, ℕ, List, [], ◌∷◌, ◌++◌, length, Result, Err, IfSome, IfNone, IfOk, IfErr, MatchOption, OnOk, OnErr};
 ghost use Rattle.std.specs.List.{prefix_len};
+ghost use Rattle.mpm_script.specs.FileNames.{HaveTextNames};
 ghost use Rattle.mpm_script.specs.Script.{Begins, BeginsWithLine, IsSureAnswer, IsScript, ScriptIs, is_line_byte};
 ghost use Rattle.mpm_base.specs.declared.script_line.ScriptLine.{ScriptLine as Line};
 ghost use Rattle.mpm_script.specs.declared.script.ScriptFault.{ScriptFault as Fault};
@@ -97,7 +98,11 @@ impl From<NoMemory> for ScriptFault {
 /// is refused is told; only where there is none, the first line that isn't built yet.
 pub fn read_script(alloc: Global, bytes: &[u8]) -> Result<Script, ScriptFault>
     ensures answer { ScriptIs bytes.now result }
+
+    // So the files that its lines set or remove have UTF-8 names.
+    ensures names { IfOk result (λ script. HaveTextNames script) }
 {
+    file_names_are_texts();
     let script = read_lines(alloc, bytes)?;
     match first_unbuilt(alloc, script.lines())? {
         Some(place) => Err(ScriptFault::NotYet(place as u64 + 1)),
@@ -112,6 +117,11 @@ pub fn one_answer()
 {
     one_line();
 }
+
+/// A law of scripts: the files that their lines set or remove have UTF-8 names.
+pub fn file_names_are_texts()
+    ensures { (bytes : List ℕ) (lines : List Line) → IsScript bytes lines → HaveTextNames lines }
+{}
 
 // The lines of the bytes, or why one of them is refused.
 fn read_lines(alloc: Global, bytes: &[u8]) -> Result<Script, ScriptFault>

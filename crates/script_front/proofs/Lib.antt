@@ -1,5 +1,6 @@
 pub mod ClientLemmas
 pub mod ComingLemmas
+pub mod EditionLemmas
 pub mod MomentLemmas
 pub mod PlayedLemmas
 pub mod PlaysLemmas

@@ -1,3 +1,4 @@
+pub mod Editions
 pub mod PlayedFront
 pub mod PlayedFrontInside
 pub mod ScriptClock

@@ -1,14 +1,16 @@
-//! The front and the clock that play a script.
+//! The front and the clock that play a script, and the store that has its files.
 //!
 //! `ScriptFront` is a front over a script: its connections arrive, send, end, fail and are dropped as the lines say, and
 //! time goes from moment to moment while nobody is served. It meets the trait `Front` of `mpm_base`; what it shows of
 //! itself and the rules of its waits stand in `specs/ScriptFront.antt`, which signals are due in `specs/Signals.antt`, and
-//! what holds between its parts in `specs/PlayedFront.antt`. `ScriptClock` is the clock that goes with it.
+//! what holds between its parts in `specs/PlayedFront.antt`. `ScriptClock` is the clock that goes with it. `script_store`
+//! makes the store of a script, with all editions of its files; which these are stands in `specs/Editions.antt`.
 #![tactic(auto)]
 
 mod client_plans;
 mod client_texts;
 mod coming_lines;
+mod editions;
 mod script_client;
 mod script_clients;
 mod script_clock;
@@ -17,5 +19,6 @@ mod script_front;
 mod tests;
 mod wait_end;
 
+pub use editions::{editions_have_a_configuration, script_store};
 pub use script_clock::ScriptClock;
 pub use script_front::ScriptFront;

@@ -80,8 +80,9 @@ impl Model for ScriptFront {
 }
 
 impl ScriptFront {
-    /// The front of the script. No line has happened. `command` and the lines of the site do nothing when they happen, and a
-    /// line that names a client means each connection of that name; a script that was read has neither such lines nor two
+    /// The front of the script. No line has happened. A line of the site happens with those around it and does nothing to the
+    /// front: it says what the files are, which the store of the script has (`script_store`). `command` does nothing either,
+    /// and a line that names a client means each connection of that name; a script that was read has no `command`, nor two
     /// connections of one name.
     pub fn make(alloc: Global, script: Script) -> Result<ScriptFront, NoMemory>
         ensures { IfOk result (λ front. front ≡ new_front script) }

@@ -21,7 +21,10 @@ enum Row<'a> {
     Room(&'a [u8], Option<u64>),
     Fail(&'a [u8]),
     Command,
-    Site,
+    Conf(&'a [u8]),
+    Clear,
+    File(&'a [u8]),
+    Unfile(&'a [u8]),
 }
 
 /// So many requests, and then the bytes.
@@ -50,7 +53,13 @@ fn line(alloc: Global, row: Row) -> Result<ScriptLine, NoMemory> {
         Row::Room(name, room) => act(alloc, name, ClientAct::Room(room)),
         Row::Fail(name) => act(alloc, name, ClientAct::Fail(LinkCall::Read, 1)),
         Row::Command => Ok(ScriptLine::Command(CommandWord::Graceful)),
-        Row::Site => Ok(ScriptLine::Site(SiteLine::Clear)),
+        Row::Conf(text) => Ok(ScriptLine::Site(SiteLine::Conf(Octets::of(alloc, text)?))),
+        Row::Clear => Ok(ScriptLine::Site(SiteLine::Clear)),
+        Row::File(name) => {
+            let name = Octets::of(alloc, name)?;
+            Ok(ScriptLine::Site(SiteLine::File(name, Octets::make(alloc))))
+        }
+        Row::Unfile(name) => Ok(ScriptLine::Site(SiteLine::Unfile(Octets::of(alloc, name)?))),
     }
 }
 
@@ -99,7 +108,7 @@ fn finds(
 }
 
 #[test]
-fn commands_and_lines_of_the_site_are_not_built(rt: HostRuntime) -> Result<(), Fail> {
+fn commands_and_files_are_not_built(rt: HostRuntime) -> Result<(), Fail> {
     let alloc = rt.alloc();
     let (a, b): (&[u8], &[u8]) = (b"a", b"b");
     let built = [
@@ -115,16 +124,26 @@ fn commands_and_lines_of_the_site_are_not_built(rt: HostRuntime) -> Result<(), F
         Row::End(b),
         Row::Drop(b),
         Row::Fail(b),
+        Row::Conf(b"KeepAlive Off"),
+        Row::Clear,
+        Row::Conf(b""),
     ];
     finds(&rt, alloc, &[], None)?;
     finds(&rt, alloc, &built, None)?;
-    finds(&rt, alloc, &[Row::At(0), Row::Command, Row::Site], Some(1))?;
     finds(
         &rt,
         alloc,
-        &[Row::Drop(a), Row::Site, Row::Command],
+        &[Row::At(0), Row::Command, Row::File(a)],
         Some(1),
     )?;
+    finds(
+        &rt,
+        alloc,
+        &[Row::Drop(a), Row::Unfile(a), Row::Command],
+        Some(1),
+    )?;
+    finds(&rt, alloc, &[Row::Clear, Row::File(b"httpd.conf")], Some(1))?;
+    finds(&rt, alloc, &[Row::Unfile(b"httpd.conf")], Some(0))?;
     Ok(())
 }
 

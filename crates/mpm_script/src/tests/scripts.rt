@@ -50,7 +50,7 @@ fn reads_the_lines_of_two_connections(rt: HostRuntime) -> Result<(), Fail> {
 
 #[test]
 fn tells_the_earliest_line_that_is_refused(rt: HostRuntime) -> Result<(), Fail> {
-    let cases: [(&[u8], Result<usize, ScriptFault>); 29] = [
+    let cases: [(&[u8], Result<usize, ScriptFault>); 31] = [
         (b"", Ok(0)),
         (b"conn a\nend a\n", Ok(2)),
         (b"at 7\nat 7\nat 4999\n", Ok(3)),
@@ -104,6 +104,11 @@ fn tells_the_earliest_line_that_is_refused(rt: HostRuntime) -> Result<(), Fail> 
             Err(ScriptFault::NotYet(2)),
         ),
         (b"command stop\n", Err(ScriptFault::NotYet(1))),
+        (b"conf KeepAlive Off\nclear\nconf \nconn a\nclear\n", Ok(5)),
+        (
+            b"clear\nconf Timeout 1\nfile a b\n",
+            Err(ScriptFault::NotYet(3)),
+        ),
         (b"clear\nend a\n", Err(ScriptFault::UnknownName(2))),
         (
             b"clear\nconn a\nat 5000\nat 4999\n",
