@@ -249,7 +249,7 @@ fn scripts_are_refused_at_their_line(rt: HostRuntime) -> Result<(), Fail> {
             b"script refused at 2: MomentBackwards\n",
         ),
         (b"send z hi\n", 1, b"script refused at 1: UnknownName\n"),
-        (b"clear\nconn b\n", 1, b"script refused at 1: NotYet\n"),
+        (b"clear\nunfile b\n", 2, b"script refused at 2: NotYet\n"),
         (
             b"conn a\nsend a POST / HTTP/1.1\\r\\nHost: a\\r\\n\\r\\n\nend a\n",
             2,
