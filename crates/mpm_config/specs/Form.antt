@@ -1,7 +1,7 @@
 -- What kind of line a line is. A section of the kind IfModule hides what stands in it unless a module of its name is
 -- there, or, with an exclamation mark before the name, unless none is.
-use Rattle.std.specs.Prelude.{ℕ, ◌==◌, ◌&&◌, ◌||◌, if◌then◌else◌, Bool, not, List, [], ◌∷◌, codes, Option, Some, None, option_map}
-use Rattle.std.specs.List.{list_all}
+use Rattle.std.specs.Prelude.{ℕ, ◌==◌, ◌&&◌, ◌||◌, if◌then◌else◌, Bool, not, List, [], ◌∷◌, codes, drop, Option, Some, None, option_map}
+use Rattle.std.specs.List.{before_first, list_all, position_or_len}
 use Rattle.std.specs.Option.{option_map_or}
 use Rattle.std.specs.Str.{bytes_eq}
 use Rattle.mpm_config.specs.declared.form.Form.{Form}
@@ -28,15 +28,10 @@ abbrev pub guard : List Word → Option Bool
 guard (Closed name ∷ []) = guard_of name
 guard ws = None
 
--- the words after the kind of a section, where that is IfModule
-abbrev pub after_kind : List Word → Option (List Word)
-after_kind (Closed kind ∷ ws) = if is_same_word (codes "IfModule") kind then Some ws else None
-after_kind ws = None
-
--- the same of a section's text, which does not begin with a blank
+-- the words after the kind of a section, where that is IfModule: it goes to the first blank, and stands without quotes
 abbrev pub arguments : List ℕ → Option (List Word)
-arguments [] = None
-arguments (b ∷ bs) = if is_blank b then None else after_kind (words (b ∷ bs))
+arguments text =
+    if is_same_word (codes "IfModule") (before_first is_blank text) then Some (words (drop (position_or_len is_blank text) text)) else None
 
 -- what closes a section has no further word
 abbrev pub section_closing : List Word → Form

@@ -5,7 +5,7 @@ ghost use Rattle.mpm_config.specs.Form.{arguments, before_end, section_closing, 
 ghost use Rattle.mpm_config.specs.Words.{is_blank, words};
 
 use crate::directive::is_word;
-use crate::word::{First, first_word, is_blank, past_first, skip_blanks};
+use crate::word::{First, at_blank, first_word, is_blank, past_first, skip_blanks};
 
 /// The kind of a line.
 #[derive(Clone, Copy, Debug, PartialEq, Eq)]
@@ -55,16 +55,11 @@ fn guard(line: &str) -> Option<bool>
     guard_of(argument.as_bytes())
 }
 
-/// What follows the kind of a section, where that is IfModule.
+/// What follows the kind of a section, where that is IfModule. The kind stands without quotes.
 fn arguments(text: &str) -> Option<&str>
     ensures { option_map (λ rest. words rest.now) result ≡ arguments text.now }
 {
-    if text.is_empty() || is_blank(text.as_bytes()[0]) {
-        return None;
-    }
-    let First::Closed(kind, after) = first_word(text) else {
-        return None;
-    };
+    let (kind, after) = at_blank(text);
     if is_word(kind.as_bytes(), "IfModule") {
         Some(after)
     } else {

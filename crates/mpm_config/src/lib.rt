@@ -36,6 +36,3 @@ pub use laws::{
 pub use numbers::Numbers;
 pub use read::read_config;
 pub use warning::{Warning, Warnings};
-
-#[cfg(test)]
-mod tests;

@@ -55,7 +55,7 @@ pub fn past_first(text: &str) -> &str
 }
 
 /// What stands before the first blank, and what stands from there on.
-fn at_blank(text: &str) -> (&str, &str)
+pub fn at_blank(text: &str) -> (&str, &str)
     ensures before { result.0.now ≡ before_first is_blank text.now }
     ensures after { result.1.now ≡ drop (position_or_len is_blank text.now) text.now }
 {
