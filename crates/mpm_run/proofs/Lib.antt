@@ -2,6 +2,7 @@ pub mod AddedLemmas
 pub mod CauseLemmas
 pub mod ChildrenLemmas
 pub mod ClosingLemmas
+pub mod ConfigLemmas
 pub mod EndLemmas
 pub mod EventLemmas
 pub mod ExitStatusLemmas

@@ -1,13 +1,29 @@
 -- What the parts of the top call say of the exit status and of what was written.
-use Rattle.std.specs.Prelude.{◌≡◌, ℕ, Bool, true, false, ◌⊎◌, List, ◌++◌, Option, Some, option_map}
-use Rattle.mpm_base.specs.Count.{Rises}
+use Rattle.std.specs.Prelude.{◌≡◌, ◌==◌, ℕ, ◌≤◌, Bool, true, false, if◌then◌else◌, ◌⊎◌, List, ◌++◌, Option, Some, option_map}
+use Rattle.mpm_base.specs.Count.{NeverFalls, Rises}
 use Rattle.mpm_base.specs.Sink.{SinkSeen}
+use Rattle.mpm_base.specs.declared.script_line.ScriptLine.{ScriptLine}
+use Rattle.mpm_script.specs.Clients.{clients_of}
 use Rattle.mpm_script.specs.declared.script.ScriptFault.{ScriptFault}
+use Rattle.script_front.specs.Editions.{editions_of}
+use Rattle.conn_machine.specs.Runs.{full_load, load}
+use Rattle.board.specs.Board.{SeenBoard}
+use Rattle.board.specs.Book.{HasEntryOf, full_stop}
 use Rattle.conn_machine.specs.declared.event.Why.TheVariants as why
 use Rattle.conn_machine.specs.declared.state.Going.{Going}
 use Rattle.conn_machine.specs.declared.state.Going.TheVariants.{Halted}
-use Rattle.mpm_run.specs.ExitStatuses.{WritesText, fault_at}
-use Rattle.mpm_run.specs.Texts.{script_refused}
+use Rattle.mpm_run.specs.Configured.{Configures, HasConfig}
+use Rattle.mpm_run.specs.ConfiguredInside.{HasBadConfig}
+use Rattle.mpm_run.specs.ExitStatuses.{HasEnd, HasRun, IsPatient, KeepsTime, WritesText, fault_at}
+use Rattle.mpm_run.specs.FirstNumbers.{numbers_of}
+use Rattle.mpm_run.specs.Links.{KeepsLinks}
+use Rattle.mpm_run.specs.Started.{IsStartedFirst}
+use Rattle.mpm_run.specs.Texts.{config_refused, script_refused}
+use Rattle.mpm_run.specs.Watched.{AreWatched, IsOpenedAndHushed}
+use Rattle.mpm_run.specs.declared.config_reading.NoConfig.{NoConfig}
+use Rattle.mpm_run.specs.declared.config_reading.NoConfig.TheVariants as no
+use Rattle.mpm_run.specs.declared.outcome.Scripted.{Scripted}
+use Rattle.mpm_run.specs.declared.texts.ConfigRefusal.{ConfigRefusal}
 use Rattle.mpm_run.specs.declared.texts.ScriptRefusal.{ScriptRefusal}
 
 -- ## The exit status on the way
@@ -27,9 +43,48 @@ IsStoppedStatus s = (s ≡ 0) ⊎ (s ≡ 6) ⊎ (s ≡ 7)
 abbrev pub ReportsAs : ℕ → ℕ → Type 0
 ReportsAs status status' = (status' ≡ status) ⊎ ((status ≡ 0) × (status' ≡ 5)) ⊎ (status' ≡ 6)
 
--- the exit statuses of a script that was read
+-- what a write that failed makes of an exit status
+abbrev pub status_of_writes : Bool → ℕ → ℕ
+status_of_writes true status = status
+status_of_writes false status = if status == 0 then 5 else status
+
+-- the exit statuses of a script that was read, and whose configuration is accepted
 abbrev pub IsPlayedStatus : ℕ → Type 0
 IsPlayedStatus s = (s ≡ 0) ⊎ (s ≡ 5) ⊎ (s ≡ 6) ⊎ (s ≡ 7)
+
+-- the exit statuses of a script
+abbrev pub IsScriptStatus : ℕ → Type 0
+IsScriptStatus s = (s ≡ 0) ⊎ (s ≡ 1) ⊎ (s ≡ 3) ⊎ (s ≡ 5) ⊎ (s ≡ 6) ⊎ (s ≡ 7) ⊎ (s ≡ 8)
+
+-- the exit statuses of a test
+abbrev pub IsTestStatus : ℕ → Type 0
+IsTestStatus s = (s ≡ 0) ⊎ (s ≡ 1) ⊎ (s ≡ 3) ⊎ (s ≡ 5) ⊎ (s ≡ 6)
+
+-- ## What is left
+
+-- what holds of what is left of each run
+pub record IsLeft (s : Scripted) : Type 0 where
+  pub site : s.store.told ≡ editions_of s.front.script
+  pub front : IsOpenedAndHushed (numbers_of s.config) s.front.told
+  pub started : IsStartedFirst (numbers_of s.config) s.board.book s.front.told
+  pub watched : AreWatched s.board.book s.front.told
+  pub links : KeepsLinks s.board s.front.told
+  pub time : KeepsTime s.board s.front s.clock
+  pub patient : IsPatient s.board s.front
+  pub ended : s.board.book.state.going ≡ Halted why.FrontEnded → HasEnd s.board s.front
+
+-- what is left is of a run of the script, by the configuration that its lines write
+pub record IsPlayed (lines : List ScriptLine) (s : Scripted) : Type 0 where
+  pub script : s.front.script ≡ lines
+  pub text : List ℕ
+  pub text_is : HasConfig lines text
+  pub accepted : Configures text s.config
+  pub has_run : HasRun s.config (clients_of lines) s.board
+
+-- the history has a stop because it is full, at a load that is at its limit
+pub record IsFullStop (b : SeenBoard) : Type 0 where
+  pub stop : HasEntryOf full_stop b.book.history
+  pub full : full_load ≤ load stop.before
 
 -- ## What is written on the way
 
@@ -45,3 +100,30 @@ pub record IsRefusalOf (sink sink' : SinkSeen) (e : ScriptFault) (shown : Option
   pub fault_is : e ≡ fault_at why line
   pub shows : shown ≡ Some line
   pub text : WritesText sink sink' (script_refused line why)
+
+-- a run is refused: this number is shown, and the text was written
+pub record Refuses (sink sink' : SinkSeen) (shown : Option ℕ) (text : List ℕ) (shown' : Option ℕ) : Type 0 where
+  pub shows : shown' ≡ shown
+  pub writes : WritesText sink sink' text
+
+-- a run is refused as there is no configuration
+abbrev pub RefusesConfig : SinkSeen → SinkSeen → NoConfig → Option ℕ → Type 0
+RefusesConfig sink sink' (no.Refused why number) shown = Refuses sink sink' (Some number) (config_refused number why) shown
+RefusesConfig sink sink' no.NoMemory shown = ⊥
+RefusesConfig sink sink' no.Missing shown = ⊥
+RefusesConfig sink sink' no.Failed shown = ⊥
+
+-- the configuration of the script is refused: what is shown of it, and its text was written
+pub record IsConfigRefusalOf (sink sink' : SinkSeen) (lines : List ScriptLine) (shown : Option ℕ) : Type 0 where
+  pub number : ℕ
+  pub why : ConfigRefusal
+  pub bad : HasBadConfig lines why number
+  pub shows : shown ≡ Some number
+  pub text : WritesText sink sink' (config_refused number why)
+
+-- what was written of a report by the exit status, behind warnings that were written or not
+pub record EndsReport (sink sink' : SinkSeen) (text : List ℕ) (written : Bool) (status : ℕ) : Type 0 where
+  pub faults : NeverFalls sink.faults sink'.faults
+  pub well : status ≡ 0 → (written ≡ true) × (sink'.told ≡ option_map (λ before. before ++ text) sink.told)
+  pub failed : status ≡ 5 → (written ≡ false) ⊎ Rises sink.faults sink'.faults
+  pub full : status ≡ 7 → WritesText sink sink' text

@@ -1,8 +1,7 @@
 -- The numbers that a run works by.
-use Rattle.std.specs.Prelude.{◌≡◌, ◌≤◌, true, [], ◌∷◌, None}
-use Rattle.mpm_base.specs.declared.addr.Addr.{Addr}
-use Rattle.mpm_base.specs.declared.shape.Shape.{Shape}
-use Rattle.mpm_config.specs.Shape.{default_shape}
+use Rattle.std.specs.Prelude.{◌≡◌, ◌≤◌, true, []}
+use Rattle.mpm_config.specs.Config.{Configuration}
+use Rattle.mpm_config.specs.Shape.{shape_of_numbers}
 use Rattle.conn_machine.specs.Children.{is_in_bounds}
 use Rattle.conn_machine.specs.Folds.{opening_record}
 use Rattle.conn_machine.specs.declared.folded.Folded.{Folded}
@@ -11,19 +10,17 @@ use Rattle.conn_machine.specs.declared.state.State.{State}
 use Rattle.board.specs.Book.{SeenBook}
 use Rattle.mpm_run.specs.declared.run_numbers.RunNumbers.{RunNumbers}
 
--- the shape of an empty configuration, but for one child
-abbrev pub first_shape : Shape
-first_shape = record default_shape { target = 1; children = 1 }
-
--- where an empty configuration listens
-abbrev pub first_listen : Addr
-first_listen = record { host = 127 ∷ 0 ∷ 0 ∷ 1 ∷ []; port = 8080 }
-
--- the numbers of the first runs: 64 slots, one child, and two passes, of which one listens and one serves; and no port for command
--- lines
-abbrev pub first_numbers : RunNumbers
-first_numbers =
-    record { slots = 64; children = 1; passes = 2; shape = first_shape; listen = first_listen; control = None }
+-- the numbers by which a run of this configuration works: where it listens, and what its children are started with, but for one child;
+-- 64 slots, and two passes, of which one listens and one serves
+abbrev pub numbers_of : Configuration → RunNumbers
+numbers_of c = record {
+  slots = 64;
+  children = 1;
+  passes = 2;
+  shape = record (shape_of_numbers c.current) { target = 1; children = 1 };
+  listen = c.listen;
+  control = c.control;
+}
 
 -- the numbers are ones that a table may have, and one pass serves at least
 pub record AreNumbers (n : RunNumbers) : Type 0 where

@@ -1,5 +1,5 @@
 -- The forms of the command line.
-use Rattle.std.specs.Prelude.{◌≡◌, ℕ, List, [], ◌∷◌, codes}
+use Rattle.std.specs.Prelude.{◌≡◌, ◌⊎◌, ℕ, List, [], ◌∷◌, codes}
 use Rattle.mpm_run.specs.declared.invocation.Invocation.{Invocation}
 use Rattle.mpm_run.specs.declared.invocation.Invocation.TheVariants as invocation
 
@@ -7,14 +7,19 @@ use Rattle.mpm_run.specs.declared.invocation.Invocation.TheVariants as invocatio
 abbrev pub script_words : List ℕ → List (List ℕ)
 script_words name = codes "--script" ∷ name ∷ []
 
+-- the words that have the configuration of that name tested
+abbrev pub test_words : List ℕ → List (List ℕ)
+test_words name = codes "-t" ∷ codes "-f" ∷ name ∷ []
+
 -- the words have this form
 abbrev pub IsInvocation : Invocation → List (List ℕ) → Type 0
 IsInvocation (invocation.Script name) words = words ≡ script_words name.now
+IsInvocation (invocation.Test name) words = words ≡ test_words name.now
 
--- the file that is named
-abbrev pub file_of : Invocation → List ℕ
-file_of (invocation.Script name) = name.now
+-- the words name this file, to be played or tested
+abbrev pub NamesFile : List (List ℕ) → List ℕ → Type 0
+NamesFile words name = (words ≡ script_words name) ⊎ (words ≡ test_words name)
 
 -- the words have none of the forms
 abbrev pub IsNoInvocation : List (List ℕ) → Type 0
-IsNoInvocation words = (name : List ℕ) → ¬ (words ≡ script_words name)
+IsNoInvocation words = (name : List ℕ) → ¬ (NamesFile words name)

@@ -1,4 +1,6 @@
 pub mod ClosingInside
+pub mod Configured
+pub mod ConfiguredInside
 pub mod ExitStatuses
 pub mod ExitStatusesInside
 pub mod FirstNumbers

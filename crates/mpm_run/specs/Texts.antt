@@ -1,6 +1,8 @@
--- The texts of runs that were refused.
+-- The texts of runs that were refused, and of a test that found nothing wrong.
 use Rattle.std.specs.Prelude.{ℕ, List, ◌++◌, codes}
 use Rattle.std.specs.Fmt.{decimal}
+use Rattle.mpm_run.specs.declared.texts.ConfigRefusal.{ConfigRefusal}
+use Rattle.mpm_run.specs.declared.texts.ConfigRefusal.TheVariants.{NotText, UnknownDirective, BadValue, BadSection, Unclosed, TooDeep}
 use Rattle.mpm_run.specs.declared.texts.ScriptRefusal.{ScriptRefusal}
 use Rattle.mpm_run.specs.declared.texts.ScriptRefusal.TheVariants.{BadLine, MomentBackwards, UnknownName, NotYet}
 
@@ -22,3 +24,20 @@ refusal_word NotYet = codes "NotYet"
 -- the script is refused at the line
 abbrev pub script_refused : ℕ → ScriptRefusal → List ℕ
 script_refused line why = codes "script refused at " ++ decimal line ++ codes ": " ++ refusal_word why ++ codes "\n"
+
+-- the word for the fault of a configuration
+abbrev pub config_word : ConfigRefusal → List ℕ
+config_word NotText = codes "NotText"
+config_word UnknownDirective = codes "UnknownDirective"
+config_word BadValue = codes "BadValue"
+config_word BadSection = codes "BadSection"
+config_word Unclosed = codes "Unclosed"
+config_word TooDeep = codes "TooDeep"
+
+-- the configuration is refused at the line, or at the place where it is no text
+abbrev pub config_refused : ℕ → ConfigRefusal → List ℕ
+config_refused number why = codes "configuration refused at " ++ decimal number ++ codes ": " ++ config_word why ++ codes "\n"
+
+-- the configuration that was tested is accepted
+abbrev pub syntax_ok : List ℕ
+syntax_ok = codes "Syntax OK\n"

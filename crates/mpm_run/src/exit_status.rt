@@ -1,15 +1,18 @@
 //! The exit statuses of the program, as numbers.
 
-/// The run came to its end, and its report was written.
+/// The run came to its end, and its report was written; or the configuration that was tested is accepted.
 pub(crate) const PLAYED: u8 = 0;
+
+/// The configuration is refused.
+pub(crate) const MISCONFIGURED: u8 = 1;
 
 /// The words of the command line are no command.
 pub(crate) const UNKNOWN_WORDS: u8 = 2;
 
-/// The script is missing or can't be read.
+/// The file that the words name is missing or can't be read.
 pub(crate) const UNREAD: u8 = 3;
 
-/// The report can't be written.
+/// The text can't be written.
 pub(crate) const UNWRITTEN: u8 = 5;
 
 /// Memory was wanted and not found.

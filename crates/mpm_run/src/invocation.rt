@@ -1,6 +1,6 @@
 //! The forms of the command line.
-ghost use Rattle.std.specs.Prelude.{◌≡◌, IfSome, IfNone};
-ghost use Rattle.mpm_run.specs.Invocations.{IsInvocation, IsNoInvocation, file_of};
+ghost use Rattle.std.specs.Prelude.{◌≡◌, length, IfSome, IfNone};
+ghost use Rattle.mpm_run.specs.Invocations.{IsInvocation, IsNoInvocation};
 
 use mpm_base::Words;
 
@@ -9,17 +9,8 @@ use mpm_base::Words;
 pub enum Invocation<'a> {
     /// `--script FILE`: the script of that name is played.
     Script(&'a str),
-}
-
-impl<'a> Invocation<'a> {
-    /// The name of the file that it names.
-    pub fn file(&self) -> &'a str
-        ensures { result.now ≡ file_of self.now }
-    {
-        match *self {
-            Invocation::Script(name) => name,
-        }
-    }
+    /// `-t -f FILE`: the configuration of that name is tested.
+    Test(&'a str),
 }
 
 /// The form that the words have, if any.
@@ -27,12 +18,35 @@ pub fn invocation_of(words: &Words) -> Option<Invocation<'_>>
     ensures some { IfSome result (λ invocation. IsInvocation invocation words.now) }
     ensures none { IfNone result (IsNoInvocation words.now) }
 {
-    if words.len() != 2 {
-        return None;
+    match words.len() {
+        2 => script_of(words),
+        3 => test_of(words),
+        _ => None,
     }
+}
+
+/// The form that two words have, if any.
+fn script_of(words: &Words) -> Option<Invocation<'_>>
+    requires { length words.now ≡ 2 }
+    ensures some { IfSome result (λ invocation. IsInvocation invocation words.now) }
+    ensures none { IfNone result (IsNoInvocation words.now) }
+{
     let name = words.get(1)?;
     match words.get(0) {
         Some("--script") => Some(Invocation::Script(name)),
+        _ => None,
+    }
+}
+
+/// The form that three words have, if any.
+fn test_of(words: &Words) -> Option<Invocation<'_>>
+    requires { length words.now ≡ 3 }
+    ensures some { IfSome result (λ invocation. IsInvocation invocation words.now) }
+    ensures none { IfNone result (IsNoInvocation words.now) }
+{
+    let name = words.get(2)?;
+    match (words.get(0), words.get(1)) {
+        (Some("-t"), Some("-f")) => Some(Invocation::Test(name)),
         _ => None,
     }
 }

@@ -11,17 +11,24 @@
 #![tactic(auto)]
 
 mod closing;
+mod config_reading;
+mod config_test;
 mod counting;
 mod exit_status;
 mod invocation;
 mod listen;
+mod outcome;
+mod refusal;
 mod report;
 mod round;
 mod run_numbers;
+mod script_run;
 mod server;
 mod texts;
 mod top_call;
+mod writing;
 
 pub use counting::tally;
+pub use outcome::{Outcome, Scripted};
 pub use report::{Tally, report_text};
-pub use top_call::{Outcome, Scripted, run};
+pub use top_call::run;

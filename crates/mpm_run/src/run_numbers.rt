@@ -3,7 +3,7 @@ ghost use Rattle.std.specs.Prelude.{◌≡◌};
 ghost use Rattle.mpm_run.specs.FirstNumbers as spec;
 
 use mpm_base::{Addr, Shape};
-use mpm_config::default_shape;
+use mpm_config::{Config, shape_of};
 
 /// The numbers of a run.
 #[derive(Clone, Copy, Debug, PartialEq, Eq)]
@@ -22,9 +22,10 @@ pub struct RunNumbers {
     pub control: Option<u16>,
 }
 
-/// The numbers of a run by an empty configuration, but for one child.
-pub fn first_numbers() -> RunNumbers
-    ensures { result ≡ spec.first_numbers }
+/// The numbers of a run by the configuration, but for one child.
+pub fn numbers_of(config: &Config) -> RunNumbers
+    ensures value { result ≡ spec.numbers_of config.entry.now }
+    ensures allowed { spec.AreNumbers result }
 {
     RunNumbers {
         slots: 64,
@@ -33,12 +34,9 @@ pub fn first_numbers() -> RunNumbers
         shape: Shape {
             target: 1,
             children: 1,
-            ..default_shape()
+            ..shape_of(config)
         },
-        listen: Addr {
-            host: [127, 0, 0, 1],
-            port: 8_080,
-        },
-        control: None,
+        listen: config.listen,
+        control: config.control,
     }
 }

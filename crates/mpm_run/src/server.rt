@@ -1,9 +1,11 @@
-//! The run of a server over a front and a clock, whichever they are.
-ghost use Rattle.std.specs.Prelude.{◌≡◌, true, false, [], IfErr, IfOk, IfSome};
+//! The run of a server over a front and a clock, whichever they are, with what is written where it opens.
+ghost use Rattle.std.specs.Prelude.{◌≡◌, true, false, [], IfErr, IfOk, IfSome, OnErr};
+ghost use Rattle.mpm_base.specs.Count.{NeverFalls};
 ghost use Rattle.mpm_base.specs.Front.{Binds, IsUnused};
 ghost use Rattle.conn_machine.specs.Made.{AreOfPasses};
 ghost use Rattle.board.specs.Board.{AreOfClients};
 ghost use Rattle.board.specs.Ranks.{AllTell};
+ghost use Rattle.mpm_run.specs.ExitStatusesInside.{WritesAll};
 ghost use Rattle.mpm_run.specs.FirstNumbers.{AreNumbers, folded_by, opened_book, opened_by};
 ghost use Rattle.mpm_run.specs.Links.{EndsLinks, TakesLinks};
 ghost use Rattle.mpm_run.specs.Listen.{HasClosedAll, IsClosedDown, IsRunFrom};
@@ -15,11 +17,12 @@ ghost use Rattle.mpm_run.specs.Watched.{AreWatched, IsOpenedAndHushed};
 
 use crate::listen::Listener;
 use crate::run_numbers::RunNumbers;
+use crate::writing::write_all;
 use board::Board;
 use board::laws::ended_links_are_of_closed_connections;
 use conn_machine::laws::{accepted_connections_are_closed_or_live, events_keep_states_sound};
 use conn_state::{Known, Nothing};
-use mpm_base::{Clock, Front, Link, NoMemory, Ready};
+use mpm_base::{Clock, Front, Link, NoMemory, Ready, Sink};
 use std::alloc::Global;
 use std::sync::Wait;
 
@@ -32,6 +35,8 @@ pub struct Served<L: Link, F, C> {
     pub front: F,
     /// The clock of the run.
     pub clock: C,
+    /// Whether the text of the opening was written whole.
+    pub written: bool,
 }
 
 /// Why a server did not open.
@@ -43,15 +48,25 @@ pub enum OpenFault<F> {
     NoMemory,
 }
 
-/// Runs a server by the numbers, over the front and the clock, to its end. The front is bound before.
+/// Runs a server by the numbers, over the front and the clock, to its end. The front is bound before, and once the table is there the
+/// text is written; where that fails the server runs all the same.
 ///
 /// The name says what the front tells of its clients, so that what connections received of them is a fact of the board's type.
-pub fn run_server<R: Wait, L: Link + Send, F: Front<L = L> + Drop, C: Clock + Drop, N: Known>(
+pub fn run_server<
+    R: Wait,
+    L: Link + Send,
+    F: Front<L = L> + Drop,
+    C: Clock + Drop,
+    K: Sink,
+    N: Known,
+>(
     rt: &R,
     alloc: Global,
     numbers: RunNumbers,
     front: F,
     clock: C,
+    out: &mut K,
+    text: &[u8],
 ) -> Result<Served<L, F, C>, OpenFault<F>>
     requires numbers { AreNumbers numbers }
     requires named { IsNamed N.known L.seen (F.seen front).told }
@@ -70,7 +85,10 @@ pub fn run_server<R: Wait, L: Link + Send, F: Front<L = L> + Drop, C: Clock + Dr
     ensures time { IfOk result (λ s. IsInTime (waits_of (F.seen s.front).told) (C.told s.clock)) }
     ensures informed { IfOk result (λ s. WasInformed (waits_of (F.seen s.front).told) (C.told s.clock) s.board.book) }
     ensures patient { IfOk result (λ s. IsPatientRun (F.seen s.front).told (C.told s.clock) s.board.book) }
+    ensures written { IfOk result (λ s. WritesAll (K.seen out.old) (K.seen out.new) text.now s.written) }
+    ensures faults { IfOk result (λ s. NeverFalls (K.seen out.old).faults (K.seen out.new).faults) }
     ensures bind { IfErr result (ComesBack F.seen numbers (F.seen front)) }
+    ensures silent { OnErr result (K.seen out.new ≡ K.seen out.old) }
 {
     let front = match bind_front(front, numbers) {
         Ok(front) => front,
@@ -83,6 +101,7 @@ pub fn run_server<R: Wait, L: Link + Send, F: Front<L = L> + Drop, C: Clock + Dr
         return Err(OpenFault::NoMemory);
     };
     board.show();
+    let written = write_all(out, text);
     let mut listener = Listener {
         alloc,
         board,
@@ -103,6 +122,7 @@ pub fn run_server<R: Wait, L: Link + Send, F: Front<L = L> + Drop, C: Clock + Dr
         board: board.forget(),
         front,
         clock,
+        written,
     })
 }
 

@@ -1,5 +1,5 @@
-//! The texts of runs that were refused.
-ghost use Rattle.std.specs.Prelude.{◌≡◌, IfOk};
+//! The texts of runs that were refused, and of a test that found nothing wrong.
+ghost use Rattle.std.specs.Prelude.{◌≡◌, ◌++◌, codes, decimal, IfOk, OnOk};
 ghost use Rattle.mpm_run.specs.Texts as spec;
 
 use mpm_base::{NoMemory, Octets};
@@ -16,6 +16,23 @@ pub enum ScriptRefusal {
     UnknownName,
     /// The line isn't built yet.
     NotYet,
+}
+
+/// Why a configuration is refused.
+#[derive(Clone, Copy, Debug, PartialEq, Eq)]
+pub enum ConfigRefusal {
+    /// The bytes are no text.
+    NotText,
+    /// The line names no directive.
+    UnknownDirective,
+    /// The line has a bad value, or the configuration is too large.
+    BadValue,
+    /// The line is no section, or closes none.
+    BadSection,
+    /// The section that the line opens is not closed.
+    Unclosed,
+    /// The line opens a section in too many others.
+    TooDeep,
 }
 
 /// The text where the words of the command line are none that the program knows.
@@ -43,11 +60,39 @@ pub fn script_refused_text(alloc: Global, line: u64, why: ScriptRefusal) -> Resu
     ensures { IfOk result (λ text. text ≡ spec.script_refused line why) }
 {
     let mut text = Octets::of(alloc, b"script refused at ")?;
-    text.add_number(line)?;
-    text.add(b": ")?;
-    text.add(refusal_word(why))?;
-    text.add(b"\n")?;
+    add_place(&mut text, line, refusal_word(why))?;
     Ok(text)
+}
+
+/// The text where the configuration is refused: at that line, from 1, or at that place, from 0, where it is no text. The number is 0
+/// where it is too large.
+pub fn config_refused_text(
+    alloc: Global,
+    number: u64,
+    why: ConfigRefusal,
+) -> Result<Octets, NoMemory>
+    ensures { IfOk result (λ text. text ≡ spec.config_refused number why) }
+{
+    let mut text = Octets::of(alloc, b"configuration refused at ")?;
+    add_place(&mut text, number, config_word(why))?;
+    Ok(text)
+}
+
+/// The end of such a text: its number, and the word for what is wrong.
+fn add_place(text: &mut Octets, number: u64, word: &[u8]) -> Result<(), NoMemory>
+    ensures { OnOk result (text.new ≡ text.old ++ decimal number ++ codes ": " ++ word.now ++ codes "\n") }
+{
+    text.add_number(number)?;
+    text.add(b": ")?;
+    text.add(word)?;
+    text.add(b"\n")
+}
+
+/// Puts behind the warnings that the configuration is accepted.
+pub fn add_syntax_ok(told: &mut Octets) -> Result<(), NoMemory>
+    ensures { OnOk result (told.new ≡ told.old ++ spec.syntax_ok) }
+{
+    told.add(b"Syntax OK\n")
 }
 
 /// The name of the refusal.
@@ -59,5 +104,19 @@ fn refusal_word(why: ScriptRefusal) -> &'static [u8]
         ScriptRefusal::MomentBackwards => b"MomentBackwards",
         ScriptRefusal::UnknownName => b"UnknownName",
         ScriptRefusal::NotYet => b"NotYet",
+    }
+}
+
+/// The name of the refusal of a configuration.
+fn config_word(why: ConfigRefusal) -> &'static [u8]
+    ensures { result.now ≡ spec.config_word why }
+{
+    match why {
+        ConfigRefusal::NotText => b"NotText",
+        ConfigRefusal::UnknownDirective => b"UnknownDirective",
+        ConfigRefusal::BadValue => b"BadValue",
+        ConfigRefusal::BadSection => b"BadSection",
+        ConfigRefusal::Unclosed => b"Unclosed",
+        ConfigRefusal::TooDeep => b"TooDeep",
     }
 }

@@ -18,7 +18,7 @@ const REQUEST: &[u8] = b"GET / HTTP/1.1\r\nHost: localhost\r\n\r\n";
 pub(crate) const REPLY: &[u8] =
     b"HTTP/1.1 200 OK\r\nDate: Thu, 01 Jan 1970 00:00:00 GMT\r\nContent-Type: text/html\r\nContent-Length: 6\r\n\r\nhello\n";
 
-const REPORT: &[u8] =
+pub(crate) const REPORT: &[u8] =
     b"Generation: 0\nAccepted: 1\nClosed: 1\nResponses: 1\nClientDone: 1\nLastSent: 0\nKeepAliveLate: 0\nReadLate: 0\nWriteLate: 0\nRetiring: 0\nLinkFailed: 0\nStopped: 0\nNoMemory: 0\nChildrenStarted: 1\n0 ClientDone Direct 200\n";
 
 const USAGE: &[u8] =
@@ -58,7 +58,7 @@ const HISTORY: [(u32, u64, Event, Reply); 10] = [
 ];
 
 /// The list of these words.
-fn words(alloc: Global, list: &[&str]) -> Result<Words, NoMemory> {
+pub(crate) fn words(alloc: Global, list: &[&str]) -> Result<Words, NoMemory> {
     let mut words = Words::make(alloc);
     for word in list {
         words.add(word)?;
@@ -67,7 +67,12 @@ fn words(alloc: Global, list: &[&str]) -> Result<Words, NoMemory> {
 }
 
 /// A folder with the one file.
-fn folder(alloc: Global, name: &str, bytes: &[u8], fails: Calls) -> Result<MemStore, NoMemory> {
+pub(crate) fn folder(
+    alloc: Global,
+    name: &str,
+    bytes: &[u8],
+    fails: Calls,
+) -> Result<MemStore, NoMemory> {
     let mut files = Files::make(alloc);
     files.set(name, bytes)?;
     Ok(MemStore::make(alloc, files, fails))
@@ -226,7 +231,17 @@ fn the_script_is_served(rt: HostRuntime) -> Result<(), Fail> {
 #[test]
 fn words_that_are_no_command_are_refused(rt: HostRuntime) -> Result<(), Fail> {
     let alloc = rt.alloc();
-    let lists: [&[&str]; 4] = [&[], &["--help"], &["--script"], &["--script", "s", "t"]];
+    let lists: [&[&str]; 9] = [
+        &[],
+        &["--help"],
+        &["--script"],
+        &["--script", "s", "t"],
+        &["-f", "s"],
+        &["-t", "s"],
+        &["-f", "s", "-t"],
+        &["-t", "-f"],
+        &["-t", "-f", "s", "t"],
+    ];
     for list in lists {
         ends(&rt, alloc, list, SCRIPT, 2, None, USAGE)?;
     }

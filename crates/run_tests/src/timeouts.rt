@@ -12,12 +12,12 @@ use std::sync::Wait;
 use std::test::Fail;
 use std::thread::Threads;
 
-const CONN: &[u8] = b"conn a\n";
+pub(crate) const CONN: &[u8] = b"conn a\n";
 
 /// A whole request, as a script writes it.
 const ASKED: &[u8] = b"GET / HTTP/1.1\\r\\nHost: localhost\\r\\n\\r\\n";
 
-const GET: &[u8] = b"send a GET / HTTP/1.1\\r\\nHost: localhost\\r\\n\\r\\n\n";
+pub(crate) const GET: &[u8] = b"send a GET / HTTP/1.1\\r\\nHost: localhost\\r\\n\\r\\n\n";
 
 const REPLY_AT_4: &[u8] =
     b"HTTP/1.1 200 OK\r\nDate: Thu, 01 Jan 1970 00:00:04 GMT\r\nContent-Type: text/html\r\nContent-Length: 6\r\n\r\nhello\n";
@@ -29,7 +29,7 @@ const REPLY_AT_59: &[u8] =
 const LATEST_REPLY: &[u8] =
     b"HTTP/1.1 200 OK\r\nDate: Fri, 31 Dec 9999 23:59:59 GMT\r\nContent-Type: text/html\r\nContent-Length: 6\r\n\r\nhello\n";
 
-const LAST_REPLY: &[u8] =
+pub(crate) const LAST_REPLY: &[u8] =
     b"HTTP/1.1 200 OK\r\nDate: Thu, 01 Jan 1970 00:00:00 GMT\r\nConnection: close\r\nContent-Type: text/html\r\nContent-Length: 6\r\n\r\nhello\n";
 
 /// The first bytes of a reply, as many as there is room for.
@@ -126,15 +126,15 @@ const OVER: &[(u32, Event)] = &[
 /// How a connection is to have ended: why, how its link was left, how many responses were decided, each with the code 200, and the
 /// bytes that it was sent, in pieces.
 #[derive(Clone, Copy)]
-struct Wanted<'a> {
-    cause: Cause,
-    tail: Tail,
-    responses: usize,
-    sent: &'a [&'a [u8]],
+pub(crate) struct Wanted<'a> {
+    pub(crate) cause: Cause,
+    pub(crate) tail: Tail,
+    pub(crate) responses: usize,
+    pub(crate) sent: &'a [&'a [u8]],
 }
 
 /// The pieces, one behind the other.
-fn joined(alloc: Global, pieces: &[&[u8]]) -> Result<Octets, NoMemory> {
+pub(crate) fn joined(alloc: Global, pieces: &[&[u8]]) -> Result<Octets, NoMemory> {
     let mut bytes = Octets::make(alloc);
     for piece in pieces {
         bytes.add(piece)?;
@@ -143,7 +143,7 @@ fn joined(alloc: Global, pieces: &[&[u8]]) -> Result<Octets, NoMemory> {
 }
 
 /// The piece so many times.
-fn repeated(alloc: Global, piece: &[u8], count: u32) -> Result<Octets, NoMemory> {
+pub(crate) fn repeated(alloc: Global, piece: &[u8], count: u32) -> Result<Octets, NoMemory> {
     let mut bytes = Octets::make(alloc);
     for _ in 0..count {
         bytes.add(piece)?;
@@ -172,7 +172,7 @@ fn is_ended(
 }
 
 /// The script is to be played to its end, and its connections are to end so, in this order.
-fn ends(
+pub(crate) fn ends(
     rt: &(impl Abort + Threads + Wait + Sync),
     alloc: Global,
     pieces: &[&[u8]],

@@ -1,37 +1,76 @@
-use Rattle.std.proofs.Common.{ℕ, List, Ok, Err, ap, subst, ◌∙◌}
-use Rattle.mpm_script.specs.Script.{ScriptIs}
-use Rattle.mpm_run.specs.Texts.{store_fault}
-use Rattle.mpm_run.proofs.CauseLemmas.{at-line, has_script, is_script, played, refused-large, unread-failed, unread-missing}
+use Rattle.std.proofs.Common.{ℕ, List, IfSome, inl, inr, sym, subst}
+use Rattle.std.proofs.lemmas.Option.{IfSome_then}
+use Rattle.mpm_run.specs.ExitStatuses.{EndsConfigRefused, EndsRefused, EndsTestUnwritten, EndsTested, EndsUnread, HasPlayed, seen_call}
+use Rattle.mpm_run.specs.Invocations.{IsInvocation}
+use Rattle.mpm_run.specs.declared.invocation.Invocation.{Invocation}
 use Rattle.mpm_run.proofs.top_call.run.Goals as goal
 
-pub returns-in-Ok-read_script-clause-kept : goal.returns-in-Ok-read_script-clause-kept
-returns-in-Ok-read_script-clause-kept g c =
-    played c.play_script.result.scripted _ c.file-name.result.now c.in-Ok-read.bytes c.in-Ok-read_script.script (is_script c.in-Some.invocation c.args.words.now c.file-name.result.now c.in-Some.ensures.some c.file-name.ensures)
-    (has_script _ c.file-name.result.now c.in-Ok-read.bytes c.in-Ok-read.ensures.told_stays c.in-Ok-read.ensures.may)
-    (subst (λ (bytes : List ℕ). ScriptIs bytes (Ok c.in-Ok-read_script.script)) c.as_slice.ensures c.in-Ok-read_script.ensures.answer)
-    c.play_script.ensures.shown c.play_script.ensures.kept c.play_script.ensures.script
+pub returns-in-Some-Script-clause-kept : goal.returns-in-Some-Script-clause-kept
+returns-in-Some-Script-clause-kept g c =
+    subst (λ (w : List (List ℕ)). IfSome c.run_script.result.scripted (λ s. HasPlayed (seen_call w (g.D.Store.seen c.args.store.now) (g.D.Store.seen c.run_script.new.store) (g.K.Sink.seen c.args.out.now) (g.K.Sink.seen c.run_script.new.out) c.run_script.result.shown) s.config s.board s.front))
+    (sym (subst (λ (i : Invocation). IsInvocation i c.args.words.now) c.in-Some-Script.field-0-is c.in-Some-Script.ensures.some)) c.run_script.ensures.kept
 
-pub returns-clause-refused : goal.returns-clause-refused
-returns-clause-refused g c eight =
-    at-line _ c.file-name.result.now c.in-Ok-read.bytes c.in-Err.fault (is_script c.in-Some.invocation c.args.words.now c.file-name.result.now c.in-Some.ensures.some c.file-name.ensures)
-    (has_script _ c.file-name.result.now c.in-Ok-read.bytes c.in-Ok-read.ensures.told_stays c.in-Ok-read.ensures.may)
-    (subst (λ (bytes : List ℕ). ScriptIs bytes (Err c.in-Err.fault)) c.as_slice.ensures c.in-Err.ensures.answer)
-    (c.refuse_script.ensures.refused eight)
+pub returns-in-Some-Script-clause-misconfigured : goal.returns-in-Some-Script-clause-misconfigured
+returns-in-Some-Script-clause-misconfigured g c one =
+    subst (λ (w : List (List ℕ)). EndsConfigRefused (seen_call w (g.D.Store.seen c.args.store.now) (g.D.Store.seen c.run_script.new.store) (g.K.Sink.seen c.args.out.now) (g.K.Sink.seen c.run_script.new.out) c.run_script.result.shown))
+    (sym (subst (λ (i : Invocation). IsInvocation i c.args.words.now) c.in-Some-Script.field-0-is c.in-Some-Script.ensures.some)) (c.run_script.ensures.misconfigured one)
 
-pub returns-in-Err-Missing-clause-unread : goal.returns-in-Err-Missing-clause-unread
-returns-in-Err-Missing-clause-unread g c three =
-    unread-missing _ c.file-name.result.now c.in-Ok-store_fault_text.text c.read.result (is_script c.in-Some.invocation c.args.words.now c.file-name.result.now c.in-Some.ensures.some c.file-name.ensures)
-    c.read.ensures (c.in-Err-Missing.is ∙ ap Err c.in-Err-Missing.field-0-is) c.refuse-in-Err-Missing.ensures.shown
-    (c.in-Ok-store_fault_text.ensures ∙ ap store_fault c.as_bytes.ensures.value) c.refuse-in-Err-Missing.ensures.text
+pub returns-in-Some-Script-clause-unread : goal.returns-in-Some-Script-clause-unread
+returns-in-Some-Script-clause-unread g c three =
+    subst (λ (w : List (List ℕ)). EndsUnread (seen_call w (g.D.Store.seen c.args.store.now) (g.D.Store.seen c.run_script.new.store) (g.K.Sink.seen c.args.out.now) (g.K.Sink.seen c.run_script.new.out) c.run_script.result.shown))
+    (sym (subst (λ (i : Invocation). IsInvocation i c.args.words.now) c.in-Some-Script.field-0-is c.in-Some-Script.ensures.some)) (c.run_script.ensures.unread three)
 
-pub returns-in-Err-Failed-clause-unread : goal.returns-in-Err-Failed-clause-unread
-returns-in-Err-Failed-clause-unread g c three =
-    unread-failed _ c.file-name.result.now c.in-Ok-store_fault_text-2.text c.read.result (is_script c.in-Some.invocation c.args.words.now c.file-name.result.now c.in-Some.ensures.some c.file-name.ensures)
-    c.read.ensures (c.in-Err-Failed.is ∙ ap Err c.in-Err-Failed.field-0-is) c.refuse-in-Err-Failed.ensures.shown
-    (c.in-Ok-store_fault_text-2.ensures ∙ ap store_fault c.as_bytes-in-Err-Failed.ensures.value) c.refuse-in-Err-Failed.ensures.text
+pub returns-in-Some-Script-clause-refused : goal.returns-in-Some-Script-clause-refused
+returns-in-Some-Script-clause-refused g c eight =
+    subst (λ (w : List (List ℕ)). EndsRefused (seen_call w (g.D.Store.seen c.args.store.now) (g.D.Store.seen c.run_script.new.store) (g.K.Sink.seen c.args.out.now) (g.K.Sink.seen c.run_script.new.out) c.run_script.result.shown))
+    (sym (subst (λ (i : Invocation). IsInvocation i c.args.words.now) c.in-Some-Script.field-0-is c.in-Some-Script.ensures.some)) (c.run_script.ensures.refused eight)
 
-pub returns-in-Err-Large-clause-refused : goal.returns-in-Err-Large-clause-refused
-returns-in-Err-Large-clause-refused g c eight =
-    refused-large _ c.file-name.result.now c.in-Ok-script_refused_text.text _ c.read.result (is_script c.in-Some.invocation c.args.words.now c.file-name.result.now c.in-Some.ensures.some c.file-name.ensures)
-    c.read.ensures (c.in-Err-Large.is ∙ ap Err c.in-Err-Large.field-0-is) c.refuse-in-Err-Large.ensures.shown
-    c.in-Ok-script_refused_text.ensures c.refuse-in-Err-Large.ensures.text
+pub returns-in-Some-Script-clause-site : goal.returns-in-Some-Script-clause-site
+returns-in-Some-Script-clause-site g c = IfSome_then c.run_script.result.scripted c.run_script.ensures.left (λ s left. left.site)
+
+pub returns-in-Some-Script-clause-front : goal.returns-in-Some-Script-clause-front
+returns-in-Some-Script-clause-front g c = IfSome_then c.run_script.result.scripted c.run_script.ensures.left (λ s left. left.front)
+
+pub returns-in-Some-Script-clause-started : goal.returns-in-Some-Script-clause-started
+returns-in-Some-Script-clause-started g c = IfSome_then c.run_script.result.scripted c.run_script.ensures.left (λ s left. left.started)
+
+pub returns-in-Some-Script-clause-watched : goal.returns-in-Some-Script-clause-watched
+returns-in-Some-Script-clause-watched g c = IfSome_then c.run_script.result.scripted c.run_script.ensures.left (λ s left. left.watched)
+
+pub returns-in-Some-Script-clause-links : goal.returns-in-Some-Script-clause-links
+returns-in-Some-Script-clause-links g c = IfSome_then c.run_script.result.scripted c.run_script.ensures.left (λ s left. left.links)
+
+pub returns-in-Some-Script-clause-time : goal.returns-in-Some-Script-clause-time
+returns-in-Some-Script-clause-time g c = IfSome_then c.run_script.result.scripted c.run_script.ensures.left (λ s left. left.time)
+
+pub returns-in-Some-Script-clause-patient : goal.returns-in-Some-Script-clause-patient
+returns-in-Some-Script-clause-patient g c = IfSome_then c.run_script.result.scripted c.run_script.ensures.left (λ s left. left.patient)
+
+pub returns-in-Some-Script-clause-ended : goal.returns-in-Some-Script-clause-ended
+returns-in-Some-Script-clause-ended g c = IfSome_then c.run_script.result.scripted c.run_script.ensures.left (λ s left. left.ended)
+
+pub returns-in-Some-Test-clause-misconfigured : goal.returns-in-Some-Test-clause-misconfigured
+returns-in-Some-Test-clause-misconfigured g c one =
+    subst (λ (w : List (List ℕ)). EndsConfigRefused (seen_call w (g.D.Store.seen c.args.store.now) (g.D.Store.seen c.test_config.new.store) (g.K.Sink.seen c.args.out.now) (g.K.Sink.seen c.test_config.new.out) c.test_config.result.shown))
+    (sym (subst (λ (i : Invocation). IsInvocation i c.args.words.now) c.in-Some-Test.field-0-is c.in-Some-Test.ensures.some)) (c.test_config.ensures.refused one)
+
+pub returns-in-Some-Test-clause-unread : goal.returns-in-Some-Test-clause-unread
+returns-in-Some-Test-clause-unread g c three =
+    subst (λ (w : List (List ℕ)). EndsUnread (seen_call w (g.D.Store.seen c.args.store.now) (g.D.Store.seen c.test_config.new.store) (g.K.Sink.seen c.args.out.now) (g.K.Sink.seen c.test_config.new.out) c.test_config.result.shown))
+    (sym (subst (λ (i : Invocation). IsInvocation i c.args.words.now) c.in-Some-Test.field-0-is c.in-Some-Test.ensures.some)) (c.test_config.ensures.unread three)
+
+pub returns-in-Some-Test-clause-served : goal.returns-in-Some-Test-clause-served
+returns-in-Some-Test-clause-served g c zero =
+    inr (subst (λ (w : List (List ℕ)). EndsTested (seen_call w (g.D.Store.seen c.args.store.now) (g.D.Store.seen c.test_config.new.store) (g.K.Sink.seen c.args.out.now) (g.K.Sink.seen c.test_config.new.out) c.test_config.result.shown))
+    (sym (subst (λ (i : Invocation). IsInvocation i c.args.words.now) c.in-Some-Test.field-0-is c.in-Some-Test.ensures.some)) (c.test_config.ensures.tested zero))
+
+pub returns-in-Some-Test-clause-unwritten : goal.returns-in-Some-Test-clause-unwritten
+returns-in-Some-Test-clause-unwritten g c five =
+    inr (subst (λ (w : List (List ℕ)). EndsTestUnwritten (seen_call w (g.D.Store.seen c.args.store.now) (g.D.Store.seen c.test_config.new.store) (g.K.Sink.seen c.args.out.now) (g.K.Sink.seen c.test_config.new.out) c.test_config.result.shown))
+    (sym (subst (λ (i : Invocation). IsInvocation i c.args.words.now) c.in-Some-Test.field-0-is c.in-Some-Test.ensures.some)) (c.test_config.ensures.unwritten five))
+
+pub returns-in-Some-Script-clause-served : goal.returns-in-Some-Script-clause-served
+returns-in-Some-Script-clause-served g c zero = inl (c.run_script.ensures.served zero)
+
+pub returns-in-Some-Script-clause-unwritten : goal.returns-in-Some-Script-clause-unwritten
+returns-in-Some-Script-clause-unwritten g c five = inl (c.run_script.ensures.unwritten five)

@@ -1,5 +1,5 @@
 use Rattle.std.proofs.Common.{Some}
-use Rattle.mpm_run.proofs.top_call.play_script.Given as goal
+use Rattle.mpm_run.proofs.script_run.serve_script.Given as goal
 
 -- the type knows what the front tells of its clients
 abbrev pub ghosts-run_server : goal.ghosts-run_server

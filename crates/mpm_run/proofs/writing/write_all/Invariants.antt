@@ -1,6 +1,6 @@
 use Rattle.std.proofs.Common.{◌≡◌, ◌≤◌, ◌-◌, ◌++◌, length, take, option_map}
 use Rattle.mpm_base.specs.Count.{NeverFalls}
-use Rattle.mpm_run.proofs.top_call.write_all.Given as goal
+use Rattle.mpm_run.proofs.writing.write_all.Given as goal
 
 -- the bytes so far were written, and the count of faults did not fall
 abbrev pub invariant-loop-from : goal.invariant-loop-from

@@ -1,6 +1,6 @@
 use Rattle.std.proofs.Common.{rules}
 use Rattle.mpm_run.proofs.ExitStatusLemmas.{told_puts}
-use Rattle.mpm_run.proofs.top_call.write_all.Goals as goal
+use Rattle.mpm_run.proofs.writing.write_all.Goals as goal
 
 pub loop-from-preserved : goal.loop-from-preserved
 loop-from-preserved g c =

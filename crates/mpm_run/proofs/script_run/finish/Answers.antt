@@ -1,11 +1,11 @@
 use Rattle.std.proofs.Common.{subst}
 use Rattle.conn_machine.specs.declared.state.Going.{Going}
 use Rattle.mpm_run.specs.ExitStatusesInside.{IsExitStatusOf}
-use Rattle.mpm_run.proofs.EndLemmas.{ends-full}
-use Rattle.mpm_run.proofs.top_call.finish.Goals as goal
+use Rattle.mpm_run.proofs.EndLemmas.{full-stop}
+use Rattle.mpm_run.proofs.script_run.finish.Goals as goal
 
 pub returns-clause-full : goal.returns-clause-full
 returns-clause-full g c seven =
-    ends-full _ _ c.args.scripted.board c.status_of.result c.report-status.result c.show.ensures.stops c.show.ensures.full c.requires.stopped
+    full-stop c.args.scripted.board c.status_of.result c.report-status.result c.show.ensures.stops c.show.ensures.full c.requires.stopped
     (subst (λ (going : Going). IsExitStatusOf going c.status_of.result) c.going.ensures c.status_of.ensures)
-    c.report-status.ensures.status seven (c.report-status.ensures.full seven)
+    c.report-status.ensures.status seven

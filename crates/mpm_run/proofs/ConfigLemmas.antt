@@ -1,0 +1,268 @@
+-- What is read of a configuration.
+use Rattle.std.proofs.Common.{◌≡◌, inl, inr, ℕ, ◌≤◌, ◌⊎◌, ◌++◌, nat_lt, Bool, true, false, if◌then◌else◌, List, codes, length, Option, None, Some, IfSome, option_map, Result, Ok, Err, refl, ap, sym, subst, ◌∙◌, arith}
+use Rattle.std.proofs.lemmas.Bool.Decides.{nat_tests}
+use Rattle.mpm_base.specs.Count.{Rises}
+use Rattle.mpm_base.specs.Sink.{SinkSeen}
+use Rattle.mpm_base.specs.Store.{ReadsFile, bytes_of}
+use Rattle.mpm_base.specs.declared.script_line.ScriptLine.{ScriptLine}
+use Rattle.mpm_base.specs.declared.store.StoreFault.{StoreFault}
+use Rattle.mpm_base.specs.declared.store.StoreFault.TheVariants as store
+use Rattle.mpm_config.specs.Config.{Configuration}
+use Rattle.mpm_config.specs.Correction.{notices}
+use Rattle.mpm_config.specs.Reading.{ConfigAndWarnings, Refuses as refuses, and_then, config_of, configuration_of, text_settings}
+use Rattle.mpm_config.specs.Settings.{Settings}
+use Rattle.mpm_config.specs.Warning.{Notice}
+use Rattle.mpm_config.specs.declared.fault.ConfFault.{ConfFault}
+use Rattle.mpm_script.specs.Clients.{clients_of}
+use Rattle.stand_ins.specs.PlainStore.{AnswersUnlessNoMemory, file_answer}
+use Rattle.script_front.specs.Editions.{editions_of}
+use Rattle.mpm_run.specs.Configured.{Configures, HasConfig, config_fault, most_config, warnings_of}
+use Rattle.mpm_run.specs.ConfiguredInside.{Accepts, HasReadConfig, IsConfigFrom, IsConfigOf, IsOfText, IsRefusalFor, IsScriptConfig}
+use Rattle.mpm_run.specs.ExitStatuses.{Call, EndsConfigRefused, EndsTested, EndsTestUnwritten, HasRun, HasTested}
+use Rattle.mpm_run.specs.ExitStatusesInside.{IsConfigRefusalOf, IsPlayed, Refuses, RefusesConfig}
+use Rattle.mpm_run.specs.Invocations.{test_words}
+use Rattle.mpm_run.specs.Texts.{config_refused, syntax_ok}
+use Rattle.mpm_run.specs.declared.config_reading.NoConfig.{NoConfig}
+use Rattle.mpm_run.specs.declared.config_reading.NoConfig.TheVariants as no
+use Rattle.mpm_run.specs.declared.outcome.Scripted.{Scripted}
+use Rattle.mpm_run.specs.declared.texts.ConfigRefusal.{ConfigRefusal}
+use Rattle.mpm_run.specs.declared.texts.ConfigRefusal.TheVariants.{NotText, UnknownDirective, BadValue, BadSection, Unclosed, TooDeep}
+use Rattle.mpm_run.proofs.CauseLemmas.{has_file, too_large}
+
+-- ## Warnings
+
+-- the warnings of settings are those of their numbers
+settings-notices : (r : Result Settings ConfFault) (c : Configuration) (w : List Notice)
+    → and_then r (λ s. Ok (configuration_of s)) ≡ Ok (record { config = c; warnings = w }) → w ≡ notices c.written
+settings-notices (Ok s) c w is =
+    let same : configuration_of s ≡ record { config = c; warnings = w } = cc is in
+    sym (ap (λ (r : ConfigAndWarnings). r.warnings) same) ∙ ap (λ (r : ConfigAndWarnings). notices r.config.written) same
+settings-notices (Err e) c w is = absurd (cc is)
+
+-- a configuration that was read has the warnings of its numbers
+pub read-notices : (text : List ℕ) (c : Configuration) (w : List Notice) → config_of text ≡ Ok (record { config = c; warnings = w })
+    → w ≡ notices c.written
+read-notices text c w is = settings-notices (text_settings text) c w is
+
+-- so it is accepted
+pub accepts : (text told : List ℕ) (c : Configuration) (w : List Notice) → config_of text ≡ Ok (record { config = c; warnings = w })
+    → (w ≡ notices c.written → told ≡ warnings_of c) → Accepts text c told
+accepts text told c w is told_is =
+    let same = read-notices text c w is in
+    record {
+      accepted = is ∙ ap (λ (x : List Notice). let r : ConfigAndWarnings = record { config = c; warnings = x } in Ok r) same;
+      told_is = told_is same;
+    }
+
+-- ## Refusals
+
+refuses-config : (text : List ℕ) (why : ConfigRefusal) (number : ℕ) → refuses (config_of text) (config_fault why number)
+    → config_of text ≡ Err (config_fault why number)
+refuses-config text NotText number is = is
+refuses-config text UnknownDirective number is = is
+refuses-config text BadValue number is = is
+refuses-config text BadSection number is = is
+refuses-config text Unclosed number is = is
+refuses-config text TooDeep number is = is
+
+-- a text that was refused for the fault has no configuration for that
+pub no-config : (text : List ℕ) (fault : ConfFault) (why : NoConfig) → refuses (config_of text) fault → IsRefusalFor fault why
+    → IsConfigOf text (Err why)
+no-config text fault (no.Refused why number) refused is =
+    refuses-config text why number (subst (λ (f : ConfFault). refuses (config_of text) f) is refused)
+no-config text fault no.NoMemory refused is = tt
+no-config text fault no.Missing refused is = is
+no-config text fault no.Failed refused is = is
+
+-- ## What the store answered
+
+-- a configuration comes of a text
+pub from-ok : (answer : Result (List ℕ) StoreFault) (read : Configuration × List ℕ) → IsConfigFrom answer (Ok read)
+    → (text : List ℕ) × (answer ≡ Ok text) × Accepts text read.0 read.1
+from-ok (Ok text) read is = (text, refl, is)
+from-ok (Err store.Missing) read is = absurd (cc is)
+from-ok (Err store.Failed) read is = absurd (cc is)
+from-ok (Err (store.Large size)) read is = absurd (cc is)
+from-ok (Err store.Many) read is = absurd (cc is)
+from-ok (Err store.NoMemory) read is = absurd (cc is)
+
+-- the file is missing
+pub from-missing : (answer : Result (List ℕ) StoreFault) → IsConfigFrom answer (Err no.Missing) → answer ≡ Err store.Missing
+from-missing (Ok text) is = absurd is
+from-missing (Err store.Missing) is = refl
+from-missing (Err store.Failed) is = absurd (cc is)
+from-missing (Err (store.Large size)) is = absurd (cc is)
+from-missing (Err store.Many) is = absurd (cc is)
+from-missing (Err store.NoMemory) is = absurd (cc is)
+
+-- the call failed
+pub from-failed : (answer : Result (List ℕ) StoreFault) → IsConfigFrom answer (Err no.Failed) → answer ≡ Err store.Failed
+from-failed (Ok text) is = absurd is
+from-failed (Err store.Missing) is = absurd (cc is)
+from-failed (Err store.Failed) is = refl
+from-failed (Err (store.Large size)) is = absurd (cc is)
+from-failed (Err store.Many) is = absurd (cc is)
+from-failed (Err store.NoMemory) is = absurd (cc is)
+
+-- a text was refused
+record RefusesText (answer : Result (List ℕ) StoreFault) (why : ConfigRefusal) (number : ℕ) : Type 0 where
+  text : List ℕ
+  is : answer ≡ Ok text
+  refused : config_of text ≡ Err (config_fault why number)
+
+-- or the file was too large
+record RefusesSize (answer : Result (List ℕ) StoreFault) (why : ConfigRefusal) (number : ℕ) : Type 0 where
+  size : ℕ
+  is : answer ≡ Err (store.Large size)
+  why_is : why ≡ BadValue
+  number_is : number ≡ 0
+
+from-refused : (answer : Result (List ℕ) StoreFault) (why : ConfigRefusal) (number : ℕ) → IsConfigFrom answer (Err (no.Refused why number))
+    → RefusesText answer why number ⊎ RefusesSize answer why number
+from-refused (Ok text) why number is = inl (record { text = text; is = refl; refused = is })
+from-refused (Err store.Missing) why number is = absurd (cc is)
+from-refused (Err store.Failed) why number is = absurd (cc is)
+from-refused (Err (store.Large size)) why number is = inr (record { size = size; is = refl; why_is = cc is; number_is = cc is })
+from-refused (Err store.Many) why number is = absurd (cc is)
+from-refused (Err store.NoMemory) why number is = absurd (cc is)
+
+-- ## Tests
+
+-- a configuration was tested that is accepted
+has-tested : (call : Call) (name : List ℕ) (answer : Result (List ℕ) StoreFault) (read : Configuration × List ℕ) → call.words ≡ test_words name
+    → ReadsFile call.store call.store' name most_config answer → IsConfigFrom answer (Ok read) → call.shown ≡ None → HasTested call read.0
+has-tested call name answer read command reads is shows =
+    let text = from-ok answer read is in
+    let has = has_file most_config call name text.0 answer reads text.1 in
+    record {
+      name = name;
+      bytes = text.0;
+      command = command;
+      has = has;
+      accepted = record { few = has.few; accepted = text.2.accepted };
+      shows = shows;
+    }
+
+-- that was written
+pub ends-tested : (call : Call) (name : List ℕ) (answer : Result (List ℕ) StoreFault) (read : Configuration × List ℕ) → call.words ≡ test_words name
+    → ReadsFile call.store call.store' name most_config answer → IsConfigFrom answer (Ok read) → call.shown ≡ None
+    → call.sink'.told ≡ option_map (λ written. written ++ (read.1 ++ syntax_ok)) call.sink.told → EndsTested call
+ends-tested call name answer read command reads is shows text =
+    let told = (from-ok answer read is).2.told_is in
+    record {
+      config = read.0;
+      tested = has-tested call name answer read command reads is shows;
+      text = text ∙ ap (λ (t : List ℕ). option_map (λ (written : List ℕ). written ++ (t ++ syntax_ok)) call.sink.told) told;
+    }
+
+-- or a write of it failed
+pub ends-test-unwritten : (call : Call) (name : List ℕ) (answer : Result (List ℕ) StoreFault) (read : Configuration × List ℕ) → call.words ≡ test_words name
+    → ReadsFile call.store call.store' name most_config answer → IsConfigFrom answer (Ok read) → call.shown ≡ None
+    → Rises call.sink.faults call.sink'.faults → EndsTestUnwritten call
+ends-test-unwritten call name answer read command reads is shows failed =
+    record { config = read.0; tested = has-tested call name answer read command reads is shows; failed = failed }
+
+-- a configuration was tested that is refused
+test-refusal : (call : Call) (name : List ℕ) (answer : Result (List ℕ) StoreFault) (why : ConfigRefusal) (number : ℕ) → call.words ≡ test_words name
+    → ReadsFile call.store call.store' name most_config answer → RefusesText answer why number ⊎ RefusesSize answer why number
+    → Refuses call.sink call.sink' (Some number) (config_refused number why) call.shown → EndsConfigRefused call
+test-refusal call name answer why number command reads (inl refuses) refused =
+    let has = has_file most_config call name refuses.text answer reads refuses.is in
+    inr (inr (record {
+      name = name;
+      bytes = refuses.text;
+      number = number;
+      why = why;
+      command = command;
+      has = has;
+      refused = record { few = has.few; refused = refuses.refused };
+      shows = refused.shows;
+      text = refused.writes;
+    }))
+test-refusal call name answer why number command reads (inr refuses) refused =
+    let here =
+    subst (λ (w : ConfigRefusal). Refuses call.sink call.sink' (Some 0) (config_refused 0 w) call.shown) refuses.why_is
+    (subst (λ (n : ℕ). Refuses call.sink call.sink' (Some n) (config_refused n why) call.shown) refuses.number_is refused) in
+    inr (inl (record {
+      name = name;
+      command = command;
+      kept = reads.told_stays;
+      cause = too_large most_config call name refuses.size answer reads refuses.is;
+      shows = here.shows;
+      text = here.writes;
+    }))
+
+pub ends-test-refused : (call : Call) (name : List ℕ) (answer : Result (List ℕ) StoreFault) (why : ConfigRefusal) (number : ℕ)
+    → call.words ≡ test_words name → ReadsFile call.store call.store' name most_config answer → IsConfigFrom answer (Err (no.Refused why number))
+    → Refuses call.sink call.sink' (Some number) (config_refused number why) call.shown → EndsConfigRefused call
+ends-test-refused call name answer why number command reads is refused =
+    test-refusal call name answer why number command reads (from-refused answer why number is) refused
+
+-- ## The configuration of a script
+
+-- a text that the store of a script gave
+conf-of-text : (lines : List ScriptLine) (text : List ℕ) (result : Result (Configuration × List ℕ) NoConfig) → HasConfig lines text
+    → length text ≤ most_config → IsConfigOf text result → IsScriptConfig lines result
+conf-of-text lines text (Ok read) has few is =
+    record { text = text; text_is = has; accepted = record { few = few; accepted = is.accepted }; told_is = is.told_is }
+conf-of-text lines text (Err (no.Refused why number)) has few is =
+    record { text = text; text_is = has; refused = inr (record { few = few; refused = is }) }
+conf-of-text lines text (Err no.NoMemory) has few is = tt
+conf-of-text lines text (Err no.Missing) has few is = is
+conf-of-text lines text (Err no.Failed) has few is = is
+
+-- what the store of a script answers, whose configuration is this text
+conf-of-answer : (lines : List ScriptLine) (text : List ℕ) (many : Bool) (answer : Result (List ℕ) StoreFault) (result : Result (Configuration × List ℕ) NoConfig)
+    → nat_lt most_config (length text) ≡ many → HasConfig lines text
+    → AnswersUnlessNoMemory answer (if many then Err (store.Large (length text)) else Ok text) → IsConfigFrom answer result → IsScriptConfig lines result
+conf-of-answer lines text false (Ok bytes) result few has meant is =
+    let same : bytes ≡ text = cc meant in
+    conf-of-text lines text result has (grind (arith, nat_tests, few)) (subst (λ (t : List ℕ). IsConfigOf t result) same is)
+conf-of-answer lines text true (Err (store.Large size)) result many has meant is =
+    subst (IsScriptConfig lines) (sym is)
+    (record { text = text; text_is = has; refused = inl (record { many = grind (arith, nat_tests, many); why_is = refl; number_is = refl }) })
+conf-of-answer lines text true (Ok bytes) result many has meant is = absurd (cc meant)
+conf-of-answer lines text false (Err (store.Large size)) result few has meant is = absurd (cc meant)
+conf-of-answer lines text true (Err store.Missing) result many has meant is = absurd (cc meant)
+conf-of-answer lines text false (Err store.Missing) result few has meant is = absurd (cc meant)
+conf-of-answer lines text true (Err store.Many) result many has meant is = absurd (cc meant)
+conf-of-answer lines text false (Err store.Many) result few has meant is = absurd (cc meant)
+conf-of-answer lines text true (Err store.Failed) result many has meant is = absurd (cc meant)
+conf-of-answer lines text false (Err store.Failed) result few has meant is = absurd (cc meant)
+conf-of-answer lines text many (Err store.NoMemory) result many_is has meant is = subst (IsScriptConfig lines) (sym is) tt
+
+pub script-config : (lines : List ScriptLine) (text : List ℕ) (answer : Result (List ℕ) StoreFault) (result : Result (Configuration × List ℕ) NoConfig)
+    → HasConfig lines text → AnswersUnlessNoMemory answer (file_answer (bytes_of (codes "httpd.conf") (editions_of lines).files) most_config)
+    → IsConfigFrom answer result → IsScriptConfig lines result
+script-config lines text answer result has meant is =
+    conf-of-answer lines text (nat_lt most_config (length text)) answer result refl has
+    (subst (λ (file : Option (List ℕ)). AnswersUnlessNoMemory answer (file_answer file most_config)) has meant) is
+
+-- why a script has no configuration
+pub of-text : (lines : List ScriptLine) (why : NoConfig) → IsScriptConfig lines (Err why) → IsOfText why
+of-text lines (no.Refused why number) is = tt
+of-text lines no.NoMemory is = tt
+of-text lines no.Missing is = is
+of-text lines no.Failed is = is
+
+-- a script whose configuration is refused
+pub config-refusal : (sink sink' : SinkSeen) (lines : List ScriptLine) (shown : Option ℕ) (why : NoConfig) → IsScriptConfig lines (Err why)
+    → RefusesConfig sink sink' why shown → IsConfigRefusalOf sink sink' lines shown
+config-refusal sink sink' lines shown (no.Refused why number) bad refused =
+    record { number = number; why = why; bad = bad; shows = refused.shows; text = refused.writes }
+config-refusal sink sink' lines shown no.NoMemory bad refused = absurd refused
+config-refusal sink sink' lines shown no.Missing bad refused = absurd refused
+config-refusal sink sink' lines shown no.Failed bad refused = absurd refused
+
+-- a script that was played by the configuration that was read
+pub is-played : (o : Option Scripted) (lines : List ScriptLine) (c : Configuration) (told : List ℕ) → HasReadConfig lines c told
+    → IfSome o (λ s. HasRun c (clients_of lines) s.board) → IfSome o (λ s. s.front.script ≡ lines) → IfSome o (λ s. s.config ≡ c)
+    → IfSome o (IsPlayed lines)
+is-played None lines c told has run script config = tt
+is-played (Some s) lines c told has run script config = record {
+  script = script;
+  text = has.text;
+  text_is = has.text_is;
+  accepted = subst (Configures has.text) (sym config) has.accepted;
+  has_run = subst (λ (x : Configuration). HasRun x (clients_of lines) s.board) (sym config) run;
+}

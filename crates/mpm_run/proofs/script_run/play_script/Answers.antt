@@ -1,0 +1,14 @@
+use Rattle.mpm_run.proofs.ConfigLemmas.{config-refusal, is-played, of-text}
+use Rattle.mpm_run.proofs.script_run.play_script.Goals as goal
+
+pub returns-in-Ok-script_config-clause-kept : goal.returns-in-Ok-script_config-clause-kept
+returns-in-Ok-script_config-clause-kept g c =
+    is-played c.serve_script.result.scripted c.args.script c.in-Ok-script_config.config c.in-Ok-script_config.told c.in-Ok-script_config.ensures.config
+    c.serve_script.ensures.kept c.serve_script.ensures.script c.serve_script.ensures.config
+
+pub refuse_unconfigured-requires : goal.refuse_unconfigured-requires
+refuse_unconfigured-requires g c = of-text c.args.script c.in-Err.why c.in-Err.ensures.config
+
+pub returns-in-Err-clause-misconfigured : goal.returns-in-Err-clause-misconfigured
+returns-in-Err-clause-misconfigured g c one =
+    config-refusal _ _ c.args.script c.refuse_unconfigured.result.shown c.in-Err.why c.in-Err.ensures.config (c.refuse_unconfigured.ensures.refused one)

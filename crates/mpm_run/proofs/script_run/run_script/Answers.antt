@@ -1,0 +1,41 @@
+use Rattle.std.proofs.Common.{ℕ, List, Ok, Err, inl, ap, refl, subst, ◌∙◌}
+use Rattle.mpm_script.specs.Script.{ScriptIs}
+use Rattle.mpm_run.specs.ExitStatuses.{most_script}
+use Rattle.mpm_run.proofs.CauseLemmas.{at-line, has_file, misconfigured, played, refused-large, unread-failed, unread-missing}
+use Rattle.mpm_run.proofs.script_run.run_script.Goals as goal
+
+pub returns-in-Ok-read_script-clause-kept : goal.returns-in-Ok-read_script-clause-kept
+returns-in-Ok-read_script-clause-kept g c =
+    played c.play_script.result.scripted _ c.args.name.now c.in-Ok.bytes c.in-Ok-read_script.script refl
+    (has_file most_script _ c.args.name.now c.in-Ok.bytes c.read.result c.read.ensures c.in-Ok.is)
+    (subst (λ (bytes : List ℕ). ScriptIs bytes (Ok c.in-Ok-read_script.script)) c.as_slice.ensures c.in-Ok-read_script.ensures.answer)
+    c.play_script.ensures.shown c.play_script.ensures.kept
+
+pub returns-in-Ok-read_script-clause-misconfigured : goal.returns-in-Ok-read_script-clause-misconfigured
+returns-in-Ok-read_script-clause-misconfigured g c one =
+    misconfigured _ c.args.name.now c.in-Ok.bytes c.in-Ok-read_script.script refl
+    (has_file most_script _ c.args.name.now c.in-Ok.bytes c.read.result c.read.ensures c.in-Ok.is)
+    (subst (λ (bytes : List ℕ). ScriptIs bytes (Ok c.in-Ok-read_script.script)) c.as_slice.ensures c.in-Ok-read_script.ensures.answer)
+    (c.play_script.ensures.misconfigured one)
+
+pub returns-clause-refused : goal.returns-clause-refused
+returns-clause-refused g c eight =
+    at-line _ c.args.name.now c.in-Ok.bytes c.in-Err.fault refl
+    (has_file most_script _ c.args.name.now c.in-Ok.bytes c.read.result c.read.ensures c.in-Ok.is)
+    (subst (λ (bytes : List ℕ). ScriptIs bytes (Err c.in-Err.fault)) c.as_slice.ensures c.in-Err.ensures.answer)
+    (c.refuse_for.ensures.refused eight)
+
+pub returns-in-Err-Missing-clause-unread : goal.returns-in-Err-Missing-clause-unread
+returns-in-Err-Missing-clause-unread g c three =
+    unread-missing _ most_script c.args.name.now c.read.result (inl refl) c.read.ensures (c.in-Err-Missing.is ∙ ap Err c.in-Err-Missing.field-0-is)
+    (c.refuse_unread.ensures.refused three)
+
+pub returns-in-Err-Failed-clause-unread : goal.returns-in-Err-Failed-clause-unread
+returns-in-Err-Failed-clause-unread g c three =
+    unread-failed _ most_script c.args.name.now c.read.result (inl refl) c.read.ensures (c.in-Err-Failed.is ∙ ap Err c.in-Err-Failed.field-0-is)
+    (c.refuse_unread-in-Err-Failed.ensures.refused three)
+
+pub returns-in-Err-Large-clause-refused : goal.returns-in-Err-Large-clause-refused
+returns-in-Err-Large-clause-refused g c eight =
+    refused-large _ c.args.name.now _ c.read.result refl c.read.ensures (c.in-Err-Large.is ∙ ap Err c.in-Err-Large.field-0-is)
+    (c.refuse_script.ensures.refused eight)
