@@ -14,10 +14,6 @@ const TEST: &[&str] = &["-t", "-f", "s"];
 
 const SYNTAX_OK: &[u8] = b"Syntax OK\n";
 
-/// The block of a stock configuration, but for its last two lines.
-const STOCK: &[u8] =
-    b"<IfModule mpm_event_module>\n    StartServers             3\n    MinSpareThreads         75\n    MaxSpareThreads        250\n    ThreadsPerChild         25\n";
-
 const STOCK_WARNING: &[u8] = b"warning: MaxRequestWorkers 410 changed to 400\n";
 
 /// A connection whose one response is its last.
@@ -221,74 +217,6 @@ fn a_configuration_has_1_048_576_bytes_at_most(rt: HostRuntime) -> Result<(), Fa
     tells(&rt, alloc, TEST, &[most.as_slice(), b"#"], refused)?;
     let script: [&[u8]; 3] = [b"conf ", most.as_slice(), b"\n"];
     tells(&rt, alloc, &["--script", "s"], &script, refused)?;
-    Ok(())
-}
-
-#[test]
-fn configurations_are_tested(rt: HostRuntime) -> Result<(), Fail> {
-    let alloc = rt.alloc();
-    let nine = repeated(alloc, b"<IfModule core_module>\n", 9)?;
-    let cases: [(&[&[u8]], u8, Option<u64>, &[&[u8]]); 10] = [
-        (&[], 0, None, &[SYNTAX_OK]),
-        (
-            &[
-                STOCK,
-                b"    MaxRequestWorkers      400\n    MaxConnectionsPerChild   0\n</IfModule>\n",
-            ],
-            0,
-            None,
-            &[SYNTAX_OK],
-        ),
-        (
-            &[
-                STOCK,
-                b"    MaxRequestWorkers      410\n    MaxConnectionsPerChild   0\n</IfModule>\n",
-            ],
-            0,
-            None,
-            &[STOCK_WARNING, SYNTAX_OK],
-        ),
-        (
-            &[b"KeepAlive On\nAsyncRequestWorkerFactor 1.255\n"],
-            1,
-            Some(2),
-            &[b"configuration refused at 2: BadValue\n"],
-        ),
-        (&[b"AsyncRequestWorkerFactor 1.50"], 0, None, &[SYNTAX_OK]),
-        (
-            &[b"KeepAlive \\\nMaybe\n"],
-            1,
-            Some(1),
-            &[b"configuration refused at 1: BadValue\n"],
-        ),
-        (
-            &[b"<IfModule core_module>\n"],
-            1,
-            Some(1),
-            &[b"configuration refused at 1: Unclosed\n"],
-        ),
-        (
-            &[nine.as_slice()],
-            1,
-            Some(9),
-            &[b"configuration refused at 9: TooDeep\n"],
-        ),
-        (
-            &[b"KeepAlive On\nLoadModule a b\n"],
-            1,
-            Some(2),
-            &[b"configuration refused at 2: UnknownDirective\n"],
-        ),
-        (
-            &[b"#\0"],
-            1,
-            Some(1),
-            &[b"configuration refused at 1: NotText\n"],
-        ),
-    ];
-    for (file, status, shown, text) in cases {
-        tells(&rt, alloc, TEST, file, (status, shown, text))?;
-    }
     Ok(())
 }
 
