@@ -23,7 +23,7 @@ use Rattle.conn_machine.proofs.AcceptedLaw.{counted, counted_command, counts}
 use Rattle.conn_machine.proofs.AllowedLemmas.{accept-row}
 use Rattle.conn_machine.proofs.CountLemmas.{IsSteady, closed_row-live, comes, count_none, goes, not_live, one_if, others}
 use Rattle.conn_machine.proofs.NoteLaw.{named_where}
-use Rattle.conn_machine.proofs.PassRows.{met}
+use Rattle.conn_machine.proofs.OwnRows.{met}
 use Rattle.conn_machine.proofs.UpdateLemmas.{count_cons}
 
 -- how many live connections have the arrival

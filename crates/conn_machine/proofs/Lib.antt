@@ -10,6 +10,7 @@ pub mod ChildLemmas
 pub mod ChildSound
 pub mod CountLemmas
 pub mod FairLemmas
+pub mod FoldLemmas
 pub mod FreshLaw
 pub mod HandLaw
 pub mod HistoryLemmas
@@ -20,9 +21,9 @@ pub mod ListLemmas
 pub mod NameLaw
 pub mod NamedLaw
 pub mod NoteLaw
+pub mod OwnRows
 pub mod OwnerLaw
 pub mod PassLaw
-pub mod PassRows
 pub mod PickLemmas
 pub mod QueueLaw
 pub mod RowLemmas

@@ -1,10 +1,9 @@
--- What the entries of a pass other than the listener leave of the state, and that without a pass nothing is in hand.
-use Rattle.std.proofs.Common.{◌≡◌, ◌≢◌, ◌⊎◌, inl, inr, ⊎_elim, ℕ, zero, suc, ◌+◌, ◌<◌, ◌≤◌, ◌==◌, Bool, true, false, not, ◌&&◌, ◌||◌, List, [], ◌∷◌, ◌++◌, count_by, length, map, nat_lt, Option, Some, None, slice_get, slice_index_or, slice_set, is_none, refl, sym, ap, subst, ◌∙◌, append-nil, append_assoc, eq-eqb, arith}
+-- What the entries of a pass other than the listener leave of the state.
+use Rattle.std.proofs.Common.{◌≡◌, ◌≢◌, ◌⊎◌, inl, inr, ⊎_elim, ℕ, zero, suc, ◌+◌, ◌<◌, ◌≤◌, ◌==◌, Bool, true, false, not, ◌&&◌, ◌||◌, List, [], ◌∷◌, ◌++◌, count_by, length, map, Option, Some, slice_get, slice_index_or, slice_set, is_none, refl, sym, ap, subst, ◌∙◌, append-nil, append_assoc, eq-eqb, arith}
 use Rattle.std.specs.Option.{option_map_or}
 use Rattle.std.specs.List.{range_with_len}
 use Rattle.std.proofs.lemmas.List.{map-append}
 use Rattle.std.proofs.lemmas.Bool.{and_from, and_parts, eqb-true}
-use Rattle.std.proofs.lemmas.Bool.Decides.{nat_tests}
 use native.Mathlib.Decide.{ℕ_discrete}
 use Rattle.mpm_base.specs.declared.conn.ConnName.{ConnName}
 use Rattle.mpm_base.specs.declared.conn.Kind.{Kind}
@@ -15,6 +14,7 @@ use Rattle.conn_machine.specs.declared.event.Commanded.TheVariants.{Graceful, Re
 use Rattle.conn_machine.specs.declared.event.Event.{Event}
 use Rattle.conn_machine.specs.declared.event.Event.TheVariants as event
 use Rattle.conn_machine.specs.declared.event.Entry.{Entry}
+use Rattle.conn_machine.specs.declared.folded.Folded.{Folded}
 use Rattle.conn_machine.specs.declared.row.Place.{Place}
 use Rattle.conn_machine.specs.declared.row.Place.TheVariants.{Vacant, Spent, Held, Parked, Queued, Working}
 use Rattle.conn_machine.specs.declared.row.Row.{Row}
@@ -25,12 +25,10 @@ use Rattle.conn_machine.specs.Rows.{is_from, is_held, is_lingering, is_parked, i
 use Rattle.conn_machine.specs.Children.{all_stopped}
 use Rattle.conn_machine.specs.States.{is_halted, is_signalled}
 use Rattle.conn_machine.specs.Table.{answered_row, closed_row, command_fits, end_fits, is_allowed, linger_cause_fits, lingering_row, may_be_queued, may_wait, next, next_command, parked_row, queued_row, served_row}
-use Rattle.conn_machine.specs.Runs.{Adds, AreEntriesOf, IsNextOf, after, entries_of, may_make, may_order, row_of}
-use Rattle.conn_machine.specs.Made.{AreMade, AreOfPasses, IsOpened}
-use Rattle.conn_machine.specs.Passes.{GoesOnAs, HasNoneInHand, OnlyServes, StopsFull, asking_count, asks_service, lingers_at, waits_lingering}
-use Rattle.conn_machine.proofs.HandLaw.{someone_has}
-use Rattle.conn_machine.proofs.HistoryLemmas.{entries_of-append, row_none}
-use Rattle.conn_machine.proofs.PassRows.{get_else, met, none_some, off}
+use Rattle.conn_machine.specs.Runs.{Adds, AreEntriesOf, IsNextOf, after, entries_of, may_make, may_order, row_from}
+use Rattle.conn_machine.specs.Passes.{GoesOnAs, OnlyServes, StopsFull, asking_count, asks_service, lingers_at, waits_lingering}
+use Rattle.conn_machine.proofs.HistoryLemmas.{entries_of-append}
+use Rattle.conn_machine.proofs.OwnRows.{get_else, met, off}
 use Rattle.conn_machine.proofs.RunLemmas.{after-append, after-snoc}
 use Rattle.conn_machine.proofs.SizeLemmas.{length-rows}
 use Rattle.conn_machine.proofs.UpdateLemmas.{count_cons, get_changed, test_le}
@@ -322,29 +320,29 @@ leaves_more a b c first second = record {
   lingers = λ slot on. second.lingers slot (first.lingers slot on);
 }
 
-entry_leaves : (p : ℕ) (base : State) (before : List Entry) (e : Entry) → p ≢ 0 → IsNextOf p base before e
+entry_leaves : (p : ℕ) (base : State) (f : Folded) (before : List Entry) (e : Entry) → p ≢ 0 → IsNextOf p base f before e
     → Leaves (after base before) (after base (before ++ e ∷ []))
-entry_leaves p base before e other is =
+entry_leaves p base f before e other is =
     subst (Leaves (after base before)) (sym (after-snoc base before e))
-    (event_leaves (after base before) p _ (row_of p before) e.event other is.is_allowed is.role)
+    (event_leaves (after base before) p _ (row_from f p before) e.event other is.is_allowed is.role)
 
-entries_leave : (p : ℕ) (base : State) (before added : List Entry) → p ≢ 0 → AreEntriesOf p base before added
+entries_leave : (p : ℕ) (base : State) (f : Folded) (before added : List Entry) → p ≢ 0 → AreEntriesOf p base f before added
     → Leaves (after base before) (after base (before ++ added))
-entries_leave p base before [] other are =
+entries_leave p base f before [] other are =
     subst (λ (h : List Entry). Leaves (after base before) (after base h)) (sym (append-nil before)) (leaves_same (after base before))
-entries_leave p base before (e ∷ added) other are =
+entries_leave p base f before (e ∷ added) other are =
     leaves_more (after base before) (after base (before ++ e ∷ [])) (after base (before ++ e ∷ added))
-    (entry_leaves p base before e other are.0)
+    (entry_leaves p base f before e other are.0)
     (subst (λ (h : List Entry). Leaves (after base (before ++ e ∷ [])) (after base h)) (append_assoc before (e ∷ []) added)
-    (entries_leave p base (before ++ e ∷ []) added other are.1))
+    (entries_leave p base f (before ++ e ∷ []) added other are.1))
 
-adds_leave : (p : ℕ) (base : State) (old new : List Entry) → p ≢ 0 → Adds p base old new → Leaves (after base old) (after base new)
-adds_leave p base old new other adds =
-    subst (λ (h : List Entry). Leaves (after base old) (after base h)) (sym adds.1) (entries_leave p base old adds.0 other adds.2)
+adds_leave : (p : ℕ) (base : State) (f : Folded) (old new : List Entry) → p ≢ 0 → Adds p base f old new → Leaves (after base old) (after base new)
+adds_leave p base f old new other adds =
+    subst (λ (h : List Entry). Leaves (after base old) (after base h)) (sym adds.1) (entries_leave p base f old adds.0 other adds.2)
 
 -- what the entries of a pass other than the listener leave
-pub adds_only_serve : (p : ℕ) (base : State) (old new : List Entry) → p ≢ 0 → Adds p base old new → OnlyServes (after base old) (after base new)
-adds_only_serve p base old new other adds = (adds_leave p base old new other adds).rest
+pub adds_only_serve : (p : ℕ) (base : State) (f : Folded) (old new : List Entry) → p ≢ 0 → Adds p base f old new → OnlyServes (after base old) (after base new)
+adds_only_serve p base f old new other adds = (adds_leave p base f old new other adds).rest
 
 -- ## How many slots ask for service
 
@@ -364,22 +362,22 @@ asked_before s s' left slot asks =
     served false on serves = ap not on
 
 -- there are as many rows after entries
-rows_after : (s : State) (entries : List Entry) → length (after s entries).rows ≡ length s.rows
-rows_after s [] = refl
-rows_after s (e ∷ entries) = rows_after (next s e.event) entries ∙ length-rows s e.event
+as_many_rows : (s : State) (entries : List Entry) → length (after s entries).rows ≡ length s.rows
+as_many_rows s [] = refl
+as_many_rows s (e ∷ entries) = as_many_rows (next s e.event) entries ∙ length-rows s e.event
 
 same_rows : (base : State) (old added : List Entry) → length (after base (old ++ added)).rows ≡ length (after base old).rows
-same_rows base old added = ap (λ (s : State). length s.rows) (after-append base old added) ∙ rows_after (after base old) added
+same_rows base old added = ap (λ (s : State). length s.rows) (after-append base old added) ∙ as_many_rows (after base old) added
 
 -- so no more slots do
-pub adds_ask_none : (p : ℕ) (base : State) (old new : List Entry) → p ≢ 0 → Adds p base old new
+pub adds_ask_none : (p : ℕ) (base : State) (f : Folded) (old new : List Entry) → p ≢ 0 → Adds p base f old new
     → asking_count (after base new) ≤ asking_count (after base old)
-adds_ask_none p base old new other adds =
+adds_ask_none p base f old new other adds =
     let s = after base old in
     let s' = after base new in
     let rows : length s'.rows ≡ length s.rows = ap (λ (h : List Entry). length (after base h).rows) adds.1 ∙ same_rows base old adds.0 in
     subst (λ (n : ℕ). count_by (asks_service s') (range_with_len 0 n) ≤ asking_count s) (sym rows)
-    (range-few (asks_service s') (asks_service s) 0 (length s.rows) (asked_before s s' (adds_leave p base old new other adds)))
+    (range-few (asks_service s') (asks_service s) 0 (length s.rows) (asked_before s s' (adds_leave p base f old new other adds)))
 
 -- a slot that is queued asked, and does no more
 queue_clears : (s : State) (name : ConnName) → is_allowed s (event.Queue name) ≡ true
@@ -409,10 +407,10 @@ unasked s s' left slot none = by (asks_service s' slot) refl
     by true asks = off none (asked_before s s' left slot asks)
     by false asks = asks
 
-entries_clear : (p : ℕ) (base : State) (old : List Entry) (e : Entry) (rest : List Entry) (name : ConnName) → p ≢ 0
-    → AreEntriesOf p base old (e ∷ rest) → e.event ≡ event.Queue name
+entries_clear : (p : ℕ) (base : State) (f : Folded) (old : List Entry) (e : Entry) (rest : List Entry) (name : ConnName) → p ≢ 0
+    → AreEntriesOf p base f old (e ∷ rest) → e.event ≡ event.Queue name
     → asking_count (after base (old ++ e ∷ rest)) < asking_count (after base old)
-entries_clear p base old e rest name other are queues =
+entries_clear p base f old e rest name other are queues =
     let s = after base old in
     let s' = after base (old ++ e ∷ rest) in
     let clears = queue_clears s name (ap (is_allowed s) (sym queues) ∙ are.0.is_allowed) in
@@ -420,11 +418,11 @@ entries_clear p base old e rest name other are queues =
     ap (λ (t : State). asks_service t name.slot) (after-snoc base old e ∙ ap (next s) queues) ∙ clears.2 in
     let behind : Leaves (after base (old ++ e ∷ [])) s' =
     subst (λ (h : List Entry). Leaves (after base (old ++ e ∷ [])) (after base h)) (append_assoc old (e ∷ []) rest)
-    (entries_leave p base (old ++ e ∷ []) rest other are.1) in
+    (entries_leave p base f (old ++ e ∷ []) rest other are.1) in
     let high : name.slot < 0 + length s.rows = omega (arith, clears.0) in
     subst (λ (n : ℕ). count_by (asks_service s') (range_with_len 0 n) < asking_count s) (sym (same_rows base old (e ∷ rest)))
     (range-fewer (asks_service s') (asks_service s) 0 (length s.rows) name.slot
-    (asked_before s s' (entries_leave p base old (e ∷ rest) other are)) (omega arith) high
+    (asked_before s s' (entries_leave p base f old (e ∷ rest) other are)) (omega arith) high
     clears.1 (unasked (after base (old ++ e ∷ [])) s' behind name.slot first))
 
 -- the second parts of a list with a common first part
@@ -433,55 +431,29 @@ same_behind [] a b same = same
 same_behind (x ∷ old) a b same = same_behind old a b (cc)
 
 -- all entries of a pass are of the pass
-own_entries : (p : ℕ) (base : State) (before added : List Entry) → AreEntriesOf p base before added → entries_of p added ≡ added
-own_entries p base before [] are = refl
-own_entries p base before (e ∷ added) are =
-    rw (eq-eqb e.pass p are.0.pass) (ap (λ (es : List Entry). e ∷ es) (own_entries p base (before ++ e ∷ []) added are.1))
+own_entries : (p : ℕ) (base : State) (f : Folded) (before added : List Entry) → AreEntriesOf p base f before added → entries_of p added ≡ added
+own_entries p base f before [] are = refl
+own_entries p base f before (e ∷ added) are =
+    rw (eq-eqb e.pass p are.0.pass) (ap (λ (es : List Entry). e ∷ es) (own_entries p base f (before ++ e ∷ []) added are.1))
 
 -- their events are those that the pass has more
-added_events : (p : ℕ) (base : State) (old added : List Entry) (events : List Event) → AreEntriesOf p base old added
+added_events : (p : ℕ) (base : State) (f : Folded) (old added : List Entry) (events : List Event) → AreEntriesOf p base f old added
     → map (λ e. e.event) (entries_of p (old ++ added)) ≡ map (λ e. e.event) (entries_of p old) ++ events → map (λ e. e.event) added ≡ events
-added_events p base old added events are grown =
+added_events p base f old added events are grown =
     same_behind (map (λ (e : Entry). e.event) (entries_of p old)) (map (λ (e : Entry). e.event) added) events
-    (sym (ap (map (λ (e : Entry). e.event)) (entries_of-append p old added ∙ ap (λ (es : List Entry). entries_of p old ++ es) (own_entries p base old added are))
+    (sym (ap (map (λ (e : Entry). e.event)) (entries_of-append p old added ∙ ap (λ (es : List Entry). entries_of p old ++ es) (own_entries p base f old added are))
     ∙ map-append (λ (e : Entry). e.event) (entries_of p old) added)
     ∙ grown)
 
 -- fewer slots ask once a connection was handed to the workers
-pub adds_clear : (p : ℕ) (base : State) (old new : List Entry) (name : ConnName) (events : List Event) → p ≢ 0 → Adds p base old new
+pub adds_clear : (p : ℕ) (base : State) (f : Folded) (old new : List Entry) (name : ConnName) (events : List Event) → p ≢ 0 → Adds p base f old new
     → map (λ e. e.event) (entries_of p new) ≡ map (λ e. e.event) (entries_of p old) ++ event.Queue name ∷ events
     → asking_count (after base new) < asking_count (after base old)
-adds_clear p base old new name events other adds grown =
+adds_clear p base f old new name events other adds grown =
     subst (λ (h : List Entry). asking_count (after base h) < asking_count (after base old)) (sym adds.1)
-    (by adds.0 adds.2 (added_events p base old adds.0 (event.Queue name ∷ events) adds.2 (ap (λ (h : List Entry). map (λ (e : Entry). e.event) (entries_of p h)) (sym adds.1) ∙ grown)))
+    (by adds.0 adds.2 (added_events p base f old adds.0 (event.Queue name ∷ events) adds.2 (ap (λ (h : List Entry). map (λ (e : Entry). e.event) (entries_of p h)) (sym adds.1) ∙ grown)))
   where
-    by : (added : List Entry) → AreEntriesOf p base old added → map (λ (e : Entry). e.event) added ≡ event.Queue name ∷ events
+    by : (added : List Entry) → AreEntriesOf p base f old added → map (λ (e : Entry). e.event) added ≡ event.Queue name ∷ events
         → asking_count (after base (old ++ added)) < asking_count (after base old)
     by [] are same = absurd (cc)
-    by (e ∷ rest) are same = entries_clear p base old e rest name other are (cc)
-
--- ## Nothing in hand
-
--- where no pass has a connection, none is in hand
-pub none_in_hand : (start : State) (history : List Entry) → IsOpened start → AreMade start history → ((p : ℕ) → row_of p history ≡ None)
-    → HasNoneInHand (after start history)
-none_in_hand start history opened made none = record { each = each }
-  where
-    by : (slot : ℕ) (r : Row) (b : Bool) → is_with_a_pass r.place ≡ b → slice_get (after start history).rows slot ≡ Some r → is_with_a_pass r.place ≡ false
-    by slot r true hand at =
-        let who = someone_has start history slot r opened made at hand in
-        none_some (row_of who.0 history) who.1 (none who.0) who.2
-    by slot r false hand at = hand
-
-    each : (slot : ℕ) (r : Row) → slice_get (after start history).rows slot ≡ Some r → is_with_a_pass r.place ≡ false
-    each slot r at = by slot r (is_with_a_pass r.place) refl at
-
--- it suffices that those have none that made entries
-pub none_in_hand_of : (start : State) (passes : ℕ) (history : List Entry) → IsOpened start → AreMade start history → AreOfPasses passes history
-    → ((p : ℕ) → p < passes → row_of p history ≡ None) → HasNoneInHand (after start history)
-none_in_hand_of start passes history opened made few none =
-    none_in_hand start history opened made (λ p. by p (nat_lt p passes) refl)
-  where
-    by : (p : ℕ) (b : Bool) → nat_lt p passes ≡ b → row_of p history ≡ None
-    by p true less = none p (grind (arith, nat_tests))
-    by p false less = row_none p history (few p (grind (arith, nat_tests)))
+    by (e ∷ rest) are same = entries_clear p base f old e rest name other are (cc)

@@ -3,11 +3,13 @@ use Rattle.std.proofs.Common.{◌≡◌, ℕ, zero, suc, ◌+◌, Bool, true, fa
 use Rattle.std.proofs.lemmas.List.{map-append}
 use Rattle.std.proofs.lemmas.List.Elements.{filter-append}
 use Rattle.std.proofs.lemmas.Bool.{eqb-true}
+use Rattle.std.specs.Prelude.{slice_index}
 use Rattle.std.specs.List.{range_with_len}
 use Rattle.conn_machine.specs.declared.event.Entry.{Entry}
+use Rattle.conn_machine.specs.declared.folded.Folded.{Folded}
 use Rattle.conn_machine.specs.declared.state.State.{State}
 use Rattle.conn_machine.specs.Table.{is_allowed, next, reply}
-use Rattle.conn_machine.specs.Runs.{after, Run, is_of_pass, entries_of, IsNumbered, IsInPassOrder, IsHistory}
+use Rattle.conn_machine.specs.Runs.{after, Run, is_of_pass, entries_of, IsNumberedFrom, IsInPassOrderFrom, IsHistory}
 
 -- a history goes on from the state after its first entries
 pub after-append : (s : State) (a b : List Entry) → after s (a ++ b) ≡ after (after s a) b
@@ -48,42 +50,43 @@ range_with_len-snoc a (suc n) =
     rw s (ap (λ (xs : List ℕ). a ∷ xs) step')
 
 -- the entries of a pass stay numbered, where the new one has the next number
-numbered-own : (p : ℕ) (history : List Entry) (e : Entry) → IsNumbered p history → is_of_pass p e ≡ true
-    → e.ordinal ≡ length (entries_of p history) → IsNumbered p (history ++ e ∷ [])
-numbered-own p history e before own ordinal =
+numbered-own : (first p : ℕ) (history : List Entry) (e : Entry) → IsNumberedFrom first p history → is_of_pass p e ≡ true
+    → e.ordinal ≡ first + length (entries_of p history) → IsNumberedFrom first p (history ++ e ∷ [])
+numbered-own first p history e before own ordinal =
     let mine = entries_of p history in
     let len : length (mine ++ e ∷ []) ≡ length mine + 1 = length-append mine (e ∷ []) in
-    let numbers : range_with_len 0 (length (mine ++ e ∷ [])) ≡ range_with_len 0 (length mine) ++ (0 + length mine) ∷ [] =
-    ap (range_with_len 0) len ∙ range_with_len-snoc 0 (length mine) in
-    let zero_add : 0 + length mine ≡ length mine = omega arith in
+    let numbers : range_with_len first (length (mine ++ e ∷ [])) ≡ range_with_len first (length mine) ++ (first + length mine) ∷ [] =
+    ap (range_with_len first) len ∙ range_with_len-snoc first (length mine) in
     rw (entries_of-own p history e own)
     (map-append (λ (x : Entry). x.ordinal) mine (e ∷ [])
     ∙ ap (λ (xs : List ℕ). xs ++ e.ordinal ∷ []) before
-    ∙ ap (λ (n : ℕ). range_with_len 0 (length mine) ++ n ∷ []) (ordinal ∙ sym zero_add)
+    ∙ ap (λ (n : ℕ). range_with_len first (length mine) ++ n ∷ []) ordinal
     ∙ sym numbers)
 
-numbered-other : (p : ℕ) (history : List Entry) (e : Entry) → IsNumbered p history → is_of_pass p e ≡ false
-    → IsNumbered p (history ++ e ∷ [])
-numbered-other p history e before other = rw (entries_of-other p history e other) before
+numbered-other : (first p : ℕ) (history : List Entry) (e : Entry) → IsNumberedFrom first p history → is_of_pass p e ≡ false
+    → IsNumberedFrom first p (history ++ e ∷ [])
+numbered-other first p history e before other = rw (entries_of-other p history e other) before
 
-numbered_by : (p : ℕ) (history : List Entry) (e : Entry) (own : Bool) → is_of_pass p e ≡ own → IsNumbered p history
-    → e.ordinal ≡ length (entries_of e.pass history) → IsNumbered p (history ++ e ∷ [])
-numbered_by p history e true own before ordinal =
+numbered_by : (f : Folded) (p : ℕ) (history : List Entry) (e : Entry) (own : Bool) → is_of_pass p e ≡ own
+    → IsNumberedFrom (slice_index f.ordinals p) p history → e.ordinal ≡ slice_index f.ordinals e.pass + length (entries_of e.pass history)
+    → IsNumberedFrom (slice_index f.ordinals p) p (history ++ e ∷ [])
+numbered_by f p history e true own before ordinal =
     let same : e.pass ≡ p = eqb-true e.pass p own in
-    numbered-own p history e before own (ordinal ∙ ap (λ (q : ℕ). length (entries_of q history)) same)
-numbered_by p history e false other before ordinal = numbered-other p history e before other
+    numbered-own (slice_index f.ordinals p) p history e before own
+    (ordinal ∙ ap (λ (q : ℕ). slice_index f.ordinals q + length (entries_of q history)) same)
+numbered_by f p history e false other before ordinal = numbered-other (slice_index f.ordinals p) p history e before other
 
 -- the history stays in the order of its passes, where the entry has the next number of its pass
-pub order-snoc : (history : List Entry) (e : Entry) → IsInPassOrder history → e.ordinal ≡ length (entries_of e.pass history)
-    → IsInPassOrder (history ++ e ∷ [])
-order-snoc history e order ordinal p =
-    numbered_by p history e (is_of_pass p e) refl (order p) ordinal
+pub order-snoc : (f : Folded) (history : List Entry) (e : Entry) → IsInPassOrderFrom f history
+    → e.ordinal ≡ slice_index f.ordinals e.pass + length (entries_of e.pass history) → IsInPassOrderFrom f (history ++ e ∷ [])
+order-snoc f history e order ordinal p =
+    numbered_by f p history e (is_of_pass p e) refl (order p) ordinal
 
 -- a history that goes on by an entry which the state allows
-pub history-snoc : (base : State) (history : List Entry) (e : Entry) → IsHistory base history
+pub history-snoc : (base : State) (f : Folded) (history : List Entry) (e : Entry) → IsHistory base f history
     → is_allowed (after base history) e.event ≡ true → e.reply ≡ reply (after base history) e.event
-    → e.ordinal ≡ length (entries_of e.pass history) → IsHistory base (history ++ e ∷ [])
-history-snoc base history e before is_allowed replied ordinal = record {
+    → e.ordinal ≡ slice_index f.ordinals e.pass + length (entries_of e.pass history) → IsHistory base f (history ++ e ∷ [])
+history-snoc base f history e before is_allowed replied ordinal = record {
   run = run_snoc base history e before.run is_allowed replied;
-  order = order-snoc history e before.order ordinal;
+  order = order-snoc f history e before.order ordinal;
 }

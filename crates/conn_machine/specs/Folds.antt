@@ -1,6 +1,6 @@
 -- Folds: what a value that keeps a history still knows of the entries that it folded.
-use Rattle.std.specs.Prelude.{◌≡◌, ◌==◌, ℕ, ◌+◌, ◌-◌, Bool, ◌&&◌, ◌||◌, not, List, [], ◌∷◌, ◌++◌, length, map, filter, take, replicate, slice_index}
-use Rattle.std.specs.List.{enumerate_from, flat_map, list_any, range_with_len}
+use Rattle.std.specs.Prelude.{◌≡◌, ◌==◌, ℕ, ◌+◌, ◌-◌, Bool, ◌&&◌, ◌||◌, not, List, [], ◌∷◌, ◌++◌, length, map, filter, take, replicate, slice_index, Option, None}
+use Rattle.std.specs.List.{enumerate_from, flat_map, list_any}
 use Rattle.conn_machine.specs.declared.child.Child.{Child}
 use Rattle.conn_machine.specs.declared.event.Entry.{Entry}
 use Rattle.conn_machine.specs.declared.folded.Edition.{Edition}
@@ -8,8 +8,9 @@ use Rattle.conn_machine.specs.declared.folded.Folded.{Folded}
 use Rattle.conn_machine.specs.declared.state.State.{State}
 use Rattle.conn_machine.specs.Children.{is_empty}
 use Rattle.conn_machine.specs.Events.{causes, count_events, is_accept, is_answer, is_close, is_close_for, is_graceful, is_order, is_ready, is_start_child, is_tick}
-use Rattle.conn_machine.specs.Runs.{after, entries_of}
+use Rattle.conn_machine.specs.Runs.{after, entries_of, first_row, row_after, row_from}
 use Rattle.mpm_base.specs.Cause.{cause_number}
+use Rattle.mpm_base.specs.declared.conn.ConnName.{ConnName}
 
 -- ## The record
 
@@ -33,18 +34,18 @@ opening_record passes =
       orders = 0;
       editions = first_edition ∷ [];
       ordinals = replicate passes 0;
+      rows = replicate passes None;
     }
 
--- ## The order of the passes
+-- the record has a next number and a place for a connection for each of so many passes, and for no others
+pub record HasPlacesFor (passes : ℕ) (f : Folded) : Type 0 where
+  pub ordinals : length f.ordinals ≡ passes
+  pub rows : length f.rows ≡ passes
 
--- the entries of the pass are numbered on from this number, in the order of the history
-abbrev pub IsNumberedFrom : ℕ → ℕ → List Entry → Type 0
-IsNumberedFrom first p history =
-    map (λ e. e.ordinal) (entries_of p history) ≡ range_with_len first (length (entries_of p history))
-
--- the entries of each pass are numbered on from its next number in the record
-abbrev pub IsInPassOrderFrom : Folded → List Entry → Type 0
-IsInPassOrderFrom f history = (p : ℕ) → IsNumberedFrom (slice_index f.ordinals p) p history
+-- of the pass the later record says what this one and the history behind it say: its next number, and its connection
+pub record GoesOnFrom (p : ℕ) (f : Folded) (history : List Entry) (later : Folded) : Type 0 where
+  pub ordinal : slice_index later.ordinals p ≡ slice_index f.ordinals p + length (entries_of p history)
+  pub row : first_row later p ≡ row_from f p history
 
 -- ## Editions
 
@@ -81,6 +82,10 @@ lines_after ended closed lines = lines ++ flat_map (λ line. line) (take (64 - c
 abbrev pub ordinals_after : List Entry → List ℕ → List ℕ
 ordinals_after history ordinals = map (λ p. p.1 + length (entries_of p.0 history)) (enumerate_from 0 ordinals)
 
+-- the connection of each pass behind the history
+abbrev pub rows_after : List Entry → List (Option ConnName) → List (Option ConnName)
+rows_after history rows = map (λ p. row_after p.1 (entries_of p.0 history)) (enumerate_from 0 rows)
+
 -- the record that a fold makes of one, of the base and the history behind it, and of the report lines of the connections that ended in it
 abbrev pub fold_of : State → List Entry → List (List ℕ) → Folded → Folded
 fold_of base history ended f =
@@ -97,4 +102,5 @@ fold_of base history ended f =
       orders = f.orders + count_events is_order history;
       editions = filter (λ e. is_in_use (after base history) e.generation) (f.editions ++ begun_editions base.newest f.orders history);
       ordinals = ordinals_after history f.ordinals;
+      rows = rows_after history f.rows;
     }

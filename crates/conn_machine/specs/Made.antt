@@ -2,6 +2,7 @@
 use Rattle.std.specs.Prelude.{◌≡◌, ℕ, ◌≤◌, true, List, [], ◌∷◌, ◌++◌, ⊤}
 use Rattle.mpm_base.specs.declared.shape.Shape.{Shape}
 use Rattle.conn_machine.specs.declared.event.Entry.{Entry}
+use Rattle.conn_machine.specs.declared.folded.Folded.{Folded}
 use Rattle.conn_machine.specs.declared.state.State.{State}
 use Rattle.conn_machine.specs.Children.{is_in_bounds}
 use Rattle.conn_machine.specs.States.{opening_state}
@@ -16,13 +17,13 @@ pub record IsOpened (s : State) : Type 0 where
   pub state : s ≡ opening_state slots children shape
 
 -- behind the entries before them, each of these is one that its pass may make where it stands
-abbrev pub AreMadeBehind : State → List Entry → List Entry → Type 0
-AreMadeBehind start before [] = ⊤
-AreMadeBehind start before (e ∷ entries) = IsNextOf e.pass start before e × AreMadeBehind start (before ++ e ∷ []) entries
+abbrev pub AreMadeBehind : State → Folded → List Entry → List Entry → Type 0
+AreMadeBehind base f before [] = ⊤
+AreMadeBehind base f before (e ∷ entries) = IsNextOf e.pass base f before e × AreMadeBehind base f (before ++ e ∷ []) entries
 
 -- each entry of the history is one that its pass may make where it stands
-abbrev pub AreMade : State → List Entry → Type 0
-AreMade start history = AreMadeBehind start [] history
+abbrev pub AreMade : State → Folded → List Entry → Type 0
+AreMade base f history = AreMadeBehind base f [] history
 
 -- no pass but the first so many made an entry
 abbrev pub AreOfPasses : ℕ → List Entry → Type 0

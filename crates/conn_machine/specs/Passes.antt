@@ -1,13 +1,21 @@
--- What passes leave of a state: the listener, which is pass 0, and the others, which serve.
-use Rattle.std.specs.Prelude.{◌≡◌, ℕ, ◌⊎◌, Bool, true, false, not, ◌&&◌, count_by, length, Some, slice_get}
+-- What passes have in a state and leave of it: the listener, which is pass 0, and the others, which serve.
+use Rattle.std.specs.Prelude.{◌≡◌, ℕ, ◌⊎◌, Bool, true, false, not, ◌&&◌, count_by, length, Option, Some, slice_get}
 use Rattle.std.specs.List.{range_with_len}
+use Rattle.mpm_base.specs.declared.conn.ConnName.{ConnName}
 use Rattle.conn_machine.specs.declared.event.Why.TheVariants as why
 use Rattle.conn_machine.specs.declared.row.Row.{Row}
 use Rattle.conn_machine.specs.declared.state.Going.TheVariants.{Halted}
 use Rattle.conn_machine.specs.declared.state.State.{State}
-use Rattle.conn_machine.specs.Rows.{is_lingering, is_parked, is_with_a_pass, row_passes}
+use Rattle.conn_machine.specs.Rows.{is_lingering, is_parked, is_with_a_pass, live_row, row_passes}
 use Rattle.conn_machine.specs.Children.{all_stopped}
 use Rattle.conn_machine.specs.States.{is_halted, is_signalled}
+
+-- each pass has this connection, or none: each of these is live, and the listener holds it, or a worker has it, or will; two
+-- passes have different ones; and each connection that is held, queued or in work is some pass's
+pub record EachHasItsOwn (s : State) (has : ℕ → Option ConnName) : Type 0 where
+  pub live : (p : ℕ) (name : ConnName) → has p ≡ Some name → (r : Row) × (live_row s.rows name ≡ Some r) × (is_with_a_pass r.place ≡ true)
+  pub apart : (p q : ℕ) (name other : ConnName) → has p ≡ Some name → has q ≡ Some other → name.slot ≡ other.slot → p ≡ q
+  pub someone : (slot : ℕ) (r : Row) → slice_get s.rows slot ≡ Some r → is_with_a_pass r.place ≡ true → (p : ℕ) × (name : ConnName) × (has p ≡ Some name) × (name.slot ≡ slot) × (live_row s.rows name ≡ Some r)
 
 -- no connection is with a pass: the listener holds none, and no worker has one, or will
 pub record HasNoneInHand (s : State) : Type 0 where

@@ -1,5 +1,5 @@
--- Histories of the machine: runs of the event table, the order of each pass's entries, and what a pass may add.
-use Rattle.std.specs.Prelude.{◌≡◌, ◌==◌, ℕ, ◌+◌, ◌*◌, Bool, true, false, ◌&&◌, List, [], ◌∷◌, ◌++◌, length, map, filter, fold, count_by, nat_le, Option, None, Some, is_none, ⊤}
+-- Histories of the machine, behind what was folded: runs of the event table, the order of each pass's entries, and what a pass may add.
+use Rattle.std.specs.Prelude.{◌≡◌, ◌==◌, ℕ, ◌+◌, ◌*◌, Bool, true, false, ◌&&◌, List, [], ◌∷◌, ◌++◌, length, map, filter, fold, count_by, nat_le, Option, None, Some, is_none, slice_index, slice_index_or, ⊤}
 use Rattle.std.specs.List.{range_with_len}
 use Rattle.std.specs.Option.{option_map_or}
 use Rattle.mpm_base.specs.declared.conn.ConnName.{ConnName}
@@ -11,6 +11,7 @@ use Rattle.conn_machine.specs.declared.event.Event.TheVariants as event
 use Rattle.conn_machine.specs.declared.event.Reply.{Reply}
 use Rattle.conn_machine.specs.declared.event.Reply.TheVariants.{Done, Took, Cell, Noted}
 use Rattle.conn_machine.specs.declared.event.Entry.{Entry}
+use Rattle.conn_machine.specs.declared.folded.Folded.{Folded}
 use Rattle.conn_machine.specs.declared.state.State.{State}
 use Rattle.conn_machine.specs.Table.{is_allowed, next, reply}
 
@@ -36,19 +37,19 @@ is_of_pass p e = e.pass == p
 abbrev pub entries_of : ℕ → List Entry → List Entry
 entries_of p history = filter (is_of_pass p) history
 
--- the entries of the pass are numbered 0, 1, 2 and so on, in the order of the history
-abbrev pub IsNumbered : ℕ → List Entry → Type 0
-IsNumbered p history =
-    map (λ e. e.ordinal) (entries_of p history) ≡ range_with_len 0 (length (entries_of p history))
+-- the entries of the pass are numbered on from this number, in the order of the history
+abbrev pub IsNumberedFrom : ℕ → ℕ → List Entry → Type 0
+IsNumberedFrom first p history =
+    map (λ e. e.ordinal) (entries_of p history) ≡ range_with_len first (length (entries_of p history))
 
--- so are the entries of each pass
-abbrev pub IsInPassOrder : List Entry → Type 0
-IsInPassOrder history = (p : ℕ) → IsNumbered p history
+-- the entries of each pass are numbered on from its next number in the record
+abbrev pub IsInPassOrderFrom : Folded → List Entry → Type 0
+IsInPassOrderFrom f history = (p : ℕ) → IsNumberedFrom (slice_index f.ordinals p) p history
 
--- a history of the machine, from the state on
-pub record IsHistory (base : State) (history : List Entry) : Type 0 where
+-- a history of the machine, from the state on, behind the entries that the record counts
+pub record IsHistory (base : State) (f : Folded) (history : List Entry) : Type 0 where
   pub run : Run base history
-  pub order : IsInPassOrder history
+  pub order : IsInPassOrderFrom f history
 
 -- ## The load
 
@@ -101,9 +102,21 @@ has_after had (event.StartChild k) answer = had
 has_after had (event.Command c) answer = had
 has_after had (event.Retire k) answer = had
 
--- the connection that the pass has in the end
+-- the connection that a pass has after these entries of its own, where it had this one before
+abbrev pub row_after : Option ConnName → List Entry → Option ConnName
+row_after had entries = fold (λ now e. has_after now e.event e.reply) had entries
+
+-- the connection that the pass has in the end, where no pass had one before the history
 abbrev pub row_of : ℕ → List Entry → Option ConnName
-row_of p history = fold (λ had e. has_after had e.event e.reply) None (entries_of p history)
+row_of p history = row_after None (entries_of p history)
+
+-- the connection that the pass had behind the entries that the record counts
+abbrev pub first_row : Folded → ℕ → Option ConnName
+first_row f p = slice_index_or f.rows p None
+
+-- the connection that the pass has in the end, where the history stands behind those entries
+abbrev pub row_from : Folded → ℕ → List Entry → Option ConnName
+row_from f p history = row_after (first_row f p) (entries_of p history)
 
 -- the two names are one
 abbrev pub is_name : ConnName → ConnName → Bool
@@ -141,19 +154,19 @@ may_make p had weight (event.StartChild k) = p == 0
 may_make p had weight (event.Command c) = may_order p weight c
 may_make p had weight (event.Retire k) = p == 0
 
--- after the history, the pass may make the entry
-pub record IsNextOf (p : ℕ) (base : State) (history : List Entry) (e : Entry) : Type 0 where
+-- after the history, behind the entries that the record counts, the pass may make the entry
+pub record IsNextOf (p : ℕ) (base : State) (f : Folded) (history : List Entry) (e : Entry) : Type 0 where
   pub pass : e.pass ≡ p
-  pub ordinal : e.ordinal ≡ length (entries_of p history)
+  pub ordinal : e.ordinal ≡ slice_index f.ordinals p + length (entries_of p history)
   pub is_allowed : is_allowed (after base history) e.event ≡ true
   pub replied : e.reply ≡ reply (after base history) e.event
-  pub role : may_make p (row_of p history) (load history) e.event ≡ true
+  pub role : may_make p (row_from f p history) (load history) e.event ≡ true
 
 -- after the history, the pass may make these entries, one after the other
-abbrev pub AreEntriesOf : ℕ → State → List Entry → List Entry → Type 0
-AreEntriesOf p base history [] = ⊤
-AreEntriesOf p base history (e ∷ added) = IsNextOf p base history e × AreEntriesOf p base (history ++ e ∷ []) added
+abbrev pub AreEntriesOf : ℕ → State → Folded → List Entry → List Entry → Type 0
+AreEntriesOf p base f history [] = ⊤
+AreEntriesOf p base f history (e ∷ added) = IsNextOf p base f history e × AreEntriesOf p base f (history ++ e ∷ []) added
 
 -- the history went on by entries of the pass
-abbrev pub Adds : ℕ → State → List Entry → List Entry → Type 0
-Adds p base old new = (added : List Entry) × (new ≡ old ++ added) × AreEntriesOf p base old added
+abbrev pub Adds : ℕ → State → Folded → List Entry → List Entry → Type 0
+Adds p base f old new = (added : List Entry) × (new ≡ old ++ added) × AreEntriesOf p base f old added

@@ -1,8 +1,8 @@
 //! What a value that keeps a history still knows of the entries that it folded.
-ghost use Rattle.std.specs.Prelude.{◌≡◌, [], ◌∷◌, replicate, IfOk};
+ghost use Rattle.std.specs.Prelude.{◌≡◌, [], ◌∷◌, replicate, None, IfOk};
 ghost use Rattle.conn_machine.specs.Folds.{first_edition, opening_record};
 
-use mpm_base::{NoMemory, Octets};
+use mpm_base::{ConnName, NoMemory, Octets};
 use std::alloc::Global;
 use std::marker::Model;
 
@@ -86,6 +86,40 @@ impl Ordinals {
     }
 }
 
+/// The connection of each pass, where it has one, as contracts see it.
+#[derive(Debug, Drop)]
+pub struct PassRows {
+    items: Vec<Option<ConnName>>,
+}
+
+impl Model for PassRows {
+    ghost use Rattle.std.specs.Prelude.{List, Option};
+    ghost use Rattle.mpm_base.specs.declared.conn.ConnName.{ConnName};
+
+    ghost Value = { List (Option ConnName) };
+
+    ghost view = { λ r. r.items.items };
+}
+
+impl PassRows {
+    /// No connection for each pass.
+    pub fn make(alloc: Global, passes: u32) -> Result<PassRows, NoMemory>
+        ensures { IfOk result (λ rows. rows ≡ replicate passes None) }
+    {
+        match vec![in alloc; None; passes as usize] {
+            Ok(items) => Ok(PassRows { items }),
+            Err(_) => Err(NoMemory),
+        }
+    }
+
+    /// The connections.
+    pub fn as_slice(&self) -> &[Option<ConnName>]
+        ensures { result.now ≡ self.now }
+    {
+        self.items.as_slice()
+    }
+}
+
 /// What is still known of the entries that were folded. Each number counts them alone.
 #[derive(Debug, Drop)]
 pub struct Folded {
@@ -113,6 +147,8 @@ pub struct Folded {
     pub editions: Editions,
     /// The next number of each pass's entries.
     pub ordinals: Ordinals,
+    /// The connection that each pass had behind them.
+    pub rows: PassRows,
 }
 
 impl Folded {
@@ -133,6 +169,7 @@ impl Folded {
             orders: 0,
             editions: Editions::first(alloc)?,
             ordinals: Ordinals::make(alloc, passes)?,
+            rows: PassRows::make(alloc, passes)?,
         })
     }
 }

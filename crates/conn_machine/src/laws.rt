@@ -1,6 +1,6 @@
 //! Laws of the machine: what holds of every state, and of every run, that the event table allows. Each is the contract
 //! of a function that does nothing.
-ghost use Rattle.std.specs.Prelude.{◌≡◌, ◌≢◌, ◌<◌, ◌≤◌, ◌↔◌, ℕ, ◌+◌, true, false, List, ◌∷◌, ◌++◌, count_by, map, min, None, Some, slice_get};
+ghost use Rattle.std.specs.Prelude.{◌≡◌, ◌≢◌, ◌<◌, ◌≤◌, ◌↔◌, ℕ, ◌+◌, true, false, List, ◌∷◌, ◌++◌, count_by, map, min, Option, None, Some, slice_get};
 ghost use Rattle.std.specs.List.{list_any};
 ghost use Rattle.mpm_base.specs.Count.{greatest_count};
 ghost use Rattle.mpm_base.specs.declared.conn.ConnName.{ConnName};
@@ -16,15 +16,17 @@ ghost use Rattle.conn_machine.specs.declared.event.Event.TheVariants as event;
 ghost use Rattle.conn_machine.specs.declared.event.Commanded.TheVariants.{Graceful};
 ghost use Rattle.conn_machine.specs.declared.event.Reply.TheVariants.{Took};
 ghost use Rattle.conn_machine.specs.declared.event.Entry.{Entry};
+ghost use Rattle.conn_machine.specs.declared.folded.Folded.{Folded};
 ghost use Rattle.conn_machine.specs.declared.state.State.{State};
 ghost use Rattle.conn_machine.specs.Arrivals.{arrival_count};
-ghost use Rattle.conn_machine.specs.Rows.{is_live, is_live_in, is_lingering, is_with_a_pass, live_row, owner_of};
+ghost use Rattle.conn_machine.specs.Rows.{is_live, is_live_in, is_lingering, live_row, owner_of};
 ghost use Rattle.conn_machine.specs.Children.{is_in_bounds};
 ghost use Rattle.conn_machine.specs.States.{opening_state, pick_child};
 ghost use Rattle.conn_machine.specs.Table.{is_allowed, next};
-ghost use Rattle.conn_machine.specs.Runs.{Adds, Run, after, entries_of, row_of};
+ghost use Rattle.conn_machine.specs.Runs.{Adds, Run, after, entries_of, first_row, row_from};
+ghost use Rattle.conn_machine.specs.Folds.{HasPlacesFor, fold_of, opening_record};
 ghost use Rattle.conn_machine.specs.Made.{AreMade, AreOfPasses, HasSeen, IsOpened};
-ghost use Rattle.conn_machine.specs.Passes.{HasNoneInHand, OnlyServes, asking_count};
+ghost use Rattle.conn_machine.specs.Passes.{EachHasItsOwn, HasNoneInHand, OnlyServes, asking_count};
 ghost use Rattle.conn_machine.specs.Events.{count_events, is_accept, is_close};
 ghost use Rattle.conn_machine.specs.Sound.{IsSound};
 ghost use Rattle.conn_machine.specs.Laws.{IsChosen, IsEarned, IsTakenFor, LingersOn, OnlyGrows, StartsFresh, StaysSound, is_alive, is_alive_or_closed};
@@ -118,28 +120,28 @@ pub fn responses_only_grow()
     ensures { (s : State) (history : List Entry) (name : ConnName) (r r' : Row) → IsSound s → Run s history → live_row s.rows name ≡ Some r → live_row (after s history).rows name ≡ Some r' → OnlyGrows r.notes r'.notes }
 {}
 
-/// In a history that passes made as they may, the connection of a pass is live, and the listener holds it, or a worker has
-/// it, or will; two passes have different ones; and each connection that somebody holds or has is some pass's, so that there is
-/// none where no pass has one, nor, of so many passes, any of them.
+/// Where each pass has its own connection at the base of a history that passes made as they may, each has it behind the history
+/// too. So it is in each state in which a server opens, where no pass has one; and it stays so where the history is folded. Then
+/// no connection is in hand where no pass has one, nor, of so many passes, any of them.
 pub fn each_pass_has_its_own_connection()
-    ensures live { (start : State) (history : List Entry) (p : ℕ) (name : ConnName) → IsOpened start → AreMade start history → row_of p history ≡ Some name → (r : Row) × (live_row (after start history).rows name ≡ Some r) × (is_with_a_pass r.place ≡ true) }
-    ensures apart { (start : State) (history : List Entry) (p q : ℕ) (name other : ConnName) → IsOpened start → AreMade start history → row_of p history ≡ Some name → row_of q history ≡ Some other → name.slot ≡ other.slot → p ≡ q }
-    ensures someone { (start : State) (history : List Entry) (slot : ℕ) (r : Row) → IsOpened start → AreMade start history → slice_get (after start history).rows slot ≡ Some r → is_with_a_pass r.place ≡ true → (p : ℕ) × (name : ConnName) × (row_of p history ≡ Some name) × (name.slot ≡ slot) × (live_row (after start history).rows name ≡ Some r) }
-    ensures nobody { (start : State) (history : List Entry) → IsOpened start → AreMade start history → ((p : ℕ) → row_of p history ≡ None) → HasNoneInHand (after start history) }
-    ensures nobody_of { (start : State) (passes : ℕ) (history : List Entry) → IsOpened start → AreMade start history → AreOfPasses passes history → ((p : ℕ) → p < passes → row_of p history ≡ None) → HasNoneInHand (after start history) }
+    ensures opened { (s : State) (passes : ℕ) → IsOpened s → EachHasItsOwn s (first_row (opening_record passes)) }
+    ensures made { (base : State) (f : Folded) (history : List Entry) → EachHasItsOwn base (first_row f) → AreMade base f history → EachHasItsOwn (after base history) (λ p. row_from f p history) }
+    ensures folded { (passes : ℕ) (base : State) (f : Folded) (history : List Entry) (ended : List (List ℕ)) → HasPlacesFor passes f → AreOfPasses passes history → EachHasItsOwn base (first_row f) → AreMade base f history → EachHasItsOwn (after base history) (first_row (fold_of base history ended f)) }
+    ensures nobody { (s : State) (has : ℕ → Option ConnName) → EachHasItsOwn s has → ((p : ℕ) → has p ≡ None) → HasNoneInHand s }
+    ensures nobody_of { (passes : ℕ) (base : State) (f : Folded) (history : List Entry) → HasPlacesFor passes f → AreOfPasses passes history → EachHasItsOwn base (first_row f) → AreMade base f history → ((p : ℕ) → p < passes → row_from f p history ≡ None) → HasNoneInHand (after base history) }
 {}
 
 /// While other passes go on, a pass keeps its connection, and the row of it stays as it was.
 pub fn connections_stay_while_others_go_on()
-    ensures name { (p : ℕ) (seen history : List Entry) → HasSeen p seen history → row_of p history ≡ row_of p seen }
-    ensures row { (start : State) (p : ℕ) (seen history : List Entry) (name : ConnName) → IsOpened start → AreMade start history → HasSeen p seen history → row_of p seen ≡ Some name → slice_get (after start history).rows name.slot ≡ slice_get (after start seen).rows name.slot }
+    ensures name { (f : Folded) (p : ℕ) (seen history : List Entry) → HasSeen p seen history → row_from f p history ≡ row_from f p seen }
+    ensures row { (base : State) (f : Folded) (p : ℕ) (seen history : List Entry) (name : ConnName) → EachHasItsOwn base (first_row f) → AreMade base f history → HasSeen p seen history → row_from f p seen ≡ Some name → slice_get (after base history).rows name.slot ≡ slice_get (after base seen).rows name.slot }
 {}
 
 /// What a pass other than the listener adds leaves all that the listener alone decides as it was, but that it may stop the
 /// server because the history is full. It signals nothing but a connection that lingers, so no more slots ask for service,
 /// and fewer once it handed a connection to the workers.
 pub fn passes_leave_the_rest_to_the_listener()
-    ensures rest { (p : ℕ) (base : State) (old new : List Entry) → p ≢ 0 → Adds p base old new → OnlyServes (after base old) (after base new) }
-    ensures asking { (p : ℕ) (base : State) (old new : List Entry) → p ≢ 0 → Adds p base old new → asking_count (after base new) ≤ asking_count (after base old) }
-    ensures queued { (p : ℕ) (base : State) (old new : List Entry) (name : ConnName) (events : List Event) → p ≢ 0 → Adds p base old new → map (λ e. e.event) (entries_of p new) ≡ map (λ e. e.event) (entries_of p old) ++ event.Queue name ∷ events → asking_count (after base new) < asking_count (after base old) }
+    ensures rest { (p : ℕ) (base : State) (f : Folded) (old new : List Entry) → p ≢ 0 → Adds p base f old new → OnlyServes (after base old) (after base new) }
+    ensures asking { (p : ℕ) (base : State) (f : Folded) (old new : List Entry) → p ≢ 0 → Adds p base f old new → asking_count (after base new) ≤ asking_count (after base old) }
+    ensures queued { (p : ℕ) (base : State) (f : Folded) (old new : List Entry) (name : ConnName) (events : List Event) → p ≢ 0 → Adds p base f old new → map (λ e. e.event) (entries_of p new) ≡ map (λ e. e.event) (entries_of p old) ++ event.Queue name ∷ events → asking_count (after base new) < asking_count (after base old) }
 {}

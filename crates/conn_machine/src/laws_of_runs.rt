@@ -1,16 +1,21 @@
 //! Laws of histories that go on: what comes and what stays where one entry is added, or the entries of a pass, and where one
 //! row or child changes. Each is the contract of a function that does nothing. Who reads what the table is worth begins with `laws`;
 //! these are for the crates that keep a history.
-ghost use Rattle.std.specs.Prelude.{◌≡◌, ◌≢◌, ◌<◌, ◌≤◌, ◌+◌, ◌*◌, ℕ, Bool, true, false, List, [], ◌∷◌, ◌++◌, count_by, length, None, Some, slice_get, if◌then◌else◌};
+ghost use Rattle.std.specs.Prelude.{◌≡◌, ◌≢◌, ◌↔◌, ◌<◌, ◌≤◌, ◌+◌, ◌*◌, ℕ, Bool, true, false, List, [], ◌∷◌, ◌++◌, count_by, length, None, Some, slice_get, slice_index, if◌then◌else◌};
 ghost use Rattle.std.specs.List.{list_any};
 ghost use Rattle.conn_machine.specs.declared.child.Child.{Child};
+ghost use Rattle.conn_machine.specs.declared.event.Why.TheVariants as why;
+ghost use Rattle.conn_machine.specs.declared.event.Commanded.TheVariants.{Stop};
+ghost use Rattle.conn_machine.specs.declared.event.Event.TheVariants as event;
 ghost use Rattle.conn_machine.specs.declared.event.Entry.{Entry};
+ghost use Rattle.conn_machine.specs.declared.folded.Folded.{Folded};
 ghost use Rattle.conn_machine.specs.declared.row.Row.{Row};
 ghost use Rattle.conn_machine.specs.declared.state.State.{State};
 ghost use Rattle.conn_machine.specs.Lists.{update};
 ghost use Rattle.conn_machine.specs.Sizes.{HasSizesOf};
 ghost use Rattle.conn_machine.specs.Table.{is_allowed, next, reply};
-ghost use Rattle.conn_machine.specs.Runs.{Adds, IsHistory, IsNextOf, Run, after, asks_page, entries_of, has_after, is_of_pass, load, row_of};
+ghost use Rattle.conn_machine.specs.Runs.{Adds, IsHistory, IsNextOf, Run, after, asks_page, entries_of, first_row, has_after, is_of_pass, load, row_from, row_of};
+ghost use Rattle.conn_machine.specs.Folds.{GoesOnFrom, HasPlacesFor, fold_of, opening_record};
 ghost use Rattle.conn_machine.specs.Made.{AreMade, AreOfPasses, HasSeen};
 
 /// A history that goes on by one entry has the state that the machine makes of the event. It stays a history of the machine,
@@ -18,11 +23,11 @@ ghost use Rattle.conn_machine.specs.Made.{AreMade, AreOfPasses, HasSeen};
 /// pass's; and it leaves its pass the connection that its event says.
 pub fn histories_go_on_by_one_entry()
     ensures state { (base : State) (history : List Entry) (e : Entry) → after base (history ++ e ∷ []) ≡ next (after base history) e.event }
-    ensures history { (base : State) (history : List Entry) (e : Entry) → IsHistory base history → is_allowed (after base history) e.event ≡ true → e.reply ≡ reply (after base history) e.event → e.ordinal ≡ length (entries_of e.pass history) → IsHistory base (history ++ e ∷ []) }
-    ensures made { (base : State) (history : List Entry) (e : Entry) → AreMade base history → IsNextOf e.pass base history e → AreMade base (history ++ e ∷ []) }
+    ensures history { (base : State) (f : Folded) (history : List Entry) (e : Entry) → IsHistory base f history → is_allowed (after base history) e.event ≡ true → e.reply ≡ reply (after base history) e.event → e.ordinal ≡ slice_index f.ordinals e.pass + length (entries_of e.pass history) → IsHistory base f (history ++ e ∷ []) }
+    ensures made { (base : State) (f : Folded) (history : List Entry) (e : Entry) → AreMade base f history → IsNextOf e.pass base f history e → AreMade base f (history ++ e ∷ []) }
     ensures own { (p : ℕ) (history : List Entry) (e : Entry) → is_of_pass p e ≡ true → entries_of p (history ++ e ∷ []) ≡ entries_of p history ++ e ∷ [] }
     ensures other { (p : ℕ) (history : List Entry) (e : Entry) → is_of_pass p e ≡ false → entries_of p (history ++ e ∷ []) ≡ entries_of p history }
-    ensures row { (p : ℕ) (history : List Entry) (e : Entry) → is_of_pass p e ≡ true → row_of p (history ++ e ∷ []) ≡ has_after (row_of p history) e.event e.reply }
+    ensures row { (f : Folded) (p : ℕ) (history : List Entry) (e : Entry) → is_of_pass p e ≡ true → row_from f p (history ++ e ∷ []) ≡ has_after (row_from f p history) e.event e.reply }
     ensures load { (history : List Entry) (e : Entry) → load (history ++ e ∷ []) ≡ load history + 1 + 64 * (if asks_page e.event then 1 else 0) }
 {}
 
@@ -30,13 +35,34 @@ pub fn histories_go_on_by_one_entry()
 /// stays so, and one of so many passes stays one of theirs; every other pass has made what it had made, and has the
 /// connection that it had.
 pub fn passes_add_entries()
-    ensures none { (p : ℕ) (base : State) (history : List Entry) → Adds p base history history }
-    ensures one { (p : ℕ) (base : State) (history : List Entry) (e : Entry) → IsNextOf p base history e → Adds p base history (history ++ e ∷ []) }
-    ensures more { (p : ℕ) (base : State) (a b c : List Entry) → Adds p base a b → Adds p base b c → Adds p base a c }
-    ensures made { (p : ℕ) (base : State) (old new : List Entry) → AreMade base old → Adds p base old new → AreMade base new }
-    ensures few { (passes p : ℕ) (base : State) (old new : List Entry) → p < passes → AreOfPasses passes old → Adds p base old new → AreOfPasses passes new }
-    ensures seen { (p q : ℕ) (base : State) (old new : List Entry) → Adds p base old new → q ≢ p → HasSeen q old new }
-    ensures row { (p q : ℕ) (base : State) (old new : List Entry) → Adds p base old new → q ≢ p → row_of q new ≡ row_of q old }
+    ensures none { (p : ℕ) (base : State) (f : Folded) (history : List Entry) → Adds p base f history history }
+    ensures one { (p : ℕ) (base : State) (f : Folded) (history : List Entry) (e : Entry) → IsNextOf p base f history e → Adds p base f history (history ++ e ∷ []) }
+    ensures more { (p : ℕ) (base : State) (f : Folded) (a b c : List Entry) → Adds p base f a b → Adds p base f b c → Adds p base f a c }
+    ensures made { (p : ℕ) (base : State) (f : Folded) (old new : List Entry) → AreMade base f old → Adds p base f old new → AreMade base f new }
+    ensures few { (passes p : ℕ) (base : State) (f : Folded) (old new : List Entry) → p < passes → AreOfPasses passes old → Adds p base f old new → AreOfPasses passes new }
+    ensures seen { (p q : ℕ) (base : State) (f : Folded) (old new : List Entry) → Adds p base f old new → q ≢ p → HasSeen q old new }
+    ensures row { (p q : ℕ) (base : State) (f : Folded) (old new : List Entry) → Adds p base f old new → q ≢ p → row_from f q new ≡ row_from f q old }
+{}
+
+/// The record of a value that never folded has the number 0 and no connection for each pass, also for one that has no place in it.
+/// So behind it a pass has the connection that its entries alone give it.
+pub fn records_open_with_nothing()
+    ensures ordinal { (passes p : ℕ) → slice_index (opening_record passes).ordinals p ≡ 0 }
+    ensures first { (passes p : ℕ) → first_row (opening_record passes) p ≡ None }
+    ensures row { (passes p : ℕ) (history : List Entry) → row_from (opening_record passes) p history ≡ row_of p history }
+    ensures places { (passes : ℕ) → HasPlacesFor passes (opening_record passes) }
+{}
+
+/// A fold takes the record on by what each pass did in the history, where the record has a place for each pass that made an
+/// entry, and leaves it as many places. Where a record goes on from another one and a history, each pass has the same connection
+/// behind it, and may make the same entries, but that a stop for a full history looks at what the value still keeps.
+pub fn records_go_on_by_folds()
+    ensures fold { (passes : ℕ) (base : State) (f : Folded) (history : List Entry) (ended : List (List ℕ)) (p : ℕ) → HasPlacesFor passes f → AreOfPasses passes history → GoesOnFrom p f history (fold_of base history ended f) }
+    ensures places { (passes : ℕ) (base : State) (f : Folded) (history : List Entry) (ended : List (List ℕ)) → HasPlacesFor passes f → HasPlacesFor passes (fold_of base history ended f) }
+    ensures none { (p : ℕ) (f : Folded) → GoesOnFrom p f [] f }
+    ensures more { (p : ℕ) (f later last : Folded) (a b : List Entry) → GoesOnFrom p f a later → GoesOnFrom p later b last → GoesOnFrom p f (a ++ b) last }
+    ensures row { (p : ℕ) (f later : Folded) (history rest : List Entry) → GoesOnFrom p f history later → row_from f p (history ++ rest) ≡ row_from later p rest }
+    ensures next { (p : ℕ) (base : State) (f later : Folded) (history rest : List Entry) (e : Entry) → GoesOnFrom p f history later → e.event ≢ event.Command (Stop why.Full) → IsNextOf p base f (history ++ rest) e ↔ IsNextOf p (after base history) later rest e }
 {}
 
 /// The state after two histories, one behind the other, and the entries of a pass in both.
@@ -45,10 +71,12 @@ pub fn histories_join()
     ensures entries { (p : ℕ) (a b : List Entry) → entries_of p (a ++ b) ≡ entries_of p a ++ entries_of p b }
 {}
 
-/// A history that passes made is a run of the machine, and a pass that made no entry has no connection.
+/// A history that passes made is a run of the machine, in the order of its passes, and a pass that made no entry has the
+/// connection that it had before.
 pub fn made_histories_are_runs()
-    ensures run { (base : State) (history : List Entry) → AreMade base history → Run base history }
-    ensures none { (p : ℕ) (history : List Entry) → entries_of p history ≡ [] → row_of p history ≡ None }
+    ensures run { (base : State) (f : Folded) (history : List Entry) → AreMade base f history → Run base history }
+    ensures history { (base : State) (f : Folded) (history : List Entry) → AreMade base f history → IsHistory base f history }
+    ensures none { (f : Folded) (p : ℕ) (history : List Entry) → entries_of p history ≡ [] → row_from f p history ≡ first_row f p }
 {}
 
 /// A history keeps how many rows, children and signals there are.

@@ -26,7 +26,7 @@ mod stepping;
 pub use child::{Child, ChildPhase, Children};
 pub use conditions::{is_in_bounds, may};
 pub use event::{Commanded, Entry, Event, Refusal, Reply, Why};
-pub use folded::{Edition, Editions, Folded, Ordinals};
+pub use folded::{Edition, Editions, Folded, Ordinals, PassRows};
 pub use kept::{Kept, Ledger};
 pub use row::{Owner, Phase, Place, Row};
 pub use rows::Rows;

@@ -1,5 +1,6 @@
 //! The record of a value that never folded.
 use conn_machine::{Edition, Folded};
+use mpm_base::ConnName;
 use std::test::Fail;
 
 #[test]
@@ -28,5 +29,7 @@ fn a_record_opens_with_zeros_and_the_edition_of_the_first_generation(
     };
     assert_eq!(rt; editions[0], first);
     assert_eq!(rt; folded.ordinals.as_slice(), [0, 0, 0].as_slice());
+    let no_connection: Option<ConnName> = None;
+    assert_eq!(rt; folded.rows.as_slice(), [no_connection; 3].as_slice());
     Ok(())
 }

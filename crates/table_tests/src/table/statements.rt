@@ -22,5 +22,7 @@ fn the_laws_do_nothing() {
     laws_of_runs::passes_add_entries();
     laws_of_runs::histories_join();
     laws_of_runs::made_histories_are_runs();
+    laws_of_runs::records_open_with_nothing();
+    laws_of_runs::records_go_on_by_folds();
     laws_of_runs::rows_change_one_at_a_time();
 }

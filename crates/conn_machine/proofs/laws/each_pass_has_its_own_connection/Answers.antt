@@ -1,15 +1,14 @@
-use Rattle.conn_machine.proofs.HandLaw.{has_live, has_own, someone_has}
-use Rattle.conn_machine.proofs.PassLaw.{none_in_hand, none_in_hand_of}
+use Rattle.conn_machine.proofs.HandLaw.{folded_own, made_own, none_in_hand, none_in_hand_of, opened_own}
 use Rattle.conn_machine.proofs.laws.each_pass_has_its_own_connection.Goals as goal
 
-pub returns-clause-live : goal.returns-clause-live
-returns-clause-live c = has_live
+pub returns-clause-opened : goal.returns-clause-opened
+returns-clause-opened c = opened_own
 
-pub returns-clause-apart : goal.returns-clause-apart
-returns-clause-apart c = has_own
+pub returns-clause-made : goal.returns-clause-made
+returns-clause-made c = made_own
 
-pub returns-clause-someone : goal.returns-clause-someone
-returns-clause-someone c = someone_has
+pub returns-clause-folded : goal.returns-clause-folded
+returns-clause-folded c = folded_own
 
 pub returns-clause-nobody : goal.returns-clause-nobody
 returns-clause-nobody c = none_in_hand

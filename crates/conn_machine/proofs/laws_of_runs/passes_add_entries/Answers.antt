@@ -1,4 +1,3 @@
-use Rattle.std.proofs.Common.{refl}
 use Rattle.conn_machine.proofs.HistoryLemmas.{adds_few, adds_made, adds_more, adds_none, adds_one, adds_seen, row-others}
 use Rattle.conn_machine.proofs.laws_of_runs.passes_add_entries.Goals as goal
 
@@ -9,7 +8,7 @@ pub returns-clause-one : goal.returns-clause-one
 returns-clause-one c = adds_one
 
 pub returns-clause-more : goal.returns-clause-more
-returns-clause-more c = λ p base x y z. adds_more p base base x y z refl
+returns-clause-more c = adds_more
 
 pub returns-clause-made : goal.returns-clause-made
 returns-clause-made c = adds_made

@@ -5,7 +5,6 @@ use Rattle.std.specs.Option.{option_map_or}
 use Rattle.std.proofs.lemmas.Bool.{and_parts, eqb-true}
 use native.Mathlib.Decide.{ℕ_discrete}
 use Rattle.mpm_base.specs.declared.conn.ConnName.{ConnName}
-use Rattle.mpm_base.specs.declared.shape.Shape.{Shape}
 use Rattle.conn_machine.specs.declared.row.Phase.{Phase}
 use Rattle.conn_machine.specs.declared.row.Place.{Place}
 use Rattle.conn_machine.specs.declared.row.Place.TheVariants.{Vacant, Spent, Held, Parked, Queued, Working}
@@ -16,12 +15,13 @@ use Rattle.conn_machine.specs.declared.event.Event.{Event}
 use Rattle.conn_machine.specs.declared.event.Event.TheVariants as event
 use Rattle.conn_machine.specs.declared.event.Reply.{Reply}
 use Rattle.conn_machine.specs.declared.event.Entry.{Entry}
+use Rattle.conn_machine.specs.declared.folded.Folded.{Folded}
 use Rattle.conn_machine.specs.declared.state.State.{State}
 use Rattle.conn_machine.specs.Lists.{update}
 use Rattle.conn_machine.specs.Rows.{is_vacant, is_held, is_live, is_parked, is_queued, is_working, is_lingering, is_with_a_pass, in_phase, is_live_as, row_where, live_row, lives_and}
-use Rattle.conn_machine.specs.States.{is_serving, is_halted, is_signalled, pick_child, unused_row, opening_state}
+use Rattle.conn_machine.specs.States.{is_serving, is_halted, is_signalled, pick_child, unused_row}
 use Rattle.conn_machine.specs.Table.{is_allowed, next, reply, may_accept, is_vacant_at, taken_row, life_at, may_wait, parked_row, may_be_held, held_row, may_be_queued, queued_row, served_row, answered_row, linger_cause_fits, lingering_row, closed_row, end_fits, greatest_life, next_command}
-use Rattle.conn_machine.specs.Runs.{after, entries_of, has_after, has_row, may_make, row_of, IsNextOf}
+use Rattle.conn_machine.specs.Runs.{after, entries_of, first_row, has_after, has_row, may_make, row_from, IsNextOf}
 use Rattle.conn_machine.proofs.RunLemmas.{after-snoc, entries_of-other}
 use Rattle.conn_machine.proofs.UpdateLemmas.{get_changed}
 use Rattle.conn_machine.specs.Made.{AreMade, AreMadeBehind, HasSeen, IsOpened}
@@ -149,7 +149,7 @@ touched rows rows' has has' p owned same t = record {
         (sym slots ∙ ap (λ (n : ConnName). n.slot) (some_is (has' p) a got.0 now got.1) ∙ got.2))
         t.after_is
 
-same_owned : (rows rows' : List Row) (has has' : ℕ → Option ConnName) → rows' ≡ rows → ((q : ℕ) → has' q ≡ has q) → IsOwned rows has → IsOwned rows' has'
+pub same_owned : (rows rows' : List Row) (has has' : ℕ → Option ConnName) → rows' ≡ rows → ((q : ℕ) → has' q ≡ has q) → IsOwned rows has → IsOwned rows' has'
 same_owned rows rows' has has' same by owned = record {
   there = λ p name is. let h = owned.there p name (sym (by p) ∙ is) in (h.0, ap (λ l. slice_get l name.slot) same ∙ h.1, h.2, h.3);
   someone = λ slot r at taken. let h = owned.someone slot r (ap (λ l. slice_get l slot) (sym same) ∙ at) taken in (h.0, h.1, by h.0 ∙ h.2, h.3);
@@ -324,60 +324,62 @@ event_moves s p weight had (event.Retire k) may role = inl (refl, refl)
 -- ## Through a history
 
 -- the rows of each pass after a history
-abbrev pub rows_of : List Entry → ℕ → Option ConnName
-rows_of history p = row_of p history
+abbrev pub rows_from : Folded → List Entry → ℕ → Option ConnName
+rows_from f history p = row_from f p history
 
 -- an entry of the pass gives it its next row
-pub row_own : (p : ℕ) (history : List Entry) (e : Entry) → e.pass ≡ p → row_of p (history ++ e ∷ []) ≡ has_after (row_of p history) e.event e.reply
-row_own p history e own = row-own p history e (eq-eqb e.pass p own)
+row_own : (f : Folded) (p : ℕ) (history : List Entry) (e : Entry) → e.pass ≡ p
+    → row_from f p (history ++ e ∷ []) ≡ has_after (row_from f p history) e.event e.reply
+row_own f p history e own = row-own f p history e (eq-eqb e.pass p own)
 
 -- an entry of another pass leaves it
-row_other : (p : ℕ) (history : List Entry) (e : Entry) → e.pass ≢ p → row_of p (history ++ e ∷ []) ≡ row_of p history
-row_other p history e other = row_by p (history ++ e ∷ []) history (entries_of-other p history e (ne_eqb e.pass p other))
+row_other : (f : Folded) (p : ℕ) (history : List Entry) (e : Entry) → e.pass ≢ p → row_from f p (history ++ e ∷ []) ≡ row_from f p history
+row_other f p history e other = row_by f p (history ++ e ∷ []) history (entries_of-other p history e (ne_eqb e.pass p other))
 
 -- an entry that its pass may make changes the row that the pass has or finds
-pub entry_moves : (start : State) (p : ℕ) (before : List Entry) (e : Entry) → IsNextOf p start before e
-    → Moves (after start before).rows (after start (before ++ e ∷ [])).rows (row_of p before) (row_of p (before ++ e ∷ []))
-entry_moves start p before e is =
+entry_moves : (start : State) (f : Folded) (p : ℕ) (before : List Entry) (e : Entry) → IsNextOf p start f before e
+    → Moves (after start before).rows (after start (before ++ e ∷ [])).rows (row_from f p before) (row_from f p (before ++ e ∷ []))
+entry_moves start f p before e is =
     let s = after start before in
-    let m : Moves s.rows (next s e.event).rows (row_of p before) (has_after (row_of p before) e.event (reply s e.event)) =
-    event_moves s p _ (row_of p before) e.event is.is_allowed is.role in
-    let m' : Moves s.rows (next s e.event).rows (row_of p before) (row_of p (before ++ e ∷ [])) =
-    subst (λ o. Moves s.rows (next s e.event).rows (row_of p before) o)
-    (ap (λ (r : Reply). has_after (row_of p before) e.event r) (sym is.replied) ∙ sym (row_own p before e is.pass)) m in
-    subst (λ (t : State). Moves s.rows t.rows (row_of p before) (row_of p (before ++ e ∷ []))) (sym (after-snoc start before e)) m'
+    let had = row_from f p before in
+    let m : Moves s.rows (next s e.event).rows had (has_after had e.event (reply s e.event)) =
+    event_moves s p _ had e.event is.is_allowed is.role in
+    let m' : Moves s.rows (next s e.event).rows had (row_from f p (before ++ e ∷ [])) =
+    subst (λ o. Moves s.rows (next s e.event).rows had o)
+    (ap (λ (r : Reply). has_after had e.event r) (sym is.replied) ∙ sym (row_own f p before e is.pass)) m in
+    subst (λ (t : State). Moves s.rows t.rows had (row_from f p (before ++ e ∷ []))) (sym (after-snoc start before e)) m'
 
-owned_snoc : (start : State) (before : List Entry) (e : Entry) → IsNextOf e.pass start before e → IsOwned (after start before).rows (rows_of before)
-    → IsOwned (after start (before ++ e ∷ [])).rows (rows_of (before ++ e ∷ []))
-owned_snoc start before e is owned =
-    moved_owned _ _ (rows_of before) (rows_of (before ++ e ∷ [])) e.pass owned
-    (λ q ne. row_other q before e (λ same. ne (sym same)))
-    (entry_moves start e.pass before e is)
+owned_snoc : (start : State) (f : Folded) (before : List Entry) (e : Entry) → IsNextOf e.pass start f before e
+    → IsOwned (after start before).rows (rows_from f before) → IsOwned (after start (before ++ e ∷ [])).rows (rows_from f (before ++ e ∷ []))
+owned_snoc start f before e is owned =
+    moved_owned _ _ (rows_from f before) (rows_from f (before ++ e ∷ [])) e.pass owned
+    (λ q ne. row_other f q before e (λ same. ne (sym same)))
+    (entry_moves start f e.pass before e is)
 
-owned_behind : (start : State) (before history : List Entry) → IsOwned (after start before).rows (rows_of before) → AreMadeBehind start before history
-    → IsOwned (after start (before ++ history)).rows (rows_of (before ++ history))
-owned_behind start before [] owned made = subst (λ h. IsOwned (after start h).rows (rows_of h)) (sym (append-nil before)) owned
-owned_behind start before (e ∷ history) owned made =
-    subst (λ h. IsOwned (after start h).rows (rows_of h)) (append_assoc before (e ∷ []) history)
-    (owned_behind start (before ++ e ∷ []) history (owned_snoc start before e made.0 owned) made.1)
+owned_behind : (start : State) (f : Folded) (before history : List Entry) → IsOwned (after start before).rows (rows_from f before)
+    → AreMadeBehind start f before history → IsOwned (after start (before ++ history)).rows (rows_from f (before ++ history))
+owned_behind start f before [] owned made = subst (λ h. IsOwned (after start h).rows (rows_from f h)) (sym (append-nil before)) owned
+owned_behind start f before (e ∷ history) owned made =
+    subst (λ h. IsOwned (after start h).rows (rows_from f h)) (append_assoc before (e ∷ []) history)
+    (owned_behind start f (before ++ e ∷ []) history (owned_snoc start f before e made.0 owned) made.1)
+
+-- who has which row, after each history that passes made as they may
+pub owned : (start : State) (f : Folded) (history : List Entry) → IsOwned start.rows (first_row f) → AreMade start f history
+    → IsOwned (after start history).rows (rows_from f history)
+owned start f history begun made = owned_behind start f [] history begun made
 
 unused_is : (n slot : ℕ) (r : Row) → slice_get (replicate n unused_row) slot ≡ Some r → r ≡ unused_row
 unused_is zero slot r at = absurd (cc)
 unused_is (suc n) zero r at = cc
 unused_is (suc n) (suc slot) r at = unused_is n slot r at
 
-opening_owned : (slots children : ℕ) (shape : Shape) → IsOwned (opening_state slots children shape).rows (rows_of [])
-opening_owned slots children shape = record {
-  there = λ p name is. none_some None name refl is;
-  someone = λ slot r at taken. off (ap (λ (x : Row). is_with_a_pass x.place) (unused_is slots slot r at)) taken;
-  apart = λ p q a b ea eb slots. none_some None a refl ea;
+-- at the start no pass has a row
+pub opened_owned : (start : State) (has : ℕ → Option ConnName) → IsOpened start → ((p : ℕ) → has p ≡ None) → IsOwned start.rows has
+opened_owned start has o none = record {
+  there = λ p name is. none_some (has p) name (none p) is;
+  someone = λ slot r at taken. off (ap (λ (x : Row). is_with_a_pass x.place) (unused_is o.slots slot r (ap (λ (s : State). slice_get s.rows slot) (sym o.state) ∙ at))) taken;
+  apart = λ p q a b ea eb slots. none_some (has p) a (none p) ea;
 }
-
--- who has which row, after each history that passes made as they may
-pub owned : (start : State) → IsOpened start → (history : List Entry) → AreMade start history → IsOwned (after start history).rows (rows_of history)
-owned start o history made =
-    owned_behind start [] history
-    (subst (λ (s : State). IsOwned s.rows (rows_of [])) (sym o.state) (opening_owned o.slots o.children o.shape)) made
 
 none_first : (p : ℕ) (e : Entry) (rest : List Entry) → entries_of p (e ∷ rest) ≡ [] → e.pass ≢ p
 none_first p e rest none own =
@@ -385,30 +387,31 @@ none_first p e rest none own =
     let all : entries_of p (e ∷ rest) ≡ e ∷ entries_of p rest = entries_of-append p (e ∷ []) rest ∙ ap (λ l. l ++ entries_of p rest) mine in
     absurd (cc (all, none))
 
-stays_behind : (start : State) (p : ℕ) (name : ConnName) (before rest : List Entry) → IsOwned (after start before).rows (rows_of before)
-    → AreMadeBehind start before rest → entries_of p rest ≡ [] → row_of p before ≡ Some name
+stays_behind : (start : State) (f : Folded) (p : ℕ) (name : ConnName) (before rest : List Entry) → IsOwned (after start before).rows (rows_from f before)
+    → AreMadeBehind start f before rest → entries_of p rest ≡ [] → row_from f p before ≡ Some name
     → slice_get (after start (before ++ rest)).rows name.slot ≡ slice_get (after start before).rows name.slot
-stays_behind start p name before [] own made none is = ap (λ h. slice_get (after start h).rows name.slot) (append-nil before)
-stays_behind start p name before (e ∷ rest) own made none is =
+stays_behind start f p name before [] own made none is = ap (λ h. slice_get (after start h).rows name.slot) (append-nil before)
+stays_behind start f p name before (e ∷ rest) own made none is =
     let other = none_first p e rest none in
     let here : slice_get (after start (before ++ e ∷ [])).rows name.slot ≡ slice_get (after start before).rows name.slot =
-    moved_stays _ _ (rows_of before) e.pass _ own (entry_moves start e.pass before e made.0) p name (λ same. other (sym same)) is in
+    moved_stays _ _ (rows_from f before) e.pass _ own (entry_moves start f e.pass before e made.0) p name (λ same. other (sym same)) is in
     ap (λ h. slice_get (after start h).rows name.slot) (sym (append_assoc before (e ∷ []) rest))
-    ∙ stays_behind start p name (before ++ e ∷ []) rest (owned_snoc start before e made.0 own) made.1
-    (none_behind p (e ∷ []) rest none) (row_other p before e other ∙ is)
+    ∙ stays_behind start f p name (before ++ e ∷ []) rest (owned_snoc start f before e made.0 own) made.1
+    (none_behind p (e ∷ []) rest none) (row_other f p before e other ∙ is)
     ∙ here
 
-made_parts : (start : State) (before a b : List Entry) → AreMadeBehind start before (a ++ b) → AreMadeBehind start before a × AreMadeBehind start (before ++ a) b
-made_parts start before [] b made = (tt, subst (λ l. AreMadeBehind start l b) (sym (append-nil before)) made)
-made_parts start before (e ∷ a) b made =
-    let r = made_parts start (before ++ e ∷ []) a b made.1 in
-    ((made.0, r.0), subst (λ l. AreMadeBehind start l b) (append_assoc before (e ∷ []) a) r.1)
+made_parts : (start : State) (f : Folded) (before a b : List Entry) → AreMadeBehind start f before (a ++ b)
+    → AreMadeBehind start f before a × AreMadeBehind start f (before ++ a) b
+made_parts start f before [] b made = (tt, subst (λ l. AreMadeBehind start f l b) (sym (append-nil before)) made)
+made_parts start f before (e ∷ a) b made =
+    let r = made_parts start f (before ++ e ∷ []) a b made.1 in
+    ((made.0, r.0), subst (λ l. AreMadeBehind start f l b) (append_assoc before (e ∷ []) a) r.1)
 
--- the row of a pass stays, but for its signal, while other passes go on
-pub row_stays : (start : State) → IsOpened start → (p : ℕ) (seen history : List Entry) → AreMade start history → HasSeen p seen history
-    → (name : ConnName) → row_of p seen ≡ Some name
+-- the row of a pass stays while other passes go on
+pub row_stays : (start : State) (f : Folded) (p : ℕ) (seen history : List Entry) (name : ConnName) → IsOwned start.rows (first_row f)
+    → AreMade start f history → HasSeen p seen history → row_from f p seen ≡ Some name
     → slice_get (after start history).rows name.slot ≡ slice_get (after start seen).rows name.slot
-row_stays start o p seen history made behind name is =
-    let parts = made_parts start [] seen behind.0 (subst (AreMade start) behind.1 made) in
+row_stays start f p seen history name begun made behind is =
+    let parts = made_parts start f [] seen behind.0 (subst (AreMade start f) behind.1 made) in
     ap (λ h. slice_get (after start h).rows name.slot) behind.1
-    ∙ stays_behind start p name seen behind.0 (owned start o seen parts.0) parts.1 behind.2 is
+    ∙ stays_behind start f p name seen behind.0 (owned start f seen begun parts.0) parts.1 behind.2 is
