@@ -11,10 +11,11 @@ use Rattle.mpm_base.specs.declared.shape.Shape.{Shape}
 use Rattle.conn_machine.specs.declared.event.Event.{Event}
 use Rattle.conn_machine.specs.declared.event.Event.TheVariants as event
 use Rattle.conn_machine.specs.declared.event.Entry.{Entry}
+use Rattle.conn_machine.specs.declared.folded.Folded.{Folded}
 use Rattle.conn_machine.specs.declared.state.State.{State}
 use Rattle.conn_machine.specs.Table.{is_allowed, next, reply}
-use Rattle.conn_machine.specs.Runs.{after, entries_of, is_of_pass, asks_page, load, full_load, may_make, row_of, IsHistory, IsInPassOrder, IsNextOf}
-use Rattle.conn_machine.specs.Folds.{IsInPassOrderFrom, IsNumberedFrom, opening_record}
+use Rattle.conn_machine.specs.Runs.{after, entries_of, is_of_pass, asks_page, load, full_load, may_make, row_from, IsHistory, IsNextOf}
+use Rattle.conn_machine.specs.Folds.{opening_record}
 use Rattle.conn_machine.specs.Made.{AreMade}
 use Rattle.conn_machine.specs.Sizes.{HasSizesOf, IsSized}
 use Rattle.conn_machine.specs.Sound.{IsSound}
@@ -34,27 +35,31 @@ pub record IsLastOf (history : List Entry) (e : Entry) : Type 0 where
   pub other : (p : ℕ) → is_of_pass p e ≡ false → entries_of p (history ++ e ∷ []) ≡ entries_of p history
 
 -- the pass of the entry counts one more, and the others stay
-next_by : (ordinals : List ℕ) (history : List Entry) (e : Entry) (p : ℕ) (own : Bool) → (e.pass == p) ≡ own → IsLastOf history e
-    → AreNext ordinals history → e.pass < length ordinals → p < length ordinals
-    → get_or (set ordinals e.pass (length (entries_of e.pass history) + 1)) p 0 ≡ length (entries_of p (history ++ e ∷ []))
-next_by ordinals history e p true own last before within below =
+next_by : (f : Folded) (ordinals : List ℕ) (history : List Entry) (e : Entry) (p : ℕ) (own : Bool) → (e.pass == p) ≡ own → IsLastOf history e
+    → AreNext f ordinals history → e.pass < length ordinals → p < length ordinals
+    → get_or (set ordinals e.pass (slice_index f.ordinals e.pass + length (entries_of e.pass history) + 1)) p 0
+    ≡ slice_index f.ordinals p + length (entries_of p (history ++ e ∷ []))
+next_by f ordinals history e p true own last before within below =
     let same : e.pass ≡ p = eqb-true e.pass p own in
-    let len : length (entries_of p history ++ e ∷ []) ≡ length (entries_of p history) + 1 = length-append (entries_of p history) (e ∷ []) in
+    let first = slice_index f.ordinals p in
+    let len : first + length (entries_of p history ++ e ∷ []) ≡ first + length (entries_of p history) + 1 =
+    omega (arith, length-append (entries_of p history) (e ∷ [])) in
     rw (last.own p own)
-    (subst (λ (q : ℕ). get_or (set ordinals q (length (entries_of q history) + 1)) p 0 ≡ length (entries_of p history) + 1)
-    (sym same) (get_or-set_same ordinals p (length (entries_of p history) + 1) 0 below)
+    (subst (λ (q : ℕ). get_or (set ordinals q (slice_index f.ordinals q + length (entries_of q history) + 1)) p 0 ≡ first + length (entries_of p history) + 1)
+    (sym same) (get_or-set_same ordinals p (first + length (entries_of p history) + 1) 0 below)
     ∙ sym len)
-next_by ordinals history e p false other last before within below =
+next_by f ordinals history e p false other last before within below =
     let differs : (p ≡ e.pass → ⊥) = (λ (q : p ≡ e.pass). let eq : (e.pass == p) ≡ true = eq-eqb e.pass p (sym q) in cc) in
     rw (last.other p other)
-    (get_or-set_other ordinals e.pass p (length (entries_of e.pass history) + 1) 0 differs ∙ before p below)
+    (get_or-set_other ordinals e.pass p (slice_index f.ordinals e.pass + length (entries_of e.pass history) + 1) 0 differs ∙ before p below)
 
 -- so the numbers stay known where an entry takes the next of its pass
-pub next_more : (ordinals : List ℕ) (history : List Entry) (e : Entry) → IsLastOf history e → AreNext ordinals history → e.pass < length ordinals
-    → AreNext (set ordinals e.pass (length (entries_of e.pass history) + 1)) (history ++ e ∷ [])
-next_more ordinals history e last before within p below =
-    next_by ordinals history e p (e.pass == p) refl last before within
-    (omega (arith, length-set ordinals e.pass (length (entries_of e.pass history) + 1)))
+pub next_more : (f : Folded) (ordinals : List ℕ) (history : List Entry) (e : Entry) → IsLastOf history e → AreNext f ordinals history
+    → e.pass < length ordinals
+    → AreNext f (set ordinals e.pass (slice_index f.ordinals e.pass + length (entries_of e.pass history) + 1)) (history ++ e ∷ [])
+next_more f ordinals history e last before within p below =
+    next_by f ordinals history e p (e.pass == p) refl last before within
+    (omega (arith, length-set ordinals e.pass (slice_index f.ordinals e.pass + length (entries_of e.pass history) + 1)))
 
 -- the pages of a history that goes on by one entry
 pages_more : (history : List Entry) (e : Entry) → pages_of (history ++ e ∷ []) ≡ pages_of history + (if asks_page e.event then 1 else 0)
@@ -66,9 +71,9 @@ sure-pages (event.Answer name ask) sure = absurd (cc)
 sure-pages e sure = refl
 
 -- what a history that goes on by the entry is
-pub record GoesOn (base : State) (history : List Entry) (e : Entry) : Type 0 where
-  pub is_history : IsHistory base (history ++ e ∷ [])
-  pub made : AreMade base (history ++ e ∷ [])
+pub record GoesOn (base : State) (f : Folded) (history : List Entry) (e : Entry) : Type 0 where
+  pub is_history : IsHistory base f (history ++ e ∷ [])
+  pub made : AreMade base f (history ++ e ∷ [])
   pub state : after base (history ++ e ∷ []) ≡ next (after base history) e.event
 
 -- what a step keeps of a state
@@ -78,30 +83,31 @@ pub record IsStepped (s s' : State) : Type 0 where
   pub sized : IsSized s → IsSized s'
 
 -- the history goes on by an entry that its pass may make, as the machine says of one entry
-pub goes_by : (base : State) (history : List Entry) (s : State) (ordinals : List ℕ) (pages room : ℕ) (e : Entry) → IsKept base history s ordinals pages room
-    → is_allowed s e.event ≡ true → e.reply ≡ reply s e.event → e.ordinal ≡ length (entries_of e.pass history)
-    → may_make e.pass (row_of e.pass history) (load history) e.event ≡ true
+pub goes_by : (base : State) (f : Folded) (history : List Entry) (s : State) (ordinals : List ℕ) (pages room : ℕ) (e : Entry)
+    → IsKept base f history s ordinals pages room
+    → is_allowed s e.event ≡ true → e.reply ≡ reply s e.event → e.ordinal ≡ slice_index f.ordinals e.pass + length (entries_of e.pass history)
+    → may_make e.pass (row_from f e.pass history) (load history) e.event ≡ true
     → ((b : State) (h : List Entry) (x : Entry) → after b (h ++ x ∷ []) ≡ next (after b h) x.event)
-    → ((b : State) (h : List Entry) (x : Entry) → IsHistory b h → is_allowed (after b h) x.event ≡ true → x.reply ≡ reply (after b h) x.event
-    → x.ordinal ≡ length (entries_of x.pass h) → IsHistory b (h ++ x ∷ []))
-    → ((b : State) (h : List Entry) (x : Entry) → AreMade b h → IsNextOf x.pass b h x → AreMade b (h ++ x ∷ []))
-    → GoesOn base history e
-goes_by base history s ordinals pages room e before allowed replied ordinal role by_state by_history by_made =
+    → ((b : State) (g : Folded) (h : List Entry) (x : Entry) → IsHistory b g h → is_allowed (after b h) x.event ≡ true → x.reply ≡ reply (after b h) x.event
+    → x.ordinal ≡ slice_index g.ordinals x.pass + length (entries_of x.pass h) → IsHistory b g (h ++ x ∷ []))
+    → ((b : State) (g : Folded) (h : List Entry) (x : Entry) → AreMade b g h → IsNextOf x.pass b g h x → AreMade b g (h ++ x ∷ []))
+    → GoesOn base f history e
+goes_by base f history s ordinals pages room e before allowed replied ordinal role by_state by_history by_made =
     let may : is_allowed (after base history) e.event ≡ true = rw before.state_is allowed in
     let answered : e.reply ≡ reply (after base history) e.event = rw before.state_is replied in
     record {
-      is_history = by_history base history e before.is_history may answered ordinal;
-      made = by_made base history e before.made (record { pass = refl; ordinal = ordinal; is_allowed = may; replied = answered; role = role });
+      is_history = by_history base f history e before.is_history may answered ordinal;
+      made = by_made base f history e before.made (record { pass = refl; ordinal = ordinal; is_allowed = may; replied = answered; role = role });
       state = by_state base history e;
     }
 
 -- the history is kept, where the room suffices
-kept_more : (base : State) (history : List Entry) (s : State) (ordinals ordinals' : List ℕ) (pages room room' : ℕ) (e : Entry)
-    → IsKept base history s ordinals pages room → is_allowed s e.event ≡ true → AreNext ordinals' (history ++ e ∷ []) → IsSound (next s e.event)
+kept_more : (base : State) (f : Folded) (history : List Entry) (s : State) (ordinals ordinals' : List ℕ) (pages room room' : ℕ) (e : Entry)
+    → IsKept base f history s ordinals pages room → is_allowed s e.event ≡ true → AreNext f ordinals' (history ++ e ∷ []) → IsSound (next s e.event)
     → IsSized (next s e.event) → length (history ++ e ∷ []) + owed_entries (next s e.event) ≤ room'
-    → IsStopFor (load history) e.event → GoesOn base history e
-    → IsKept base (history ++ e ∷ []) (next s e.event) ordinals' (pages + (if asks_page e.event then 1 else 0)) room'
-kept_more base history s ordinals ordinals' pages room room' e before is_allowed numbers sound sized has_room stop goes = record {
+    → IsStopFor (load history) e.event → GoesOn base f history e
+    → IsKept base f (history ++ e ∷ []) (next s e.event) ordinals' (pages + (if asks_page e.event then 1 else 0)) room'
+kept_more base f history s ordinals ordinals' pages room room' e before is_allowed numbers sound sized has_room stop goes = record {
   is_history = goes.is_history;
   made = goes.made;
   state_is = goes.state ∙ ap (λ (t : State). next t e.event) before.state_is;
@@ -116,41 +122,41 @@ kept_more base history s ordinals ordinals' pages room room' e before is_allowed
 }
 
 -- the same, where memory was found for all that may follow
-pub kept_with_room : (base : State) (history history' : List Entry) (s s' : State) (ordinals ordinals' : List ℕ) (pages pages' room room' : ℕ) (e : Entry)
-    → IsKept base history s ordinals pages room → is_allowed s e.event ≡ true → AreNext ordinals' history' → IsStepped s s'
+pub kept_with_room : (base : State) (f : Folded) (history history' : List Entry) (s s' : State) (ordinals ordinals' : List ℕ) (pages pages' room room' : ℕ) (e : Entry)
+    → IsKept base f history s ordinals pages room → is_allowed s e.event ≡ true → AreNext f ordinals' history' → IsStepped s s'
     → history' ≡ history ++ e ∷ [] → s' ≡ next s e.event → pages' ≡ pages + (if asks_page e.event then 1 else 0)
     → length history + (4 * length s.rows + length s.children + 2) ≤ room'
-    → IsStopFor (load history) e.event → GoesOn base history e
-    → IsKept base history' s' ordinals' pages' room'
-kept_with_room base history history' s s' ordinals ordinals' pages pages' room room' e before is_allowed numbers stepped history_is state_is pages_is space stop goes =
+    → IsStopFor (load history) e.event → GoesOn base f history e
+    → IsKept base f history' s' ordinals' pages' room'
+kept_with_room base f history history' s s' ordinals ordinals' pages pages' room room' e before is_allowed numbers stepped history_is state_is pages_is space stop goes =
     let len : length (history ++ e ∷ []) ≡ length history + 1 = length-append history (e ∷ []) in
     let owes = owed-bound (next s e.event) in
     let sizes : HasSizesOf s (next s e.event) = subst (HasSizesOf s) state_is stepped.sizes in
     rw (history_is, state_is, pages_is)
-    (kept_more base history s ordinals ordinals' pages room room' e before is_allowed (rw history_is at numbers)
+    (kept_more base f history s ordinals ordinals' pages room room' e before is_allowed (rw history_is at numbers)
     (rw state_is at (stepped.sound before.sound)) (rw state_is at (stepped.sized before.sized))
     (omega (arith, len, owes, sizes.rows, sizes.children, space)) stop goes)
 
 -- the same, where the room was taken before
-pub kept_sure : (base : State) (history history' : List Entry) (s s' : State) (ordinals ordinals' : List ℕ) (pages room room' : ℕ) (e : Entry)
-    → IsKept base history s ordinals pages room → is_allowed s e.event ≡ true → AreNext ordinals' history' → IsStepped s s'
+pub kept_sure : (base : State) (f : Folded) (history history' : List Entry) (s s' : State) (ordinals ordinals' : List ℕ) (pages room room' : ℕ) (e : Entry)
+    → IsKept base f history s ordinals pages room → is_allowed s e.event ≡ true → AreNext f ordinals' history' → IsStepped s s'
     → history' ≡ history ++ e ∷ [] → s' ≡ next s e.event → is_sure e.event ≡ true → room ≤ room'
-    → IsStopFor (load history) e.event → GoesOn base history e
-    → IsKept base history' s' ordinals' pages room'
-kept_sure base history history' s s' ordinals ordinals' pages room room' e before is_allowed numbers stepped history_is state_is sure space stop goes =
+    → IsStopFor (load history) e.event → GoesOn base f history e
+    → IsKept base f history' s' ordinals' pages room'
+kept_sure base f history history' s s' ordinals ordinals' pages room room' e before is_allowed numbers stepped history_is state_is sure space stop goes =
     let len : length (history ++ e ∷ []) ≡ length history + 1 = length-append history (e ∷ []) in
     let owes = owed-sure s e.event is_allowed sure in
     let none = sure-pages e.event sure in
-    let more = kept_more base history s ordinals ordinals' pages room room' e before is_allowed (rw history_is at numbers)
+    let more = kept_more base f history s ordinals ordinals' pages room room' e before is_allowed (rw history_is at numbers)
     (rw state_is at (stepped.sound before.sound)) (rw state_is at (stepped.sized before.sized))
     (omega (arith, len, owes, before.has_room, space)) stop goes in
     let same : pages + (if asks_page e.event then 1 else 0) ≡ pages = rw none (omega arith) in
     rw (history_is, state_is)
-    (subst (λ (n : ℕ). IsKept base (history ++ e ∷ []) (next s e.event) ordinals' n room') same more)
+    (subst (λ (n : ℕ). IsKept base f (history ++ e ∷ []) (next s e.event) ordinals' n room') same more)
 
 -- an empty history is kept, from a sound state that it leaves as it is
 pub kept_first : (slots children passes room : ℕ) (shape : Shape) → slots ≤ 8192 → children ≤ 32 → IsSound (opening_state slots children shape) → 1 ≤ room
-    → IsKept (opening_state slots children shape) [] (opening_state slots children shape) (replicate passes 0) 0 room
+    → IsKept (opening_state slots children shape) (opening_record passes) [] (opening_state slots children shape) (replicate passes 0) 0 room
 kept_first slots children passes room shape few_slots few_children sound space =
     record {
       is_history = record { run = tt; order = λ p. refl };
@@ -158,7 +164,7 @@ kept_first slots children passes room shape few_slots few_children sound space =
       state_is = refl;
       opened = sound;
       sound = sound;
-      numbers = λ p below. get_or-replicate passes p 0 0 (omega (arith, below, length-replicate {A = ℕ} passes 0));
+      numbers = λ p below. omega arith;
       pages_is = refl;
       sized = record {
         rows = omega (arith, length-replicate slots unused_row, few_slots);
@@ -178,7 +184,7 @@ shown_book base history s n = record { base = base; folded = opening_record n; h
 -- the book once the entry was put at its end
 pub recorded_is : (b : SeenBook) (base : State) (history history' : List Entry) (s s' : State) (n n' who : ℕ) (event : Event) (answer : Reply)
     → shown_book base history s n ≡ b
-    → history' ≡ history ++ numbered_entry who event answer history ∷ [] → s' ≡ next s event → answer ≡ reply s event → n' ≡ n
+    → history' ≡ history ++ numbered_entry who event answer (opening_record n) history ∷ [] → s' ≡ next s event → answer ≡ reply s event → n' ≡ n
     → shown_book base history' s' n' ≡ book_with_entry who event b
 recorded_is b base history history' s s' n n' who event answer seen history_is state_is replied passes =
     subst (λ (v : SeenBook). shown_book base history' s' n' ≡ book_with_entry who event v)
@@ -191,13 +197,3 @@ open_if b s halted full state_is halts fills goes has_room = record {
   going = ap (λ (t : State). is_halted t.going) (sym state_is) ∙ sym halts ∙ goes;
   light = leb-false full_load (load b.history) (sym fills ∙ has_room);
 }
-
--- in the record of a value that never folded the next number of each pass is 0
-no-ordinals : (passes p : ℕ) → slice_index (replicate passes 0) p ≡ 0
-no-ordinals zero p = refl
-no-ordinals (suc passes) zero = refl
-no-ordinals (suc passes) (suc p) = no-ordinals passes p
-
--- in the order of its passes, a history is so behind that record
-pub order-opening : (passes : ℕ) (history : List Entry) → IsInPassOrder history → IsInPassOrderFrom (opening_record passes) history
-order-opening passes history order = λ p. subst (λ (first : ℕ). IsNumberedFrom first p history) (sym (no-ordinals passes p)) (order p)

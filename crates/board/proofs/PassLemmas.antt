@@ -5,31 +5,31 @@ use Rattle.conn_machine.specs.declared.event.Event.{Event}
 use Rattle.conn_machine.specs.declared.event.Entry.{Entry}
 use Rattle.conn_machine.specs.declared.event.Reply.{Reply}
 use Rattle.conn_machine.specs.Table.{is_allowed, reply}
-use Rattle.conn_machine.specs.Runs.{after, is_of_pass, load, is_name, has_row, has_after, row_of, may_make, IsNextOf, Adds}
-use Rattle.board.specs.Book.{SeenBook, entry_of, book_with_entry}
+use Rattle.conn_machine.specs.Runs.{after, is_of_pass, load, is_name, has_row, has_after, row_from, may_make, IsNextOf, Adds}
+use Rattle.board.specs.Book.{SeenBook, AddsOnly, entry_of, book_with_entry, row_in}
 use Rattle.board.specs.Board.{SeenBoard}
 
 -- ## What was added
 
 -- the entry of an event is one that the pass may make
 pub may_be_next : (who : ℕ) (b : SeenBook) (e : Event) → after b.base b.history ≡ b.state → is_allowed b.state e ≡ true
-    → may_make who (row_of who b.history) (load b.history) e ≡ true → IsNextOf who b.base b.history (entry_of who e b)
+    → may_make who (row_in who b) (load b.history) e ≡ true → IsNextOf who b.base b.folded b.history (entry_of who e b)
 may_be_next who b e state_is may role =
     record { pass = refl; ordinal = refl; is_allowed = rw state_is may; replied = rw state_is refl; role = role }
 
 -- what was added once the pass recorded an event was added
 pub adds_recorded : (who : ℕ) (e : Event) (b b' : SeenBook) → b' ≡ book_with_entry who e b
-    → Adds who b.base b.history (b.history ++ entry_of who e b ∷ []) → Adds who b.base b.history b'.history
-adds_recorded who e b b' is one = subst (λ (v : SeenBook). Adds who b.base b.history v.history) (sym is) one
+    → AddsOnly who b (book_with_entry who e b) → AddsOnly who b b'
+adds_recorded who e b b' is one = subst (λ (v : SeenBook). AddsOnly who b v) (sym is) one
 
 -- ## The connection of a pass
 
 -- it is what the event and its reply leave it
 pub row-recorded : (who : ℕ) (e : Event) (answer : Reply) (b b' : SeenBook) → b' ≡ book_with_entry who e b → answer ≡ reply b.state e
-    → row_of who (b.history ++ entry_of who e b ∷ []) ≡ has_after (row_of who b.history) e (reply b.state e)
-    → row_of who b'.history ≡ has_after (row_of who b.history) e answer
+    → row_from b.folded who (b.history ++ entry_of who e b ∷ []) ≡ has_after (row_in who b) e (reply b.state e)
+    → row_in who b' ≡ has_after (row_in who b) e answer
 row-recorded who e answer b b' is replied one =
-    ap (λ (v : SeenBook). row_of who v.history) is ∙ one ∙ ap (λ (r : Reply). has_after (row_of who b.history) e r) (sym replied)
+    ap (λ (v : SeenBook). row_in who v) is ∙ one ∙ ap (λ (r : Reply). has_after (row_in who b) e r) (sym replied)
 
 -- an entry of the pass is its own
 pub is_own : (who : ℕ) (e : Event) (b : SeenBook) → is_of_pass who (entry_of who e b) ≡ true
@@ -46,17 +46,17 @@ pub has-own : (had : Option ConnName) (name : ConnName) → had ≡ Some name �
 has-own had name is = subst (λ (o : Option ConnName). has_row o name ≡ true) (sym is) (is_name-own name)
 
 -- the event that a pass may make is one that it may make inside
-pub role_inside : (who : ℕ) (seen b : SeenBook) (e : Event) → seen ≡ b → may_make who (row_of who b.history) (load b.history) e ≡ true
-    → may_make who (row_of who seen.history) (load seen.history) e ≡ true
-role_inside who seen b e is role = subst (λ (v : SeenBook). may_make who (row_of who v.history) (load v.history) e ≡ true) (sym is) role
+pub role_inside : (who : ℕ) (seen b : SeenBook) (e : Event) → seen ≡ b → may_make who (row_in who b) (load b.history) e ≡ true
+    → may_make who (row_in who seen) (load seen.history) e ≡ true
+role_inside who seen b e is role = subst (λ (v : SeenBook). may_make who (row_in who v) (load v.history) e ≡ true) (sym is) role
 
 -- the pass has the connection inside too
-pub has_inside : (who : ℕ) (seen b : SeenBoard) (name : ConnName) → seen ≡ b → row_of who b.book.history ≡ Some name
-    → has_row (row_of who seen.book.history) name ≡ true
+pub has_inside : (who : ℕ) (seen b : SeenBoard) (name : ConnName) → seen ≡ b → row_in who b.book ≡ Some name
+    → has_row (row_in who seen.book) name ≡ true
 has_inside who seen b name is row =
-    has-own (row_of who seen.book.history) name (ap (λ (v : SeenBoard). row_of who v.book.history) is ∙ row)
+    has-own (row_in who seen.book) name (ap (λ (v : SeenBoard). row_in who v.book) is ∙ row)
 
 -- what was added inside was added
-pub adds_inside : (who : ℕ) (seen b : SeenBoard) (history : List Entry) → seen ≡ b → Adds who seen.book.base seen.book.history history
-    → Adds who b.book.base b.book.history history
-adds_inside who seen b history is adds = subst (λ (v : SeenBoard). Adds who v.book.base v.book.history history) is adds
+pub adds_inside : (who : ℕ) (seen b : SeenBoard) (history : List Entry) → seen ≡ b
+    → Adds who seen.book.base seen.book.folded seen.book.history history → Adds who b.book.base b.book.folded b.book.history history
+adds_inside who seen b history is adds = subst (λ (v : SeenBoard). Adds who v.book.base v.book.folded v.book.history history) is adds

@@ -1,6 +1,7 @@
 -- What helps to prove, and no public contract reaches, of: What a board keeps of its history.
 use Rattle.std.specs.Prelude.{◌≡◌, ℕ, ◌+◌, ◌<◌, ◌≤◌, List, length, count_by, slice_index}
 use Rattle.conn_machine.specs.declared.event.Entry.{Entry}
+use Rattle.conn_machine.specs.declared.folded.Folded.{Folded}
 use Rattle.conn_machine.specs.declared.state.State.{State}
 use Rattle.conn_machine.specs.Runs.{after, entries_of, asks_page, IsHistory}
 use Rattle.conn_machine.specs.Made.{AreMade}
@@ -9,24 +10,25 @@ use Rattle.conn_machine.specs.Sound.{IsSound}
 use Rattle.board.specs.RoomInside.{owed_entries}
 use Rattle.board.specs.Book.{StopsByLoad, TellsFullStop}
 
--- the numbers that the entries of the passes have next
-abbrev pub AreNext : List ℕ → List Entry → Type 0
-AreNext ordinals history = (p : ℕ) → p < length ordinals → slice_index ordinals p ≡ length (entries_of p history)
+-- the numbers that the entries of the passes have next, behind what was folded and the history
+abbrev pub AreNext : Folded → List ℕ → List Entry → Type 0
+AreNext f ordinals history =
+    (p : ℕ) → p < length ordinals → slice_index ordinals p ≡ slice_index f.ordinals p + length (entries_of p history)
 
 -- how many responses of the history keep a page
 abbrev pub pages_of : List Entry → ℕ
 pages_of history = count_by (λ e. asks_page e.event) history
 
--- the history is one of the machine, from its base to its state, and the states are sound; each entry is one that its pass may
--- make; each pass's next number and the number of pages are known; there is room for what must follow; a stop because the
+-- the history is one of the machine, from its base to its state, behind what was folded, and the states are sound; each entry is
+-- one that its pass may make; each pass's next number and the number of pages are known; there is room for what must follow; a stop because the
 -- history is full stands only where it is, and one for want of memory only where it isn't; and the first is told by the state
-pub record IsKept (base : State) (history : List Entry) (state : State) (ordinals : List ℕ) (pages room : ℕ) : Type 0 where
-  pub is_history : IsHistory base history
-  pub made : AreMade base history
+pub record IsKept (base : State) (f : Folded) (history : List Entry) (state : State) (ordinals : List ℕ) (pages room : ℕ) : Type 0 where
+  pub is_history : IsHistory base f history
+  pub made : AreMade base f history
   pub state_is : after base history ≡ state
   pub opened : IsSound base
   pub sound : IsSound state
-  pub numbers : AreNext ordinals history
+  pub numbers : AreNext f ordinals history
   pub pages_is : pages ≡ pages_of history
   pub sized : IsSized state
   pub has_room : length history + owed_entries state ≤ room

@@ -3,8 +3,8 @@ ghost use Rattle.std.specs.Prelude.{◌≡◌, ◌<◌, ◌≤◌, true, false, 
 ghost use Rattle.conn_machine.specs.Children.{is_in_bounds};
 ghost use Rattle.conn_machine.specs.States.{is_halted, opening_state};
 ghost use Rattle.conn_machine.specs.Table.{is_allowed, cell_at, reply, taken_reply};
-ghost use Rattle.conn_machine.specs.Runs.{Adds, Run, after, full_load, load, may_order, row_of};
-ghost use Rattle.conn_machine.specs.Folds.{IsInPassOrderFrom, opening_record};
+ghost use Rattle.conn_machine.specs.Runs.{IsInPassOrderFrom, Run, after, full_load, load, may_order};
+ghost use Rattle.conn_machine.specs.Folds.{opening_record};
 ghost use Rattle.conn_machine.specs.Made.{AreMade};
 ghost use Rattle.conn_machine.specs.Sizes.{IsSized};
 ghost use Rattle.conn_machine.specs.Sound.{IsSound};
@@ -17,7 +17,7 @@ ghost use Rattle.conn_state.specs.declared.turn.LastLinger.TheVariants as linger
 ghost use Rattle.conn_state.specs.Answered.{IsEnded, MayLinger};
 ghost use Rattle.conn_state.specs.Conn.{SeenConn};
 ghost use Rattle.conn_state.specs.Known.{IsOfClient};
-ghost use Rattle.board.specs.Book.{StopsByLoad, TellsFullStop, book_with_entry};
+ghost use Rattle.board.specs.Book.{AddsOnly, StopsByLoad, TellsFullStop, book_with_entry, row_in};
 ghost use Rattle.board.specs.Board.{Agrees, AreOfClients, WaitForClients, conn_at};
 ghost use Rattle.board.specs.Events.{IsAdded, IsDecided, IsTaken, with_recorded};
 ghost use Rattle.board.specs.EventsInside.{decided_note};
@@ -171,7 +171,7 @@ impl<L: Link, N: Known> Board<L, N> {
         ensures unfolded { self.now.book.folded ≡ opening_record self.now.book.passes }
         ensures run { Run self.now.book.base self.now.book.history }
         ensures order { IsInPassOrderFrom self.now.book.folded self.now.book.history }
-        ensures made { AreMade self.now.book.base self.now.book.history }
+        ensures made { AreMade self.now.book.base self.now.book.folded self.now.book.history }
         ensures state { after self.now.book.base self.now.book.history ≡ self.now.book.state }
         ensures opened { IsSound self.now.book.base }
         ensures sound { IsSound self.now.book.state }
@@ -189,13 +189,13 @@ impl<L: Link, N: Known> Board<L, N> {
     pub fn accept(&mut self, who: u32) -> Result<Taken, AcceptFault>
         requires who { who < self.old.book.passes }
         requires listener { who ≡ 0 }
-        requires free { row_of who self.old.book.history ≡ None }
+        requires free { row_in who self.old.book ≡ None }
         ensures ok { IfOk result (λ taken. IsAdded who (event.Accept taken.name.slot) self.old self.new) }
         ensures taken { IfOk result (λ taken. IsTaken self.old.book.state taken.name taken.child taken.generation) }
         ensures why { IfErr result (λ fault. IsNotTakenFor fault self.old.book) }
         ensures err { OnErr result (self.new ≡ self.old) }
-        ensures entries { Adds who self.old.book.base self.old.book.history self.new.book.history }
-        ensures row { IfOk result (λ taken. row_of who self.new.book.history ≡ Some taken.name) }
+        ensures entries { AddsOnly who self.old.book self.new.book }
+        ensures row { IfOk result (λ taken. row_in who self.new.book ≡ Some taken.name) }
     {
         one_row_changes();
         let slot = slot_for_accept(&self.book)?;
@@ -225,7 +225,7 @@ impl<L: Link, N: Known> Board<L, N> {
         conn: Conn<L, N>,
     ) -> Result<(), (BoardFault, Conn<L, N>)>
         requires who { who < self.old.book.passes }
-        requires row { row_of who self.old.book.history ≡ Some conn.name }
+        requires row { row_in who self.old.book ≡ Some conn.name }
         requires allowed { is_halted self.old.book.state.going ≡ false → is_allowed self.old.book.state (event.Park conn.name kind) ≡ true }
         requires fits { IsOf self.old.book.state conn }
         requires settled { IsSettled kind (cause_of self.old.book.state conn.name) conn }
@@ -235,8 +235,8 @@ impl<L: Link, N: Known> Board<L, N> {
         ensures why { IfErr result (λ e. IsRefusedFor e.0 self.old.book) }
         ensures back { IfErr result (λ e. e.1 ≡ conn) }
         ensures err { OnErr result (self.new ≡ self.old) }
-        ensures entries { Adds who self.old.book.base self.old.book.history self.new.book.history }
-        ensures row { OnOk result (row_of who self.new.book.history ≡ None) }
+        ensures entries { AddsOnly who self.old.book self.new.book }
+        ensures row { OnOk result (row_in who self.new.book ≡ None) }
     {
         one_row_changes();
         conn.show();
@@ -255,15 +255,15 @@ impl<L: Link, N: Known> Board<L, N> {
     pub fn hold(&mut self, who: u32, name: ConnName) -> Conn<L, N>
         requires who { who < self.old.book.passes }
         requires listener { who ≡ 0 }
-        requires free { row_of who self.old.book.history ≡ None }
+        requires free { row_in who self.old.book ≡ None }
         requires allowed { is_allowed self.old.book.state (event.Hold name) ≡ true }
         ensures is { self.new ≡ record (with_recorded who (event.Hold name) self.old) { conns = slice_set self.old.conns name.slot None } }
         ensures conn { conn_at self.old.conns name.slot ≡ Some result }
         ensures name { result.name ≡ name }
         ensures handed { IsTakenUp self.new.book.state result }
         ensures way { IsOnItsWay (cause_of self.old.book.state name) result }
-        ensures entries { Adds who self.old.book.base self.old.book.history self.new.book.history }
-        ensures row { row_of who self.new.book.history ≡ Some name }
+        ensures entries { AddsOnly who self.old.book self.new.book }
+        ensures row { row_in who self.new.book ≡ Some name }
     {
         one_row_changes();
         self.book.show();
@@ -276,7 +276,7 @@ impl<L: Link, N: Known> Board<L, N> {
     /// refused it stays.
     pub fn queue(&mut self, who: u32, name: ConnName) -> Result<Conn<L, N>, BoardFault>
         requires who { who < self.old.book.passes }
-        requires free { row_of who self.old.book.history ≡ None }
+        requires free { row_in who self.old.book ≡ None }
         requires allowed { is_halted self.old.book.state.going ≡ false → is_allowed self.old.book.state (event.Queue name) ≡ true }
         ensures ok { OnOk result (IsAdded who (event.Queue name) self.old (record self.new { conns = self.old.conns })) }
         ensures emptied { OnOk result (self.new.conns ≡ slice_set self.old.conns name.slot None) }
@@ -286,8 +286,8 @@ impl<L: Link, N: Known> Board<L, N> {
         ensures stays_open { IfOk result (λ conn. conn.linger ≡ linger.Open) }
         ensures why { IfErr result (λ fault. IsRefusedFor fault self.old.book) }
         ensures err { OnErr result (self.new ≡ self.old) }
-        ensures entries { Adds who self.old.book.base self.old.book.history self.new.book.history }
-        ensures row { OnOk result (row_of who self.new.book.history ≡ Some name) }
+        ensures entries { AddsOnly who self.old.book self.new.book }
+        ensures row { OnOk result (row_in who self.new.book ≡ Some name) }
     {
         one_row_changes();
         self.book.show();
@@ -299,13 +299,13 @@ impl<L: Link, N: Known> Board<L, N> {
     /// A worker begins to serve the connection: its cell. Takes no memory.
     pub fn start(&mut self, who: u32, name: ConnName) -> u32
         requires who { who < self.old.book.passes }
-        requires row { row_of who self.old.book.history ≡ Some name }
+        requires row { row_in who self.old.book ≡ Some name }
         requires allowed { is_allowed self.old.book.state (event.Start name) ≡ true }
         ensures is { self.new ≡ with_recorded who (event.Start name) self.old }
         ensures cell { result ≡ cell_at self.old.book.state name.slot }
         ensures handed { (c : SeenConn) → IsTakenUp self.old.book.state c → IsTakenUp self.new.book.state c }
-        ensures entries { Adds who self.old.book.base self.old.book.history self.new.book.history }
-        ensures row { row_of who self.new.book.history ≡ Some name }
+        ensures entries { AddsOnly who self.old.book self.new.book }
+        ensures row { row_in who self.new.book ≡ Some name }
     {
         one_row_changes();
         self.book.show();
@@ -318,15 +318,15 @@ impl<L: Link, N: Known> Board<L, N> {
     /// A response is decided: its note.
     pub fn answer(&mut self, who: u32, name: ConnName, ask: Ask) -> Result<Note, BoardFault>
         requires who { who < self.old.book.passes }
-        requires row { row_of who self.old.book.history ≡ Some name }
+        requires row { row_in who self.old.book ≡ Some name }
         requires allowed { is_halted self.old.book.state.going ≡ false → is_allowed self.old.book.state (event.Answer name ask) ≡ true }
         ensures ok { OnOk result (IsAdded who (event.Answer name ask) self.old self.new) }
         ensures note { IfOk result (λ note. IsDecided self.old.book.state name ask note) }
         ensures date { IfOk result (λ note. IsSecond note.date) }
         ensures why { IfErr result (λ fault. IsRefusedFor fault self.old.book) }
         ensures err { OnErr result (self.new ≡ self.old) }
-        ensures entries { Adds who self.old.book.base self.old.book.history self.new.book.history }
-        ensures row { row_of who self.new.book.history ≡ Some name }
+        ensures entries { AddsOnly who self.old.book self.new.book }
+        ensures row { row_in who self.new.book ≡ Some name }
     {
         one_row_changes();
         self.book.show();
@@ -340,14 +340,14 @@ impl<L: Link, N: Known> Board<L, N> {
     /// over. Takes no memory.
     pub fn linger(&mut self, who: u32, cause: Cause, conn: Conn<L, N>)
         requires who { who < self.old.book.passes }
-        requires row { row_of who self.old.book.history ≡ Some conn.name }
+        requires row { row_in who self.old.book ≡ Some conn.name }
         requires allowed { is_allowed self.old.book.state (event.Linger conn.name cause) ≡ true }
         requires fits { IsOf self.old.book.state conn }
         requires half_closed { conn.linger ≡ linger.Shut }
         requires shows { MayLinger cause conn }
         ensures is { self.new ≡ record (with_recorded who (event.Linger conn.name cause) self.old) { conns = slice_set self.old.conns conn.name.slot (Some conn) } }
-        ensures entries { Adds who self.old.book.base self.old.book.history self.new.book.history }
-        ensures row { row_of who self.new.book.history ≡ None }
+        ensures entries { AddsOnly who self.old.book self.new.book }
+        ensures row { row_in who self.new.book ≡ None }
     {
         one_row_changes();
         conn.show();
@@ -360,14 +360,14 @@ impl<L: Link, N: Known> Board<L, N> {
     /// The connection ended. Takes no memory.
     pub fn close(&mut self, who: u32, ended: Ended<L>)
         requires who { who < self.old.book.passes }
-        requires row { row_of who self.old.book.history ≡ Some ended.name }
+        requires row { row_in who self.old.book ≡ Some ended.name }
         requires allowed { is_allowed self.old.book.state (event.Close ended.name ended.cause ended.tail) ≡ true }
         requires fits { IsClosing self.old.book.state ended.name ended.cause ended.tail ended }
         requires answered { IsEnded ended }
         requires client { IsOfClient N.known ended.told }
         ensures is { self.new ≡ record (with_recorded who (event.Close ended.name ended.cause ended.tail) self.old) { ended = self.old.ended ++ ended ∷ [] } }
-        ensures entries { Adds who self.old.book.base self.old.book.history self.new.book.history }
-        ensures row { row_of who self.new.book.history ≡ None }
+        ensures entries { AddsOnly who self.old.book self.new.book }
+        ensures row { row_in who self.new.book ≡ None }
     {
         one_row_changes();
         self.book.show();
@@ -388,8 +388,8 @@ impl<L: Link, N: Known> Board<L, N> {
         ensures ok { OnOk result (IsAdded who (event.Ready slot) self.old self.new) }
         ensures why { IfErr result (λ fault. IsRefusedFor fault self.old.book) }
         ensures err { OnErr result (self.new ≡ self.old) }
-        ensures entries { Adds who self.old.book.base self.old.book.history self.new.book.history }
-        ensures row { row_of who self.new.book.history ≡ row_of who self.old.book.history }
+        ensures entries { AddsOnly who self.old.book self.new.book }
+        ensures row { row_in who self.new.book ≡ row_in who self.old.book }
     {
         self.book.record(who, Event::Ready(slot))?;
         Ok(())
@@ -403,8 +403,8 @@ impl<L: Link, N: Known> Board<L, N> {
         ensures ok { OnOk result (IsAdded who (event.Tick moment) self.old self.new) }
         ensures why { IfErr result (λ fault. IsRefusedFor fault self.old.book) }
         ensures err { OnErr result (self.new ≡ self.old) }
-        ensures entries { Adds who self.old.book.base self.old.book.history self.new.book.history }
-        ensures row { row_of who self.new.book.history ≡ row_of who self.old.book.history }
+        ensures entries { AddsOnly who self.old.book self.new.book }
+        ensures row { row_in who self.new.book ≡ row_in who self.old.book }
     {
         self.book.record(who, Event::Tick(moment))?;
         Ok(())
@@ -418,8 +418,8 @@ impl<L: Link, N: Known> Board<L, N> {
         ensures ok { OnOk result (IsAdded who (event.StartChild child) self.old self.new) }
         ensures why { IfErr result (λ fault. IsRefusedFor fault self.old.book) }
         ensures err { OnErr result (self.new ≡ self.old) }
-        ensures entries { Adds who self.old.book.base self.old.book.history self.new.book.history }
-        ensures row { row_of who self.new.book.history ≡ row_of who self.old.book.history }
+        ensures entries { AddsOnly who self.old.book self.new.book }
+        ensures row { row_in who self.new.book ≡ row_in who self.old.book }
     {
         self.book.record(who, Event::StartChild(child))?;
         Ok(())
@@ -432,8 +432,8 @@ impl<L: Link, N: Known> Board<L, N> {
         requires light { why ≡ reason.NoMemory → load self.old.book.history < full_load }
         requires allowed { is_allowed self.old.book.state (event.Command (Stop why)) ≡ true }
         ensures is { self.new ≡ with_recorded who (event.Command (Stop why)) self.old }
-        ensures entries { Adds who self.old.book.base self.old.book.history self.new.book.history }
-        ensures row { row_of who self.new.book.history ≡ row_of who self.old.book.history }
+        ensures entries { AddsOnly who self.old.book self.new.book }
+        ensures row { row_in who self.new.book ≡ row_in who self.old.book }
     {
         let _ = self
             .book
@@ -446,8 +446,8 @@ impl<L: Link, N: Known> Board<L, N> {
         requires listener { who ≡ 0 }
         requires allowed { is_allowed self.old.book.state (event.Retire child) ≡ true }
         ensures is { self.new ≡ with_recorded who (event.Retire child) self.old }
-        ensures entries { Adds who self.old.book.base self.old.book.history self.new.book.history }
-        ensures row { row_of who self.new.book.history ≡ row_of who self.old.book.history }
+        ensures entries { AddsOnly who self.old.book self.new.book }
+        ensures row { row_in who self.new.book ≡ row_in who self.old.book }
     {
         let _ = self.book.record_sure(who, Event::Retire(child));
     }

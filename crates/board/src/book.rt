@@ -3,12 +3,12 @@ ghost use Rattle.std.specs.Prelude.{◌≡◌, ◌<◌, ◌≤◌, ◌^◌, true
 ghost use Rattle.conn_machine.specs.Children.{is_in_bounds};
 ghost use Rattle.conn_machine.specs.States.{is_halted, opening_state};
 ghost use Rattle.conn_machine.specs.Table.{is_allowed, reply};
-ghost use Rattle.conn_machine.specs.Runs.{Adds, Run, after, asks_page, full_load, has_after, load, may_make, row_of};
-ghost use Rattle.conn_machine.specs.Folds.{IsInPassOrderFrom, opening_record};
+ghost use Rattle.conn_machine.specs.Runs.{IsInPassOrderFrom, Run, after, asks_page, full_load, has_after, load, may_make};
+ghost use Rattle.conn_machine.specs.Folds.{opening_record};
 ghost use Rattle.conn_machine.specs.Made.{AreMade};
 ghost use Rattle.conn_machine.specs.Sizes.{IsSized};
 ghost use Rattle.conn_machine.specs.Sound.{IsSound};
-ghost use Rattle.board.specs.Book.{StopsByLoad, TellsFullStop, book_with_entry, memory_stop, numbered_entry};
+ghost use Rattle.board.specs.Book.{AddsOnly, StopsByLoad, TellsFullStop, book_with_entry, memory_stop, numbered_entry, row_in};
 ghost use Rattle.board.specs.BookInside.{AreNext};
 ghost use Rattle.board.specs.Faults.{IsRefusedFor};
 ghost use Rattle.board.specs.FaultsInside.{IsRecorded};
@@ -16,7 +16,9 @@ ghost use Rattle.board.specs.RoomInside.{is_sure};
 
 use crate::faults::BoardFault;
 use conn_machine::laws::events_keep_states_sound;
-use conn_machine::laws_of_runs::{histories_go_on_by_one_entry, passes_add_entries};
+use conn_machine::laws_of_runs::{
+    histories_go_on_by_one_entry, passes_add_entries, records_open_with_nothing,
+};
 use conn_machine::{Entry, Event, Reply, State, step};
 use mpm_base::{NoMemory, Shape};
 use std::alloc::Global;
@@ -48,7 +50,7 @@ impl Model for Book {
     // Nothing is folded yet.
     ghost view = { λ b. record { base = b.base.value; folded = opening_record (length b.ordinals.items); history = b.history.items; state = b.state; passes = length b.ordinals.items } };
 
-    ghost invariant = { λ b. IsKept b.base.value b.history.items b.state b.ordinals.items b.pages (vec_capacity b.history) };
+    ghost invariant = { λ b. IsKept b.base.value (opening_record (length b.ordinals.items)) b.history.items b.state b.ordinals.items b.pages (vec_capacity b.history) };
 }
 
 impl Book {
@@ -108,7 +110,7 @@ impl Book {
         ensures unfolded { self.now.folded ≡ opening_record self.now.passes }
         ensures run { Run self.now.base self.now.history }
         ensures order { IsInPassOrderFrom self.now.folded self.now.history }
-        ensures made { AreMade self.now.base self.now.history }
+        ensures made { AreMade self.now.base self.now.folded self.now.history }
         ensures state { after self.now.base self.now.history ≡ self.now.state }
         ensures opened { IsSound self.now.base }
         ensures sound { IsSound self.now.state }
@@ -132,10 +134,10 @@ impl Book {
     pub fn record(&mut self, who: u32, event: Event) -> Result<Reply, BoardFault>
         requires who { who < self.old.passes }
         requires allowed { is_halted self.old.state.going ≡ false → is_allowed self.old.state event ≡ true }
-        requires role { may_make who (row_of who self.old.history) (load self.old.history) event ≡ true }
+        requires role { may_make who (row_in who self.old) (load self.old.history) event ≡ true }
         ensures ok { OnOk result (IsRecorded who event self.old self.new) }
-        ensures entries { Adds who self.old.base self.old.history self.new.history }
-        ensures row { IfOk result (λ answer. row_of who self.new.history ≡ has_after (row_of who self.old.history) event answer) }
+        ensures entries { AddsOnly who self.old self.new }
+        ensures row { IfOk result (λ answer. row_in who self.new ≡ has_after (row_in who self.old) event answer) }
         ensures reply { IfOk result (λ answer. answer ≡ reply self.old.state event) }
         ensures why { IfErr result (λ fault. IsRefusedFor fault self.old) }
         ensures err { OnErr result (self.new ≡ self.old) }
@@ -166,10 +168,10 @@ impl Book {
         requires allowed { is_allowed self.old.state event ≡ true }
         requires sure { is_sure event ≡ true }
         requires light { event ≡ memory_stop → load self.old.history < full_load }
-        requires role { may_make who (row_of who self.old.history) (load self.old.history) event ≡ true }
+        requires role { may_make who (row_in who self.old) (load self.old.history) event ≡ true }
         ensures is { self.new ≡ book_with_entry who event self.old }
-        ensures entries { Adds who self.old.base self.old.history self.new.history }
-        ensures row { row_of who self.new.history ≡ has_after (row_of who self.old.history) event result }
+        ensures entries { AddsOnly who self.old self.new }
+        ensures row { row_in who self.new ≡ has_after (row_in who self.old) event result }
         ensures reply { result ≡ reply self.old.state event }
     {
         histories_go_on_by_one_entry();
@@ -182,17 +184,18 @@ impl Book {
     }
 }
 
-/// Puts the pass's entry at the end, with its next number.
+/// Puts the pass's entry at the end, with its next number. Nothing is folded yet.
 fn append(history: &mut Vec<Entry>, ordinals: &mut Vec<u64>, who: u32, event: Event, reply: Reply)
     requires room { vec_len history.old < vec_capacity history.old }
     requires who { who < length ordinals.old.items }
-    requires numbers { AreNext ordinals.old.items history.old.items }
-    ensures history { history.new.items ≡ history.old.items ++ numbered_entry who event reply history.old.items ∷ [] }
-    ensures numbers { AreNext ordinals.new.items history.new.items }
+    requires numbers { AreNext (opening_record (length ordinals.old.items)) ordinals.old.items history.old.items }
+    ensures history { history.new.items ≡ history.old.items ++ numbered_entry who event reply (opening_record (length ordinals.old.items)) history.old.items ∷ [] }
+    ensures numbers { AreNext (opening_record (length ordinals.old.items)) ordinals.new.items history.new.items }
     ensures passes { length ordinals.new.items ≡ length ordinals.old.items }
     ensures room { vec_capacity history.old ≤ vec_capacity history.new }
 {
     histories_go_on_by_one_entry();
+    records_open_with_nothing();
     let ordinal = ordinals[who as usize];
     ordinals[who as usize] = ordinal + 1;
     let entry = Entry {

@@ -13,6 +13,10 @@ use Rattle.board.proofs.HandLemmas.{answer-note}
 use Rattle.board.proofs.PassLemmas.{adds_inside, has_inside}
 use Rattle.board.proofs.board.Board.answer.Goals as goal
 
+pub record-requires-clause-allowed : goal.record-requires-clause-allowed
+record-requires-clause-allowed g c =
+    may_while _ c.args.self.now (event.Answer c.args.name c.args.ask) c.self.view_is c.requires.allowed
+
 pub invariant_of-self-2 : goal.invariant_of-self-2
 invariant_of-self-2 g c =
     let inside = c.self.inside in

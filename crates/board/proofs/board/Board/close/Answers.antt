@@ -1,8 +1,8 @@
 use Rattle.std.proofs.Common.{◌≡◌, ◌++◌, ◌∷◌, [], ◌<◌, true, length, vec_capacity, subst, sym, rules}
 use Rattle.conn_machine.specs.declared.event.Event.TheVariants as event
-use Rattle.conn_machine.specs.Runs.{has_row, row_of}
+use Rattle.conn_machine.specs.Runs.{has_row}
 use Rattle.conn_state.specs.Answered.{SeenEnded}
-use Rattle.board.specs.Book.{book_with_entry}
+use Rattle.board.specs.Book.{book_with_entry, row_in}
 use Rattle.board.specs.Fits.{IsClosing}
 use Rattle.board.specs.Board.{SeenBoard, IsBoard}
 use Rattle.board.proofs.BoardLemmas.{may_inside, there_of}
@@ -42,7 +42,7 @@ invariant_of-self g c =
 
 pub record_sure-requires-clause-role : goal.record_sure-requires-clause-role
 record_sure-requires-clause-role g c =
-    subst (λ (v : SeenEnded). has_row (row_of c.args.who c.self.inside.book.history) v.name ≡ true) (sym c.ended.view_is)
+    subst (λ (v : SeenEnded). has_row (row_in c.args.who c.self.inside.book) v.name ≡ true) (sym c.ended.view_is)
     (has_inside c.args.who _ c.args.self.now c.args.ended.name c.self.view_is c.requires.row)
 
 pub returns-clause-entries : goal.returns-clause-entries

@@ -1,7 +1,8 @@
 use Rattle.std.proofs.Common.{◌≡◌, true, Some, is_some, length, slice_set, vec_capacity, subst, sym, ap, refl, rules}
 use Rattle.mpm_base.specs.declared.conn.ConnName.{ConnName}
 use Rattle.conn_machine.specs.Rows.{live_row}
-use Rattle.conn_machine.specs.Runs.{has_row, row_of}
+use Rattle.conn_machine.specs.Runs.{has_row}
+use Rattle.board.specs.Book.{row_in}
 use Rattle.conn_machine.specs.Table.{is_allowed, next, lingering_row}
 use Rattle.conn_machine.specs.declared.event.Event.TheVariants as event
 use Rattle.conn_state.specs.Conn.{lingers}
@@ -30,7 +31,7 @@ record_sure-requires-clause-allowed g c =
 
 pub record_sure-requires-clause-role : goal.record_sure-requires-clause-role
 record_sure-requires-clause-role g c =
-    subst (λ (n : ConnName). has_row (row_of c.args.who c.self.inside.book.history) n ≡ true) (sym c.name-name.ensures)
+    subst (λ (n : ConnName). has_row (row_in c.args.who c.self.inside.book) n ≡ true) (sym c.name-name.ensures)
     (has_inside c.args.who _ c.args.self.now c.args.conn.name c.self.view_is c.requires.row)
 
 pub wait_in_queue-requires-clause-free : goal.wait_in_queue-requires-clause-free

@@ -2,7 +2,8 @@ use Rattle.std.proofs.Common.{◌≡◌, true, Some, Option, is_some, length, sl
 use Rattle.mpm_base.specs.declared.conn.Cause.{Cause}
 use Rattle.mpm_base.specs.declared.conn.ConnName.{ConnName}
 use Rattle.conn_machine.specs.Rows.{live_row}
-use Rattle.conn_machine.specs.Runs.{has_row, row_of}
+use Rattle.conn_machine.specs.Runs.{has_row}
+use Rattle.board.specs.Book.{row_in}
 use Rattle.conn_machine.specs.Table.{is_allowed, next, parked_row}
 use Rattle.conn_machine.specs.declared.event.Event.TheVariants as event
 use Rattle.board.specs.Finds.{cause_of}
@@ -77,7 +78,7 @@ wait_in_queue-requires-clause-waits g c =
 
 pub record-requires-clause-role : goal.record-requires-clause-role
 record-requires-clause-role g c =
-    subst (λ (n : ConnName). has_row (row_of c.args.who c.self.inside.book.history) n ≡ true) (sym c.name-name.ensures)
+    subst (λ (n : ConnName). has_row (row_in c.args.who c.self.inside.book) n ≡ true) (sym c.name-name.ensures)
     (has_inside c.args.who _ c.args.self.now c.args.conn.name c.self.view_is c.requires.row)
 
 pub returns-in-Ok-clause-entries : goal.returns-in-Ok-clause-entries

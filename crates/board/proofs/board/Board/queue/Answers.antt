@@ -11,6 +11,10 @@ use Rattle.board.proofs.HandLemmas.{given_is, queue-given, queue-open, queue-unp
 use Rattle.board.proofs.PassLemmas.{adds_inside}
 use Rattle.board.proofs.board.Board.queue.Goals as goal
 
+pub record-requires-clause-allowed : goal.record-requires-clause-allowed
+record-requires-clause-allowed g c =
+    may_while _ c.args.self.now (event.Queue c.args.name) c.self.view_is c.requires.allowed
+
 pub take_out-requires-clause-there : goal.take_out-requires-clause-there
 take_out-requires-clause-there g c =
     let inside = c.self.inside in

@@ -2,6 +2,7 @@ use Rattle.std.proofs.Common.{◌≡◌, List, ◌+◌, ◌*◌, ◌<◌, ◌≤
 use Rattle.conn_machine.specs.States.{is_halted}
 use Rattle.conn_machine.specs.Table.{is_allowed, reply}
 use Rattle.conn_machine.specs.declared.event.Entry.{Entry}
+use Rattle.conn_machine.specs.Folds.{opening_record}
 use Rattle.conn_machine.specs.Runs.{Adds, after, asks_page, full_load, load}
 use Rattle.board.specs.Book.{SeenBook, entry_of, numbered_entry}
 use Rattle.board.proofs.BookLemmas.{goes_by, open_if, kept_with_room, recorded_is}
@@ -26,20 +27,22 @@ invariant_of-self-2 c =
     let pages : inside.pages + c.pages_in.result ≡ inside.pages + (if asks_page c.args.event then 1 else 0) = search rules in
     let base = inside.base.value in
     let history = inside.history.items in
-    let e = numbered_entry c.args.who c.args.event c.in-Ok.reply history in
+    let folded = opening_record (length inside.ordinals.items) in
+    let e = numbered_entry c.args.who c.args.event c.in-Ok.reply folded history in
     let role = role_inside c.args.who _ c.args.self.now c.args.event c.self.view_is c.requires.role in
     let goes_on = c.histories_go_on_by_one_entry.ensures in
     let free = open_if c.args.self.now inside.state c.is_halted.result c.is_full.result
     (ap (λ (v : SeenBook). v.state) c.self.view_is) c.is_halted.ensures c.is_full.ensures c.if-is_halted.false c.if-is_full.false in
     let light : load history < full_load = subst (λ (v : SeenBook). load v.history < full_load) (sym c.self.view_is) free.light in
-    kept_with_room base history c.append.new.history.items inside.state c.step.new.state inside.ordinals.items
+    rw c.append.ensures.passes
+    (kept_with_room base folded history c.append.new.history.items inside.state c.step.new.state inside.ordinals.items
     c.append.new.ordinals.items inside.pages (inside.pages + c.pages_in.result) (vec_capacity inside.history) (vec_capacity c.append.new.history)
     e c.self.invariant may c.append.ensures.numbers
     (record { sound = c.step.ensures.sound; sizes = c.step.ensures.sizes; sized = c.step.ensures.sized })
     (rw c.reserve.ensures.items at c.append.ensures.history) c.in-Ok.ensures.state pages space
     (stop_by_role c.args.who _ (load history) c.args.event role (λ is. light))
-    (goes_by base history inside.state inside.ordinals.items inside.pages (vec_capacity inside.history) e c.self.invariant may c.in-Ok.ensures.reply refl role
-    goes_on.state goes_on.history goes_on.made)
+    (goes_by base folded history inside.state inside.ordinals.items inside.pages (vec_capacity inside.history) e c.self.invariant may c.in-Ok.ensures.reply
+    refl role goes_on.state goes_on.history goes_on.made))
 
 pub returns-clause-ok : goal.returns-clause-ok
 returns-clause-ok c =
@@ -66,7 +69,7 @@ returns-clause-entries c =
     (recorded_is b inside.base.value inside.history.items c.append.new.history.items inside.state c.step.new.state _ _ c.args.who
     c.args.event c.in-Ok.reply c.self.view_is (rw c.reserve.ensures.items at c.append.ensures.history) c.in-Ok.ensures.state
     c.in-Ok.ensures.reply c.append.ensures.passes)
-    (c.passes_add_entries.ensures.one c.args.who b.base b.history (entry_of c.args.who c.args.event b)
+    (c.passes_add_entries.ensures.one c.args.who b.base b.folded b.history (entry_of c.args.who c.args.event b)
     (may_be_next c.args.who b c.args.event state_is (c.requires.allowed going) c.requires.role))
 
 pub returns-clause-row : goal.returns-clause-row
@@ -78,16 +81,16 @@ returns-clause-row c =
     c.args.event c.in-Ok.reply c.self.view_is (rw c.reserve.ensures.items at c.append.ensures.history) c.in-Ok.ensures.state
     c.in-Ok.ensures.reply c.append.ensures.passes)
     (c.in-Ok.ensures.reply ∙ ap (λ (v : SeenBook). reply v.state c.args.event) c.self.view_is)
-    (c.histories_go_on_by_one_entry.ensures.row c.args.who b.history (entry_of c.args.who c.args.event b) (is_own c.args.who c.args.event b))
+    (c.histories_go_on_by_one_entry.ensures.row b.folded c.args.who b.history (entry_of c.args.who c.args.event b) (is_own c.args.who c.args.event b))
 
 pub returns-then-is_err-clause-entries : goal.returns-then-is_err-clause-entries
 returns-then-is_err-clause-entries c =
     let b = c.args.self.now in
-    subst (λ (h : List Entry). Adds c.args.who b.base b.history h) (sym (c.reserve.ensures.items ∙ ap (λ (v : SeenBook). v.history) c.self.view_is))
-    (c.passes_add_entries.ensures.none c.args.who b.base b.history)
+    subst (λ (h : List Entry). Adds c.args.who b.base b.folded b.history h) (sym (c.reserve.ensures.items ∙ ap (λ (v : SeenBook). v.history) c.self.view_is))
+    (c.passes_add_entries.ensures.none c.args.who b.base b.folded b.history)
 
 pub returns-in_default-clause-entries : goal.returns-in_default-clause-entries
 returns-in_default-clause-entries c =
     let b = c.args.self.now in
-    subst (λ (h : List Entry). Adds c.args.who b.base b.history h) (sym (c.reserve.ensures.items ∙ ap (λ (v : SeenBook). v.history) c.self.view_is))
-    (c.passes_add_entries.ensures.none c.args.who b.base b.history)
+    subst (λ (h : List Entry). Adds c.args.who b.base b.folded b.history h) (sym (c.reserve.ensures.items ∙ ap (λ (v : SeenBook). v.history) c.self.view_is))
+    (c.passes_add_entries.ensures.none c.args.who b.base b.folded b.history)

@@ -1,5 +1,6 @@
 use Rattle.std.proofs.Common.{◌≡◌, ◌+◌, ◌≤◌, ◌<◌, true, length, vec_capacity, subst, sym, refl, ap, ◌∙◌, rules, arith}
 use Rattle.conn_machine.specs.Table.{is_allowed, next, reply}
+use Rattle.conn_machine.specs.Folds.{opening_record}
 use Rattle.conn_machine.specs.Runs.{after, full_load, load}
 use Rattle.board.specs.Book.{SeenBook, entry_of, numbered_entry}
 use Rattle.board.specs.RoomInside.{owed_entries}
@@ -24,19 +25,21 @@ invariant_of-self c =
     let may = subst (λ (v : SeenBook). is_allowed v.state c.args.event ≡ true) (sym c.self.view_is) c.requires.allowed in
     let base = inside.base.value in
     let history = inside.history.items in
-    let e = numbered_entry c.args.who c.args.event c.in-Ok.reply history in
+    let folded = opening_record (length inside.ordinals.items) in
+    let e = numbered_entry c.args.who c.args.event c.in-Ok.reply folded history in
     let role = role_inside c.args.who _ c.args.self.now c.args.event c.self.view_is c.requires.role in
     let goes_on = c.histories_go_on_by_one_entry.ensures in
     let stop =
     stop_by_role c.args.who _ (load history) c.args.event role
     (λ is. subst (λ (v : SeenBook). load v.history < full_load) (sym c.self.view_is) (c.requires.light is)) in
-    kept_sure base history c.append.new.history.items inside.state c.step.new.state inside.ordinals.items
+    rw c.append.ensures.passes
+    (kept_sure base folded history c.append.new.history.items inside.state c.step.new.state inside.ordinals.items
     c.append.new.ordinals.items inside.pages (vec_capacity inside.history) (vec_capacity c.append.new.history)
     e c.self.invariant may c.append.ensures.numbers
     (record { sound = c.step.ensures.sound; sizes = c.step.ensures.sizes; sized = c.step.ensures.sized })
     c.append.ensures.history c.in-Ok.ensures.state c.requires.sure c.append.ensures.room stop
-    (goes_by base history inside.state inside.ordinals.items inside.pages (vec_capacity inside.history) e c.self.invariant may c.in-Ok.ensures.reply refl role
-    goes_on.state goes_on.history goes_on.made)
+    (goes_by base folded history inside.state inside.ordinals.items inside.pages (vec_capacity inside.history) e c.self.invariant may c.in-Ok.ensures.reply
+    refl role goes_on.state goes_on.history goes_on.made))
 
 pub returns-clause-entries : goal.returns-clause-entries
 returns-clause-entries c =
@@ -46,7 +49,7 @@ returns-clause-entries c =
     adds_recorded c.args.who c.args.event b _
     (recorded_is b inside.base.value inside.history.items c.append.new.history.items inside.state c.step.new.state _ _ c.args.who
     c.args.event c.in-Ok.reply c.self.view_is c.append.ensures.history c.in-Ok.ensures.state c.in-Ok.ensures.reply c.append.ensures.passes)
-    (c.passes_add_entries.ensures.one c.args.who b.base b.history (entry_of c.args.who c.args.event b)
+    (c.passes_add_entries.ensures.one c.args.who b.base b.folded b.history (entry_of c.args.who c.args.event b)
     (may_be_next c.args.who b c.args.event state_is c.requires.allowed c.requires.role))
 
 pub returns-clause-row : goal.returns-clause-row
@@ -57,4 +60,4 @@ returns-clause-row c =
     (recorded_is b inside.base.value inside.history.items c.append.new.history.items inside.state c.step.new.state _ _ c.args.who
     c.args.event c.in-Ok.reply c.self.view_is c.append.ensures.history c.in-Ok.ensures.state c.in-Ok.ensures.reply c.append.ensures.passes)
     (c.in-Ok.ensures.reply ∙ ap (λ (v : SeenBook). reply v.state c.args.event) c.self.view_is)
-    (c.histories_go_on_by_one_entry.ensures.row c.args.who b.history (entry_of c.args.who c.args.event b) (is_own c.args.who c.args.event b))
+    (c.histories_go_on_by_one_entry.ensures.row b.folded c.args.who b.history (entry_of c.args.who c.args.event b) (is_own c.args.who c.args.event b))
