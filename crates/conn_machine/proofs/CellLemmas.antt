@@ -34,12 +34,12 @@ count_by_at p (y ∷ xs) zero x is passes =
 count_by_at p (y ∷ xs) (suc i) x is passes = omega (arith, count_by-cons p y xs, count_by_at p xs i x is passes)
 
 -- where an item passes the count isn't 0
-count_by-any : {X : Type 0} (p : X → Bool) (xs : List X) → list_any p xs ≡ true → 0 < count_by p xs
+pub count_by-any : {X : Type 0} (p : X → Bool) (xs : List X) → list_any p xs ≡ true → 0 < count_by p xs
 count_by-any p [] any = absurd (cc)
 count_by-any p (x ∷ xs) any = grind (arith, count_by-cons p x xs, count_by-any p xs)
 
 -- where none does it is
-count_by-none : {X : Type 0} (p : X → Bool) (xs : List X) → list_any p xs ≡ false → count_by p xs ≡ 0
+pub count_by-none : {X : Type 0} (p : X → Bool) (xs : List X) → list_any p xs ≡ false → count_by p xs ≡ 0
 count_by-none p [] none = refl
 count_by-none p (x ∷ xs) none = grind (arith, count_by-cons p x xs, count_by-none p xs)
 

@@ -15,6 +15,7 @@ pub mod FreshLaw
 pub mod HandLaw
 pub mod HistoryLemmas
 pub mod HoldLaw
+pub mod KeptCounts
 pub mod LawLemmas
 pub mod LingerLaw
 pub mod ListLemmas

@@ -1,5 +1,6 @@
 pub mod Arrivals
 pub mod Children
+pub mod CountsInside
 pub mod Events
 pub mod Folds
 pub mod FoldsInside

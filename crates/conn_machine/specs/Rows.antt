@@ -112,6 +112,19 @@ kind_number Writing = 2
 kind_number Linger = 3
 kind_number ShortLinger = 4
 
+-- the connection of the place waits for this
+abbrev pub is_parked_as : Kind → Place → Bool
+is_parked_as kind Vacant = false
+is_parked_as kind Spent = false
+is_parked_as kind Held = false
+is_parked_as kind (Parked own) = kind_number own == kind_number kind
+is_parked_as kind Queued = false
+is_parked_as kind (Working cell phase) = false
+
+-- the connection of the place waits, and lingers
+abbrev pub is_closing : Place → Bool
+is_closing place = is_parked_as Linger place || is_parked_as ShortLinger place
+
 -- the row waited for this last
 abbrev pub is_from : Kind → Row → Bool
 is_from kind r = option_map_or (λ k. kind_number k == kind_number kind) r.from false
@@ -185,6 +198,10 @@ open_count rows k = count_by (is_open_in k) rows
 -- a connection of the child
 abbrev pub is_live_in : ℕ → Row → Bool
 is_live_in k r = r.child == k && is_live r
+
+-- a worker of the child serves the row
+abbrev pub is_working_in : ℕ → Row → Bool
+is_working_in k r = r.child == k && is_working r.place
 
 -- the worker of that cell of the child serves the row
 abbrev pub is_served_in : ℕ → ℕ → Row → Bool

@@ -4,7 +4,8 @@
 //! It is one definition, `is_allowed`, `next` and `reply` in `specs/Table.antt`, on one list of rows whose counts
 //! are filters. Histories of the machine, the order of each pass's entries, and what a pass may add stand in
 //! `specs/Runs.antt`. `may` and `step` are the same table as a plain program. What the table is worth is said by `laws`, how
-//! histories go on by `laws_of_runs`.
+//! histories go on by `laws_of_runs`. A list of rows keeps its counts beside it, so no event but a Tick makes `may` or `step`
+//! go over the rows.
 //!
 //! A value that is `Kept` tells a ledger: a history, the state before it, and a record of the entries before that state, which
 //! were folded. What a fold makes stands in `specs/Folds.antt`.
@@ -13,6 +14,7 @@
 mod changes;
 mod child;
 mod conditions;
+mod counts;
 mod event;
 mod folded;
 mod kept;

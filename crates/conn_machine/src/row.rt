@@ -76,6 +76,23 @@ impl Place {
         matches!(self, Place::Parked(_))
     }
 
+    /// Whether it waits for this.
+    pub fn is_parked_as(self, kind: Kind) -> bool
+        ensures { result ≡ rows.is_parked_as kind self }
+    {
+        match self {
+            Place::Parked(own) => kind_number(own) == kind_number(kind),
+            _ => false,
+        }
+    }
+
+    /// Whether it waits, and lingers.
+    pub fn is_closing(self) -> bool
+        ensures { result ≡ rows.is_closing self }
+    {
+        self.is_parked_as(Kind::Linger) || self.is_parked_as(Kind::ShortLinger)
+    }
+
     /// Whether it waits for a worker.
     pub fn is_queued(self) -> bool
         ensures { result ≡ rows.is_queued self }
@@ -88,6 +105,20 @@ impl Place {
         ensures { result ≡ rows.is_working self }
     {
         matches!(self, Place::Working(_, _))
+    }
+
+    /// Whether a worker has it, or will.
+    pub fn is_carried(self) -> bool
+        ensures { result ≡ rows.is_carried_at self }
+    {
+        self.is_queued() || self.is_working()
+    }
+
+    /// Whether a pass has it: the listener holds it, or a worker has it, or will.
+    pub fn is_in_hand(self) -> bool
+        ensures { result ≡ rows.is_with_a_pass self }
+    {
+        self.is_held() || self.is_carried()
     }
 
     /// Whether the worker of that cell serves it.
@@ -230,6 +261,13 @@ impl Row {
         ensures { result ≡ rows.is_live_in child self.now }
     {
         self.child == child && self.is_live()
+    }
+
+    /// Whether a worker of the child serves it.
+    pub fn is_working_in(&self, child: u32) -> bool
+        ensures { result ≡ rows.is_working_in child self.now }
+    {
+        self.child == child && self.place.is_working()
     }
 
     /// Whether the worker of that cell of the child serves it.

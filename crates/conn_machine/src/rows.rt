@@ -1,19 +1,25 @@
-//! The list of rows, its counts, and a change of one row.
-ghost use Rattle.std.specs.Prelude.{◌≡◌, ◌==◌, ◌≤◌, ◌<◌, Some, length, replicate, IfOk, IfSome, OnSome, find, slice_get};
+//! The list of rows, its counts, and a change of one row. The counts are kept beside the rows, so that no call goes over these.
+ghost use Rattle.std.specs.Prelude.{◌≡◌, ◌==◌, ◌+◌, ◌≤◌, ◌<◌, false, Some, [], ◌∷◌, ◌++◌, count_by, length, replicate, IfOk, IfSome, OnOk, OnErr, OnSome, find, slice_get};
 ghost use Rattle.std.specs.List.{list_any, range_with_len};
 ghost use Rattle.std.specs.Option.{option_copied};
+ghost use Rattle.conn_machine.specs.Lists.{update};
 ghost use Rattle.conn_machine.specs.Rows as spec;
 ghost use Rattle.conn_machine.specs.States.{unused_row};
+ghost use Rattle.conn_machine.specs.Table.{closed_row, held_row, mid_after, queued_row, with_note};
+ghost use Rattle.conn_machine.specs.declared.row.Place.TheVariants.{Held, Parked, Working};
+ghost use Rattle.mpm_base.specs.declared.conn.Kind.TheVariants.{KeepAlive, Writing};
 
-use crate::row::Row;
-use mpm_base::{ConnName, NoMemory};
+use crate::counts::Counts;
+use crate::row::{Phase, Row};
+use mpm_base::{Cause, ConnName, Kind, Moment, NoMemory, Note};
 use std::alloc::Global;
 use std::marker::Model;
 
 /// A list of rows, as contracts see it: the row of each slot.
 #[derive(Debug, Drop)]
 pub struct Rows {
-    pub(crate) items: Vec<Row>,
+    items: Vec<Row>,
+    counts: Counts,
 }
 
 impl Model for Rows {
@@ -23,6 +29,10 @@ impl Model for Rows {
     ghost Value = { List Row };
 
     ghost view = { λ r. r.items.items };
+
+    ghost use Rattle.conn_machine.specs.CountsInside.{IsCounted};
+
+    ghost invariant = { λ r. IsCounted r.counts r.items.items };
 }
 
 impl Rows {
@@ -30,13 +40,14 @@ impl Rows {
     pub fn make(alloc: Global, slots: u32) -> Result<Rows, NoMemory>
         ensures { IfOk result (λ rows. rows ≡ replicate slots unused_row) }
     {
+        let counts = Counts::opening(alloc, slots)?;
         let mut items = Vec::new(alloc);
         for _ in 0..slots {
             if items.push(Row::unused(alloc)).is_err() {
                 return Err(NoMemory);
             }
         }
-        Ok(Rows { items })
+        Ok(Rows { items, counts })
     }
 
     /// How many slots there are.
@@ -84,10 +95,14 @@ impl Rows {
         ensures is { result ≡ spec.carried_count self.now child }
         ensures few { result ≤ length self.now }
     {
-        self.items
-            .iter()
-            .filter(|row| row.is_carried_by(child))
-            .count()
+        match self.counts.child(child) {
+            Some(counts) => counts.carried as usize,
+            None => self
+                .items
+                .iter()
+                .filter(|row| row.is_carried_by(child))
+                .count(),
+        }
     }
 
     /// How many open connections the child has.
@@ -95,17 +110,49 @@ impl Rows {
         ensures is { result ≡ spec.open_count self.now child }
         ensures few { result ≤ length self.now }
     {
-        self.items
-            .iter()
-            .filter(|row| row.is_open_in(child))
-            .count()
+        match self.counts.child(child) {
+            Some(counts) => counts.open_rows as usize,
+            None => self
+                .items
+                .iter()
+                .filter(|row| row.is_open_in(child))
+                .count(),
+        }
+    }
+
+    /// How many rows the workers of the child serve.
+    pub fn working_in(&self, child: u32) -> usize
+        ensures is { result ≡ count_by (spec.is_working_in child) self.now }
+        ensures few { result ≤ length self.now }
+    {
+        match self.counts.child(child) {
+            Some(counts) => counts.working as usize,
+            None => self
+                .items
+                .iter()
+                .filter(|row| row.is_working_in(child))
+                .count(),
+        }
+    }
+
+    /// Whether a connection of the child is live.
+    pub fn has_live_in(&self, child: u32) -> bool
+        ensures { result ≡ list_any (spec.is_live_in child) self.now }
+    {
+        match self.counts.child(child) {
+            Some(counts) => counts.live > 0,
+            None => self.items.iter().any(|row| row.is_live_in(child)),
+        }
     }
 
     /// Whether the worker of that cell of the child serves a row.
     pub fn is_served(&self, child: u32, cell: u32) -> bool
         ensures { result ≡ list_any (spec.is_served_in child cell) self.now }
     {
-        self.items.iter().any(|row| row.is_served_in(child, cell))
+        match self.counts.child(child) {
+            Some(counts) => counts.is_busy(cell),
+            None => self.items.iter().any(|row| row.is_served_in(child, cell)),
+        }
     }
 
     /// The lowest free cell of the child below the number, where there is one.
@@ -119,6 +166,171 @@ impl Rows {
     pub fn lowest_free_cell(&self, child: u32, threads: u32) -> u32
         ensures { result ≡ spec.lowest_free_cell self.now child threads }
     {
-        self.free_cell(child, threads).unwrap_or(threads)
+        match self.counts.child(child) {
+            Some(counts) => counts.lowest_free().min(threads),
+            None => self.free_cell(child, threads).unwrap_or(threads),
+        }
+    }
+
+    /// Whether a slot is vacant.
+    pub fn has_vacant(&self) -> bool
+        ensures { result ≡ list_any (λ r. spec.is_vacant r.place) self.now }
+    {
+        self.counts.totals.vacant > 0
+    }
+
+    /// Whether a connection is live.
+    pub fn has_live(&self) -> bool
+        ensures { result ≡ list_any spec.is_live self.now }
+    {
+        self.counts.totals.live > 0
+    }
+
+    /// Whether a pass has a connection: the listener holds it, or a worker has it, or will.
+    pub fn has_in_hand(&self) -> bool
+        ensures { result ≡ list_any (λ r. spec.is_with_a_pass r.place) self.now }
+    {
+        self.counts.totals.in_hand > 0
+    }
+
+    /// How many connections are live.
+    pub fn live_count(&self) -> usize
+        ensures { result ≡ count_by spec.is_live self.now }
+    {
+        self.counts.totals.live as usize
+    }
+
+    /// How many connections are served.
+    pub fn working_count(&self) -> usize
+        ensures { result ≡ count_by (λ r. spec.is_working r.place) self.now }
+    {
+        self.counts.totals.working as usize
+    }
+
+    /// How many connections wait for room to send.
+    pub fn writing_count(&self) -> usize
+        ensures { result ≡ count_by (λ r. spec.is_parked_as Writing r.place) self.now }
+    {
+        self.counts.totals.writing as usize
+    }
+
+    /// How many connections wait for a further request.
+    pub fn keep_alive_count(&self) -> usize
+        ensures { result ≡ count_by (λ r. spec.is_parked_as KeepAlive r.place) self.now }
+    {
+        self.counts.totals.keep_alive as usize
+    }
+
+    /// How many connections linger and wait.
+    pub fn closing_count(&self) -> usize
+        ensures { result ≡ count_by (λ r. spec.is_closing r.place) self.now }
+    {
+        self.counts.totals.closing as usize
+    }
+
+    /// Of the row of the slot: a connection arrived, and the listener holds it.
+    #[tactic(auto, using(crate::proofs::ListLemmas::set_is_update))]
+    pub fn take(&mut self, slot: u32, arrival: u64, child: u32, generation: u32)
+        requires { slot < length self.old }
+        ensures { self.new ≡ update self.old slot (λ r. record { life = r.life; arrival = arrival; child = child; generation = generation; place = Held; from = None; deadline = r.deadline; mid = false; last = false; short = false; cause = None; notes = [] }) }
+    {
+        let row = &mut self.items[slot as usize];
+        let before = row.standing();
+        row.take(arrival, child, generation);
+        let now = row.standing();
+        self.counts.change(before, now);
+    }
+
+    /// Of the row of the slot: it waits for this until the deadline.
+    #[tactic(auto, using(crate::proofs::ListLemmas::set_is_update))]
+    pub fn park(&mut self, slot: u32, kind: Kind, deadline: Moment)
+        requires { slot < length self.old }
+        ensures { self.new ≡ update self.old slot (λ r. record r { place = Parked kind; from = Some kind; deadline = deadline; mid = mid_after kind r }) }
+    {
+        let row = &mut self.items[slot as usize];
+        let before = row.standing();
+        row.park(kind, deadline);
+        let now = row.standing();
+        self.counts.change(before, now);
+    }
+
+    /// Of the row of the slot: the listener holds it.
+    #[tactic(auto, using(crate::proofs::ListLemmas::set_is_update))]
+    pub fn hold(&mut self, slot: u32)
+        requires { slot < length self.old }
+        ensures { self.new ≡ update self.old slot (λ r. held_row r) }
+    {
+        let row = &mut self.items[slot as usize];
+        let before = row.standing();
+        row.hold();
+        let now = row.standing();
+        self.counts.change(before, now);
+    }
+
+    /// Of the row of the slot: it waits for a worker.
+    #[tactic(auto, using(crate::proofs::ListLemmas::set_is_update))]
+    pub fn queue(&mut self, slot: u32)
+        requires { slot < length self.old }
+        ensures { self.new ≡ update self.old slot (λ r. queued_row r) }
+    {
+        let row = &mut self.items[slot as usize];
+        let before = row.standing();
+        row.queue();
+        let now = row.standing();
+        self.counts.change(before, now);
+    }
+
+    /// Of the row of the slot: the worker of the cell serves it.
+    #[tactic(auto, using(crate::proofs::ListLemmas::set_is_update))]
+    pub fn start(&mut self, slot: u32, cell: u32, phase: Phase)
+        requires { slot < length self.old }
+        ensures { self.new ≡ update self.old slot (λ r. record r { place = Working cell phase }) }
+    {
+        let row = &mut self.items[slot as usize];
+        let before = row.standing();
+        row.start(cell, phase);
+        let now = row.standing();
+        self.counts.change(before, now);
+    }
+
+    /// Of the row of the slot: its service ended for the cause, and its link lingers until the deadline.
+    #[tactic(auto, using(crate::proofs::ListLemmas::set_is_update))]
+    pub fn linger(&mut self, slot: u32, kind: Kind, deadline: Moment, cause: Cause)
+        requires { slot < length self.old }
+        ensures { self.new ≡ update self.old slot (λ r. record r { place = Parked kind; from = Some kind; deadline = deadline; mid = false; cause = Some cause }) }
+    {
+        let row = &mut self.items[slot as usize];
+        let before = row.standing();
+        row.linger(kind, deadline, cause);
+        let now = row.standing();
+        self.counts.change(before, now);
+    }
+
+    /// Of the row of the slot: its connection is gone.
+    #[tactic(auto, using(crate::proofs::ListLemmas::set_is_update))]
+    pub fn close(&mut self, slot: u32)
+        requires { slot < length self.old }
+        ensures { self.new ≡ update self.old slot (λ r. closed_row r) }
+    {
+        let row = &mut self.items[slot as usize];
+        let before = row.standing();
+        row.close();
+        let now = row.standing();
+        self.counts.change(before, now);
+    }
+
+    /// Of the row of the slot: the response is decided, and noted. Where memory lacks nothing changes.
+    #[tactic(auto, using(crate::proofs::ListLemmas::set_is_update))]
+    pub fn answer(&mut self, slot: u32, note: Note, short: bool) -> Result<(), NoMemory>
+        requires { slot < length self.old }
+        ensures ok { OnOk result (self.new ≡ update self.old slot (with_note note short)) }
+        ensures err { OnErr result (self.new ≡ self.old) }
+    {
+        let row = &mut self.items[slot as usize];
+        let before = row.standing();
+        let answered = row.answer(note, short);
+        let now = row.standing();
+        self.counts.change(before, now);
+        answered
     }
 }

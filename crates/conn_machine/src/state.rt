@@ -209,13 +209,13 @@ impl State {
     pub fn has_live(&self) -> bool
         ensures { result ≡ list_any is_live self.now.rows }
     {
-        self.rows.as_slice().iter().any(|row| row.is_live())
+        self.rows.has_live()
     }
 
     /// Whether a connection of the child is live.
     pub fn has_live_in(&self, child: u32) -> bool
         ensures { result ≡ list_any (is_live_in child) self.now.rows }
     {
-        self.rows.as_slice().iter().any(|row| row.is_live_in(child))
+        self.rows.has_live_in(child)
     }
 }

@@ -1,0 +1,136 @@
+-- What is kept of the rows beside them, so that no call goes over them: numbers that equal the counts of the rows.
+use Rattle.std.specs.Prelude.{◌≡◌, ◌==◌, ℕ, ◌+◌, ◌-◌, ◌<◌, ◌^◌, Bool, true, false, not, ◌&&◌, List, count_by, cond, length, min, nat_lt, replicate, slice_index_or}
+use Rattle.std.specs.Int.{bit_at}
+use Rattle.mpm_base.specs.declared.conn.Kind.TheVariants.{KeepAlive, Writing}
+use Rattle.conn_machine.specs.declared.counts.ChildCounts.{ChildCounts}
+use Rattle.conn_machine.specs.declared.counts.Counts.{Counts}
+use Rattle.conn_machine.specs.declared.counts.Standing.{Standing}
+use Rattle.conn_machine.specs.declared.counts.Totals.{Totals}
+use Rattle.conn_machine.specs.declared.row.Place.{Place}
+use Rattle.conn_machine.specs.declared.row.Place.TheVariants.{Vacant, Spent, Held, Parked, Queued, Working}
+use Rattle.conn_machine.specs.declared.row.Row.{Row}
+use Rattle.conn_machine.specs.Rows.{is_vacant, is_unused, is_working, is_carried_at, is_with_a_pass, is_in_cell, is_parked_as, is_closing, is_live, is_lingering, is_live_in, is_working_in, is_served_in, carried_count, open_count}
+
+-- ## One number
+
+-- 1 where it is so, else 0
+abbrev pub one_if : Bool → ℕ
+one_if so = cond so 1 0
+
+-- the count once one that passed or didn't is replaced by another
+abbrev pub moved : ℕ → Bool → Bool → ℕ
+moved n before now = min (n - one_if before + one_if now) 4294967295
+
+-- ## What counts see of a row
+
+-- what counts see of the row
+abbrev pub standing_of : Row → Standing
+standing_of r = record { child = r.child; place = r.place; lingering = is_lingering r }
+
+-- ## The counts of all rows
+
+-- the counts of all rows once one has another place
+abbrev pub changed_totals : Place → Place → Totals → Totals
+changed_totals before now t =
+    record {
+      vacant = moved t.vacant (is_vacant before) (is_vacant now);
+      live = moved t.live (not (is_unused before)) (not (is_unused now));
+      in_hand = moved t.in_hand (is_with_a_pass before) (is_with_a_pass now);
+      working = moved t.working (is_working before) (is_working now);
+      writing = moved t.writing (is_parked_as Writing before) (is_parked_as Writing now);
+      keep_alive = moved t.keep_alive (is_parked_as KeepAlive before) (is_parked_as KeepAlive now);
+      closing = moved t.closing (is_closing before) (is_closing now);
+    }
+
+-- the numbers are the counts of the rows
+pub record CountsAll (t : Totals) (rows : List Row) : Type 0 where
+  pub vacant : t.vacant ≡ count_by (λ (r : Row). is_vacant r.place) rows
+  pub live : t.live ≡ count_by is_live rows
+  pub in_hand : t.in_hand ≡ count_by (λ (r : Row). is_with_a_pass r.place) rows
+  pub working : t.working ≡ count_by (λ (r : Row). is_working r.place) rows
+  pub writing : t.writing ≡ count_by (λ (r : Row). is_parked_as Writing r.place) rows
+  pub keep_alive : t.keep_alive ≡ count_by (λ (r : Row). is_parked_as KeepAlive r.place) rows
+  pub closing : t.closing ≡ count_by (λ (r : Row). is_closing r.place) rows
+
+-- ## The counts of one child
+
+-- nothing is counted
+abbrev pub no_counts : ChildCounts
+no_counts = record { carried = 0; open_rows = 0; live = 0; working = 0; busy = 0 }
+
+-- what is counted of the child
+abbrev pub counts_of : List ChildCounts → ℕ → ChildCounts
+counts_of children k = slice_index_or children k no_counts
+
+-- the word of busy cells can say that a row is at the place: not in a cell that is busy, or beyond the word
+abbrev pub has_bit_for : ℕ → Place → Bool
+has_bit_for busy Vacant = true
+has_bit_for busy Spent = true
+has_bit_for busy Held = true
+has_bit_for busy (Parked kind) = true
+has_bit_for busy Queued = true
+has_bit_for busy (Working cell phase) = nat_lt cell 64 && bit_at busy cell == 0
+
+-- the counts of the row's own child, without the row
+pub record LeavesOwn (x : Standing) (old new : ChildCounts) : Type 0 where
+  pub carried : new.carried ≡ moved old.carried (is_carried_at x.place) false
+  pub open_rows : new.open_rows ≡ moved old.open_rows (not (is_unused x.place) && not x.lingering) false
+  pub live : new.live ≡ moved old.live (not (is_unused x.place)) false
+  pub working : new.working ≡ moved old.working (is_working x.place) false
+  pub busy : (c : ℕ) → bit_at new.busy c ≡ bit_at old.busy c - one_if (is_in_cell c x.place)
+
+-- the counts of the row's own child, with the row
+pub record EntersOwn (x : Standing) (old new : ChildCounts) : Type 0 where
+  pub carried : new.carried ≡ moved old.carried false (is_carried_at x.place)
+  pub open_rows : new.open_rows ≡ moved old.open_rows false (not (is_unused x.place) && not x.lingering)
+  pub live : new.live ≡ moved old.live false (not (is_unused x.place))
+  pub working : new.working ≡ moved old.working false (is_working x.place)
+  pub busy : (c : ℕ) → bit_at new.busy c ≡ bit_at old.busy c + one_if (is_in_cell c x.place)
+
+-- the counts of a child without the row, which may be another child's
+pub record Leaves (k : ℕ) (x : Standing) (old new : ChildCounts) : Type 0 where
+  pub own : (x.child == k) ≡ true → LeavesOwn x old new
+  pub other : (x.child == k) ≡ false → new ≡ old
+
+-- the counts of a child with the row, which may be another child's
+pub record Enters (k : ℕ) (x : Standing) (old new : ChildCounts) : Type 0 where
+  pub own : (x.child == k) ≡ true → EntersOwn x old new
+  pub other : (x.child == k) ≡ false → new ≡ old
+
+-- the counts of a child once a row stands otherwise: it goes, and comes
+pub record Moves (k : ℕ) (before now : Standing) (old new : ChildCounts) : Type 0 where
+  pub between : ChildCounts
+  pub leaves : Leaves k before old between
+  pub enters : Enters k now between new
+
+-- the numbers are the counts of the child's rows, and each bit is the count of its cell
+pub record CountsChild (kept : ChildCounts) (rows : List Row) (k : ℕ) : Type 0 where
+  pub carried : kept.carried ≡ carried_count rows k
+  pub open_rows : kept.open_rows ≡ open_count rows k
+  pub live : kept.live ≡ count_by (is_live_in k) rows
+  pub working : kept.working ≡ count_by (is_working_in k) rows
+  pub busy : (c : ℕ) → bit_at kept.busy c ≡ count_by (is_served_in k c) rows
+
+-- ## All counts
+
+-- the counts can say that a row stands so
+abbrev pub is_countable : List ChildCounts → Standing → Bool
+is_countable children x = nat_lt x.child (length children) && has_bit_for (counts_of children x.child).busy x.place
+
+-- the counts of so many slots, none of which was ever used
+pub record IsOpening (slots : ℕ) (counts : Counts) : Type 0 where
+  pub totals : counts.totals ≡ record { vacant = slots; live = 0; in_hand = 0; working = 0; writing = 0; keep_alive = 0; closing = 0 }
+  pub children : counts.children.items ≡ replicate 32 no_counts
+  pub exact : counts.exact ≡ true
+
+-- the counts once a row stands otherwise
+pub record IsChanged (before now : Standing) (old new : Counts) : Type 0 where
+  pub totals : new.totals ≡ changed_totals before.place now.place old.totals
+  pub exact : new.exact ≡ true → old.exact ≡ true
+  pub children : new.exact ≡ true → (k : ℕ) → Moves k before now (counts_of old.children.items k) (counts_of new.children.items k)
+
+-- the counts are those of the rows; of the children only while they are exact
+pub record IsCounted (counts : Counts) (rows : List Row) : Type 0 where
+  pub few : length rows < 2 ^ 32
+  pub totals : CountsAll counts.totals rows
+  pub children : counts.exact ≡ true → (k : ℕ) → CountsChild (counts_of counts.children.items k) rows k

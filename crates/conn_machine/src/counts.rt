@@ -1,0 +1,308 @@
+//! What is kept of the rows beside them, so that no call goes over them.
+ghost use Rattle.std.specs.Prelude.{◌≡◌, ◌≢◌, ◌==◌, ℕ, ◌+◌, ◌-◌, ◌<◌, true, ◌&&◌, IfOk, if◌then◌else◌, Some, None};
+ghost use Rattle.std.specs.Int.{bit_at};
+ghost use Rattle.conn_machine.specs.CountsInside as spec;
+ghost use Rattle.conn_machine.specs.Rows.{is_in_cell};
+
+use crate::row::{Place, Row};
+use crate::state::MOST_CHILDREN;
+use mpm_base::{Kind, NoMemory};
+use std::alloc::Global;
+
+/// What counts see of a row.
+#[derive(Clone, Copy, Debug)]
+pub(crate) struct Standing {
+    pub child: u32,
+    pub place: Place,
+    pub lingering: bool,
+}
+
+/// How many of all rows are so and so.
+#[derive(Clone, Copy, Debug)]
+pub(crate) struct Totals {
+    pub vacant: u32,
+    pub live: u32,
+    pub in_hand: u32,
+    pub working: u32,
+    pub writing: u32,
+    pub keep_alive: u32,
+    pub closing: u32,
+}
+
+/// How many of a child's rows are so and so.
+#[derive(Clone, Copy, Debug)]
+pub(crate) struct ChildCounts {
+    pub carried: u32,
+    pub open_rows: u32,
+    pub live: u32,
+    pub working: u32,
+    // Bit c is set exactly where a row is served in cell c.
+    pub busy: u64,
+}
+
+/// The counts of a list of rows.
+#[derive(Debug, Drop)]
+pub(crate) struct Counts {
+    pub totals: Totals,
+    children: Vec<ChildCounts>,
+    // No row had a child beyond those, was served beyond the word of busy cells, or was given a cell that another one had. The
+    // counts of the children hold only where this is so.
+    exact: bool,
+}
+
+impl Row {
+    /// What counts see of it.
+    pub(crate) fn standing(&self) -> Standing
+        ensures { result ≡ spec.standing_of self.now }
+    {
+        Standing {
+            child: self.child,
+            place: self.place,
+            lingering: self.is_lingering(),
+        }
+    }
+}
+
+/// The count once one that passed or didn't is replaced by another.
+fn moved(count: u32, before: bool, now: bool) -> u32
+    ensures { result ≡ spec.moved count before now }
+{
+    count
+        .saturating_sub(u32::from(before))
+        .saturating_add(u32::from(now))
+}
+
+impl Totals {
+    /// One row has another place.
+    fn change(&mut self, before: Place, now: Place)
+        ensures { self.new ≡ spec.changed_totals before now self.old }
+    {
+        self.vacant = moved(self.vacant, before.is_vacant(), now.is_vacant());
+        self.live = moved(self.live, !before.is_unused(), !now.is_unused());
+        self.in_hand = moved(self.in_hand, before.is_in_hand(), now.is_in_hand());
+        self.working = moved(self.working, before.is_working(), now.is_working());
+        self.writing = moved(
+            self.writing,
+            before.is_parked_as(Kind::Writing),
+            now.is_parked_as(Kind::Writing),
+        );
+        self.keep_alive = moved(
+            self.keep_alive,
+            before.is_parked_as(Kind::KeepAlive),
+            now.is_parked_as(Kind::KeepAlive),
+        );
+        self.closing = moved(self.closing, before.is_closing(), now.is_closing());
+    }
+}
+
+/// Whether the bit is set.
+fn has_bit(word: u64, bit: u32) -> bool
+    ensures { result ≡ (bit_at word bit == 1) }
+{
+    bit < 64 && (word >> bit) & 1 == 1
+}
+
+/// The word with the bit set.
+fn with_bit(word: u64, bit: u32) -> u64
+    requires { bit < 64 }
+    ensures set { bit_at result bit ≡ 1 }
+    ensures others { (c : ℕ) → c ≢ bit → bit_at result c ≡ bit_at word c }
+{
+    word | (1 << bit)
+}
+
+/// The word with the bit cleared.
+fn without_bit(word: u64, bit: u32) -> u64
+    requires { bit < 64 }
+    ensures clear { bit_at result bit ≡ 0 }
+    ensures others { (c : ℕ) → c < 64 → c ≢ bit → bit_at result c ≡ bit_at word c }
+{
+    word & !(1 << bit)
+}
+
+/// The word of busy cells without the row that is at the place.
+#[tactic(auto, using(crate::proofs::KeptCounts::bit_less, crate::proofs::KeptCounts::bit_beyond, crate::proofs::KeptCounts::none_less))]
+fn busy_without(busy: u64, place: Place) -> u64
+    ensures { (c : ℕ) → bit_at result c ≡ bit_at busy c - spec.one_if (is_in_cell c place) }
+{
+    match place {
+        Place::Working(cell, _) => {
+            if cell < 64 {
+                without_bit(busy, cell)
+            } else {
+                busy
+            }
+        }
+        _ => busy,
+    }
+}
+
+/// The word of busy cells with a row at the place.
+fn busy_with(busy: u64, place: Place) -> u64
+    requires { spec.has_bit_for busy place ≡ true }
+    ensures { (c : ℕ) → bit_at result c ≡ bit_at busy c + spec.one_if (is_in_cell c place) }
+{
+    match place {
+        Place::Working(cell, _) => with_bit(busy, cell),
+        _ => busy,
+    }
+}
+
+/// The lowest clear bit of the word; 64 where none is.
+#[tactic(auto, using(crate::proofs::KeptCounts::all_set))]
+fn lowest_clear(word: u64) -> u32
+    ensures clear { bit_at word result ≡ 0 }
+    ensures lowest { (c : ℕ) → c < result → bit_at word c ≡ 1 }
+{
+    if word == u64::MAX {
+        64
+    } else {
+        word.trailing_ones()
+    }
+}
+
+impl ChildCounts {
+    /// Nothing is counted.
+    fn none() -> ChildCounts
+        ensures { result ≡ spec.no_counts }
+    {
+        ChildCounts {
+            carried: 0,
+            open_rows: 0,
+            live: 0,
+            working: 0,
+            busy: 0,
+        }
+    }
+
+    /// Whether the word of busy cells can say that a row is at the place.
+    fn has_bit_for(&self, place: Place) -> bool
+        ensures { result ≡ spec.has_bit_for self.now.busy place }
+    {
+        match place {
+            Place::Working(cell, _) => cell < 64 && (self.busy >> cell) & 1 == 0,
+            _ => true,
+        }
+    }
+    /// Whether the worker of the cell serves a row.
+    pub fn is_busy(&self, cell: u32) -> bool
+        ensures { result ≡ (bit_at self.now.busy cell == 1) }
+    {
+        has_bit(self.busy, cell)
+    }
+
+    /// The lowest free cell; 64 where each below is busy.
+    pub fn lowest_free(&self) -> u32
+        ensures clear { bit_at self.now.busy result ≡ 0 }
+        ensures lowest { (c : ℕ) → c < result → bit_at self.now.busy c ≡ 1 }
+    {
+        lowest_clear(self.busy)
+    }
+
+    /// Without the row, which is of the child.
+    fn leave(&mut self, row: Standing)
+        ensures { spec.LeavesOwn row self.old self.new }
+    {
+        let live = !row.place.is_unused();
+        self.carried = moved(self.carried, row.place.is_carried(), false);
+        self.open_rows = moved(self.open_rows, live && !row.lingering, false);
+        self.live = moved(self.live, live, false);
+        self.working = moved(self.working, row.place.is_working(), false);
+        self.busy = busy_without(self.busy, row.place);
+    }
+
+    /// With the row, which is of the child.
+    fn enter(&mut self, row: Standing)
+        requires { spec.has_bit_for self.old.busy row.place ≡ true }
+        ensures { spec.EntersOwn row self.old self.new }
+    {
+        let live = !row.place.is_unused();
+        self.carried = moved(self.carried, false, row.place.is_carried());
+        self.open_rows = moved(self.open_rows, false, live && !row.lingering);
+        self.live = moved(self.live, false, live);
+        self.working = moved(self.working, false, row.place.is_working());
+        self.busy = busy_with(self.busy, row.place);
+    }
+}
+
+impl Counts {
+    /// The counts of so many slots, none of which was ever used.
+    pub fn opening(alloc: Global, slots: u32) -> Result<Counts, NoMemory>
+        ensures { IfOk result (spec.IsOpening slots) }
+    {
+        let Ok(children) = vec![in alloc; ChildCounts::none(); MOST_CHILDREN] else {
+            return Err(NoMemory);
+        };
+        Ok(Counts {
+            totals: Totals {
+                vacant: slots,
+                live: 0,
+                in_hand: 0,
+                working: 0,
+                writing: 0,
+                keep_alive: 0,
+                closing: 0,
+            },
+            children,
+            exact: true,
+        })
+    }
+
+    /// The counts of the child, while those of the children are exact.
+    pub fn child(&self, child: u32) -> Option<ChildCounts>
+        ensures { result ≡ (if self.now.exact then Some (spec.counts_of self.now.children.items child) else None) }
+    {
+        if !self.exact {
+            return None;
+        }
+        match self.children.get(child as usize) {
+            Some(counts) => Some(*counts),
+            None => Some(ChildCounts::none()),
+        }
+    }
+
+    /// A row stands otherwise.
+    pub fn change(&mut self, before: Standing, now: Standing)
+        ensures { spec.IsChanged before now self.old self.new }
+    {
+        self.totals.change(before.place, now.place);
+        self.leave(before);
+        self.enter(now);
+    }
+
+    /// The child's counts without the row.
+    fn leave(&mut self, row: Standing)
+        ensures totals { self.new.totals ≡ self.old.totals }
+        ensures exact { self.new.exact ≡ self.old.exact }
+        ensures children { (k : ℕ) → spec.Leaves k row (spec.counts_of self.old.children.items k) (spec.counts_of self.new.children.items k) }
+    {
+        if (row.child as usize) < self.children.len() {
+            let counts = &mut self.children[row.child as usize];
+            counts.leave(row);
+        }
+    }
+
+    /// The child's counts with the row, where the counts can say it.
+    fn enter(&mut self, row: Standing)
+        ensures totals { self.new.totals ≡ self.old.totals }
+        ensures exact { self.new.exact ≡ (self.old.exact && spec.is_countable self.old.children.items row) }
+        ensures children { self.new.exact ≡ true → (k : ℕ) → spec.Enters k row (spec.counts_of self.old.children.items k) (spec.counts_of self.new.children.items k) }
+    {
+        if self.is_countable(row) {
+            let counts = &mut self.children[row.child as usize];
+            counts.enter(row);
+        } else {
+            self.exact = false;
+        }
+    }
+
+    /// Whether the counts can say that a row stands so.
+    fn is_countable(&self, row: Standing) -> bool
+        ensures { result ≡ spec.is_countable self.now.children.items row }
+    {
+        match self.children.get(row.child as usize) {
+            Some(counts) => counts.has_bit_for(row.place),
+            None => false,
+        }
+    }
+}
