@@ -1,5 +1,5 @@
 -- The numbers that are kept of the rows equal the counts of the rows, whatever row changes.
-use Rattle.std.proofs.Common.{◌≡◌, ◌≢◌, ◌⊎◌, ◌==◌, ℕ, zero, suc, ◌+◌, ◌-◌, ◌<◌, ◌≤◌, ◌^◌, Bool, true, false, not, ◌&&◌, cond, min, nat_lt, List, [], ◌∷◌, count_by, length, replicate, get_or, Option, None, Some, refl, sym, ap, ◌∙◌, subst, inl, inr, arith}
+use Rattle.std.proofs.Common.{◌≡◌, ◌≢◌, ◌⊎◌, ◌==◌, ℕ, zero, suc, ◌+◌, ◌-◌, ◌<◌, ◌≤◌, ◌^◌, Bool, true, false, not, ◌&&◌, cond, min, nat_lt, List, count_by, length, replicate, get_or, Option, None, Some, refl, sym, ap, ◌∙◌, subst, inl, inr, arith}
 use Rattle.std.specs.Prelude.{if◌then◌else◌}
 use Rattle.std.specs.Int.{bit_at}
 use Rattle.std.specs.Option.{unwrap_or}
@@ -7,8 +7,7 @@ use Rattle.std.specs.List.{find, list_any, range_with_len}
 use Rattle.std.proofs.Math.ListN.{set}
 use Rattle.std.proofs.Math.Nat.{min-eq_left}
 use Rattle.std.proofs.lemmas.Bool.{cases_eq, cases_lt, eqb-true, eqb-false, lt-ltb, le-ltb}
-use Rattle.std.proofs.lemmas.List.{length-set, length-replicate, get_or-set_other}
-use Rattle.std.proofs.lemmas.Grind.{get_or-set_at}
+use Rattle.std.proofs.lemmas.List.{length-set, length-replicate}
 use Rattle.std.proofs.lemmas.Nat.Bits.{bit_at-lt, bit_at-zero, bit_at_above, bit_at_ones}
 use Rattle.std.proofs.lemmas.List.Sums.{sum_by-set, get_or-le-sum_by, count_by-le-length}
 use Rattle.mpm_base.specs.declared.conn.Kind.TheVariants.{KeepAlive, Writing}
@@ -19,7 +18,7 @@ use Rattle.conn_machine.specs.declared.counts.Totals.{Totals}
 use Rattle.conn_machine.specs.declared.row.Row.{Row}
 use Rattle.conn_machine.specs.Rows.{is_vacant, is_working, is_with_a_pass, is_parked_as, is_closing, is_live, is_carried_by, is_open_in, is_live_in, is_working_in, is_served_in, is_free_cell, lowest_free_cell}
 use Rattle.conn_machine.specs.States.{unused_row}
-use Rattle.conn_machine.specs.CountsInside.{one_if, moved, standing_of, changed_totals, CountsAll, no_counts, counts_of, LeavesOwn, EntersOwn, Leaves, Enters, Moves, CountsChild, IsChanged, IsOpening, IsCounted}
+use Rattle.conn_machine.specs.CountsInside.{one_if, moved, standing_of, changed_totals, CountsAll, no_counts, counts_of, Moves, CountsChild, IsChanged, IsOpening, IsCounted}
 use Rattle.conn_machine.proofs.CellLemmas.{count_by-any, count_by-none}
 use Rattle.conn_machine.proofs.CountLemmas.{count_none}
 use Rattle.conn_machine.proofs.UpdateLemmas.{count_cons}
@@ -321,73 +320,6 @@ pub lowest_told : (busy k threads t : ℕ) (rows seen : List Row) → rows ≡ s
 lowest_told busy k threads t rows seen view told clear lower =
     lowest_in busy k threads t rows told clear lower ∙ ap (λ (xs : List Row). lowest_free_cell xs k threads) view
 
--- ## A change of the counts
-
--- the changed child's counts are the new ones
-put_own : (children children' : List ChildCounts) (i : ℕ) (kept : ChildCounts) → children' ≡ set children i kept → i < length children
-    → counts_of children' i ≡ kept
-put_own children children' i kept is below = rw is (get_or-set_at children i i kept no_counts refl below)
-
--- another child's stay
-put_other : (children children' : List ChildCounts) (i k : ℕ) (kept : ChildCounts) → children' ≡ set children i kept → (i == k) ≡ false
-    → counts_of children' k ≡ counts_of children k
-put_other children children' i k kept is other =
-    rw is (get_or-set_other children i k kept no_counts (λ e. eqb-false i k other (sym e)))
-
--- the row goes out of its child's counts
-pub leaves_put : (children children' : List ChildCounts) (x : Standing) (kept : ChildCounts) → children' ≡ set children x.child kept
-    → x.child < length children → LeavesOwn x (counts_of children x.child) kept
-    → (k : ℕ) → Leaves k x (counts_of children k) (counts_of children' k)
-leaves_put children children' x kept is below own k = record {
-  own = λ same.
-      let e : x.child ≡ k = eqb-true x.child k same in
-      let at : counts_of children' x.child ≡ kept = put_own children children' x.child kept is below in
-      let here : LeavesOwn x (counts_of children x.child) (counts_of children' x.child) = rw at own in
-      subst (λ (j : ℕ). LeavesOwn x (counts_of children j) (counts_of children' j)) e here;
-  other = λ other. put_other children children' x.child k kept is other;
-}
-
--- the row comes into its child's counts
-pub enters_put : (children children' : List ChildCounts) (x : Standing) (kept : ChildCounts) → children' ≡ set children x.child kept
-    → x.child < length children → EntersOwn x (counts_of children x.child) kept
-    → (k : ℕ) → Enters k x (counts_of children k) (counts_of children' k)
-enters_put children children' x kept is below own k = record {
-  own = λ same.
-      let e : x.child ≡ k = eqb-true x.child k same in
-      let at : counts_of children' x.child ≡ kept = put_own children children' x.child kept is below in
-      let here : EntersOwn x (counts_of children x.child) (counts_of children' x.child) = rw at own in
-      subst (λ (j : ℕ). EntersOwn x (counts_of children j) (counts_of children' j)) e here;
-  other = λ other. put_other children children' x.child k kept is other;
-}
-
--- nothing goes where nothing is counted
-none_gone : (passes : Bool) → 0 ≡ moved 0 passes false
-none_gone true = refl
-none_gone false = refl
-
--- a child beyond the last has no counts
-beyond : (children : List ChildCounts) (i : ℕ) → length children ≤ i → counts_of children i ≡ no_counts
-beyond [] i above = refl
-beyond (x ∷ xs) zero above = absurd (omega arith)
-beyond (x ∷ xs) (suc i) above = beyond xs i (omega arith)
-
--- a row of a child beyond the last goes
-pub leaves_beyond : (children : List ChildCounts) (x : Standing) → length children ≤ x.child
-    → (k : ℕ) → Leaves k x (counts_of children k) (counts_of children k)
-leaves_beyond children x above k = record {
-  own = λ same.
-      let e : x.child ≡ k = eqb-true x.child k same in
-      let none : counts_of children k ≡ no_counts = beyond children k (omega (arith, e, above)) in
-      rw none (record {
-        carried = none_gone _;
-        open_rows = none_gone _;
-        live = none_gone _;
-        working = none_gone _;
-        busy = λ c. rw (bit_at-zero c) (omega arith);
-      });
-  other = λ other. refl;
-}
-
 -- ## The word of busy cells
 
 -- a bit is cleared: whose it is, and whether the word has it
@@ -408,23 +340,6 @@ pub bit_less : (old new k : ℕ) → old < 2 ^ 64 → new < 2 ^ 64 → bit_at ne
     → ((i : ℕ) → i < 64 → i ≢ k → bit_at new i ≡ bit_at old i) → (c : ℕ) → bit_at new c ≡ bit_at old c - one_if (k == c)
 bit_less old new k small small' clear others c =
     bit_less_at old new k c small small' clear others (k == c) refl (cases_lt c 64)
-
--- a bit that was clear is set: whose it is
-bit_more_at : (old new k c : ℕ) → bit_at old k ≡ 0 → bit_at new k ≡ 1 → ((i : ℕ) → i ≢ k → bit_at new i ≡ bit_at old i)
-    → (own : Bool) → (k == c) ≡ own → bit_at new c ≡ bit_at old c + one_if (k == c)
-bit_more_at old new k c clear now others true e =
-    let is : k ≡ c = eqb-true k c e in
-    let none : bit_at old c ≡ 0 = subst (λ (i : ℕ). bit_at old i ≡ 0) is clear in
-    let one : bit_at new c ≡ 1 = subst (λ (i : ℕ). bit_at new i ≡ 1) is now in
-    rw e (omega (arith, none, one))
-bit_more_at old new k c clear now others false e =
-    let same : bit_at new c ≡ bit_at old c = others c (λ is. eqb-false k c e (sym is)) in
-    rw e (omega (arith, same))
-
--- a bit that was clear is set
-pub bit_more : (old new k : ℕ) → bit_at old k ≡ 0 → bit_at new k ≡ 1 → ((i : ℕ) → i ≢ k → bit_at new i ≡ bit_at old i)
-    → (c : ℕ) → bit_at new c ≡ bit_at old c + one_if (k == c)
-bit_more old new k clear now others c = bit_more_at old new k c clear now others (k == c) refl
 
 -- a bit that isn't there, or another one, is cleared
 bit_beyond_at : (word k : ℕ) → word < 2 ^ 64 → 64 ≤ k → (c : ℕ) (own : Bool) → (k == c) ≡ own
