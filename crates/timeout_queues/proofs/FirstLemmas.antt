@@ -4,76 +4,33 @@ use Rattle.std.specs.Option.{option_map_or}
 use Rattle.std.proofs.Math.ListN.{get_or-map}
 use Rattle.std.proofs.lemmas.Bool.{cases_lt}
 use Rattle.std.proofs.lemmas.List.{length-map}
-use Rattle.std.proofs.lemmas.Option.{none-some, same_Some, slice_get_within, get_or_from_slice_get}
+use Rattle.std.proofs.lemmas.Option.{none-some, same_Some, get_or_from_slice_get}
 use Rattle.mpm_base.specs.declared.conn.Kind.{Kind}
 use Rattle.mpm_base.specs.declared.conn.Kind.TheVariants.{Reading, KeepAlive, Writing, Linger, ShortLinger}
 use Rattle.timeout_queues.specs.Waiting.{ParkedName, in_life, least_deadline}
 use Rattle.timeout_queues.specs.Entries.{parked_in}
-use Rattle.timeout_queues.specs.RingsInside.{ring_number, ring_of, ring_at, due_of, due_at, place_at, IsRings, IsFirstOf}
+use Rattle.timeout_queues.specs.RingsInside.{ring_number, by_kind, place_at, IsRings, IsFirstOf}
 use Rattle.timeout_queues.specs.declared.Due.{Due}
 use Rattle.timeout_queues.specs.declared.Entry.{Entry}
+use Rattle.timeout_queues.proofs.HeadLemmas.{ring_first}
 use Rattle.timeout_queues.proofs.KeptLemmas.{deadline_at}
 use Rattle.timeout_queues.proofs.MapLemmas.{get_or_some}
 
 -- ## Of one ring
 
--- a slot at the head of its ring that is due no later than what is parked in another
-pub record IsHead (slots : List (Option ParkedName)) (place deadline : ℕ) : Type 0 where
-  pub name : ParkedName
-  pub there : slice_get slots place ≡ Some (Some name)
-  pub due : name.deadline ≤ deadline
-
-module _ (slots : List (Option ParkedName)) (before behind : List ℕ) (r : IsRings slots before behind) (number : ℕ) where
-  head_least : (m i : ℕ) (p : ParkedName) → r.rank i < m → slice_get slots i ≡ Some (Some p) → ring_number p.kind ≡ number →
-      IsHead slots (place_at behind (length slots + number)) p.deadline
-  head_least zero i p low at kind = absurd (omega arith)
-  head_least (suc m) i p low at kind = on (slice_get slots (place_at before i)) refl (head_least m)
-    where
-      inside : i < length slots + 5
-      inside = omega (arith, slice_get_within slots i (Some p) at)
-
-      ring : ring_at slots (place_at before i) ≡ Some (length slots + number)
-      ring = let l = r.linked i inside in
-          l.ring ∙ ap (λ o. ring_of slots i o) at ∙ ap (λ n. Some (length slots + n)) kind
-
-      on : (o : Option (Option ParkedName)) → slice_get slots (place_at before i) ≡ o →
-          ((j : ℕ) (q : ParkedName) → r.rank j < m → slice_get slots j ≡ Some (Some q) → ring_number q.kind ≡ number →
-          IsHead slots (place_at behind (length slots + number)) q.deadline) →
-          IsHead slots (place_at behind (length slots + number)) p.deadline
-      on None e again =
-          let l = r.linked i inside in
-          let head : place_at before i ≡ length slots + number =
-          same_Some (place_at before i) (length slots + number) (sym (ap (λ o. ring_of slots (place_at before i) o) e) ∙ ring) in
-          let here : place_at behind (length slots + number) ≡ i = ap (λ j. place_at behind j) (sym head) ∙ l.forth in
-          record { name = p; there = ap (λ j. slice_get slots j) here ∙ at; due = omega arith }
-      on (Some None) e again =
-          absurd (none-some (length slots + number) (sym (ap (λ o. ring_of slots (place_at before i) o) e) ∙ ring))
-      on (Some (Some q)) e again =
-          let l = r.linked i inside in
-          let o = l.order p at in
-          let same : length slots + ring_number q.kind ≡ length slots + number =
-          same_Some (length slots + ring_number q.kind) (length slots + number) (sym (ap (λ x. ring_of slots (place_at before i) x) e) ∙ ring) in
-          let due : due_at slots (place_at before i) ≡ q.deadline = ap due_of e in
-          let head = again (place_at before i) q (omega (arith, o.1, low)) e (omega (arith, same)) in
-          record { name = head.name; there = head.there; due = omega (arith, head.due, due, o.0) }
-
-  pub ring_first : (i : ℕ) (p : ParkedName) → slice_get slots i ≡ Some (Some p) → ring_number p.kind ≡ number →
-      IsHead slots (place_at behind (length slots + number)) p.deadline
-  ring_first i p at kind = head_least (suc (r.rank i)) i p (omega arith) at kind
-
 -- what is kept behind the head of a ring, where something is parked that is in it
-head_seen : (kept : List (Option Entry)) (before behind : List ℕ) (number slot : ℕ) → IsRings (map parked_in kept) before behind →
+head_seen : (kept : List (Option Entry)) (before behind : List ℕ) (number slot : ℕ) → IsRings by_kind (map parked_in kept) before behind →
     slot ≡ place_at behind (length kept + number) →
     (i : ℕ) (p : ParkedName) → slice_get (map parked_in kept) i ≡ Some (Some p) → ring_number p.kind ≡ number →
     (q : ParkedName) × (parked_in (get_or kept slot None) ≡ Some q) × (q.deadline ≤ p.deadline)
 head_seen kept before behind number slot r is i p at kind =
-    let head = ring_first (map parked_in kept) before behind r number i p at kind in
+    let head = ring_first by_kind (map parked_in kept) before behind r number i p at kind in
     let count = length-map kept parked_in in
     let place : place_at behind (length (map parked_in kept) + number) ≡ slot = ap (λ n. place_at behind (n + number)) count ∙ sym is in
     let there = rw place at head.there in
     (head.name, sym (get_or-map parked_in kept slot None) ∙ get_or_from_slice_get (map parked_in kept) slot (Some head.name) None there, head.due)
 
-pub first_some : (kept : List (Option Entry)) (before behind : List ℕ) (number slot : ℕ) (e : Entry) → IsRings (map parked_in kept) before behind →
+pub first_some : (kept : List (Option Entry)) (before behind : List ℕ) (number slot : ℕ) (e : Entry) → IsRings by_kind (map parked_in kept) before behind →
     slot ≡ place_at behind (length kept + number) → Some e ≡ get_or kept slot None →
     IsFirstOf (map parked_in kept) (λ n. n ≡ number) (Some (record { name = record { slot = slot; life = e.life }; deadline = e.deadline }))
 first_some kept before behind number slot e r is read = record {
@@ -85,7 +42,7 @@ first_some kept before behind number slot e r is read = record {
   parked = deadline_at kept slot e (sym read);
 }
 
-pub first_none : (kept : List (Option Entry)) (before behind : List ℕ) (number slot : ℕ) → IsRings (map parked_in kept) before behind →
+pub first_none : (kept : List (Option Entry)) (before behind : List ℕ) (number slot : ℕ) → IsRings by_kind (map parked_in kept) before behind →
     slot ≡ place_at behind (length kept + number) → None ≡ get_or kept slot None → IsFirstOf (map parked_in kept) (λ n. n ≡ number) None
 first_none kept before behind number slot r is read = record {
   least = λ i p at kind.

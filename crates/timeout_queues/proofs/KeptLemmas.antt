@@ -5,7 +5,7 @@ use Rattle.std.proofs.Math.ListN.{get_or-map}
 use Rattle.std.proofs.lemmas.Bool.{eq-eqb}
 use Rattle.timeout_queues.specs.Waiting.{ParkedName, nothing_parked, deadline_of}
 use Rattle.timeout_queues.specs.Entries.{parked_in}
-use Rattle.timeout_queues.specs.RingsInside.{due_at}
+use Rattle.timeout_queues.specs.RingsInside.{by_kind, due_at}
 use Rattle.timeout_queues.specs.declared.Entry.{Entry}
 
 -- the deadline of the name that is kept in a slot
@@ -15,7 +15,7 @@ deadline_at kept i e read = rw (get_or-map parked_in kept i None, read, eq-eqb e
 
 -- until when what is kept at a place waits
 pub due_kept : (kept : List (Option Entry)) (i : ℕ) →
-    due_at (map parked_in kept) i ≡ option_map_or (λ (e : Entry). e.deadline) (get_or kept i None) 0
+    due_at by_kind (map parked_in kept) i ≡ option_map_or (λ (e : Entry). e.deadline) (get_or kept i None) 0
 due_kept [] i = refl
 due_kept (None ∷ kept) zero = refl
 due_kept (Some e ∷ kept) zero = refl

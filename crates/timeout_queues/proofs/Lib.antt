@@ -1,7 +1,9 @@
 pub mod FirstLemmas
+pub mod HeadLemmas
 pub mod KeptLemmas
 pub mod LeastLemmas
 pub mod MapLemmas
 pub mod PlaceLemmas
 pub mod RingLemmas
+pub mod SlotLemmas
 pub mod WalkLemmas

@@ -1,9 +1,8 @@
--- The lists of the rings, while a name is parked and taken out, and as they are made.
+-- The lists of the rings, while a slot is put in and taken out, and as they are made.
 use Rattle.std.proofs.Common.{◌≡◌, ◌≢◌, ℕ, zero, suc, ◌+◌, ◌<◌, ◌≤◌, List, [], ◌∷◌, length, set, replicate, Option, Some, None, slice_get, refl, sym, ap, ◌∙◌, arith}
 use Rattle.std.proofs.lemmas.List.{length-set, length-replicate, get_or-set_same, get_or-set_other}
 use Rattle.std.proofs.lemmas.Option.{none-some, slice_get_within}
-use Rattle.timeout_queues.specs.Waiting.{ParkedName}
-use Rattle.timeout_queues.specs.RingsInside.{ring_number, ring_of, ring_at, place_at, IsRings, IsAlone, IsLastBefore}
+use Rattle.timeout_queues.specs.RingsInside.{RingRule, ring_of, ring_at, place_at, IsRings, IsAlone, IsLastBefore}
 use Rattle.timeout_queues.proofs.RingLemmas.{IsChanged, rank_with, lone_behind, inserted, removed}
 
 module _ {X : Type 0} where
@@ -21,7 +20,7 @@ module _ {X : Type 0} where
   get-set_other (x ∷ xs) (suc i) (suc j) y h = get-set_other xs i j y (λ e. h (ap suc e))
 
 -- a slot after a write
-changed : (slots : List (Option ParkedName)) (s : ℕ) (is : Option ParkedName) → s < length slots → IsChanged slots (set slots s is) s is
+changed : {X : Type 0} (slots : List (Option X)) (s : ℕ) (is : Option X) → s < length slots → IsChanged slots (set slots s is) s is
 changed slots s is h = record {
   count = length-set slots s is;
   here = get-set_same slots s is h;
@@ -45,20 +44,20 @@ twice xs i x j y hi hj =
       rest = λ k a b. get_or-set_other (set xs i x) j k y 0 b ∙ get_or-set_other xs i k x 0 a;
     }
 
--- a name is parked behind the last whose deadline is at or before its own
-pub rings_park : (slots : List (Option ParkedName)) (before behind : List ℕ) (s place : ℕ) (p : ParkedName) →
-    IsRings slots before behind → slice_get slots s ≡ Some None →
-    IsLastBefore slots behind (length slots + ring_number p.kind) p.deadline place →
-    IsRings (set slots s (Some p)) (set (set before s place) (place_at behind place) s) (set (set behind s (place_at behind place)) place s)
-rings_park slots before behind s place p r free at =
+-- a slot is put in behind the last whose deadline is at or before its own
+pub rings_park : {X : Type 0} (rule : RingRule X) (slots : List (Option X)) (before behind : List ℕ) (s place : ℕ) (p : X) →
+    IsRings rule slots before behind → slice_get slots s ≡ Some None →
+    IsLastBefore rule slots behind (length slots + rule.number p) (rule.due p) place →
+    IsRings rule (set slots s (Some p)) (set (set before s place) (place_at behind place) s) (set (set behind s (place_at behind place)) place s)
+rings_park rule slots before behind s place p r free at =
     let b = place_at before in
     let f = place_at behind in
     let inside = slice_get_within slots s None free in
-    let slot : s < length slots + 5 = omega arith in
-    let lone : ring_at slots s ≡ None = ap (λ o. ring_of slots s o) free in
+    let slot : s < length slots + rule.rings = omega arith in
+    let lone : ring_at rule slots s ≡ None = ap (λ o. ring_of rule slots s o) free in
     let at_place = r.linked place at.within in
-    let apart : place ≢ s = λ e. none-some (length slots + ring_number p.kind) (sym lone ∙ ap (λ i. ring_at slots i) (sym e) ∙ at.ring) in
-    let next_apart : f place ≢ s = λ e. apart (lone_behind slots b f r.rank r.linked place s at.within slot lone e) in
+    let apart : place ≢ s = λ e. none-some (length slots + rule.number p) (sym lone ∙ ap (λ i. ring_at rule slots i) (sym e) ∙ at.ring) in
+    let next_apart : f place ≢ s = λ e. apart (lone_behind rule slots b f r.rank r.linked place s at.within slot lone e) in
     let bs = twice before s place (f place) s (omega (arith, slot, r.befores)) (omega (arith, at_place.behind_within, r.befores)) in
     let fs = twice behind s (f place) place s (omega (arith, slot, r.behinds)) (omega (arith, at.within, r.behinds)) in
     let c = changed slots s (Some p) inside in
@@ -67,7 +66,7 @@ rings_park slots before behind s place p r free at =
       befores = omega (arith, bs.length_same, c.count, r.befores);
       behinds = omega (arith, fs.length_same, c.count, r.behinds);
       rank = rank_with r.rank place s;
-      linked = inserted slots (set slots s (Some p)) b f (place_at (set (set before s place) (f place) s)) (place_at (set (set behind s (f place)) place s))
+      linked = inserted rule slots (set slots s (Some p)) b f (place_at (set (set before s place) (f place) s)) (place_at (set (set behind s (f place)) place s))
           r.rank place s p r.linked c
           (record {
             before_next = bs.second;
@@ -80,15 +79,15 @@ rings_park slots before behind s place p r free at =
           slot free at.within at.ring at.due at.later;
     }
 
--- a parked name is taken out
-pub rings_unpark : (slots : List (Option ParkedName)) (before behind : List ℕ) (s : ℕ) (p : ParkedName) →
-    IsRings slots before behind → slice_get slots s ≡ Some (Some p) →
-    IsRings (set slots s None) (set (set before (place_at behind s) (place_at before s)) s s) (set (set behind (place_at before s) (place_at behind s)) s s)
-rings_unpark slots before behind s p r parked =
+-- a slot is taken out of its ring
+pub rings_unpark : {X : Type 0} (rule : RingRule X) (slots : List (Option X)) (before behind : List ℕ) (s : ℕ) (p : X) →
+    IsRings rule slots before behind → slice_get slots s ≡ Some (Some p) →
+    IsRings rule (set slots s None) (set (set before (place_at behind s) (place_at before s)) s s) (set (set behind (place_at before s) (place_at behind s)) s s)
+rings_unpark rule slots before behind s p r parked =
     let b = place_at before in
     let f = place_at behind in
     let inside = slice_get_within slots s (Some p) parked in
-    let slot : s < length slots + 5 = omega arith in
+    let slot : s < length slots + rule.rings = omega arith in
     let l = r.linked s slot in
     let o = l.order p parked in
     let last : b s ≢ s = λ e. let same : r.rank (b s) ≡ r.rank s = ap r.rank e in omega (arith, o.1, same) in
@@ -101,7 +100,7 @@ rings_unpark slots before behind s p r parked =
       befores = omega (arith, bs.length_same, c.count, r.befores);
       behinds = omega (arith, fs.length_same, c.count, r.behinds);
       rank = r.rank;
-      linked = removed slots (set slots s None) b f (place_at (set (set before (f s) (b s)) s s)) (place_at (set (set behind (b s) (f s)) s s))
+      linked = removed rule slots (set slots s None) b f (place_at (set (set before (f s) (b s)) s s)) (place_at (set (set behind (b s) (f s)) s s))
           r.rank s p r.linked c
           (record {
             before_next = bs.first (λ e. next (sym e));
@@ -114,23 +113,23 @@ rings_unpark slots before behind s p r parked =
           slot parked;
     }
 
--- the slots of queues in which nothing was ever parked
-never_parked : (n i : ℕ) (p : ParkedName) → slice_get (replicate n None) i ≡ Some (Some p) → ⊥
+-- slots that never held anything
+never_parked : {X : Type 0} (n i : ℕ) (p : X) → slice_get (replicate n None) i ≡ Some (Some p) → ⊥
 never_parked zero i p e = absurd (cc)
 never_parked (suc n) zero p e = absurd (cc)
 never_parked (suc n) (suc i) p e = never_parked n i p e
 
-pub rings_empty : (n : ℕ) (before behind : List ℕ) → n ≤ 8192 → IsAlone before (n + 5) → IsAlone behind (n + 5) →
-    IsRings (replicate n None) before behind
-rings_empty n before behind few b f =
-    let count = length-replicate {A = Option ParkedName} n None in
+pub rings_empty : {X : Type 0} (rule : RingRule X) (n : ℕ) (before behind : List ℕ) → n ≤ 8192 → IsAlone before (n + rule.rings) → IsAlone behind (n + rule.rings) →
+    IsRings rule (replicate n None) before behind
+rings_empty {X} rule n before behind few b f =
+    let count = length-replicate {A = Option X} n None in
     record {
       few = omega (arith, count, few);
       befores = omega (arith, count, b.count);
       behinds = omega (arith, count, f.count);
       rank = λ _. 0;
       linked = λ i h.
-          let inside : i < n + 5 = omega (arith, count, h) in
+          let inside : i < n + rule.rings = omega (arith, count, h) in
           let own = b.itself i inside in
           let same = f.itself i inside in
           record {
@@ -138,7 +137,7 @@ rings_empty n before behind few b f =
             behind_within = rw same h;
             back = ap (place_at before) same ∙ own;
             forth = ap (place_at behind) own ∙ same;
-            ring = ap (λ j. ring_at (replicate n None) j) own;
+            ring = ap (λ j. ring_at rule (replicate n None) j) own;
             alone = λ _. own;
             order = λ p at. absurd (never_parked n i p at);
           };

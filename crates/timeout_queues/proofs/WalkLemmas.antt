@@ -3,45 +3,45 @@ use Rattle.std.proofs.Common.{◌≡◌, ℕ, zero, suc, ◌+◌, ◌<◌, ◌�
 use Rattle.std.proofs.lemmas.Bool.{cases_lt, lt-ltb, le-ltb}
 use Rattle.std.proofs.lemmas.Option.{none-some, slice_get-get_or, slice_get_past}
 use Rattle.timeout_queues.specs.Waiting.{ParkedName}
-use Rattle.timeout_queues.specs.RingsInside.{ring_of, ring_at, due_of, due_at, place_at, IsRings}
+use Rattle.timeout_queues.specs.RingsInside.{by_kind, ring_of, ring_at, due_of, due_at, place_at, IsRings}
 
 -- ## Where it stands
 
 -- the place is in the ring, and all behind it is due at or after the deadline
 pub record IsBack (slots : List (Option ParkedName)) (behind : List ℕ) (head deadline place : ℕ) : Type 0 where
   pub within : place < length slots + 5
-  pub ring : ring_at slots place ≡ Some head
+  pub ring : ring_at by_kind slots place ≡ Some head
   pub later : (q : ParkedName) → slice_get slots (place_at behind place) ≡ Some (Some q) → deadline ≤ q.deadline
 
 -- it begins at the end of the ring
-pub back_first : (slots : List (Option ParkedName)) (before behind : List ℕ) (head deadline : ℕ) → IsRings slots before behind →
+pub back_first : (slots : List (Option ParkedName)) (before behind : List ℕ) (head deadline : ℕ) → IsRings by_kind slots before behind →
     length slots ≤ head → head < length slots + 5 → IsBack slots behind head deadline (place_at before head)
 back_first slots before behind head deadline r above below =
     let l = r.linked head below in
     let past = slice_get_past slots head above in record {
       within = l.before_within;
-      ring = l.ring ∙ ap (λ o. ring_of slots head o) past;
+      ring = l.ring ∙ ap (λ o. ring_of by_kind slots head o) past;
       later = λ q at. absurd (none-some (Some q) (sym past ∙ ap (λ i. slice_get slots i) (sym l.forth) ∙ at));
     }
 
 -- and goes on while the place is due after it
-pub back_more : (slots : List (Option ParkedName)) (before behind : List ℕ) (head deadline place : ℕ) → IsRings slots before behind →
-    IsBack slots behind head deadline place → deadline < due_at slots place → IsBack slots behind head deadline (place_at before place)
+pub back_more : (slots : List (Option ParkedName)) (before behind : List ℕ) (head deadline place : ℕ) → IsRings by_kind slots before behind →
+    IsBack slots behind head deadline place → deadline < due_at by_kind slots place → IsBack slots behind head deadline (place_at before place)
 back_more slots before behind head deadline place r at late =
     let l = r.linked place at.within in record {
       within = l.before_within;
       ring = l.ring ∙ at.ring;
       later = λ q there.
-          let same : due_at slots place ≡ q.deadline = ap due_of (ap (λ i. slice_get slots i) (sym l.forth) ∙ there) in
+          let same : due_at by_kind slots place ≡ q.deadline = ap (due_of by_kind) (ap (λ i. slice_get slots i) (sym l.forth) ∙ there) in
           omega (arith, late, same);
     }
 
 -- a place that is due after some moment is a slot
-pub due_within : (slots : List (Option ParkedName)) (deadline place : ℕ) → deadline < due_at slots place → place < length slots
+pub due_within : (slots : List (Option ParkedName)) (deadline place : ℕ) → deadline < due_at by_kind slots place → place < length slots
 due_within slots deadline place late = elim (cases_lt place (length slots)) [
   | inl under ↦ under
   | inr over ↦
-      let none : due_at slots place ≡ 0 = ap due_of (slice_get_past slots place over) in
+      let none : due_at by_kind slots place ≡ 0 = ap (due_of by_kind) (slice_get_past slots place over) in
       omega (arith, late, none)
 ]
 
@@ -101,23 +101,23 @@ low_falls rank n p i h less = elim (cases_lt p n) [
   | inr over ↦ rw (le-ltb p n over, lt-ltb i n h) (omega arith)
 ]
 
-module _ (slots : List (Option ParkedName)) (before behind : List ℕ) (r : IsRings slots before behind) (head : ℕ) where
+module _ (slots : List (Option ParkedName)) (before behind : List ℕ) (r : IsRings by_kind slots before behind) (head : ℕ) where
   -- the rank falls from a slot of a ring to the place before it
-  falls : (i : ℕ) → i < length slots → ring_at slots i ≡ Some head →
+  falls : (i : ℕ) → i < length slots → ring_at by_kind slots i ≡ Some head →
       low_rank r.rank (length slots) (place_at before i) < low_rank r.rank (length slots) i
   falls i h ring = on (slice_get slots i) refl
     where
       on : (o : Option (Option ParkedName)) → slice_get slots i ≡ o →
           low_rank r.rank (length slots) (place_at before i) < low_rank r.rank (length slots) i
       on None e = absurd (none-some _ (sym e ∙ slice_get-get_or slots i None h))
-      on (Some None) e = absurd (none-some head (sym (ap (λ o. ring_of slots i o) e) ∙ ring))
+      on (Some None) e = absurd (none-some head (sym (ap (λ o. ring_of by_kind slots i o) e) ∙ ring))
       on (Some (Some p)) e =
           let l = r.linked i (omega arith) in
           let o = l.order p e in
           low_falls r.rank (length slots) (place_at before i) i h o.1
 
   -- a bound above the rank counts all steps
-  steps_same : (k i : ℕ) → i < length slots + 5 → ring_at slots i ≡ Some head → low_rank r.rank (length slots) i < k →
+  steps_same : (k i : ℕ) → i < length slots + 5 → ring_at by_kind slots i ≡ Some head → low_rank r.rank (length slots) i < k →
       steps_back (length slots) before (suc k) i ≡ steps_back (length slots) before k i
   steps_same zero i h ring few = absurd (omega arith)
   steps_same (suc k) i h ring few = elim (cases_lt i (length slots)) [
@@ -129,7 +129,7 @@ module _ (slots : List (Option ParkedName)) (before behind : List ℕ) (r : IsRi
     | inr over ↦ rw (le-ltb i (length slots) over) refl
   ]
 
-  pub steps_fall : (i : ℕ) → i < length slots → ring_at slots i ≡ Some head →
+  pub steps_fall : (i : ℕ) → i < length slots → ring_at by_kind slots i ≡ Some head →
       steps_back (length slots) before (suc (suc (length slots))) (place_at before i)
       < steps_back (length slots) before (suc (suc (length slots))) i
   steps_fall i h ring =

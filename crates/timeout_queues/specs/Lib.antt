@@ -1,3 +1,4 @@
 pub mod Entries
+pub mod Filed
 pub mod RingsInside
 pub mod Waiting

@@ -4,19 +4,24 @@
 //! answers is late, and none has an earlier deadline. All memory is taken by `make`, so that a connection
 //! in hand can always be parked. The names of each kind stand in a ring, in the order of their deadlines, so
 //! no call but `make` goes over the slots. The definitions stand in `specs/Waiting.antt`.
+//!
+//! Rings of slots say of each slot in which ring it stands, and find one that stands in a ring without a look at the
+//! others. Their definitions stand in `specs/Filed.antt`.
 #![tactic(auto)]
 
 ghost use Rattle.std.specs.Prelude.{◌≡◌, ◌+◌, ◌<◌, ◌≤◌, ◌↔◌, ◌⊎◌, [], map, length, Some, None, option_map, is_some, IsTrue, IsNone, IfSome, IsSomeAnd, IfOk, slice_index_or};
 ghost use Rattle.std.specs.Bool.{OnTrue, OnFalse};
 ghost use Rattle.timeout_queues.specs.declared.Due.{Due};
 ghost use Rattle.timeout_queues.specs.Entries.{parked_in};
-ghost use Rattle.timeout_queues.specs.RingsInside.{ring_number, due_at, IsRings, IsLastBefore, IsFirstOf};
+ghost use Rattle.timeout_queues.specs.RingsInside.{by_kind, ring_number, due_at, IsRings, IsLastBefore, IsFirstOf};
 ghost use Rattle.timeout_queues.specs.Waiting.{nothing_parked, IsFree, parked_of, parked_as, with_parked, without_name, Updates, overdue_at, least_deadline, IsOverdue, deadline_of};
 
 mod rings;
+mod slot_rings;
 
 use mpm_base::{ConnName, Kind, Moment, NoMemory};
 use rings::Rings;
+pub use slot_rings::SlotRings;
 use std::alloc::Global;
 use std::marker::Model;
 
@@ -52,11 +57,11 @@ impl Model for Queues {
     ghost Value = { List (Option ParkedName) };
 
     ghost use Rattle.timeout_queues.specs.Entries.{parked_in};
-    ghost use Rattle.timeout_queues.specs.RingsInside.{IsRings};
+    ghost use Rattle.timeout_queues.specs.RingsInside.{IsRings, by_kind};
 
     ghost view = { λ q. map parked_in q.slots.items };
 
-    ghost invariant = { λ q. IsRings (map parked_in q.slots.items) q.rings.before.items q.rings.behind.items };
+    ghost invariant = { λ q. IsRings by_kind (map parked_in q.slots.items) q.rings.before.items q.rings.behind.items };
 }
 
 impl Queues {
@@ -205,7 +210,7 @@ fn kept_at(slots: &[Option<Entry>], place: u32) -> Option<Entry>
 
 // The deadline of what is parked in a slot, and 0 at the head of a ring.
 fn deadline_at(slots: &[Option<Entry>], place: u32) -> Moment
-    ensures { result ≡ due_at (map parked_in slots.now) place }
+    ensures { result ≡ due_at by_kind (map parked_in slots.now) place }
 {
     match kept_at(slots, place) {
         Some(entry) => entry.deadline,
@@ -215,9 +220,9 @@ fn deadline_at(slots: &[Option<Entry>], place: u32) -> Moment
 
 // The last of a ring whose deadline is at or before this one, found by going back from the end.
 fn last_before(slots: &[Option<Entry>], rings: &Rings, head: u32, deadline: Moment) -> u32
-    requires rings { IsRings (map parked_in slots.now) rings.now.before.items rings.now.behind.items }
+    requires rings { IsRings by_kind (map parked_in slots.now) rings.now.before.items rings.now.behind.items }
     requires head { (length slots.now ≤ head) × (head < length slots.now + 5) }
-    ensures { IsLastBefore (map parked_in slots.now) rings.now.behind.items head deadline result }
+    ensures { IsLastBefore by_kind (map parked_in slots.now) rings.now.behind.items head deadline result }
 {
     let mut place = rings.before[head as usize];
     while deadline_at(slots, place) > deadline {

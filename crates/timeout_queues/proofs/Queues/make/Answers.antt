@@ -1,4 +1,5 @@
 use Rattle.std.proofs.Common.{arith}
+use Rattle.timeout_queues.specs.RingsInside.{by_kind}
 use Rattle.timeout_queues.proofs.KeptLemmas.{seen_empty}
 use Rattle.timeout_queues.proofs.PlaceLemmas.{rings_empty}
 use Rattle.timeout_queues.proofs.Queues.make.Goals as goal
@@ -6,7 +7,7 @@ use Rattle.timeout_queues.proofs.Queues.make.Goals as goal
 pub invariant_of-result : goal.invariant_of-result
 invariant_of-result c =
     rw (seen_empty c.args.slots c.loop.counter c.loop.kept.items c.loop.invariant.empty (omega arith))
-    (rings_empty c.args.slots c.in_ok-make.field-0.before.items c.in_ok-make.field-0.behind.items c.requires.few
+    (rings_empty by_kind c.args.slots c.in_ok-make.field-0.before.items c.in_ok-make.field-0.behind.items c.requires.few
     c.in_ok-make.ensures.before c.in_ok-make.ensures.behind)
 
 pub returns : goal.returns
