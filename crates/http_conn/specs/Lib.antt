@@ -1,0 +1,5 @@
+pub mod Items
+pub mod Outgoing
+pub mod Replies
+pub mod Writing
+pub mod WritingInside

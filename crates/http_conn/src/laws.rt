@@ -1,0 +1,48 @@
+//! Laws of the items of a connection's bytes and of the replies to them. Each is the contract of a function that does nothing.
+ghost use Rattle.std.specs.Prelude.{◌≡◌, ℕ, ◌<◌, true, List, ◌++◌, length};
+ghost use Rattle.mpm_base.specs.declared.note.Note.{Note};
+ghost use Rattle.http_read.specs.declared.request.Limits.{Limits};
+ghost use Rattle.http_read.specs.Requests.{ReadRefusal, BeginsRefusal, WaitsForRequest};
+ghost use Rattle.file_table.specs.Site.{SeenSite};
+ghost use Rattle.http_core.specs.Status.{refuses_head};
+ghost use Rattle.http_conn.specs.Items.{Item, BeginsItem, AreFirst};
+ghost use Rattle.http_conn.specs.Replies.{IsFitting, IsResponse};
+
+use http_read::{keeps_spelling, one_answer, one_form};
+
+/// The first items of the bytes that came stay the first, whatever comes behind them.
+pub fn first_items_stay()
+    ensures { (limits : Limits) (items : List Item) (rest bytes more : List ℕ) → AreFirst limits items rest bytes
+        → AreFirst limits items (rest ++ more) (bytes ++ more) }
+{
+    keeps_spelling();
+}
+
+/// Bytes that begin with an item don't wait for more.
+pub fn items_wait_for_nothing()
+    ensures { (limits : Limits) (bytes : List ℕ) (item : Item) (size : ℕ) → BeginsItem limits bytes item size
+        → ¬ (WaitsForRequest limits bytes) }
+{
+    one_answer();
+    one_form();
+}
+
+/// The answered items stay the first, with their notes, whatever comes behind them.
+pub fn answered_items_stay()
+    ensures { (site : SeenSite) (limits : Limits) (notes : List Note) (bytes : List ℕ) (items : List Item) (rest more : List ℕ)
+        → IsFitting site limits notes bytes items rest → IsFitting site limits notes (bytes ++ more) items (rest ++ more) }
+{
+    keeps_spelling();
+}
+
+/// No response is empty.
+pub fn responses_have_bytes()
+    ensures { (site : SeenSite) (item : Item) (note : Note) (response : List ℕ) → IsResponse site item note response
+        → 0 < length response }
+{}
+
+/// What is refused is refused by a code of a refusal's response.
+pub fn refusals_have_their_codes()
+    ensures { (limits : Limits) (bytes : List ℕ) (refusal : ReadRefusal) → BeginsRefusal limits bytes refusal
+        → refuses_head refusal.code ≡ true }
+{}
