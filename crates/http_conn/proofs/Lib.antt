@@ -3,5 +3,7 @@ pub mod CodeLemmas
 pub mod ItemLemmas
 pub mod LinkLemmas
 pub mod OutgoingLemmas
+pub mod RestLemmas
 pub mod SentLemmas
+pub mod StepLemmas
 pub mod StreamLemmas

@@ -7,8 +7,10 @@ ghost use Rattle.file_table.specs.Site.{SeenSite};
 ghost use Rattle.http_core.specs.Status.{refuses_head};
 ghost use Rattle.http_conn.specs.Items.{Item, BeginsItem, AreFirst};
 ghost use Rattle.http_conn.specs.Replies.{IsFitting, IsResponse};
+ghost use Rattle.http_conn.specs.Rest.{StandsAs};
+ghost use Rattle.http_conn.specs.declared.stage.Stage.{Stage};
 
-use http_read::{keeps_spelling, one_answer, one_form};
+use http_read::{keeps_answer, keeps_spelling, one_answer, one_form};
 
 /// The first items of the bytes that came stay the first, whatever comes behind them.
 pub fn first_items_stay()
@@ -46,3 +48,12 @@ pub fn refusals_have_their_codes()
     ensures { (limits : Limits) (bytes : List ℕ) (refusal : ReadRefusal) → BeginsRefusal limits bytes refusal
         → refuses_head refusal.code ≡ true }
 {}
+
+/// What is kept of the next request stands for what came behind it too.
+pub fn kept_bytes_go_on()
+    ensures { (limits : Limits) (unread more : List ℕ) (stage : Stage) (rest : List ℕ) → StandsAs limits unread stage rest
+        → StandsAs limits (unread ++ more) stage (rest ++ more) }
+{
+    keeps_answer();
+    keeps_spelling();
+}

@@ -1,6 +1,9 @@
 //! One connection over its link, for whole HTTP: requests with their bodies, and the responses that are decided. In the making;
 //! it is to take the place of `conn_state`.
 //!
+//! `read_on` reads the next request by the bytes that are there (`specs/Steps.antt`), and keeps those of a head, but of a body
+//! none. Which bytes that stands for is a relation (`specs/Rest.antt`).
+//!
 //! The items of the bytes that a connection received stand in `specs/Items.antt`: whole requests, and at most one refusal. The
 //! replies to them, and what is sent before a reply, stand in `specs/Replies.antt`; the laws of both are in `laws`. `Outgoing`
 //! is what a connection has yet to send: the rest of a head, and behind it a range of a file, whose bytes stay in the site
@@ -9,7 +12,13 @@
 
 pub mod laws;
 mod outgoing;
+mod received;
+mod stage;
+mod steps;
 mod turn;
 
 pub use outgoing::{FileRange, Outgoing, WritesPairs, send};
+pub use received::Received;
+pub use stage::Stage;
+pub use steps::{Step, read_on};
 pub use turn::WriteTurn;

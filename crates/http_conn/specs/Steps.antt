@@ -1,0 +1,64 @@
+-- One step of reading, by the bytes that are there.
+use Rattle.std.specs.Prelude.{◌≡◌, ℕ, ◌≤◌, Bool, true, false, ◌||◌, List, take, length, ⊤}
+use Rattle.http_read.specs.declared.request.Limits.{Limits}
+use Rattle.http_read.specs.LookedAt.{HasLookedAt}
+use Rattle.http_read.specs.BodyPlaces.{begun_len}
+use Rattle.http_read.specs.Requests.{WaitsForRequest}
+use Rattle.http_conn.specs.declared.stage.Stage.{Stage}
+use Rattle.http_conn.specs.declared.stage.Stage.TheVariants as stage
+use Rattle.http_conn.specs.declared.steps.Step.{Step}
+use Rattle.http_conn.specs.declared.steps.Step.TheVariants as step
+use Rattle.http_conn.specs.Rest.{StandsAs, is_awaited, is_whole, is_refused}
+
+-- the client is to be told to send the body
+abbrev pub is_told : Step → Bool
+is_told step.Whole = false
+is_told step.Refused = false
+is_told step.Accepted = false
+is_told step.Awaited = true
+is_told step.Wants = false
+is_told step.NoMemory = false
+
+-- what the step found of the next request
+abbrev pub StepFinds : Step → Stage → Type 0
+StepFinds step.Whole s = is_whole s ≡ true
+StepFinds step.Refused s = is_refused s ≡ true
+StepFinds step.Accepted s = ⊤
+StepFinds step.Awaited s = is_awaited s ≡ true
+StepFinds step.Wants s = ⊤
+StepFinds step.NoMemory s = ⊤
+
+-- more has to come where the step says so
+abbrev pub StepWants : Step → Limits → List ℕ → Type 0
+StepWants step.Whole limits rest = ⊤
+StepWants step.Refused limits rest = ⊤
+StepWants step.Accepted limits rest = ⊤
+StepWants step.Awaited limits rest = ⊤
+StepWants step.Wants limits rest = WaitsForRequest limits rest
+StepWants step.NoMemory limits rest = ⊤
+
+-- the readers may go on with the bytes that are there
+abbrev pub IsReadable : List ℕ → Stage → Type 0
+IsReadable unread (stage.Head reader) = (reader.looked ≤ length unread) × HasLookedAt (take reader.looked unread) reader
+IsReadable unread (stage.Body request reader) = begun_len reader ≤ length unread
+IsReadable unread (stage.Whole request) = ⊤
+IsReadable unread (stage.Refused code expected) = ⊤
+
+-- where more has to come no more bytes are kept than a head may have
+abbrev pub StepKeeps : Step → List ℕ → Type 0
+StepKeeps step.Whole unread = ⊤
+StepKeeps step.Refused unread = ⊤
+StepKeeps step.Accepted unread = ⊤
+StepKeeps step.Awaited unread = ⊤
+StepKeeps step.Wants unread = length unread ≤ 65536
+StepKeeps step.NoMemory unread = ⊤
+
+-- a step through the bytes that are there: what is kept stands for the same bytes
+pub record Steps (limits : Limits) (unread unread' : List ℕ) (s s' : Stage) (answer : Step) : Type 0 where
+  pub stands : (rest : List ℕ) → StandsAs limits unread s rest → StandsAs limits unread' s' rest
+  pub wants : (rest : List ℕ) → StandsAs limits unread s rest → StepWants answer limits rest
+  pub keeps : (rest : List ℕ) → StandsAs limits unread s rest → StepKeeps answer unread'
+  pub no_more : length unread' ≤ length unread
+  pub finds : StepFinds answer s'
+  pub told_once : is_awaited s' ≡ (is_awaited s || is_told answer)
+  pub not_twice : is_told answer ≡ true → is_awaited s ≡ false
