@@ -2,6 +2,7 @@
 use Rattle.std.specs.Prelude.{◌≡◌, ◌≤◌, ℕ, ◌+◌, ◌-◌, ◌==◌, nat_lt, Bool, true, false, slice_index, List, [], ◌∷◌, None, Some}
 use prog.Atomic.{either}
 use Rattle.conn_machine.specs.declared.event.Entry.{Entry}
+use Rattle.conn_machine.specs.Folds.{opening_record}
 use Rattle.conn_machine.specs.Laws.{idle_in}
 use Rattle.conn_machine.specs.Made.{AreMade, HasSeen}
 use Rattle.conn_machine.specs.Runs.{after}
@@ -34,7 +35,7 @@ pub record FoundIdle (child : ℕ) (old : View) (count : ℕ) (new : View) : Typ
   pub looked : StepsOn (child + 2) found found old old new
   pub history : List Entry
   pub seen : HasSeen old.who.number old.seen history
-  pub made : AreMade old.origin.state history
+  pub made : AreMade old.origin.state (opening_record old.origin.passes) history
   pub free : count ≤ idle_in (after old.origin.state history) child
 
 -- the child has the credit of so many workers, by one step, which left so many more than it found

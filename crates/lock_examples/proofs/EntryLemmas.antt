@@ -1,6 +1,6 @@
 -- The entries of the small value.
 use Rattle.std.proofs.Common.{◌≡◌, ℕ, zero, suc, ◌+◌, ◌-◌, ◌*◌, ◌^◌, ◌≤◌, ◌<◌, true, List, [], ◌∷◌, ◌++◌, length, fold, Option, Some, None, refl, sym, ap, subst, ◌∙◌, add-zero, append_assoc, append-nil, length-append, arith}
-use Rattle.std.specs.Prelude.{⊤}
+use Rattle.std.specs.Prelude.{⊤, slice_index}
 use Rattle.std.proofs.lemmas.List.Elements.{filter-append}
 use Rattle.mpm_base.specs.declared.conn.ConnName.{ConnName}
 use Rattle.mpm_base.specs.declared.conn.Kind.TheVariants.{Reading}
@@ -8,9 +8,12 @@ use Rattle.conn_machine.specs.declared.event.Event.TheVariants as event
 use Rattle.conn_machine.specs.declared.event.Entry.{Entry}
 use Rattle.conn_machine.specs.declared.state.State.{State}
 use Rattle.conn_machine.specs.Table.{is_allowed, next, reply}
-use Rattle.conn_machine.specs.Runs.{after, entries_of, has_after, is_of_pass, load, may_make, row_of, AreEntriesOf}
+use Rattle.conn_machine.specs.declared.folded.Folded.{Folded}
+use Rattle.conn_machine.specs.Folds.{opening_record}
+use Rattle.conn_machine.specs.Runs.{after, entries_of, has_after, is_of_pass, load, may_make, row_after, row_of, AreEntriesOf}
 use Rattle.std.proofs.lemmas.Bool.{eq-eqb}
 use Rattle.table_rule.specs.Histories.{ArePermitted}
+use Rattle.table_rule.proofs.RecordLemmas.{each_first}
 use Rattle.lock_examples.specs.declared.stage.Stage.{Stage}
 use Rattle.lock_examples.specs.declared.stage.Stage.TheVariants.{Starts, Takes, Signals, Serves}
 use Rattle.lock_examples.specs.Toy.{SeenToy, entries_from, first_of, maker, next_round, next_stage, round_at, stage_at, step_entries, step_of, toy_name, toy_state}
@@ -66,11 +69,11 @@ pub after-append : (s : State) (a b : List Entry) → after s (a ++ b) ≡ after
 after-append s [] b = refl
 after-append s (e ∷ a) b = after-append (next s e.event) a b
 
-pub are_append : (p : ℕ) (start : State) (before a b : List Entry) → AreEntriesOf p start before a → AreEntriesOf p start (before ++ a) b
-    → AreEntriesOf p start before (a ++ b)
-are_append p start before [] b are more = subst (λ l. AreEntriesOf p start l b) (append-nil before) more
-are_append p start before (e ∷ a) b are more =
-    (are.0, are_append p start (before ++ e ∷ []) a b are.1 (subst (λ l. AreEntriesOf p start l b) (sym (append_assoc before (e ∷ []) a)) more))
+pub are_append : (p : ℕ) (start : State) (f : Folded) (before a b : List Entry) → AreEntriesOf p start f before a
+    → AreEntriesOf p start f (before ++ a) b → AreEntriesOf p start f before (a ++ b)
+are_append p start f before [] b are more = subst (λ l. AreEntriesOf p start f l b) (append-nil before) more
+are_append p start f before (e ∷ a) b are more =
+    (are.0, are_append p start f (before ++ e ∷ []) a b are.1 (subst (λ l. AreEntriesOf p start f l b) (sym (append_assoc before (e ∷ []) a)) more))
 
 pub permitted_append : (permit : Option ℕ) (credits : List ℕ) (s : State) (a b : List Entry) → ArePermitted permit credits s a
     → ArePermitted permit credits (after s a) b → ArePermitted permit credits s (a ++ b)
@@ -200,7 +203,7 @@ fold_snoc f z (y ∷ xs) x = fold_snoc f (f z y) xs x
 
 row_own : (p : ℕ) (history : List Entry) (e : Entry) → e.pass ≡ p → row_of p (history ++ e ∷ []) ≡ has_after (row_of p history) e.event e.reply
 row_own p history e own =
-    ap (λ (es : List Entry). fold (λ had x. has_after had x.event x.reply) None es) (entries_own p history e own)
+    ap (row_after None) (entries_own p history e own)
     ∙ fold_snoc (λ had x. has_after had x.event x.reply) None (entries_of p history) e
 
 -- the pass may make these entries, where it made so many and has this connection
@@ -210,30 +213,26 @@ AreFine p s n row (e ∷ es) =
     (e.pass ≡ p) × (e.ordinal ≡ n) × (is_allowed s e.event ≡ true) × (e.reply ≡ reply s e.event)
     × ((weight : ℕ) → may_make p row weight e.event ≡ true) × AreFine p (next s e.event) (n + 1) (has_after row e.event e.reply) es
 
--- the connection that it has behind them
-abbrev rows_after : Option ConnName → List Entry → Option ConnName
-rows_after row [] = row
-rows_after row (e ∷ es) = rows_after (has_after row e.event e.reply) es
-
-may_follow : (p : ℕ) (s : State) (n : ℕ) (row : Option ConnName) (start : State) (whole es : List Entry) → after start whole ≡ s
-    → length (entries_of p whole) ≡ n → row_of p whole ≡ row → AreFine p s n row es → AreEntriesOf p start whole es
-may_follow p s n row start whole [] state number had fine = tt
-may_follow p s n row start whole (e ∷ es) state number had fine = (
+may_follow : (passes p : ℕ) (s : State) (n : ℕ) (row : Option ConnName) (start : State) (whole es : List Entry) → after start whole ≡ s
+    → length (entries_of p whole) ≡ n → row_of p whole ≡ row → AreFine p s n row es → AreEntriesOf p start (opening_record passes) whole es
+may_follow passes p s n row start whole [] state number had fine = tt
+may_follow passes p s n row start whole (e ∷ es) state number had fine = (
   record {
     pass = fine.0;
-    ordinal = fine.1 ∙ sym number;
+    ordinal = (let first : slice_index (opening_record passes).ordinals p ≡ 0 = each_first passes p 0 in let last = fine.1 in omega (arith, first, last, number));
     is_allowed = ap (λ t. is_allowed t e.event) state ∙ fine.2;
     replied = fine.3 ∙ ap (λ t. reply t e.event) (sym state);
-    role = ap (λ o. may_make p o (load whole) e.event) had ∙ fine.4 (load whole);
+    role =
+        ap (λ o. may_make p o (load whole) e.event) (ap (λ o. row_after o (entries_of p whole)) (each_first passes p None) ∙ had) ∙ fine.4 (load whole);
   },
-  may_follow p (next s e.event) (n + 1) (has_after row e.event e.reply) start (whole ++ e ∷ []) es
+  may_follow passes p (next s e.event) (n + 1) (has_after row e.event e.reply) start (whole ++ e ∷ []) es
       (after-append start whole (e ∷ []) ∙ ap (λ t. next t e.event) state)
       (ap length (entries_own p whole e fine.0) ∙ length-append (entries_of p whole) (e ∷ []) ∙ ap (λ m. m + 1) number)
       (row_own p whole e fine.0 ∙ ap (λ o. has_after o e.event e.reply) had) fine.5,
 )
 
 row_behind : (p : ℕ) (s : State) (n : ℕ) (row : Option ConnName) (whole es : List Entry) → row_of p whole ≡ row → AreFine p s n row es
-    → row_of p (whole ++ es) ≡ rows_after row es
+    → row_of p (whole ++ es) ≡ row_after row es
 row_behind p s n row whole [] had fine = ap (row_of p) (append-nil whole) ∙ had
 row_behind p s n row whole (e ∷ es) had fine =
     ap (row_of p) (sym (append_assoc whole (e ∷ []) es))
@@ -273,7 +272,7 @@ fine_step Serves r row fits =
     (refl, refl, refl, refl, λ w. refl, (refl, refl, refl, refl, λ w. refl, (refl, two, refl, refl, λ w. refl, tt)))
 
 fits_next : (s : Stage) (r : ℕ) (row : Option ConnName) → FitsRow s row → maker s ≡ maker (next_stage s)
-    → FitsRow (next_stage s) (rows_after row (step_entries s r))
+    → FitsRow (next_stage s) (row_after row (step_entries s r))
 fits_next Starts r row fits same = fits
 fits_next Takes r row fits same = tt
 fits_next Signals r row fits same = absurd (omega arith)
@@ -293,9 +292,10 @@ fine_at p n start whole at mine =
     (fine_step (stage_at n) (round_at n) (row_of p whole) (at.row mine))
 
 -- its pass may make it
-may_step : (p n : ℕ) (start : State) (whole : List Entry) → IsAt p n start whole → maker (stage_at n) ≡ p → AreEntriesOf p start whole (step_of n)
-may_step p n start whole at mine =
-    may_follow p (state_of (stage_at n)) (first_number (stage_at n) (round_at n)) (row_of p whole) start whole (step_of n) at.state
+may_step : (passes p n : ℕ) (start : State) (whole : List Entry) → IsAt p n start whole → maker (stage_at n) ≡ p
+    → AreEntriesOf p start (opening_record passes) whole (step_of n)
+may_step passes p n start whole at mine =
+    may_follow passes p (state_of (stage_at n)) (first_number (stage_at n) (round_at n)) (row_of p whole) start whole (step_of n) at.state
     (at.number ∙ ap (λ q. length (entries_of q (first_of n))) (sym mine) ∙ own_number (first_of n) (stage_at n) (round_at n) (counted n))
     refl (fine_at p n start whole at mine)
 
@@ -317,14 +317,14 @@ AreStepsOf p n zero = ⊤
 AreStepsOf p n (suc k) = AreStepsOf p n k × (maker (stage_at (n + k)) ≡ p)
 
 -- so it may make them
-pub are_more : (p n k : ℕ) (start : State) (whole : List Entry) → IsAt p n start whole → AreStepsOf p n k
-    → AreEntriesOf p start whole (entries_from n k) × IsAt p (n + k) start (whole ++ entries_from n k)
-are_more p n zero start whole at own =
+pub are_more : (passes p n k : ℕ) (start : State) (whole : List Entry) → IsAt p n start whole → AreStepsOf p n k
+    → AreEntriesOf p start (opening_record passes) whole (entries_from n k) × IsAt p (n + k) start (whole ++ entries_from n k)
+are_more passes p n zero start whole at own =
     (tt, subst (λ i. IsAt p i start (whole ++ [])) (sym (add-zero n)) (subst (IsAt p n start) (sym (append-nil whole)) at))
-are_more p n (suc k) start whole at own =
-    let so_far = are_more p n k start whole at own.0 in
+are_more passes p n (suc k) start whole at own =
+    let so_far = are_more passes p n k start whole at own.0 in
     let one : suc (n + k) ≡ n + suc k = omega arith in (
-      are_append p start whole (entries_from n k) (step_of (n + k)) so_far.0 (may_step p (n + k) start (whole ++ entries_from n k) so_far.1 own.1),
+      are_append p start (opening_record passes) whole (entries_from n k) (step_of (n + k)) so_far.0 (may_step passes p (n + k) start (whole ++ entries_from n k) so_far.1 own.1),
       subst (IsAt p (n + suc k) start) (append_assoc whole (entries_from n k) (step_of (n + k)))
           (subst (λ i. IsAt p i start ((whole ++ entries_from n k) ++ step_of (n + k))) one (step_at p (n + k) start (whole ++ entries_from n k) so_far.1 own.1)),
     )
@@ -335,7 +335,7 @@ none_behind n start whole at mine =
     row_behind 1 (state_of (stage_at n)) (first_number (stage_at n) (round_at n)) (row_of 1 whole) whole (step_of n) refl (fine_at 1 n start whole at mine)
     ∙ by (stage_at n) (round_at n) mine
   where
-    by : (s : Stage) (r : ℕ) → maker s ≡ 1 → rows_after (row_of 1 whole) (step_entries s r) ≡ None
+    by : (s : Stage) (r : ℕ) → maker s ≡ 1 → row_after (row_of 1 whole) (step_entries s r) ≡ None
     by Starts r is = absurd (omega arith)
     by Takes r is = absurd (omega arith)
     by Signals r is = absurd (omega arith)

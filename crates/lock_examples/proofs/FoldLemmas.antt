@@ -1,19 +1,20 @@
 -- To fold some entries of the small value, and then some more, is to fold them all.
-use Rattle.std.proofs.Common.{◌≡◌, ℕ, zero, suc, ◌+◌, Bool, List, [], ◌∷◌, ◌++◌, length, map, filter, refl, sym, ap, subst, ◌∙◌, add-zero, length-append, arith}
+use Rattle.std.proofs.Common.{◌≡◌, ℕ, zero, suc, ◌+◌, Bool, List, [], ◌∷◌, ◌++◌, length, map, filter, Option, None, refl, sym, ap, subst, ◌∙◌, add-zero, length-append, arith}
 use Rattle.std.specs.Prelude.{replicate, slice_index}
 use Rattle.std.proofs.lemmas.List.Elements.{filter-append}
-use Rattle.std.proofs.lemmas.List.Sums.{sum_by-append}
+use Rattle.std.proofs.lemmas.List.Sums.{fold-append, sum_by-append}
 use Rattle.std.specs.List.{enumerate_from}
 use Rattle.mpm_base.specs.declared.conn.Cause.{Cause}
 use Rattle.mpm_base.specs.declared.conn.Cause.TheVariants as cause
 use Rattle.mpm_base.specs.Cause.{cause_number}
+use Rattle.mpm_base.specs.declared.conn.ConnName.{ConnName}
 use Rattle.conn_machine.specs.declared.event.Event.{Event}
 use Rattle.conn_machine.specs.declared.event.Entry.{Entry}
 use Rattle.conn_machine.specs.declared.folded.Edition.{Edition}
 use Rattle.conn_machine.specs.declared.folded.Folded.{Folded}
 use Rattle.conn_machine.specs.declared.state.State.{State}
 use Rattle.conn_machine.specs.Events.{causes, count_events, is_accept, is_answer, is_close, is_close_for, is_order, is_ready, is_start_child, is_tick}
-use Rattle.conn_machine.specs.Runs.{after, entries_of}
+use Rattle.conn_machine.specs.Runs.{after, entries_of, has_after, row_after}
 use Rattle.conn_machine.specs.Folds.{causes_after, first_edition, fold_of, is_in_use, opening_record}
 use Rattle.lock_examples.specs.declared.stage.Stage.{Stage}
 use Rattle.lock_examples.specs.declared.stage.Stage.TheVariants.{Starts, Takes, Signals, Serves}
@@ -61,6 +62,14 @@ numbers_twice : (a b : List Entry) (i : ℕ) (xs : List ℕ) → map (λ p. p.1 
 numbers_twice a b i [] = refl
 numbers_twice a b i (x ∷ xs) = let one = number_twice a b i x in let rest = numbers_twice a b (i + 1) xs in cc
 
+rows_twice : (a b : List Entry) (i : ℕ) (xs : List (Option ConnName)) → map (λ p. row_after p.1 (entries_of p.0 (a ++ b))) (enumerate_from i xs)
+    ≡ map (λ p. row_after p.1 (entries_of p.0 b)) (enumerate_from i (map (λ p. row_after p.1 (entries_of p.0 a)) (enumerate_from i xs)))
+rows_twice a b i [] = refl
+rows_twice a b i (x ∷ xs) =
+    let one : row_after x (entries_of i (a ++ b)) ≡ row_after (row_after x (entries_of i a)) (entries_of i b) =
+    ap (row_after x) (entries_of-append i a b) ∙ fold-append (λ had e. has_after had e.event e.reply) x (entries_of i a) (entries_of i b) in
+    let rest = rows_twice a b (i + 1) xs in cc
+
 -- ## Editions
 
 none_of : (n : ℕ) → filter (λ e. is_order e.event) (step_of n) ≡ []
@@ -96,8 +105,8 @@ toy_editions n passes =
 
 -- ## The record
 
-abbrev record_of : ℕ → ℕ → ℕ → ℕ → List ℕ → ℕ → List ℕ → ℕ → ℕ → ℕ → List Edition → List ℕ → Folded
-record_of e a c r ys k lines t d o es ns =
+abbrev record_of : ℕ → ℕ → ℕ → ℕ → List ℕ → ℕ → List ℕ → ℕ → ℕ → ℕ → List Edition → List ℕ → List (Option ConnName) → Folded
+record_of e a c r ys k lines t d o es ns rs =
     record {
       entries = e;
       accepted = a;
@@ -111,22 +120,24 @@ record_of e a c r ys k lines t d o es ns =
       orders = o;
       editions = es;
       ordinals = ns;
+      rows = rs;
     }
 
 same_record : (e e' a a' c c' r r' : ℕ) (ys ys' : List ℕ) (k k' : ℕ) (lines : List ℕ) (t t' d d' o o' : ℕ) (es es' : List Edition) (ns ns' : List ℕ)
-    → e ≡ e' → a ≡ a' → c ≡ c' → r ≡ r' → ys ≡ ys' → k ≡ k' → t ≡ t' → d ≡ d' → o ≡ o' → es ≡ es' → ns ≡ ns'
-    → record_of e a c r ys k lines t d o es ns ≡ record_of e' a' c' r' ys' k' lines t' d' o' es' ns'
-same_record e e' a a' c c' r r' ys ys' k k' lines t t' d d' o o' es es' ns ns' h1 h2 h3 h4 h5 h6 h7 h8 h9 h10 h11 = cc
+    (rs rs' : List (Option ConnName))
+    → e ≡ e' → a ≡ a' → c ≡ c' → r ≡ r' → ys ≡ ys' → k ≡ k' → t ≡ t' → d ≡ d' → o ≡ o' → es ≡ es' → ns ≡ ns' → rs ≡ rs'
+    → record_of e a c r ys k lines t d o es ns rs ≡ record_of e' a' c' r' ys' k' lines t' d' o' es' ns' rs'
+same_record e e' a a' c c' r r' ys ys' k k' lines t t' d d' o o' es es' ns ns' rs rs' h1 h2 h3 h4 h5 h6 h7 h8 h9 h10 h11 h12 = cc
 
 fold_twice : (s : State) (a b : List Entry) (f : Folded)
     → (fold_of s (a ++ b) [] f).editions ≡ (fold_of (after s a) b [] (fold_of s a [] f)).editions
     → fold_of s (a ++ b) [] f ≡ record (fold_of (after s a) b [] (fold_of s a [] f)) { lines = (fold_of s (a ++ b) [] f).lines }
 fold_twice s a b f editions =
-    same_record _ _ _ _ _ _ _ _ _ _ _ _ _ _ _ _ _ _ _ _ _ _ _
+    same_record _ _ _ _ _ _ _ _ _ _ _ _ _ _ _ _ _ _ _ _ _ _ _ _ _
     (by (length a) (length b) _ (length-append a b))
     (twice is_accept a b f.accepted) (twice is_close a b f.closed) (twice is_answer a b f.responses) (causes_twice a b f.causes)
     (twice is_start_child a b f.children) (twice is_tick a b f.ticks) (twice is_ready a b f.readies) (twice is_order a b f.orders)
-    editions (numbers_twice a b 0 f.ordinals)
+    editions (numbers_twice a b 0 f.ordinals) (rows_twice a b 0 f.rows)
   where
     by : (p q r : ℕ) → r ≡ p + q → f.entries + r ≡ f.entries + p + q
     by p q r e = omega arith
@@ -157,6 +168,12 @@ none_more : (i : ℕ) (xs : List ℕ) → map (λ p. p.1 + length (entries_of p.
 none_more i [] = refl
 none_more i (x ∷ xs) = let one : x + 0 ≡ x = add-zero x in let rest = none_more (i + 1) xs in cc
 
+no_more : (i : ℕ) (xs : List (Option ConnName)) → map (λ p. row_after p.1 (entries_of p.0 [])) (enumerate_from i xs) ≡ xs
+no_more i [] = refl
+no_more i (x ∷ xs) = ap (λ l. x ∷ l) (no_more (i + 1) xs)
+
 -- a value that never folded has the opening record
 pub record_opens : (passes : ℕ) → toy_record 0 passes ≡ opening_record passes
-record_opens passes = ap (λ ns. record (toy_record 0 passes) { ordinals = ns }) (none_more 0 (replicate passes 0))
+record_opens passes =
+    ap (λ ns. record (toy_record 0 passes) { ordinals = ns }) (none_more 0 (replicate passes 0))
+    ∙ ap (λ rs. record (opening_record passes) { rows = rs }) (no_more 0 (replicate passes None))

@@ -1,12 +1,10 @@
 -- A turn with the value that has texts may be given back.
-use Rattle.std.proofs.Common.{◌≡◌, ◌⊎◌, inl, inr, ⊎_elim, ℕ, zero, suc, ◌+◌, ◌≤◌, List, [], ◌∷◌, ◌++◌, length, map, replicate, Option, Some, None, refl, sym, ap, subst, ◌∙◌, arith}
-use Rattle.std.specs.List.{enumerate_from}
+use Rattle.std.proofs.Common.{◌≡◌, ◌⊎◌, inl, inr, ⊎_elim, ℕ, zero, suc, ◌+◌, ◌≤◌, List, [], ◌∷◌, ◌++◌, length, replicate, Option, Some, None, refl, sym, ap, subst, ◌∙◌, arith}
 use Rattle.atomic_table.specs.Table.{Me}
 use Rattle.conn_machine.specs.declared.event.Entry.{Entry}
 use Rattle.conn_machine.specs.declared.folded.Folded.{Folded}
 use Rattle.conn_machine.specs.declared.kept.Ledger.{Ledger}
 use Rattle.conn_machine.specs.Folds.{fold_of, opening_record}
-use Rattle.conn_machine.specs.Runs.{entries_of}
 use Rattle.table_rule.specs.declared.view.View.{View}
 use Rattle.table_rule.specs.Histories.{Extends}
 use Rattle.table_rule.specs.Ledgers.{FoldsOn, KeepsOn, MayGiveBack}
@@ -14,6 +12,7 @@ use Rattle.board_lock.specs.Passes.{GaveBack, TookTurn}
 use Rattle.lock_examples.specs.declared.texts.Texts.{Texts}
 use Rattle.lock_examples.specs.Texts.{texts_ledger}
 use Rattle.lock_examples.specs.Toy.{toy_state}
+use Rattle.lock_examples.proofs.FoldLemmas.{record_opens}
 
 -- more empty texts begin with fewer
 more_texts : (n m : ℕ) → n ≤ m → Extends {X = List ℕ} (replicate n []) (replicate m [])
@@ -37,12 +36,8 @@ may_write v w old new took more passes = (
 )
 
 -- a fold of no entries leaves the record
-no_ordinals : (n k : ℕ) → replicate n 0 ≡ map (λ (p : ℕ × ℕ). p.1 + length (entries_of p.0 [])) (enumerate_from k (replicate n 0))
-no_ordinals zero k = refl
-no_ordinals (suc n) k = ap (λ (l : List ℕ). 0 ∷ l) (no_ordinals n (k + 1))
-
 same_record : (passes : ℕ) → opening_record passes ≡ record (fold_of toy_state [] [] (opening_record passes)) { lines = [] }
-same_record passes = ap (λ (l : List ℕ). record (opening_record passes) { ordinals = l }) (no_ordinals passes 0)
+same_record passes = sym (record_opens passes)
 
 -- pass 0 may fold
 pub may_fold : {K : Type 0} (v w : Me (Option K) View) (old new : Texts) → TookTurn v w (texts_ledger old) → v.0.who.number ≡ 0 → new ≡ record old { count = 0 }

@@ -1,21 +1,22 @@
 -- A turn with the small value may be given back.
 use Rattle.std.proofs.Common.{◌≡◌, ◌⊎◌, inl, inr, ⊎_elim, ℕ, zero, suc, ◌+◌, ◌<◌, ◌≤◌, Bool, true, false, List, [], ◌∷◌, ◌++◌, length, Option, Some, None, refl, sym, ap, subst, ◌∙◌, add-zero, append-nil, length-append, arith}
-use Rattle.std.proofs.lemmas.List.{append_cancel_left}
-use Rattle.std.specs.Prelude.{replicate, map, slice_get, slice_index, option_to_list, IfSome}
-use Rattle.std.specs.List.{enumerate_from}
+use Rattle.std.proofs.lemmas.List.{append_cancel_left, length-replicate}
+use Rattle.std.specs.Prelude.{replicate, slice_get, slice_index, option_to_list, IfSome}
 use Rattle.atomic_table.specs.Table.{Me}
 use Rattle.mpm_base.specs.declared.conn.ConnName.{ConnName}
 use Rattle.conn_machine.specs.declared.event.Entry.{Entry}
+use Rattle.conn_machine.specs.declared.folded.Folded.{Folded}
 use Rattle.conn_machine.specs.declared.kept.Ledger.{Ledger}
 use Rattle.conn_machine.specs.declared.state.State.{State}
-use Rattle.conn_machine.specs.Folds.{fold_of}
-use Rattle.conn_machine.specs.Runs.{after, entries_of, row_of, AreEntriesOf}
+use Rattle.conn_machine.specs.Folds.{fold_of, opening_record}
+use Rattle.conn_machine.specs.Runs.{after, entries_of, row_from, row_of, AreEntriesOf}
 use Rattle.table_rule.specs.declared.view.Origin.{Origin}
 use Rattle.table_rule.specs.declared.view.View.{View}
 use Rattle.conn_machine.specs.Made.{HasSeen}
 use Rattle.table_rule.specs.Histories.{ArePermitted, threads_of}
 use Rattle.table_rule.specs.Ledgers.{FoldsOn, KeepsOn, MayGiveBack}
 use Rattle.table_rule.specs.Tie.{IsNew}
+use Rattle.table_rule.proofs.RecordLemmas.{each_after, each_first}
 use Rattle.board_lock.specs.Passes.{GaveBack, TookTurn, fresh_view}
 use Rattle.lock_examples.specs.declared.stage.Stage.{Stage}
 use Rattle.lock_examples.specs.declared.stage.Stage.TheVariants.{Starts, Takes, Signals, Serves}
@@ -45,38 +46,14 @@ may_stay v w found took = may_leave w.0 found (ap (λ (u : View). u.turn) took.v
 
 -- ## What a turn finds
 
--- the number of a pass in a row of numbers that went on by a history
-numbers_at : (h : List Entry) (i j : ℕ) (xs : List ℕ) → j < length xs
-    → slice_index (map (λ q. q.1 + length (entries_of q.0 h)) (enumerate_from i xs)) j ≡ slice_index xs j + length (entries_of (i + j) h)
-numbers_at h i j [] lt = absurd (omega arith)
-numbers_at h i zero (x ∷ xs) lt = ap (λ k. x + length (entries_of k h)) (sym (add-zero i))
-numbers_at h i (suc j) (x ∷ xs) lt =
-    let one : i + 1 + j ≡ i + suc j = omega arith in
-    numbers_at h (i + 1) j xs (omega arith) ∙ ap (λ k. slice_index xs j + length (entries_of k h)) one
-
-zeros_many : (n : ℕ) → length {A = ℕ} (replicate n 0) ≡ n
-zeros_many zero = refl
-zeros_many (suc n) = ap suc (zeros_many n)
-
-zero_at : (n j : ℕ) → slice_index (replicate n 0) j ≡ 0
-zero_at zero j = refl
-zero_at (suc n) zero = refl
-zero_at (suc n) (suc j) = zero_at n j
-
 -- the record counts the entries of each pass among those that were folded
 own_folded : (folded passes p : ℕ) → p < passes → slice_index (toy_record folded passes).ordinals p ≡ length (entries_of p (first_of folded))
 own_folded folded passes p lt =
-    numbers_at (first_of folded) 0 p (replicate passes 0) (subst (λ n. p < n) (sym (zeros_many passes)) lt)
-    ∙ by (slice_index (replicate passes 0) p) (0 + p) (zero_at passes p) none
+    each_after (λ i n. n + length (entries_of i (first_of folded))) (replicate passes 0) p 0 (subst (λ n. p < n) (sym (length-replicate passes 0)) lt)
+    ∙ plus (slice_index (replicate passes 0) p) (length (entries_of p (first_of folded))) (each_first passes p 0)
   where
-    none : 0 + p ≡ p
-    none = omega arith
-
-    by : (z q : ℕ) → z ≡ 0 → q ≡ p → z + length (entries_of q (first_of folded)) ≡ length (entries_of p (first_of folded))
-    by z q e d = ap (λ k. z + length (entries_of k (first_of folded))) d ∙ plus z (length (entries_of p (first_of folded))) e
-      where
-        plus : (z n : ℕ) → z ≡ 0 → z + n ≡ n
-        plus z n e = omega arith
+    plus : (z n : ℕ) → z ≡ 0 → z + n ≡ n
+    plus z n e = omega arith
 
 -- the state before the next step
 state_found : {K : Type 0} (v w : Me (Option K) View) (old : SeenToy) → TookTurn v w (toy_ledger old)
@@ -151,10 +128,10 @@ listener_at v w old took number opening =
 
 -- pass 1, which has no connection, finds that it has none
 pub row_found : {K : Type 0} (v w : Me (Option K) View) (found : Ledger) → TookTurn v w found → v.0.who.number ≡ 1 → v.0.row ≡ None
-    → ((p : ℕ) (seen history : List Entry) → HasSeen p seen history → row_of p history ≡ row_of p seen) → row_of 1 w.0.seen ≡ None
+    → ((f : Folded) (p : ℕ) (seen history : List Entry) → HasSeen p seen history → row_from f p history ≡ row_from f p seen) → row_of 1 w.0.seen ≡ None
 row_found v w found took number row stays =
     let f = took.is_found in
-    ap (λ p. row_of p w.0.seen) (sym number) ∙ stays v.0.who.number v.0.seen w.0.seen f.seen ∙ sym f.row_is ∙ row
+    ap (λ p. row_of p w.0.seen) (sym number) ∙ stays (opening_record 0) v.0.who.number v.0.seen w.0.seen f.seen ∙ sym f.row_is ∙ row
 
 -- what pass 1 finds
 worker_at : {K : Type 0} (v w : Me (Option K) View) (old : SeenToy) → TookTurn v w (toy_ledger old) → v.0.who.number ≡ 1 → row_of 1 w.0.seen ≡ None
@@ -166,7 +143,7 @@ worker_at v w old took number none =
 
 -- so many steps of the pass, from the one on that was found
 record MayMake {K : Type 0} (p : ℕ) (v w : Me (Option K) View) (old : SeenToy) (k : ℕ) : Type 0 where
-  pub entries : AreEntriesOf w.0.who.number w.0.origin.state w.0.seen (entries_from (old.folded + old.count) k)
+  pub entries : AreEntriesOf w.0.who.number w.0.origin.state (opening_record w.0.origin.passes) w.0.seen (entries_from (old.folded + old.count) k)
   pub permitted : ArePermitted w.0.hand.permit w.0.credits (after w.0.origin.state w.0.seen) (entries_from (old.folded + old.count) k)
 
 may_make : {K : Type 0} (p : ℕ) (v w : Me (Option K) View) (old : SeenToy) (k : ℕ) → TookTurn v w (toy_ledger old) → v.0.who.number ≡ p
@@ -175,8 +152,8 @@ may_make p v w old k took number has at own =
     let who : p ≡ w.0.who.number = sym number ∙ ap (λ (u : View). u.who.number) (sym took.view) in
     record {
       entries =
-          subst (λ q. AreEntriesOf q w.0.origin.state w.0.seen (entries_from (old.folded + old.count) k)) who
-          (are_more p (old.folded + old.count) k w.0.origin.state w.0.seen at own).0;
+          subst (λ q. AreEntriesOf q w.0.origin.state (opening_record w.0.origin.passes) w.0.seen (entries_from (old.folded + old.count) k)) who
+          (are_more w.0.origin.passes p (old.folded + old.count) k w.0.origin.state w.0.seen at own).0;
       permitted =
           subst (λ s. ArePermitted w.0.hand.permit w.0.credits s (entries_from (old.folded + old.count) k)) (sym at.state)
           (permits_more p (old.folded + old.count) k w.0.hand.permit w.0.credits own has);

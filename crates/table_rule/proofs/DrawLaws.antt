@@ -12,7 +12,8 @@ use Rattle.atomic_table.proofs.Lists.{at_set, at_longer, set_again, set_else}
 use Rattle.conn_machine.specs.declared.event.Entry.{Entry}
 use Rattle.conn_machine.specs.declared.folded.Folded.{Folded}
 use Rattle.conn_machine.specs.declared.kept.Ledger.{Ledger}
-use Rattle.conn_machine.specs.Runs.{after, entries_of}
+use Rattle.conn_machine.specs.Folds.{HasPlacesFor}
+use Rattle.conn_machine.specs.Runs.{after, entries_of, first_row}
 use Rattle.table_rule.specs.declared.view.Left.{Left}
 use Rattle.table_rule.specs.declared.view.Origin.{Origin}
 use Rattle.table_rule.specs.declared.view.View.{View}
@@ -24,7 +25,7 @@ use Rattle.table_rule.specs.IdleWords.{bit, permits, tries}
 use Rattle.table_rule.specs.Steps.{DrawsNext}
 use Rattle.table_rule.specs.Tie.{AreDrawn, AreFirstWords, IsNew, IsTied, IsViewOf, KeptIsHome, KeptIsOut, origin_of}
 use Rattle.table_rule.proofs.MachineLemmas.{none_behind, none_some, row_none}
-use Rattle.table_rule.proofs.OrdinalLemmas.{no_ordinals}
+use Rattle.table_rule.proofs.RecordLemmas.{each_first}
 use Rattle.table_rule.proofs.PastLemmas.{knows_none, past_begins, past_changed, past_more, past_same}
 use Rattle.table_rule.proofs.SumLemmas.{sum_snoc}
 use Rattle.table_rule.proofs.TieLemmas.{Placed, drawn_same, first_is, idle_same, moved, same_place}
@@ -68,8 +69,9 @@ module _ {K : Type 0} (ledger : K → Ledger) (o : Ledger) where
             base = refl;
             record_is = new.folded;
             counted = ap (λ (f : Folded). f.entries) new.folded;
-            numbers = ap (λ (f : Folded). length f.ordinals) new.folded ∙ length-replicate o.passes 0;
-            ordinals = λ p lt. ap (λ (f : Folded). slice_index f.ordinals p) new.folded ∙ no_ordinals o.passes p;
+            places = subst (HasPlacesFor o.passes) (sym new.folded) record { ordinals = length-replicate o.passes 0; rows = length-replicate o.passes None };
+            ordinals = λ p lt. ap (λ (f : Folded). slice_index f.ordinals p) new.folded ∙ each_first o.passes p 0;
+            rows = λ p lt. ap (λ (f : Folded). first_row f p) new.folded ∙ each_first o.passes p None;
             texts = (o.texts, refl);
             passes = refl;
           };

@@ -1,6 +1,6 @@
 -- The turn is given back.
 use Rattle.std.proofs.Common.{◌≡◌, ◌≢◌, ℕ, ◌+◌, ◌*◌, List, [], ◌∷◌, ◌++◌, length, set, Option, Some, None, refl, sym, ap, ◌∙◌, subst, inl, ⊎_elim, arith, append_assoc, append-nil, length-append}
-use Rattle.std.specs.Prelude.{slice_index, slice_set}
+use Rattle.std.specs.Prelude.{slice_index, slice_index_or, slice_set}
 use native.Mathlib.Decide.{ℕ_discrete}
 use mathlib.Core.Option as m
 use lib.ListN.{get_elem?}
@@ -11,9 +11,8 @@ use Rattle.conn_machine.specs.declared.event.Entry.{Entry}
 use Rattle.conn_machine.specs.declared.folded.Folded.{Folded}
 use Rattle.conn_machine.specs.declared.kept.Ledger.{Ledger}
 use Rattle.conn_machine.specs.declared.state.State as machine
-use Rattle.conn_machine.specs.Runs.{after, entries_of, row_of, AreEntriesOf}
-use Rattle.conn_machine.specs.Runs.{Adds}
-use Rattle.conn_machine.specs.Folds.{ordinals_after}
+use Rattle.conn_machine.specs.Runs.{Adds, AreEntriesOf, after, entries_of, first_row, row_after, row_of}
+use Rattle.conn_machine.specs.Folds.{HasPlacesFor, opening_record, ordinals_after, rows_after}
 use Rattle.conn_machine.specs.Sound.{IsSound}
 use Rattle.table_rule.specs.declared.view.Left.{Left}
 use Rattle.table_rule.specs.declared.view.Origin.{Origin}
@@ -25,8 +24,8 @@ use Rattle.table_rule.specs.Views.{IsAwake, given_view}
 use Rattle.table_rule.specs.IdleWords.{HasPermit}
 use Rattle.table_rule.specs.Steps.{GivesBack}
 use Rattle.table_rule.specs.Tie.{IsTied, IsViewOf, KeptIsHome, KeptIsOut, origin_of}
-use Rattle.table_rule.proofs.MachineLemmas.{KeepsGoing, after-append, entries_of-append, none_some, row_by, seen_on, seen_same, seen_whole, some_is}
-use Rattle.table_rule.proofs.OrdinalLemmas.{ordinal_after, ordinals_length}
+use Rattle.table_rule.proofs.MachineLemmas.{KeepsGoing, after-append, entries_of-append, none_some, row_by, row_more, seen_on, seen_same, seen_whole, some_is}
+use Rattle.table_rule.proofs.RecordLemmas.{each_after, places_after}
 use Rattle.table_rule.proofs.PastLemmas.{past_same}
 use Rattle.table_rule.proofs.PermitLaws.{entries_credit, entries_permit}
 use Rattle.table_rule.proofs.TieLemmas.{drawn_same, first_is, idle_kept, moved}
@@ -53,8 +52,9 @@ split_kept origin left found new whole added p k passes texts begins = record {
   base = k.base ∙ p.base;
   record_is = k.record_is ∙ p.record_is;
   counted = ap (λ (f : Folded). f.entries) k.record_is ∙ p.counted;
-  numbers = ap (λ (f : Folded). length f.ordinals) k.record_is ∙ p.numbers;
+  places = subst (HasPlacesFor origin.passes) (sym k.record_is) p.places;
   ordinals = λ q lt. ap (λ (f : Folded). slice_index f.ordinals q) k.record_is ∙ p.ordinals q lt;
+  rows = λ q lt. ap (λ (f : Folded). first_row f q) k.record_is ∙ p.rows q lt;
   texts = begins;
   passes = passes ∙ p.passes;
 }
@@ -65,7 +65,8 @@ split_folded : (origin : Origin) (left : Left) (found new : Ledger) (whole added
 split_folded origin left found new whole added p k passes =
     let more = found.history ++ k.before in
     let count : new.folded.entries ≡ found.folded.entries + length more = ap (λ (f : Folded). f.entries) k.record_is in
-    let next : new.folded.ordinals ≡ ordinals_after more found.folded.ordinals = ap (λ (f : Folded). f.ordinals) k.record_is in
+    let numbers : new.folded.ordinals ≡ ordinals_after more found.folded.ordinals = ap (λ (f : Folded). f.ordinals) k.record_is in
+    let has : new.folded.rows ≡ rows_after more found.folded.rows = ap (λ (f : Folded). f.rows) k.record_is in
     record {
       whole_is =
           ap (λ l. l ++ added) p.whole_is ∙ append_assoc left.entries found.history added
@@ -76,14 +77,20 @@ split_folded origin left found new whole added p k passes =
       base = k.base ∙ ap (λ s. after s more) p.base ∙ sym (after-append origin.state left.entries more);
       record_is = refl;
       counted = (let c = p.counted in let d = length-append left.entries more in omega arith);
-      numbers = ap length next ∙ ordinals_length more found.folded.ordinals ∙ p.numbers;
+      places = subst (HasPlacesFor origin.passes) (sym k.record_is) (places_after origin.passes found.base more found.folded new.folded.lines p.places);
       ordinals = λ q lt.
           let own : slice_index new.folded.ordinals q ≡ slice_index found.folded.ordinals q + length (entries_of q more) =
-          ap (λ l. slice_index l q) next ∙ ordinal_after more found.folded.ordinals q (let n = p.numbers in omega arith) in
+          ap (λ l. slice_index l q) numbers
+          ∙ each_after (λ i n. n + length (entries_of i more)) found.folded.ordinals q 0 (let n = p.places.ordinals in omega arith) in
           let before = p.ordinals q lt in
           let all : length (entries_of q (left.entries ++ more)) ≡ length (entries_of q left.entries) + length (entries_of q more) =
           ap length (entries_of-append q left.entries more) ∙ length-append (entries_of q left.entries) (entries_of q more) in
           omega (arith, own, before, all);
+      rows = λ q lt.
+          ap (λ l. slice_index_or l q None) has
+          ∙ each_after (λ i had. row_after had (entries_of i more)) found.folded.rows q None (let n = p.places.rows in omega arith)
+          ∙ ap (λ had. row_after had (entries_of q more)) (p.rows q lt)
+          ∙ sym (ap (row_after None) (entries_of-append q left.entries more) ∙ row_more None (entries_of q left.entries) (entries_of q more));
       texts = ([], sym (append-nil new.texts));
       passes = passes ∙ p.passes;
     }
@@ -119,10 +126,10 @@ split_length origin left l whole p =
 
 -- ## The step
 
-sound_of : KeepsGoing → (start : machine.State) → IsOpened start → (history : List Entry) → AreMade start history → IsSound (after start history)
-sound_of laws start opened history made =
+sound_of : KeepsGoing → (start : machine.State) (passes : ℕ) → IsOpened start → (history : List Entry) → AreMade start (opening_record passes) history → IsSound (after start history)
+sound_of laws start passes opened history made =
     let sound : IsSound start = subst IsSound (sym opened.state) (laws.opening opened.slots opened.children opened.shape opened.bounds) in
-    laws.run start history sound (laws.runs start history made) history [] (sym (append-nil history))
+    laws.run start history sound (laws.runs start (opening_record passes) history made) history [] (sym (append-nil history))
 
 module _ {K : Type 0} (ledger : K → Ledger) (o : Ledger) where
   -- what the pass with the turn finds of the rule
@@ -187,10 +194,10 @@ module _ {K : Type 0} (ledger : K → Ledger) (o : Ledger) where
       ]
 
   -- another view after entries of a pass
-  other_fits : KeepsGoing → (id j : ℕ) (u : View) (history added : List Entry) → j ≢ id → AreEntriesOf id o.base history added
+  other_fits : KeepsGoing → (id j : ℕ) (u : View) (history added : List Entry) → j ≢ id → AreEntriesOf id o.base (opening_record o.passes) history added
       → IsViewOf (origin_of o) history j u → IsViewOf (origin_of o) (history ++ added) j u
   other_fits laws id j u history added ne are fits =
-      let behind : HasSeen j history (history ++ added) = laws.seen id j o.base history (history ++ added) (added, refl, are) ne in
+      let behind : HasSeen j history (history ++ added) = laws.seen id j o.base (opening_record o.passes) history (history ++ added) (added, refl, are) ne in
       record {
         number = fits.number;
         origin_is = fits.origin_is;
@@ -200,14 +207,14 @@ module _ {K : Type 0} (ledger : K → Ledger) (o : Ledger) where
       }
 
   -- another pass keeps its permit
-  other_permit : KeepsGoing → (id j : ℕ) (u : View) (history added : List Entry) → IsOpened o.base → AreMade o.base (history ++ added) → j ≢ id → AreEntriesOf id o.base history added
+  other_permit : KeepsGoing → (id j : ℕ) (u : View) (history added : List Entry) → IsOpened o.base → AreMade o.base (opening_record o.passes) (history ++ added) → j ≢ id → AreEntriesOf id o.base (opening_record o.passes) history added
       → u.row ≡ row_of j history → HasPermit (after o.base history) u → HasPermit (after o.base (history ++ added)) u
   other_permit laws id j u history added opened made ne are row has name r is at carried =
-      let behind = laws.seen id j o.base history (history ++ added) (added, refl, are) ne in
-      has name r is (sym (laws.stays o.base j history (history ++ added) name opened made behind (sym row ∙ is)) ∙ at) carried
+      let behind = laws.seen id j o.base (opening_record o.passes) history (history ++ added) (added, refl, are) ne in
+      has name r is (sym (laws.stays o.base o.passes j history (history ++ added) name opened made behind (sym row ∙ is)) ∙ at) carried
 
   given : KeepsGoing → (s : State (Option K) View) (t : IsTied ledger o s) (id : ℕ) (v : View) (k : K) (found : Ledger) (x : ℕ) → get_elem? s.views id ≡ m.some v → IsAwake v
-      → (h : IsHolder s t id v found) → (a : MayLeaveLedger v found (ledger k)) → AreEntriesOf id o.base t.history a.added
+      → (h : IsHolder s t id v found) → (a : MayLeaveLedger v found (ledger k)) → AreEntriesOf id o.base (opening_record o.passes) t.history a.added
       → ArePermitted v.hand.permit v.credits (after o.base t.history) a.added
       → (g : IsGiven s t id v (ledger k) (t.history ++ a.added)) → x ≡ 2 * length (t.history ++ a.added)
       → IsTied ledger o (stepped s 0 x id ((0, Some k) ∷ []) (given_view v (t.history ++ a.added) g.left) gives)
@@ -218,13 +225,13 @@ module _ {K : Type 0} (ledger : K → Ledger) (o : Ledger) where
       let w : View = given_view v history g.left in
       let f = first_after s.views id v w t.first at t.at in
       let words = set s.words 0 x in
-      let made = laws.made id o.base t.history (t.history ++ a.added) t.made (a.added, refl, are) in
+      let made = laws.made id o.base (opening_record o.passes) t.history (t.history ++ a.added) t.made (a.added, refl, are) in
       let credits : f.view.credits ≡ t.first.credits = first_same (λ (q : View). q.credits) s.views id v w t.first f (λ _. refl) in
       let own_row : row_of v.who.number history ≡ row_of id history = ap (λ n. row_of n history) number in
       moved ledger o s t id v w f words (slice_set s.homes 0 (m.some (Some k))) history
       (set_length s.words 0 x ∙ t.count) made
       (λ n le. let ne : n ≢ id = (λ e. let b = at_below s.views id v at in omega arith) in
-      seen_same n t.history history (laws.seen id n o.base t.history history (a.added, refl, are) ne) ∙ t.undrawn n le)
+      seen_same n t.history history (laws.seen id n o.base (opening_record o.passes) t.history history (a.added, refl, are) ne) ∙ t.undrawn n le)
       (λ j u ne e. other_fits laws id j u t.history a.added ne are (t.fits j u e))
       record { number = mine.number; origin_is = mine.origin_is; begins = ([], sym (append-nil history)); seen = λ _ _. seen_whole id history; row = own_row }
       (inl record {
@@ -239,15 +246,15 @@ module _ {K : Type 0} (ledger : K → Ledger) (o : Ledger) where
       })
       (drawn_same (origin_of o) s.words words s.views id w t.first.draws f.view.draws t.drawn (second_else s.words x) (first_same (λ (q : View). q.draws) s.views id v w t.first f (λ _. refl)))
       (idle_kept (after o.base t.history) (after o.base history) s.words words s.views id v w t.first.credits f.view.credits t.idle at refl (λ j _. idle_else s.words x j) credits
-      (entries_credit laws.step o.base id t.history a.added v.hand.permit t.first.credits (sound_of laws o.base t.opening t.history t.made) are
+      (entries_credit laws.step o.base (opening_record o.passes) id t.history a.added v.hand.permit t.first.credits (sound_of laws o.base o.passes t.opening t.history t.made) are
       (λ z. subst (λ cs. ArePermitted v.hand.permit cs (after o.base t.history) a.added) (ap (λ (q : View). q.credits) (first_is ledger o s t id v at z)) permitted)
       t.idle.credited)
       (λ j u e. ⊎_elim
       (λ (z : (j ≡ id) × (w ≡ u)). subst (HasPermit (after o.base history)) z.1
       (λ name r is there carried.
-      entries_permit o.base id t.history a.added v.hand.permit v.credits are permitted
-      (λ n q had stands c. t.idle.holders id v at n q (mine.row ∙ had) stands c)
-      name r (sym own_row ∙ is) there carried))
+      entries_permit o.base (opening_record o.passes) id t.history a.added v.hand.permit v.credits are permitted
+      (λ n q had stands c. t.idle.holders id v at n q (mine.row ∙ sym (laws.row o.passes id t.history) ∙ had) stands c)
+      name r (laws.row o.passes id history ∙ sym own_row ∙ is) there carried))
       (λ (z : (j ≢ id) × (get_elem? s.views j ≡ m.some u)).
       other_permit laws id j u t.history a.added t.opening made z.0 are (t.fits j u z.1).row (t.idle.holders j u z.1))
       (at_set s.views id j w u e)))
@@ -256,16 +263,20 @@ module _ {K : Type 0} (ledger : K → Ledger) (o : Ledger) where
   given_back : KeepsGoing → (s : State (Option K) View) (t : IsTied ledger o s) (id : ℕ) (v : View) (k : K) (x : ℕ) → get_elem? s.views id ≡ m.some v → IsAwake v
       → (back : MayGiveBack v (ledger k)) → x ≡ 2 * ((ledger k).folded.entries + length (ledger k).history)
       → (w : View) × IsTied ledger o (stepped s 0 x id ((0, Some k) ∷ []) w gives)
-      × ((history : List Entry) × (left : Left) × (w ≡ given_view v history left) × Adds v.who.number v.origin.state v.seen history
+      × ((history : List Entry) × (left : Left) × (w ≡ given_view v history left)
+      × Adds v.who.number v.origin.state (opening_record v.origin.passes) v.seen history
       × EndsTurn v (ledger k) history × IsLedgerLeft v (ledger k) history left)
   given_back laws s t id v k x at awake back word =
       let found = back.0 in let a = back.2 in
       let h = holder s t id v found at back.1 in
       let mine = t.fits id v at in
       let number : v.who.number ≡ id = mine.number awake.there in
-      let base : v.origin.state ≡ o.base = ap (λ (g : Origin). g.state) (mine.origin_is awake.there awake.up) in
-      let are : AreEntriesOf id o.base t.history a.added =
-      subst (λ l. AreEntriesOf id o.base l a.added) h.seen (subst (λ st. AreEntriesOf id st v.seen a.added) base (subst (λ n. AreEntriesOf n v.origin.state v.seen a.added) number a.entries)) in
+      let origin = mine.origin_is awake.there awake.up in
+      let base : v.origin.state ≡ o.base = ap (λ (g : Origin). g.state) origin in
+      let are : AreEntriesOf id o.base (opening_record o.passes) t.history a.added =
+      subst (λ l. AreEntriesOf id o.base (opening_record o.passes) l a.added) h.seen
+      (subst (λ (g : Origin). AreEntriesOf id g.state (opening_record g.passes) v.seen a.added) origin
+      (subst (λ n. AreEntriesOf n v.origin.state (opening_record v.origin.passes) v.seen a.added) number a.entries)) in
       let permitted : ArePermitted v.hand.permit v.credits (after o.base t.history) a.added =
       subst (λ l. ArePermitted v.hand.permit v.credits (after o.base l) a.added) h.seen (subst (λ st. ArePermitted v.hand.permit v.credits (after st v.seen) a.added) base a.permitted) in
       let g = left_by s t id v found (ledger k) at awake h a in

@@ -11,6 +11,7 @@ use Rattle.atomic_table.specs.Table.{State, Me, step, Act, Allows, Valid, steppe
 use Rattle.atomic_table.specs.Table.Act.{keeps}
 use Rattle.atomic_table.proofs.Lists.{at_set}
 use Rattle.conn_machine.specs.declared.kept.Ledger.{Ledger}
+use Rattle.conn_machine.specs.Folds.{opening_record}
 use Rattle.conn_machine.specs.Laws.{idle_in}
 use Rattle.conn_machine.specs.Made.{AreMade, HasSeen}
 use Rattle.conn_machine.specs.Runs.{after}
@@ -347,8 +348,9 @@ module _ {K : Type 0} (ledger : K → Ledger) (o : Ledger) where
   idles_law someone slots id me k lt awake s t len at small =
       let mine = t.fits id me.0 at in
       let number : me.0.who.number ≡ id = mine.number awake.there in
-      let base : me.0.origin.state ≡ o.base = ap (λ (g : Origin). g.state) (mine.origin_is awake.there awake.up) in
-      let c = carried_permits someone o.base t.history s.words s.views t.first.credits (views_of ledger o s t) k in
+      let origin = mine.origin_is awake.there awake.up in
+      let base : me.0.origin.state ≡ o.base = ap (λ (g : Origin). g.state) origin in
+      let c = carried_permits someone o.base o.passes t.history s.words s.views t.first.credits (views_of ledger o s t) k in
       let e = t.idle.equation k lt in
       let p = t.idle.permitted k lt in
       let small_credit = t.idle.small k lt in
@@ -366,7 +368,7 @@ module _ {K : Type 0} (ledger : K → Ledger) (o : Ledger) where
           (
             t.history,
             subst (λ n. HasSeen n me.0.seen t.history) (sym number) (mine.seen awake.there awake.up),
-            subst (λ st. AreMade st t.history) (sym base) t.made,
+            subst (λ (g : Origin). AreMade g.state (opening_record g.passes) t.history) (sym origin) t.made,
             subst (λ i. slice_index s.words (k + 2) - bias ≤ idle_in (after me.0.origin.state t.history) i) (sym (word_child k))
                 (subst (λ st. slice_index s.words (k + 2) - bias ≤ idle_in (after st t.history) k) (sym base) below),
           ),

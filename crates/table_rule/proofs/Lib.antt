@@ -2,9 +2,9 @@ mod DrawLaws
 mod GiveLaws
 mod IdleLaws
 mod MachineLemmas
-mod OrdinalLemmas
 mod PastLemmas
 mod PermitLaws
+pub mod RecordLemmas
 mod SumLemmas
 mod TieLemmas
 pub mod TrailLemmas

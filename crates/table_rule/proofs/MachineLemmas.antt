@@ -1,5 +1,5 @@
 -- What is taken of the machine: some of its laws, as they are handed on to lemmas, and what its definitions say at once.
-use Rattle.std.proofs.Common.{◌≡◌, ◌≢◌, ℕ, zero, suc, ◌==◌, Bool, true, false, true≢false, List, [], ◌∷◌, ◌++◌, fold, Option, Some, None, slice_get, eq-eqb, refl, sym, ap, ◌∙◌, append-nil, append_assoc}
+use Rattle.std.proofs.Common.{◌≡◌, ◌≢◌, ℕ, zero, suc, ◌==◌, Bool, true, false, true≢false, List, [], ◌∷◌, ◌++◌, Option, Some, None, slice_get, eq-eqb, refl, sym, ap, ◌∙◌, append-nil, append_assoc}
 use Rattle.std.specs.Prelude.{if◌then◌else◌}
 use Rattle.std.specs.Option.{option_map_or}
 use Rattle.std.proofs.lemmas.Bool.{and_parts, eqb-true}
@@ -16,34 +16,63 @@ use Rattle.conn_machine.specs.Rows.{is_live_as, is_with_a_pass, live_row, lives_
 use Rattle.conn_machine.specs.Children.{is_in_bounds}
 use Rattle.conn_machine.specs.States.{opening_state}
 use Rattle.conn_machine.specs.Table.{is_allowed, next}
-use Rattle.conn_machine.specs.Runs.{Adds, Run, after, entries_of, has_after, has_row, is_of_pass, row_of}
+use Rattle.conn_machine.specs.declared.folded.Folded.{Folded}
+use Rattle.conn_machine.specs.Folds.{opening_record}
+use Rattle.conn_machine.specs.Passes.{EachHasItsOwn}
+use Rattle.conn_machine.specs.Runs.{Adds, Run, after, entries_of, first_row, has_after, has_row, is_of_pass, row_after, row_from, row_of}
 use Rattle.conn_machine.specs.Made.{AreMade, HasSeen, IsOpened}
 use Rattle.conn_machine.specs.Sound.{IsSound}
 use Rattle.conn_machine.specs.Laws.{StaysSound}
 
 -- ## Laws
 
+-- behind nothing a pass has what its entries give it
+abbrev pub RowsBegin : Type 0
+RowsBegin = (passes p : ℕ) (history : List Entry) → row_from (opening_record passes) p history ≡ row_of p history
+
 -- each connection that somebody holds or has is some pass's
 abbrev pub SomeoneHas : Type 0
 SomeoneHas =
-    (start : State) (history : List Entry) (slot : ℕ) (r : Row) → IsOpened start → AreMade start history
+    (start : State) (passes : ℕ) (history : List Entry) (slot : ℕ) (r : Row) → IsOpened start → AreMade start (opening_record passes) history
     → slice_get (after start history).rows slot ≡ Some r → is_with_a_pass r.place ≡ true
     → (p : ℕ) × (name : ConnName) × (row_of p history ≡ Some name) × (name.slot ≡ slot) × (live_row (after start history).rows name ≡ Some r)
 
 -- while others go on, the row of a pass stays
 abbrev pub RowsStay : Type 0
 RowsStay =
-    (start : State) (p : ℕ) (seen history : List Entry) (name : ConnName) → IsOpened start → AreMade start history → HasSeen p seen history
-    → row_of p seen ≡ Some name → slice_get (after start history).rows name.slot ≡ slice_get (after start seen).rows name.slot
+    (start : State) (passes p : ℕ) (seen history : List Entry) (name : ConnName) → IsOpened start → AreMade start (opening_record passes) history
+    → HasSeen p seen history → row_of p seen ≡ Some name → slice_get (after start history).rows name.slot ≡ slice_get (after start seen).rows name.slot
+
+-- each pass has its own connection at the opening, and behind what passes made from there on
+pub record EachKeepsItsOwn : Type 0 where
+  pub opened : (s : State) (passes : ℕ) → IsOpened s → EachHasItsOwn s (first_row (opening_record passes))
+  pub made : (base : State) (f : Folded) (history : List Entry) → EachHasItsOwn base (first_row f) → AreMade base f history → EachHasItsOwn (after base history) (λ p. row_from f p history)
+  pub row : RowsBegin
+
+-- so somebody has each connection that is with a pass
+pub someone_has : EachKeepsItsOwn → SomeoneHas
+someone_has laws start passes history slot r opened made at hand =
+    let f = opening_record passes in
+    let who = (laws.made start f history (laws.opened start passes opened) made).someone slot r at hand in
+    (who.0, who.1, sym (laws.row passes who.0 history) ∙ who.2, who.3, who.4)
+
+-- and the row of a pass stays while others go on
+pub rows_stay : EachKeepsItsOwn
+    → ((base : State) (f : Folded) (p : ℕ) (seen history : List Entry) (name : ConnName) → EachHasItsOwn base (first_row f) → AreMade base f history → HasSeen p seen history
+    → row_from f p seen ≡ Some name → slice_get (after base history).rows name.slot ≡ slice_get (after base seen).rows name.slot)
+    → RowsStay
+rows_stay laws stay start passes p seen history name opened made has is =
+    stay start (opening_record passes) p seen history name (laws.opened start passes opened) made has (laws.row passes p seen ∙ is)
 
 -- what a history that goes on by entries of a pass keeps
 pub record KeepsGoing : Type 0 where
   pub opening : (slots children : ℕ) (shape : Shape) → is_in_bounds shape ≡ true → IsSound (opening_state slots children shape)
   pub step : (s : State) (e : Event) → IsSound s → is_allowed s e ≡ true → IsSound (next s e)
   pub run : (s : State) (history : List Entry) → IsSound s → Run s history → StaysSound s history
-  pub runs : (base : State) (history : List Entry) → AreMade base history → Run base history
-  pub made : (p : ℕ) (base : State) (old new : List Entry) → AreMade base old → Adds p base old new → AreMade base new
-  pub seen : (p q : ℕ) (base : State) (old new : List Entry) → Adds p base old new → q ≢ p → HasSeen q old new
+  pub runs : (base : State) (f : Folded) (history : List Entry) → AreMade base f history → Run base history
+  pub made : (p : ℕ) (base : State) (f : Folded) (old new : List Entry) → AreMade base f old → Adds p base f old new → AreMade base f new
+  pub seen : (p q : ℕ) (base : State) (f : Folded) (old new : List Entry) → Adds p base f old new → q ≢ p → HasSeen q old new
+  pub row : RowsBegin
   pub stays : RowsStay
 
 -- ## What may be there
@@ -112,18 +141,22 @@ entries_of-append p a b = filter-append (is_of_pass p) a b
 
 -- the connection of a pass is what its entries say
 pub row_by : (p : ℕ) (a b : List Entry) → entries_of p a ≡ entries_of p b → row_of p a ≡ row_of p b
-row_by p a b same = ap (λ (es : List Entry). fold (λ had e. has_after had e.event e.reply) None es) same
+row_by p a b same = ap (row_after None) same
 
 pub row_none : (p : ℕ) (history : List Entry) → entries_of p history ≡ [] → row_of p history ≡ None
 row_none p history none = row_by p history [] none
 
-pub row_own : (p : ℕ) (history : List Entry) (e : Entry) → e.pass ≡ p → row_of p (history ++ e ∷ []) ≡ has_after (row_of p history) e.event e.reply
-row_own p history e own =
+-- what a pass has behind two lists of its entries
+pub row_more : (had : Option ConnName) (a b : List Entry) → row_after had (a ++ b) ≡ row_after (row_after had a) b
+row_more had a b = fold-append (λ had x. has_after had x.event x.reply) had a b
+
+pub row_own : (f : Folded) (p : ℕ) (history : List Entry) (e : Entry) → e.pass ≡ p
+    → row_from f p (history ++ e ∷ []) ≡ has_after (row_from f p history) e.event e.reply
+row_own f p history e own =
     let last : entries_of p (e ∷ []) ≡ e ∷ [] = rw (eq-eqb e.pass p own) refl in
     let mine : entries_of p (history ++ e ∷ []) ≡ entries_of p history ++ e ∷ [] =
     entries_of-append p history (e ∷ []) ∙ ap (λ l. entries_of p history ++ l) last in
-    ap (λ (es : List Entry). fold (λ had x. has_after had x.event x.reply) None es) mine
-    ∙ fold-append (λ had x. has_after had x.event x.reply) None (entries_of p history) (e ∷ [])
+    ap (row_after (first_row f p)) mine ∙ row_more (first_row f p) (entries_of p history) (e ∷ [])
 
 -- ## What a pass has seen
 

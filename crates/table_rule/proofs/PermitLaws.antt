@@ -22,7 +22,8 @@ use Rattle.conn_machine.specs.Rows.{is_carried_at, is_queued, is_working}
 use Rattle.conn_machine.specs.Children.{child_at, all_stopped, stopped_child, is_empty, is_running, started_child, retired_child}
 use Rattle.conn_machine.specs.States.{is_serving, is_halted, is_signalled}
 use Rattle.conn_machine.specs.Table.{is_allowed, next, reply, may_be_queued, next_command, taken_row, held_row, queued_row, served_row, answered_row, child_passes}
-use Rattle.conn_machine.specs.Runs.{after, has_after, may_make, row_of, load, AreEntriesOf}
+use Rattle.conn_machine.specs.declared.folded.Folded.{Folded}
+use Rattle.conn_machine.specs.Runs.{after, has_after, may_make, row_from, load, AreEntriesOf}
 use Rattle.conn_machine.specs.Sound.{IsSound}
 use Rattle.table_rule.specs.Histories.{ArePermitted, IsPermitted, threads_of}
 use Rattle.table_rule.proofs.MachineLemmas.{after-snoc, get_changed, had_row, met, none_some, off, row_own, some_is}
@@ -123,22 +124,22 @@ event_permits s p weight had permit credits (event.Command c) may role permitted
 event_permits s p weight had permit credits (event.Retire k) may role permitted has name r is at carried = has name r is at carried
 
 -- so do its entries
-pub entries_permit : (start : State) (p : ℕ) (before added : List Entry) (permit : Option ℕ) (credits : List ℕ) → AreEntriesOf p start before added
-    → ArePermitted permit credits (after start before) added → IsPermittedRow (after start before) (row_of p before) permit
-    → IsPermittedRow (after start (before ++ added)) (row_of p (before ++ added)) permit
-entries_permit start p before [] permit credits are permitted has =
-    subst (λ h. IsPermittedRow (after start h) (row_of p h) permit) (sym (append-nil before)) has
-entries_permit start p before (e ∷ added) permit credits are permitted has =
+pub entries_permit : (start : State) (f : Folded) (p : ℕ) (before added : List Entry) (permit : Option ℕ) (credits : List ℕ) → AreEntriesOf p start f before added
+    → ArePermitted permit credits (after start before) added → IsPermittedRow (after start before) (row_from f p before) permit
+    → IsPermittedRow (after start (before ++ added)) (row_from f p (before ++ added)) permit
+entries_permit start f p before [] permit credits are permitted has =
+    subst (λ h. IsPermittedRow (after start h) (row_from f p h) permit) (sym (append-nil before)) has
+entries_permit start f p before (e ∷ added) permit credits are permitted has =
     let s = after start before in
-    let one : IsPermittedRow (next s e.event) (has_after (row_of p before) e.event (reply s e.event)) permit =
-    event_permits s p (load before) (row_of p before) permit credits e.event are.0.is_allowed are.0.role permitted.0 has in
-    let row : has_after (row_of p before) e.event (reply s e.event) ≡ row_of p (before ++ e ∷ []) =
-    ap (λ (r : Reply). has_after (row_of p before) e.event r) (sym are.0.replied) ∙ sym (row_own p before e are.0.pass) in
-    let two : IsPermittedRow (after start (before ++ e ∷ [])) (row_of p (before ++ e ∷ [])) permit =
-    subst (λ (t : State). IsPermittedRow t (row_of p (before ++ e ∷ [])) permit) (sym (after-snoc start before e))
+    let one : IsPermittedRow (next s e.event) (has_after (row_from f p before) e.event (reply s e.event)) permit =
+    event_permits s p (load before) (row_from f p before) permit credits e.event are.0.is_allowed are.0.role permitted.0 has in
+    let row : has_after (row_from f p before) e.event (reply s e.event) ≡ row_from f p (before ++ e ∷ []) =
+    ap (λ (r : Reply). has_after (row_from f p before) e.event r) (sym are.0.replied) ∙ sym (row_own f p before e are.0.pass) in
+    let two : IsPermittedRow (after start (before ++ e ∷ [])) (row_from f p (before ++ e ∷ [])) permit =
+    subst (λ (t : State). IsPermittedRow t (row_from f p (before ++ e ∷ [])) permit) (sym (after-snoc start before e))
     (subst (λ o. IsPermittedRow (next s e.event) o permit) row one) in
-    subst (λ h. IsPermittedRow (after start h) (row_of p h) permit) (append_assoc before (e ∷ []) added)
-    (entries_permit start p (before ++ e ∷ []) added permit credits are.1
+    subst (λ h. IsPermittedRow (after start h) (row_from f p h) permit) (append_assoc before (e ∷ []) added)
+    (entries_permit start f p (before ++ e ∷ []) added permit credits are.1
     (subst (λ t. ArePermitted permit credits t added) (sym (after-snoc start before e)) permitted.1) two)
 
 -- ## The credits
@@ -220,16 +221,16 @@ event_credits s p weight had permit credits (event.Retire i) sound may role perm
     (λ k ne. ap (λ (c : Child). c.shape.threads) (child_else s.children i k retired_child ne)) (permitted (eqb-true p 0 role))
 
 -- so do its entries
-pub entries_credit : ((s : State) (e : Event) → IsSound s → is_allowed s e ≡ true → IsSound (next s e)) → (start : State) (p : ℕ) (before added : List Entry) (permit : Option ℕ) (credits : List ℕ) → IsSound (after start before)
-    → AreEntriesOf p start before added → (p ≡ 0 → ArePermitted permit credits (after start before) added) → IsCredited credits (after start before)
+pub entries_credit : ((s : State) (e : Event) → IsSound s → is_allowed s e ≡ true → IsSound (next s e)) → (start : State) (f : Folded) (p : ℕ) (before added : List Entry) (permit : Option ℕ) (credits : List ℕ) → IsSound (after start before)
+    → AreEntriesOf p start f before added → (p ≡ 0 → ArePermitted permit credits (after start before) added) → IsCredited credits (after start before)
     → IsCredited credits (after start (before ++ added))
-entries_credit keeps start p before [] permit credits sound are permitted has = subst (λ h. IsCredited credits (after start h)) (sym (append-nil before)) has
-entries_credit keeps start p before (e ∷ added) permit credits sound are permitted has =
+entries_credit keeps start f p before [] permit credits sound are permitted has = subst (λ h. IsCredited credits (after start h)) (sym (append-nil before)) has
+entries_credit keeps start f p before (e ∷ added) permit credits sound are permitted has =
     let s = after start before in
     let one : IsCredited credits (next s e.event) =
-    event_credits s p (load before) (row_of p before) permit credits e.event sound are.0.is_allowed are.0.role (λ z. (permitted z).0) has in
+    event_credits s p (load before) (row_from f p before) permit credits e.event sound are.0.is_allowed are.0.role (λ z. (permitted z).0) has in
     subst (λ h. IsCredited credits (after start h)) (append_assoc before (e ∷ []) added)
-    (entries_credit keeps start p (before ++ e ∷ []) added permit credits
+    (entries_credit keeps start f p (before ++ e ∷ []) added permit credits
     (subst IsSound (sym (after-snoc start before e)) (keeps s e.event sound are.0.is_allowed)) are.1
     (λ z. subst (λ t. ArePermitted permit credits t added) (sym (after-snoc start before e)) (permitted z).1)
     (subst (IsCredited credits) (sym (after-snoc start before e)) one))

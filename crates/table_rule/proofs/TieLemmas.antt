@@ -9,6 +9,7 @@ use native.Mathlib.Decide.{ℕ_discrete}
 use Rattle.conn_machine.specs.declared.event.Entry.{Entry}
 use Rattle.conn_machine.specs.declared.kept.Ledger.{Ledger}
 use Rattle.conn_machine.specs.declared.state.State as machine
+use Rattle.conn_machine.specs.Folds.{opening_record}
 use Rattle.conn_machine.specs.Runs.{after, entries_of}
 use Rattle.table_rule.specs.declared.view.Draws.{Draws}
 use Rattle.table_rule.specs.declared.view.Hand.{Hand}
@@ -75,7 +76,7 @@ module _ {K : Type 0} (ledger : K → Ledger) (o : Ledger) where
   -- one view changed
   pub moved : (s : State (Option K) View) (t : IsTied ledger o s) (id : ℕ) (v w : View) (f : FirstAfter s.views id v w t.first)
       → (words : List ℕ) (homes : List (m.Option (Option K))) (history : List Entry)
-      → length words ≡ 34 → AreMade o.base history → ((n : ℕ) → length s.views ≤ n → entries_of n history ≡ [])
+      → length words ≡ 34 → AreMade o.base (opening_record o.passes) history → ((n : ℕ) → length s.views ≤ n → entries_of n history ≡ [])
       → ((j : ℕ) (u : View) → j ≢ id → get_elem? s.views j ≡ m.some u → IsViewOf (origin_of o) history j u)
       → IsViewOf (origin_of o) history id w
       → Placed f.view.left history record { words = words; homes = homes; views = set s.views id w }
@@ -161,7 +162,7 @@ module _ {K : Type 0} (ledger : K → Ledger) (o : Ledger) where
   stays s i t id v at = subst (IsTied ledger o) (λ x. record { words = sym (word_again s.words i) x; homes = s.homes; views = sym (set_again s.views id v at) x }) t
 
   -- what the rule says of views and history
-  pub views_of : (s : State (Option K) View) (t : IsTied ledger o s) → AreViews o.base t.history s.words s.views t.first.credits
+  pub views_of : (s : State (Option K) View) (t : IsTied ledger o s) → AreViews o.base o.passes t.history s.words s.views t.first.credits
   views_of s t = record { opened = t.opening; made = t.made; undrawn = t.undrawn; rows = λ id v at. (t.fits id v at).row; idle = t.idle }
 
   -- a pass's number is below the number of passes

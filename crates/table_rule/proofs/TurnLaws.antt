@@ -8,6 +8,7 @@ use Rattle.atomic_table.specs.Table.{State, Me, step, Act, Allows, Valid, steppe
 use Rattle.atomic_table.specs.Table.Act.{keeps, takes}
 use Rattle.atomic_table.proofs.Lists.{at_set, set_here}
 use Rattle.conn_machine.specs.declared.kept.Ledger.{Ledger}
+use Rattle.conn_machine.specs.Folds.{opening_record}
 use Rattle.conn_machine.specs.Runs.{after, row_of}
 use Rattle.table_rule.specs.declared.view.Left.{Left}
 use Rattle.table_rule.specs.declared.view.Origin.{Origin}
@@ -50,13 +51,13 @@ module _ {K : Type 0} (ledger : K → Ledger) (o : Ledger) where
       let row : v.row ≡ row_of id v.seen = mine.row ∙ row_by id t.history v.seen (seen_same id v.seen t.history behind) in
       let home : (q : Origin) → q ≡ origin_of o → IfSome v.row (λ name. slice_get (after q.state t.history).rows name.slot ≡ slice_get (after q.state v.seen).rows name.slot) =
       λ q e. subst (λ (g : Origin). IfSome v.row (λ name. slice_get (after g.state t.history).rows name.slot ≡ slice_get (after g.state v.seen).rows name.slot)) (sym e)
-      (if_some _ v.row (λ name is. stay o.base id v.seen t.history name t.opening t.made behind (sym row ∙ is))) in
+      (if_some _ v.row (λ name is. stay o.base o.passes id v.seen t.history name t.opening t.made behind (sym row ∙ is))) in
       let room : (q : Origin) → q ≡ origin_of o → HasFreeWorker v (after q.state t.history) =
       λ q e. subst (λ (g : Origin). HasFreeWorker v (after g.state t.history)) (sym e)
-      (λ none. if_some _ v.hand.permit (λ k is. free_worker someone o.base t.history s.words s.views t.first.credits (views_of ledger o s t) k id v at none is)) in
+      (λ none. if_some _ v.hand.permit (λ k is. free_worker someone o.base o.passes t.history s.words s.views t.first.credits (views_of ledger o s t) k id v at none is)) in
       record {
         seen = subst (λ n. HasSeen n v.seen t.history) (sym number) behind;
-        made = subst (λ (g : Origin). AreMade g.state t.history) (sym origin) t.made;
+        made = subst (λ (g : Origin). AreMade g.state (opening_record g.passes) t.history) (sym origin) t.made;
         number = subst (λ n. n < v.origin.passes) (sym number) (subst (λ (g : Origin). id < g.passes) (sym origin) (number_below ledger o s t id v at));
         left = left;
         parts = subst (λ (g : Origin). IsSplit g left found t.history) (sym origin) parts;

@@ -13,6 +13,7 @@ use Rattle.conn_machine.specs.declared.row.Row.{Row}
 use Rattle.conn_machine.specs.declared.event.Entry.{Entry}
 use Rattle.conn_machine.specs.declared.state.State.{State}
 use Rattle.conn_machine.specs.Rows.{carried_count, is_carried_at, is_carried_by, is_with_a_pass, row_passes}
+use Rattle.conn_machine.specs.Folds.{opening_record}
 use Rattle.conn_machine.specs.Runs.{after, entries_of, row_of}
 use Rattle.table_rule.specs.declared.view.View.{View}
 use Rattle.conn_machine.specs.Made.{AreMade, IsOpened}
@@ -150,9 +151,9 @@ nat_below (suc a) zero = inr (omega arith)
 nat_below (suc a) (suc b) = ⊎_elim (λ (l : a < b). inl (omega arith)) (λ (g : b ≤ a). inr (omega arith)) (nat_below a b)
 
 -- what the rule says of views and history
-pub record AreViews (start : State) (history : List Entry) (words : List ℕ) (views : List View) (credits : List ℕ) : Type 0 where
+pub record AreViews (start : State) (passes : ℕ) (history : List Entry) (words : List ℕ) (views : List View) (credits : List ℕ) : Type 0 where
   pub opened : IsOpened start
-  pub made : AreMade start history
+  pub made : AreMade start (opening_record passes) history
   pub undrawn : (n : ℕ) → length views ≤ n → entries_of n history ≡ []
   pub rows : (id : ℕ) (v : View) → get_elem? views id ≡ m.some v → v.row ≡ row_of id history
   pub idle : AreIdleWords (after start history) words views credits
@@ -177,21 +178,21 @@ passes_at test rows slot is = by (slice_get rows slot) refl is
     by (Some r) e h = (r, e, h)
 
 -- each row that a pass has stands in a view
-pub stands_in_view : SomeoneHas → (start : State) (history : List Entry) (words : List ℕ) (views : List View) (credits : List ℕ) → AreViews start history words views credits
+pub stands_in_view : SomeoneHas → (start : State) (passes : ℕ) (history : List Entry) (words : List ℕ) (views : List View) (credits : List ℕ) → AreViews start passes history words views credits
     → (slot : ℕ) (r : Row) → slice_get (after start history).rows slot ≡ Some r → is_with_a_pass r.place ≡ true
     → (id : ℕ) × (v : View) × (name : ConnName) × (get_elem? views id ≡ m.some v) × (v.row ≡ Some name) × (name.slot ≡ slot)
-stands_in_view someone start history words views credits a slot r at hand =
-    let who = someone start history slot r a.opened a.made at hand in
+stands_in_view someone start passes history words views credits a slot r at hand =
+    let who = someone start passes history slot r a.opened a.made at hand in
     ⊎_elim
     (λ (below : who.0 < length views). let v = below_at views who.0 below in (who.0, v.0, who.1, v.1, a.rows who.0 v.0 v.1 ∙ who.2, who.3))
     (λ (above : length views ≤ who.0). none_some (row_of who.0 history) who.1 (row_none who.0 history (a.undrawn who.0 above)) who.2)
     (nat_below who.0 (length views))
 
-module _ (someone : SomeoneHas) (start : State) (history : List Entry) (words : List ℕ) (views : List View) (credits : List ℕ) (a : AreViews start history words views credits) (k : ℕ) where
+module _ (someone : SomeoneHas) (start : State) (passes : ℕ) (history : List Entry) (words : List ℕ) (views : List View) (credits : List ℕ) (a : AreViews start passes history words views credits) (k : ℕ) where
   stands : Stands (row_passes (is_carried_by k) (after start history).rows) (length (after start history).rows) views
   stands slot lt is =
       let row = passes_at (is_carried_by k) (after start history).rows slot is in
-      stands_in_view someone start history words views credits a slot row.0 row.1 (carried_hand row.0.place (carried_place k row.0 row.2).1)
+      stands_in_view someone start passes history words views credits a slot row.0 row.1 (carried_hand row.0.place (carried_place k row.0 row.2).1)
 
   covers : (id : ℕ) (v : View) → get_elem? views id ≡ m.some v → Covers (row_passes (is_carried_by k) (after start history).rows) (permits k) v
   covers id v at name is passes =

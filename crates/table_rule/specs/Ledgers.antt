@@ -2,22 +2,24 @@
 use Rattle.std.specs.Prelude.{◌≡◌, ◌≢◌, ◌⊎◌, ◌<◌, ℕ, List, [], ◌++◌, length, slice_index, Some}
 use Rattle.conn_machine.specs.declared.event.Entry.{Entry}
 use Rattle.conn_machine.specs.declared.kept.Ledger.{Ledger}
-use Rattle.conn_machine.specs.Runs.{after, entries_of, AreEntriesOf}
-use Rattle.conn_machine.specs.Folds.{fold_of}
+use Rattle.conn_machine.specs.Runs.{after, entries_of, first_row, row_of, AreEntriesOf}
+use Rattle.conn_machine.specs.Folds.{HasPlacesFor, fold_of, opening_record}
 use Rattle.table_rule.specs.declared.view.Left.{Left}
 use Rattle.table_rule.specs.declared.view.Origin.{Origin}
 use Rattle.table_rule.specs.declared.view.View.{View}
 use Rattle.table_rule.specs.Histories.{ArePermitted, Extends}
 
 -- the history is the folded entries and then what the value keeps; its base is the state after them, its record is the one
--- that was left, and counts them, those of each pass too; its texts begin with those that were left
+-- that was left, and counts them, those of each pass too, and has the connection of each pass behind them; its texts begin with
+-- those that were left
 pub record IsSplit (origin : Origin) (left : Left) (l : Ledger) (whole : List Entry) : Type 0 where
   pub whole_is : whole ≡ left.entries ++ l.history
   pub base : l.base ≡ after origin.state left.entries
   pub record_is : l.folded ≡ left.folded
   pub counted : l.folded.entries ≡ length left.entries
-  pub numbers : length l.folded.ordinals ≡ origin.passes
+  pub places : HasPlacesFor origin.passes l.folded
   pub ordinals : (p : ℕ) → p < origin.passes → slice_index l.folded.ordinals p ≡ length (entries_of p left.entries)
+  pub rows : (p : ℕ) → p < origin.passes → first_row l.folded p ≡ row_of p left.entries
   pub texts : Extends left.texts l.texts
   pub passes : l.passes ≡ origin.passes
 
@@ -42,7 +44,7 @@ pub record MayLeaveLedger (v : View) (found new : Ledger) : Type 0 where
   pub added : List Entry
   pub change : KeepsOn found new added ⊎ ((v.who.number ≡ 0) × FoldsOn found new added)
   pub passes : new.passes ≡ found.passes
-  pub entries : AreEntriesOf v.who.number v.origin.state v.seen added
+  pub entries : AreEntriesOf v.who.number v.origin.state (opening_record v.origin.passes) v.seen added
   pub permitted : ArePermitted v.hand.permit v.credits (after v.origin.state v.seen) added
 
 -- the pass has the turn, and may leave the value so

@@ -4,6 +4,7 @@ use prog.Atomic.{either}
 use Rattle.atomic_table.specs.Table.{Step, Me}
 use Rattle.conn_machine.specs.declared.event.Entry.{Entry}
 use Rattle.conn_machine.specs.declared.kept.Ledger.{Ledger}
+use Rattle.conn_machine.specs.Folds.{opening_record}
 use Rattle.conn_machine.specs.Laws.{idle_in}
 use Rattle.conn_machine.specs.Made.{AreMade, HasSeen}
 use Rattle.conn_machine.specs.Runs.{Adds, after, row_of}
@@ -31,7 +32,7 @@ module _ {K : Type 0} (ledger : K → Ledger) where
   abbrev pub GivesBack : Step (Option K) → Me (Option K) View → ℕ → Me (Option K) View → Type 0
   GivesBack s v found w =
       (kept : K) × (history : List Entry) × (left : Left) × (v.1 ≡ (0, Some kept) ∷ []) × (w.1 ≡ [])
-      × (w.0 ≡ given_view v.0 history left) × Adds v.0.who.number v.0.origin.state v.0.seen history
+      × (w.0 ≡ given_view v.0 history left) × Adds v.0.who.number v.0.origin.state (opening_record v.0.origin.passes) v.0.seen history
       × EndsTurn v.0 (ledger kept) history × IsLedgerLeft v.0 (ledger kept) history left
 
 -- nothing changed
@@ -51,7 +52,7 @@ LiesDown s v found w = (w.1 ≡ v.1) × (w.0 ≡ resting_view v.0.who.number)
 abbrev pub WakesUp : {K : Type 0} → Step (Option K) → Me (Option K) View → ℕ → Me (Option K) View → Type 0
 WakesUp s v found w =
     (w.1 ≡ v.1) × ((origin : Origin) × (seen : List Entry) × (since : ℕ) × (w.0 ≡ woken_view origin v.0.who.number seen since)
-    × AreMade origin.state seen × (row_of v.0.who.number seen ≡ None))
+    × AreMade origin.state (opening_record origin.passes) seen × (row_of v.0.who.number seen ≡ None))
 
 -- a permit of the child, or a try to undo
 abbrev pub tried_view : Bool → ℕ → View → View
@@ -90,5 +91,6 @@ Uncredits s v found w =
 abbrev pub LooksAtIdle : {K : Type 0} → Step (Option K) → Me (Option K) View → ℕ → Me (Option K) View → Type 0
 LooksAtIdle s v found w =
     (w.1 ≡ v.1) × StepsOn s.word found found v.0 v.0 w.0 × (found - bias ≤ 64)
-    × ((history : List Entry) × HasSeen v.0.who.number v.0.seen history × AreMade v.0.origin.state history
+    × ((history : List Entry) × HasSeen v.0.who.number v.0.seen history
+    × AreMade v.0.origin.state (opening_record v.0.origin.passes) history
     × (found - bias ≤ idle_in (after v.0.origin.state history) (s.word - 2)))

@@ -80,7 +80,7 @@ pub record IsTied {K : Type 0} (ledger : K → Ledger) (opened : Ledger) (s : St
   pub opening : IsOpened opened.base
   pub few : opened.passes ≤ 4099
   pub count : length s.words ≡ 34
-  pub made : AreMade opened.base history
+  pub made : AreMade opened.base (opening_record opened.passes) history
   pub undrawn : (n : ℕ) → length s.views ≤ n → entries_of n history ≡ []
   pub fits : (id : ℕ) (v : View) → get_elem? s.views id ≡ m.some v → IsViewOf (origin_of opened) history id v
   pub first : View

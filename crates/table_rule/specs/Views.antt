@@ -99,7 +99,7 @@ HasFreeWorker v s = v.row ≡ None → IfSome v.hand.permit (λ k. carried_count
 -- what a pass finds that takes the turn: the value, and its history from the origin on
 pub record IsFound (v : View) (found : Ledger) (history : List Entry) : Type 0 where
   pub seen : HasSeen v.who.number v.seen history
-  pub made : AreMade v.origin.state history
+  pub made : AreMade v.origin.state (opening_record v.origin.passes) history
   pub number : v.who.number < v.origin.passes
   pub left : Left
   pub parts : IsSplit v.origin left found history

@@ -24,7 +24,9 @@ use conn_machine::Kept;
 use conn_machine::laws::{
     connections_stay_while_others_go_on, each_pass_has_its_own_connection, events_keep_states_sound,
 };
-use conn_machine::laws_of_runs::{made_histories_are_runs, passes_add_entries};
+use conn_machine::laws_of_runs::{
+    made_histories_are_runs, passes_add_entries, records_open_with_nothing,
+};
 
 /// The rule holds of a new table.
 pub fn table_opens<K: Kept>()
@@ -37,6 +39,7 @@ pub fn turn_is_taken<K: Kept>()
 {
     connections_stay_while_others_go_on();
     each_pass_has_its_own_connection();
+    records_open_with_nothing();
 }
 
 /// The turn is given back.
@@ -44,9 +47,11 @@ pub fn turn_is_given_back<K: Kept>()
     ensures { (o : Ledger) (slots id n : ℕ) (me : Me (Option K) View) (kept : K) → me.1 ≡ (0, Some kept) ∷ [] → IsAwake me.0 → MayGiveBack me.0 (K.ledger kept) → n ≡ 2 * ((K.ledger kept).folded.entries + length (K.ledger kept).history) → Allows (IsTied K.ledger o) slots id me 0 (λ _. n) (λ _. GivesBack K.ledger (step slots 0 n 0 none) me n) }
 {
     connections_stay_while_others_go_on();
+    each_pass_has_its_own_connection();
     events_keep_states_sound();
     made_histories_are_runs();
     passes_add_entries();
+    records_open_with_nothing();
 }
 
 /// A word is looked at.
@@ -109,6 +114,7 @@ pub fn idle_word_is_looked_at<K: Kept>()
     ensures { (o : Ledger) (slots id k : ℕ) (me : Me (Option K) View) → k < 32 → IsAwake me.0 → Allows (IsTied K.ledger o) slots id me (k + 2) (λ n. n) (LooksAtIdle (step slots (k + 2) 0 0 none) me) }
 {
     each_pass_has_its_own_connection();
+    records_open_with_nothing();
 }
 
 /// Where the rule holds, each connection that somebody holds or has stands in a pass's view; a child's workers carry no more
@@ -119,4 +125,5 @@ pub fn views_tell_of_connections<K: Kept>()
     ensures room { (o : Ledger) (s : table.State (Option K) View) (tied : IsTied K.ledger o s) (id k : ℕ) (v : View) → get_elem? s.views id ≡ some v → v.row ≡ None → v.hand.permit ≡ Some k → carried_count (after o.base tied.history).rows k < threads_of (after o.base tied.history) k }
 {
     each_pass_has_its_own_connection();
+    records_open_with_nothing();
 }
