@@ -9,8 +9,25 @@ use Rattle.atomic_table.specs.Marked.{Comes, Keeps}
 use Rattle.table_rule.specs.declared.trail.Step.{Step}
 use Rattle.recycle_perch.specs.StepsInside.{AddsStep, Gives, Takes}
 use Rattle.recycle_perch.specs.Words.{IsRestNumber, IsRestWord, LeaveRests, deed}
-use Rattle.table_rule.proofs.TrailLemmas.{by_it, by_none, by_other, goes_on_more, numbered_more, of_makers_more, of_more_makers, step_of}
-use Rattle.table_rule.specs.Trails.{GoesOn, steps_by}
+use Rattle.table_rule.specs.Trails.{AreNumbered, AreOfMakers, GoesOn, steps_by}
+
+-- ## What is taken of trails
+
+-- some laws of the rule, as they are handed on to lemmas
+pub record TrailLaws : Type 0 where
+  pub goes_on : (word : ℕ) (steps : List Step) (last : ℕ) (step : Step) → GoesOn word steps last → step.found ≡ last
+      → GoesOn word (steps ++ step ∷ []) step.leaves
+  pub numbered : (number : ℕ) (steps : List Step) (step : Step) → AreNumbered number steps → step.at ≡ number + length steps
+      → AreNumbered number (steps ++ step ∷ [])
+  pub of_makers : (before after : ℕ) (steps : List Step) (step : Step) → AreOfMakers before steps → before ≤ after → step.by < after
+      → AreOfMakers after (steps ++ step ∷ [])
+  pub own : (maker : ℕ) (steps : List Step) (step : Step) → step.by ≡ maker → steps_by maker (steps ++ step ∷ []) ≡ steps_by maker steps ++ step ∷ []
+  pub other : (maker : ℕ) (steps : List Step) (step : Step) → step.by ≢ maker → steps_by maker (steps ++ step ∷ []) ≡ steps_by maker steps
+  pub none : (maker : ℕ) (steps : List Step) → AreOfMakers maker steps → steps_by maker steps ≡ []
+
+-- a step on the word of a place, with this mark
+abbrev step_of : (at mark found left : ℕ) → Step
+step_of at mark found left = record { word = 0; at = at; by = mark; found = found; leaves = left }
 
 -- ## One step behind all others
 
@@ -52,10 +69,10 @@ adds found left before step is leaves rests =
     (map_push deed before step ∙ ap (λ d. map deed before ++ d ∷ []) same, rests)
 
 -- a step with a mark
-one_step : (found left mark : ℕ) (view : List Step) (views : List (List Step)) → IsRestWord found views → get_elem? views mark ≡ some view
+one_step : TrailLaws → (found left mark : ℕ) (view : List Step) (views : List (List Step)) → IsRestWord found views → get_elem? views mark ≡ some view
     → IsRestNumber left → (w : List Step) × IsRestWord left (set views mark w) × AddsStep found left view w
-one_step found left mark view views rule at rests =
-    let step = step_of 0 (length rule.trail) mark found left in
+one_step trails found left mark view views rule at rests =
+    let step = step_of (length rule.trail) mark found left in
     let w = view ++ step ∷ [] in
     let long = length-set views mark w in
     let within = has_within views mark view at in
@@ -65,40 +82,40 @@ one_step found left mark view views rule at rests =
       w,
       record {
         trail = rule.trail ++ step ∷ [];
-        goes_on = goes_on_more 0 rule.trail found step rule.goes_on refl;
+        goes_on = trails.goes_on 0 rule.trail found step rule.goes_on refl;
         rests = leave_more rule.trail step rule.rests rests;
-        numbered = numbered_more 0 rule.trail step rule.numbered next;
-        of_marks = of_makers_more (length (set views mark w)) rule.trail step (of_more_makers (length views) (length (set views mark w)) rule.trail le rule.of_marks) below;
+        numbered = trails.numbered 0 rule.trail step rule.numbered next;
+        of_marks = trails.of_makers (length views) (length (set views mark w)) rule.trail step rule.of_marks le below;
         known = λ j u e. ⊎_elim
             (λ (z : (j ≡ mark) × (w ≡ u)).
             sym z.1 ∙ (ap (λ l. l ++ step ∷ []) (rule.known mark view at)
-            ∙ (sym (by_it mark rule.trail step refl) ∙ ap (λ k. steps_by k (rule.trail ++ step ∷ [])) (sym z.0))))
+            ∙ (sym (trails.own mark rule.trail step refl) ∙ ap (λ k. steps_by k (rule.trail ++ step ∷ [])) (sym z.0))))
             (λ (z : (j ≢ mark) × (get_elem? views j ≡ some u)).
-            rule.known j u z.1 ∙ sym (by_other j rule.trail step (λ (same : mark ≡ j). z.0 (sym same))))
+            rule.known j u z.1 ∙ sym (trails.other j rule.trail step (λ (same : mark ≡ j). z.0 (sym same))))
             (at_set views mark j w u e);
       },
       adds found left view step refl refl (last_rests 0 rule.trail found (inl refl) rule.rests rule.goes_on),
     )
 
 -- a step that takes what rests there
-pub takes : (mark : ℕ) (view : List Step) → Keeps IsRestWord mark view (λ _. 0) (Takes 0 0 view)
-takes mark view found views rule at small = one_step found 0 mark view views rule at (inl refl)
+pub takes : TrailLaws → (mark : ℕ) (view : List Step) → Keeps IsRestWord mark view (λ _. 0) (Takes 0 0 view)
+takes trails mark view found views rule at small = one_step trails found 0 mark view views rule at (inl refl)
 
 left_rests : (found : ℕ) → IsRestNumber found → IsRestNumber (either (found == 0) 2 found)
 left_rests found (inl none) = subst (λ n. IsRestNumber (either (n == 0) 2 n)) (sym none) (inr refl)
 left_rests found (inr one) = subst (λ n. IsRestNumber (either (n == 0) 2 n)) (sym one) (inr refl)
 
 -- a step that lays a carrier down
-pub gives : (mark : ℕ) (view : List Step) → Keeps IsRestWord mark view (λ n. either (n == 0) 2 n) (Gives 0 2 view)
-gives mark view found views rule at small =
-    one_step found (either (found == 0) 2 found) mark view views rule at
+pub gives : TrailLaws → (mark : ℕ) (view : List Step) → Keeps IsRestWord mark view (λ n. either (n == 0) 2 n) (Gives 0 2 view)
+gives trails mark view found views rule at small =
+    one_step trails found (either (found == 0) 2 found) mark view views rule at
     (left_rests found (last_rests 0 rule.trail found (inl refl) rule.rests rule.goes_on))
 
 -- a step with a new mark
-pub comes : Comes IsRestWord 0 (Takes 0 0 [])
-comes found views rule small =
+pub comes : TrailLaws → Comes IsRestWord 0 (Takes 0 0 [])
+comes trails found views rule small =
     let mark = length views in
-    let step = step_of 0 (length rule.trail) mark found 0 in
+    let step = step_of (length rule.trail) mark found 0 in
     let w = step ∷ [] in
     let long = long_more views w in
     let le : length views ≤ length (views ++ w ∷ []) = omega (arith, long) in
@@ -107,16 +124,16 @@ comes found views rule small =
       w,
       record {
         trail = rule.trail ++ step ∷ [];
-        goes_on = goes_on_more 0 rule.trail found step rule.goes_on refl;
+        goes_on = trails.goes_on 0 rule.trail found step rule.goes_on refl;
         rests = leave_more rule.trail step rule.rests (inl refl);
-        numbered = numbered_more 0 rule.trail step rule.numbered next;
-        of_marks = of_makers_more (length (views ++ w ∷ [])) rule.trail step (of_more_makers mark (length (views ++ w ∷ [])) rule.trail le rule.of_marks) below;
+        numbered = trails.numbered 0 rule.trail step rule.numbered next;
+        of_marks = trails.of_makers mark (length (views ++ w ∷ [])) rule.trail step rule.of_marks le below;
         known = λ j u e. ⊎_elim
             (λ (z : (j ≢ mark) × (get_elem? views j ≡ some u)).
-            rule.known j u z.1 ∙ sym (by_other j rule.trail step (λ (same : mark ≡ j). z.0 (sym same))))
+            rule.known j u z.1 ∙ sym (trails.other j rule.trail step (λ (same : mark ≡ j). z.0 (sym same))))
             (λ (z : (j ≡ mark) × (w ≡ u)).
-            sym z.1 ∙ (ap (λ l. l ++ step ∷ []) (sym (by_none mark rule.trail rule.of_marks))
-            ∙ (sym (by_it mark rule.trail step refl) ∙ ap (λ k. steps_by k (rule.trail ++ step ∷ [])) (sym z.0))))
+            sym z.1 ∙ (ap (λ l. l ++ step ∷ []) (sym (trails.none mark rule.trail rule.of_marks))
+            ∙ (sym (trails.own mark rule.trail step refl) ∙ ap (λ k. steps_by k (rule.trail ++ step ∷ [])) (sym z.0))))
             (has_more views w u j e);
       },
       adds found 0 [] step refl refl (last_rests 0 rule.trail found (inl refl) rule.rests rule.goes_on),

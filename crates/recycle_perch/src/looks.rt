@@ -8,6 +8,7 @@ use mpm_base::NoMemory;
 use std::alloc::Global;
 use std::collections::LinkedList;
 use table_rule::Step;
+use table_rule::laws_of_trails::{makers_have_their_own_steps, trails_go_on_by_one_step};
 
 /// What the steps of one caller on the words of a perch found: a mark of the word of each place, in their order.
 #[derive(Drop)]
@@ -31,6 +32,8 @@ impl Looks {
         requires { vec_len self.old.marks < vec_capacity self.old.marks }
         ensures words { (words : _) (room : _) → LookAt words room self.old → LookAt (words ++ perch.now.name ∷ []) room self.new }
     {
+        trails_go_on_by_one_step();
+        makers_have_their_own_steps();
         let (_, mark, _) = perch.swap_new_mark::<TakeStep>(0);
         self.marks.push_reserved(mark);
     }

@@ -9,6 +9,7 @@ use atomic_table::{Mark, RuledPerch, Seat};
 use board_lock::{Carrier, Shared, number};
 use conn_machine::Kept;
 use std::collections::LinkedList;
+use table_rule::laws_of_trails::{makers_have_their_own_steps, trails_go_on_by_one_step};
 use table_rule::{RestStep, Step, View, WakeStep, laws};
 
 /// A place for the carrier of one number.
@@ -76,6 +77,8 @@ impl<K: Kept> Place<K> {
         ensures woken { IfSome result (λ carrier. IsWokenCarrier carrier.seat.me) }
         ensures number { IfSome result (λ carrier. carrier.seat.me.0.who.number ≡ self.now.number) }
     {
+        trails_go_on_by_one_step();
+        makers_have_their_own_steps();
         let (_, seat) = self.perch.swap::<TakeStep>(mark, 0);
         match seat {
             Some(seat) => Some(wake_up(shared, seat, self.number)),
@@ -103,6 +106,8 @@ impl<K: Kept> Place<K> {
         ensures number { IfErr result (λ back. back.seat.me.0.who.number ≡ self.now.number) }
     {
         let seat = lay_down(shared, carrier);
+        trails_go_on_by_one_step();
+        makers_have_their_own_steps();
         match self.perch.give::<GiveStep>(mark, seat, 0, 2) {
             Ok(()) => Ok(()),
             Err(seat) => Err(wake_up(shared, seat, self.number)),

@@ -7,7 +7,7 @@ mod PermitLaws
 pub mod RecordLemmas
 mod SumLemmas
 mod TieLemmas
-pub mod TrailLemmas
+mod TrailLemmas
 mod TurnLaws
 mod WordLemmas
 mod WorkerLaws

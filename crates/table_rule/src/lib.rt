@@ -6,10 +6,11 @@
 //! each pass has seen a beginning; one pass at a time has the turn; each idle word is what it ought to be (`specs/IdleWords.antt`);
 //! and the steps on idle words stand in the views of those that made them, each with what it found and left (`specs/Pasts.antt`).
 //! What each kind of step tells stands in `specs/Steps.antt`. That each keeps the rule is a function of `laws`, which does
-//! nothing. Which connection a pass has, and that it stays, are laws of `conn_machine`.
+//! nothing; laws of trails stand in `laws_of_trails`. Which connection a pass has, and that it stays, are laws of `conn_machine`.
 #![tactic(auto)]
 
 pub mod laws;
+pub mod laws_of_trails;
 mod steps;
 mod trail;
 mod view;
