@@ -1,0 +1,55 @@
+//! Tests of the site, by public calls alone: of configurations, of the one that a script writes, and of the files of a site, what
+//! paths name, its bounds and its search. The file `stdin` has what is asked, and `stdout` what must come of it, row by row.
+//!
+//! In the input a line that begins with `== ` begins a section: the word behind it says what its rows are, and the rest is its title.
+//! In a row of a configuration or a script `|` stands for a line feed.
+//!
+//! - `numbers`, `corrected`, `shape`, `values`, `warnings`: configurations, and what of each is shown where it isn't refused.
+//! - `bytes`: configurations, as the numbers of their bytes. `long`: directives, and how many bytes the name behind each has.
+//! - `restart`: configurations and, behind ` => `, the ones that follow them.
+//! - `script`: scripts, whose configuration is shown as it is first and later.
+//! - `paths`: names of files up to a row `--`, and paths that are asked of the site of these files, each of which has its name as its
+//!   bytes. `calls`: such names, and calls of the store that fail. `types`: such names, whose content types are shown.
+//! - `sizes`: sites, as names and sizes with `|` between them.
+//! - `crowd`: no rows, for a store of 65,537 files. `search`: names in two parts with `|` between them, which are looked for among 65,536.
+#![tactic(auto)]
+
+mod configurations;
+mod loads;
+mod paths;
+mod scripts;
+mod search;
+mod texts;
+
+use std::alloc::Global;
+use std::io;
+
+fn main(rt: HostRuntime) -> io::Result<()> {
+    let input = io::read_to_string(rt.alloc(), rt.reader())?;
+    let mut sections = input.as_str().split("\n== ");
+    let _ = sections.next();
+    for section in sections {
+        let (title, rows) = section.split_once('\n').unwrap_or((section, ""));
+        println!(&rt; "== {title}")?;
+        let (kind, _) = title.split_once(':').unwrap_or((title, ""));
+        show_section(&rt, rt.alloc(), kind, rows)?;
+    }
+    Ok(())
+}
+
+/// Shows what comes of the rows of a section of that kind.
+fn show_section(rt: &impl Print, alloc: Global, kind: &str, rows: &str) -> io::Result<()> {
+    match kind {
+        "bytes" => configurations::show_bytes(rt, alloc, rows),
+        "long" => configurations::show_long(rt, alloc, rows),
+        "restart" => configurations::show_restarts(rt, alloc, rows),
+        "script" => scripts::show_scripts(rt, alloc, rows),
+        "paths" => paths::show_paths(rt, alloc, rows),
+        "types" => paths::show_types(rt, alloc, rows),
+        "calls" => loads::show_calls(rt, alloc, rows),
+        "sizes" => loads::show_sizes(rt, alloc, rows),
+        "crowd" => loads::show_crowd(rt, alloc),
+        "search" => search::show_search(rt, alloc, rows),
+        _ => configurations::show_rows(rt, alloc, kind, rows),
+    }
+}
