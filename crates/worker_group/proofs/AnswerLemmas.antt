@@ -26,7 +26,8 @@ use Rattle.conn_state.specs.Turns.{TakesNote}
 use Rattle.board.specs.Book.{SeenBook}
 use Rattle.board.specs.Events.{IsDecided}
 use Rattle.worker_group.specs.Acts.{Acts}
-use Rattle.worker_group.specs.InHand.{IsServed, IsClosable, answers_left}
+use Rattle.worker_group.specs.InHand.{IsClosable}
+use Rattle.worker_group.specs.InHandInside.{IsServed, answers_left}
 use Rattle.worker_group.specs.Service.{answer_events}
 use Rattle.worker_group.proofs.ActsLemmas.{acts_as, acts_more, acts_same}
 use Rattle.worker_group.proofs.ServeLemmas.{alive, test-at, served-row, served-stays, row-open, working-in_hand, ends-direct}

@@ -12,7 +12,6 @@ use Rattle.mpm_base.specs.declared.conn.Kind.TheVariants.{KeepAlive}
 use Rattle.mpm_base.specs.declared.conn.Tail.{Tail}
 use Rattle.mpm_base.specs.declared.conn.Tail.TheVariants.{Direct}
 use Rattle.conn_machine.specs.declared.event.Entry.{Entry}
-use Rattle.conn_machine.specs.declared.event.Event.{Event}
 use Rattle.conn_machine.specs.declared.event.Event.TheVariants as event
 use Rattle.conn_machine.specs.declared.row.Row.{Row}
 use Rattle.conn_machine.specs.Rows.{live_row}
@@ -29,10 +28,11 @@ use Rattle.board.specs.declared.faults.BoardFault.{BoardFault}
 use Rattle.board.specs.declared.faults.BoardFault.TheVariants as fault
 use Rattle.board.specs.Book.{SeenBook, book_with_entry, entry_of, full_stop}
 use Rattle.board.specs.Board.{SeenBoard, Agrees, conn_at}
+use Rattle.board.specs.Faults.{IsRefusedFor}
 use Rattle.worker_group.specs.declared.service.Exit.{Exit}
 use Rattle.worker_group.specs.declared.service.Exit.TheVariants as exit
 use Rattle.worker_group.specs.Acts.{Acts}
-use Rattle.worker_group.specs.Service.{ExitsAfter, IsGivenUp, IsLastEnded, IsThere, Leaves, LeavesRest, RefusalLasts, StandsThen, given_up, kept_kind}
+use Rattle.worker_group.specs.Service.{ExitsAfter, IsGivenUp, IsLastEnded, IsLeftBy, IsThere, LeavesRest, RefusalLasts, given_up, kept_kind}
 use Rattle.worker_group.proofs.ServeLemmas.{alive}
 
 -- ## What the connection waits for
@@ -50,33 +50,6 @@ gives-up c ask fault asked = subst (λ (u : LastTurn). ExitsAfter u c (exit.Give
 -- one for whose response memory lacked is closed for that
 pub ends-unanswered : (c c' : SeenConn) → c' ≡ record c { turn = turn.NoMemory } → ExitsAfter c'.turn c' (exit.Close cause.NoMemory Direct)
 ends-unanswered c c' is = subst (λ (x : SeenConn). ExitsAfter x.turn x (exit.Close cause.NoMemory Direct)) (sym is) refl
-
--- one that was to wait waits, or is given up
-pub park-leaves : {T : Type 0} (who : ℕ) (way : Exit) (kind : Kind) (name : ConnName) (a b : SeenBook) (r : Result T BoardFault) → way ≡ exit.Park kind
-    → OnOk r (Acts who (event.Park name kind ∷ []) None a b) → IfErr r (λ fault. Acts who (given_up fault name) None a b)
-    → (events : List Event) × Leaves way name events × Acts who events None a b
-park-leaves who way kind name a b (Ok x) is ok err =
-    (event.Park name kind ∷ [], subst (λ (w : Exit). Leaves w name (event.Park name kind ∷ [])) (sym is) (inl refl), ok)
-park-leaves who way kind name a b (Err fault) is ok err =
-    (given_up fault name, subst (λ (w : Exit). Leaves w name (given_up fault name)) (sym is) (inr (fault, refl)), err)
-
--- one that ends is closed
-pub close-leaves : (who : ℕ) (way : Exit) (reason : Cause) (how : Tail) (name : ConnName) (a b : SeenBook) → way ≡ exit.Close reason how
-    → Acts who (event.Close name reason how ∷ []) None a b → (events : List Event) × Leaves way name events × Acts who events None a b
-close-leaves who way reason how name a b is acts =
-    (event.Close name reason how ∷ [], subst (λ (w : Exit). Leaves w name (event.Close name reason how ∷ [])) (sym is) refl, acts)
-
--- one that lingers does
-pub linger-leaves : (who : ℕ) (way : Exit) (reason : Cause) (name : ConnName) (a b : SeenBook) → way ≡ exit.Linger reason
-    → Acts who (event.Linger name reason ∷ []) None a b → (events : List Event) × Leaves way name events × Acts who events None a b
-linger-leaves who way reason name a b is acts =
-    (event.Linger name reason ∷ [], subst (λ (w : Exit). Leaves w name (event.Linger name reason ∷ [])) (sym is) refl, acts)
-
--- one for which a call was refused is given up
-pub give_up-leaves : (who : ℕ) (way : Exit) (fault : BoardFault) (name : ConnName) (a b : SeenBook) → way ≡ exit.GiveUp fault
-    → Acts who (given_up fault name) None a b → (events : List Event) × Leaves way name events × Acts who events None a b
-give_up-leaves who way fault name a b is acts =
-    (given_up fault name, subst (λ (w : Exit). Leaves w name (given_up fault name)) (sym is) refl, acts)
 
 -- the exits of turns
 pub exits-written : (c c' : SeenConn) (answer : WriteTurn) (way : Exit) → WritesOn c c' answer → ExitsAfter (after_writing answer) c' way
@@ -102,15 +75,18 @@ pub ended-last : (c : SeenConn) (why : Cause) (how : Tail) (e : SeenEnded) (befo
     → IsEndOf c why how e → IsLastEnded c why how ended
 ended-last c why how e before ended is ends = record { before = before; last = e; ended_is = is; end_of = ends }
 
--- the way by another spelling
-pub stands-as : (way way' : Exit) (c : SeenConn) (b : SeenBoard) → way ≡ way' → StandsThen way' c b → StandsThen way c b
-stands-as way way' c b is stands = subst (λ (w : Exit). StandsThen w c b) (sym is) stands
+-- it was left so, by another spelling of what was to be done
+pub left-as : (who : ℕ) (out out' : Exit) (c : SeenConn) (a : SeenBook) (b : SeenBoard) → out ≡ out' → IsLeftBy who out' c a b → IsLeftBy who out c a b
+left-as who out out' c a b is left = subst (λ (w : Exit). IsLeftBy who w c a b) (sym is) left
 
 -- one that was to wait waits, or was given up
-pub park-stands : {T : Type 0} (c : SeenConn) (kind : Kind) (b : SeenBoard) (r : Result T BoardFault) → OnOk r (IsThere c b)
-    → IfErr r (λ fault. IsGivenUp fault c b) → StandsThen (exit.Park kind) c b
-park-stands c kind b (Ok x) there ended = inl there
-park-stands c kind b (Err fault) there ended = inr (fault, ended)
+pub park-left : {T : Type 0} (who : ℕ) (kind : Kind) (c : SeenConn) (a : SeenBook) (b : SeenBoard) (r : Result T BoardFault)
+    → OnOk r (Acts who (event.Park c.name kind ∷ []) None a b.book) → IfErr r (λ fault. Acts who (given_up fault c.name) None a b.book)
+    → IfErr r (λ fault. IsRefusedFor fault a) → OnOk r (IsThere c b) → IfErr r (λ fault. IsGivenUp fault c b) → IsLeftBy who (exit.Park kind) c a b
+park-left who kind c a b (Ok x) parked given why there ended =
+    record { way = exit.Park kind; leaves = inl refl; acts = parked; stands = there }
+park-left who kind c a b (Err fault) parked given why there ended =
+    record { way = exit.GiveUp fault; leaves = inr (fault, refl, why); acts = given; stands = ended }
 
 -- ## What lasts of a refusal
 

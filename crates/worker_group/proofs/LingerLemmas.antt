@@ -27,8 +27,10 @@ use Rattle.board.specs.Fits.{Fits}
 use Rattle.worker_group.specs.declared.service.Exit.{Exit}
 use Rattle.worker_group.specs.declared.service.Exit.TheVariants as exit
 use Rattle.worker_group.specs.Acts.{Acts}
-use Rattle.worker_group.specs.InHand.{IsInHand, IsServed, IsClosable, IsLingerable}
-use Rattle.worker_group.specs.Service.{EndsOut, ExitsAfter, IsWayOut, MayLeave, left_events, IsLastEnded, IsLetLinger, IsThere}
+use Rattle.worker_group.specs.InHand.{IsInHand, IsClosable}
+use Rattle.worker_group.specs.InHandInside.{IsServed, IsLingerable}
+use Rattle.worker_group.specs.Service.{EndsOut, ExitsAfter, IsWayOut, left_events, IsLastEnded, IsLetLinger, IsThere}
+use Rattle.worker_group.specs.ServiceInside.{MayLeave}
 use Rattle.worker_group.proofs.ServeLemmas.{closable, rank-map, rises-some, row-decided, served-stays, test-at}
 
 -- ## The half-close

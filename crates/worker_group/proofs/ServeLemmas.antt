@@ -33,8 +33,9 @@ use Rattle.conn_state.specs.Answered.{ShowsAtOnce}
 use Rattle.conn_state.specs.Turns.{WritesOn, ReadsOn, after_writing, after_reading}
 use Rattle.board.specs.Finds.{cause_of}
 use Rattle.board.specs.Fits.{Fits, FoundNoMore, WaitsAs, NotesEnd}
-use Rattle.worker_group.specs.InHand.{IsInHand, IsServed, IsClosable}
-use Rattle.worker_group.specs.Service.{MayWaitFor}
+use Rattle.worker_group.specs.InHand.{IsInHand, IsClosable}
+use Rattle.worker_group.specs.InHandInside.{IsServed}
+use Rattle.worker_group.specs.ServiceInside.{MayWaitFor}
 
 -- ## The row of a name
 

@@ -1,5 +1,5 @@
 -- A connection that is queued and started.
-use Rattle.std.proofs.Common.{◌≡◌, inl, inr, ℕ, Bool, true, not, ◌&&◌, List, [], ◌∷◌, ◌++◌, Option, None, Some, refl, sym, ap, subst, ◌∙◌}
+use Rattle.std.proofs.Common.{◌≡◌, inl, inr, ℕ, Bool, true, not, ◌&&◌, List, [], ◌∷◌, Option, None, Some, refl, sym, ap, subst, ◌∙◌}
 use Rattle.std.proofs.lemmas.Bool.{and_parts}
 use Rattle.mpm_base.specs.declared.conn.Ask.{Ask}
 use Rattle.mpm_base.specs.declared.conn.ConnName.{ConnName}
@@ -7,7 +7,6 @@ use Rattle.mpm_base.specs.declared.conn.Cause.{Cause}
 use Rattle.mpm_base.specs.declared.conn.Kind.{Kind}
 use Rattle.mpm_base.specs.declared.conn.Kind.TheVariants.{Reading, KeepAlive, Writing, Linger, ShortLinger}
 use Rattle.conn_machine.specs.declared.row.Row.{Row}
-use Rattle.conn_machine.specs.declared.event.Event.{Event}
 use Rattle.conn_machine.specs.declared.event.Event.TheVariants as event
 use Rattle.conn_machine.specs.declared.state.State.{State}
 use Rattle.conn_machine.specs.Rows.{is_queued, is_working, live_row, lives_and}
@@ -20,8 +19,8 @@ use Rattle.board.specs.Book.{SeenBook}
 use Rattle.board.specs.Board.{SeenBoard}
 use Rattle.worker_group.specs.declared.service.Exit.{Exit}
 use Rattle.worker_group.specs.Acts.{Acts}
-use Rattle.worker_group.specs.InHand.{IsServed}
-use Rattle.worker_group.specs.Service.{ExitsAfter, HasServed, Leaves, StandsThen, answer_events}
+use Rattle.worker_group.specs.InHandInside.{IsServed}
+use Rattle.worker_group.specs.Service.{ExitsAfter, HasServed, IsLeftBy, answer_events}
 use Rattle.worker_group.proofs.ActsLemmas.{acts_more}
 use Rattle.worker_group.proofs.ServeLemmas.{alive, test-at}
 use Rattle.worker_group.proofs.AnswerLemmas.{live_row-update}
@@ -107,26 +106,23 @@ served-started s s1 s2 c name may queued started named handed stays_open =
 -- ## All of the service
 
 -- a connection that was queued, started, answered and left was served
-pub has-served : (who : ℕ) (name : ConnName) (a : SeenBoard) (b c d : SeenBook) (e : SeenBoard) (taken served : SeenConn) (way : Exit)
+pub has-served : (who : ℕ) (name : ConnName) (a : SeenBoard) (b c d : SeenBook) (e : SeenBoard) (taken served : SeenConn) (out : Exit)
     → taken.name ≡ name
     → Acts who (event.Queue name ∷ []) (Some name) a.book b → Acts who (event.Start name ∷ []) (Some name) b c
     → served.name ≡ taken.name → (asks : List Ask) × Acts who (answer_events taken.name asks) (Some taken.name) c d
-    → ExitsAfter served.turn served way → (events : List Event) × Leaves way served.name events × Acts who events None d e.book
-    → StandsThen way served e → HasServed who name a e
-has-served who name a b c d e taken served way is_taken queued started kept answered exits left stands =
+    → ExitsAfter served.turn served out → IsLeftBy who out served d e → HasServed who name a e
+has-served who name a b c d e taken served out is_taken queued started kept answered exits left =
     let asked : Acts who (answer_events name answered.0) (Some name) c d =
     subst (λ (n : ConnName). Acts who (answer_events n answered.0) (Some n) c d) is_taken answered.1 in
     record {
       asks = answered.0;
-      left = left.0;
-      served = served;
-      way = way;
-      named = kept ∙ is_taken;
-      exits = exits;
-      stands = stands;
-      leaves = subst (λ (n : ConnName). Leaves way n left.0) (kept ∙ is_taken) left.1;
+      book = d;
       acts =
-          acts_more who (event.Queue name ∷ []) (event.Start name ∷ answer_events name answered.0 ++ left.0) (Some name) None a.book b e.book queued
-          (acts_more who (event.Start name ∷ []) (answer_events name answered.0 ++ left.0) (Some name) None b c e.book started
-          (acts_more who (answer_events name answered.0) left.0 (Some name) None c d e.book asked left.2));
+          acts_more who (event.Queue name ∷ []) (event.Start name ∷ answer_events name answered.0) (Some name) (Some name) a.book b d queued
+          (acts_more who (event.Start name ∷ []) (answer_events name answered.0) (Some name) (Some name) b c d started asked);
+      served = served;
+      named = kept ∙ is_taken;
+      out = out;
+      exits = exits;
+      left = left;
     }

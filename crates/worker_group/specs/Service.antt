@@ -1,9 +1,9 @@
 -- What a worker does with one connection: which events it adds, and how it leaves the connection.
-use Rattle.std.specs.Prelude.{◌≡◌, ◌⊎◌, ◌==◌, ◌&&◌, not, ℕ, ◌<◌, ◌≤◌, true, false, List, [], ◌∷◌, ◌++◌, length, map, if◌then◌else◌, None, Some, ⊤}
+use Rattle.std.specs.Prelude.{◌≡◌, ◌⊎◌, ◌==◌, ◌&&◌, not, ℕ, ◌≤◌, true, false, List, [], ◌∷◌, ◌++◌, length, map, if◌then◌else◌, None, Some, ⊤}
 use Rattle.mpm_base.specs.Notes.{says_last}
 use Rattle.mpm_base.specs.declared.conn.Ask.{Ask}
 use Rattle.mpm_base.specs.declared.conn.Kind.{Kind}
-use Rattle.mpm_base.specs.declared.conn.Kind.TheVariants.{Reading, KeepAlive, Writing, Linger, ShortLinger}
+use Rattle.mpm_base.specs.declared.conn.Kind.TheVariants.{Reading, KeepAlive, Writing}
 use Rattle.mpm_base.specs.declared.conn.ConnName.{ConnName}
 use Rattle.mpm_base.specs.declared.conn.Cause.{Cause}
 use Rattle.mpm_base.specs.declared.conn.Cause.TheVariants as cause
@@ -29,11 +29,9 @@ use Rattle.board.specs.declared.faults.BoardFault.TheVariants as fault
 use Rattle.board.specs.Book.{SeenBook}
 use Rattle.board.specs.Board.{SeenBoard, conn_at}
 use Rattle.board.specs.Faults.{IsRefusedFor}
-use Rattle.board.specs.Fits.{WaitsAs}
 use Rattle.worker_group.specs.declared.service.Exit.{Exit}
 use Rattle.worker_group.specs.declared.service.Exit.TheVariants as exit
 use Rattle.worker_group.specs.Acts.{Acts}
-use Rattle.worker_group.specs.InHand.{IsClosable, IsLingerable, IsServed}
 
 -- ## How a connection is left
 
@@ -67,21 +65,6 @@ ExitsAfter turn.NotReady c e = e ≡ exit.Park Writing
 ExitsAfter turn.LinkFailed c e = e ≡ exit.Close cause.LinkFailed Direct
 ExitsAfter turn.NoMemory c e = e ≡ exit.Close cause.NoMemory Direct
 
--- a connection that is served may wait for this: it doesn't linger, and one that is kept alive has a response
-abbrev pub MayWaitFor : Kind → SeenConn → Type 0
-MayWaitFor Reading c = ⊤
-MayWaitFor KeepAlive c = 0 < length c.notes
-MayWaitFor Writing c = ⊤
-MayWaitFor Linger c = ⊥
-MayWaitFor ShortLinger c = ⊥
-
--- the worker may leave the connection so
-abbrev pub MayLeave : SeenBook → SeenConn → Exit → Type 0
-MayLeave b c (exit.Park kind) = IsServed b.state c × WaitsAs kind c × MayWaitFor kind c
-MayLeave b c (exit.Linger why) = IsLingerable b.state why c
-MayLeave b c (exit.Close why how) = IsClosable b.state why how c
-MayLeave b c (exit.GiveUp fault) = IsServed b.state c × IsRefusedFor fault b
-
 -- ## Where the connection is then
 
 -- the board has the connection, in its slot
@@ -107,7 +90,7 @@ IsGivenUp fault c b = IsLastEnded c (given_up_cause fault) Direct b.ended
 
 -- where the connection is that was left so: it waits there, or is the last of those that ended
 abbrev pub StandsThen : Exit → SeenConn → SeenBoard → Type 0
-StandsThen (exit.Park kind) c b = IsThere c b ⊎ (fault : BoardFault) × IsGivenUp fault c b
+StandsThen (exit.Park kind) c b = IsThere c b
 StandsThen (exit.Linger why) c b = IsThere c b
 StandsThen (exit.Close why how) c b = IsLastEnded c why how b.ended
 StandsThen (exit.GiveUp fault) c b = IsGivenUp fault c b
@@ -156,27 +139,39 @@ left_events (exit.Linger why) name = event.Linger name why ∷ []
 left_events (exit.Close why how) name = event.Close name why how ∷ []
 left_events (exit.GiveUp fault) name = given_up fault name
 
--- these events leave a connection so; one whose park is refused is given up
-abbrev pub Leaves : Exit → ConnName → List Event → Type 0
-Leaves (exit.Park kind) name events =
-    (events ≡ event.Park name kind ∷ []) ⊎ (fault : BoardFault) × (events ≡ given_up fault name)
-Leaves (exit.Linger why) name events = events ≡ event.Linger name why ∷ []
-Leaves (exit.Close why how) name events = events ≡ event.Close name why how ∷ []
-Leaves (exit.GiveUp fault) name events = events ≡ given_up fault name
-
 -- the events by which responses are decided for what was asked
 abbrev pub answer_events : ConnName → List Ask → List Event
 answer_events name asks = map (event.Answer name) asks
 
--- the connection of that name was served: it was queued and started, its responses were decided, and it was left as its last
--- turn asks, so that it waits there or ended
+-- ## The service
+
+-- the connection is given up for a fault, for which a call of the board is refused that has this book
+abbrev pub IsRefusal : SeenBook → Exit → Type 0
+IsRefusal b way = (fault : BoardFault) × (way ≡ exit.GiveUp fault) × IsRefusedFor fault b
+
+-- the way by which a connection is left at this book that is to be left so: it is given up where its wait is refused, and of one that is
+-- to be given up a call was refused
+abbrev pub Leaves : SeenBook → Exit → Exit → Type 0
+Leaves b (exit.Park kind) way = (way ≡ exit.Park kind) ⊎ IsRefusal b way
+Leaves b (exit.Linger why) way = way ≡ exit.Linger why
+Leaves b (exit.Close why how) way = way ≡ exit.Close why how
+Leaves b (exit.GiveUp fault) way = (way ≡ exit.GiveUp fault) × IsRefusedFor fault b
+
+-- the pass left the connection, which was to be left so: by this way, of which it added the events, and where it stands then
+pub record IsLeftBy (who : ℕ) (out : Exit) (c : SeenConn) (old : SeenBook) (new : SeenBoard) : Type 0 where
+  pub way : Exit
+  pub leaves : Leaves old out way
+  pub acts : Acts who (left_events way c.name) None old new.book
+  pub stands : StandsThen way c new
+
+-- the connection of that name was served: it was queued and started, and its responses were decided, which led to this book; then
+-- it was left as its last turn asks
 pub record HasServed (who : ℕ) (name : ConnName) (old new : SeenBoard) : Type 0 where
   pub asks : List Ask
-  pub left : List Event
+  pub book : SeenBook
+  pub acts : Acts who (event.Queue name ∷ event.Start name ∷ answer_events name asks) (Some name) old.book book
   pub served : SeenConn
-  pub way : Exit
   pub named : served.name ≡ name
-  pub exits : ExitsAfter served.turn served way
-  pub leaves : Leaves way name left
-  pub stands : StandsThen way served new
-  pub acts : Acts who (event.Queue name ∷ event.Start name ∷ answer_events name asks ++ left) None old.book new.book
+  pub out : Exit
+  pub exits : ExitsAfter served.turn served out
+  pub left : IsLeftBy who out served book new

@@ -1,10 +1,9 @@
 //! The service of a connection by a worker, from its queue until it waits, lingers or is closed.
-ghost use Rattle.std.specs.Prelude.{◌≡◌, ◌<◌, ℕ, List, [], ◌∷◌, true, false, None, Some, IfSome, IfNone, IfErr, OnOk, OnErr};
+ghost use Rattle.std.specs.Prelude.{◌≡◌, ◌<◌, List, [], ◌∷◌, true, false, None, Some, IfSome, IfNone, IfErr, OnOk, OnErr};
 ghost use Rattle.mpm_base.specs.declared.conn.Ask.{Ask};
 ghost use Rattle.conn_machine.specs.Runs.{row_of};
 ghost use Rattle.conn_machine.specs.States.{is_halted};
 ghost use Rattle.conn_machine.specs.Table.{is_allowed};
-ghost use Rattle.conn_machine.specs.declared.event.Event.{Event};
 ghost use Rattle.conn_machine.specs.declared.event.Event.TheVariants as event;
 ghost use Rattle.conn_state.specs.declared.turn.LastTurn.TheVariants as turn;
 ghost use Rattle.conn_state.specs.declared.turn.LastLinger.TheVariants as linger;
@@ -15,8 +14,10 @@ ghost use Rattle.board.specs.Book.{book_with_entry};
 ghost use Rattle.board.specs.Faults.{IsRefusedFor};
 ghost use Rattle.board.specs.Fits.{FoundNoMore, IsSettled};
 ghost use Rattle.worker_group.specs.Acts.{Acts};
-ghost use Rattle.worker_group.specs.InHand.{IsClosable, IsInHand, IsServed, answers_left};
-ghost use Rattle.worker_group.specs.Service.{EndsOut, ExitsAfter, HasServed, IsGivenUp, IsLastEnded, IsLetLinger, IsThere, IsWayOut, Leaves, LeavesRest, MayLeave, RefusalLasts, StandsThen, answer_events, given_up, left_events};
+ghost use Rattle.worker_group.specs.InHand.{IsClosable, IsInHand};
+ghost use Rattle.worker_group.specs.InHandInside.{IsServed, answers_left};
+ghost use Rattle.worker_group.specs.Service.{EndsOut, ExitsAfter, HasServed, IsGivenUp, IsLastEnded, IsLeftBy, IsLetLinger, IsThere, IsWayOut, LeavesRest, RefusalLasts, answer_events, given_up, left_events};
+ghost use Rattle.worker_group.specs.ServiceInside.{MayLeave};
 
 use board::{Board, BoardFault};
 use conn_machine::Why;
@@ -156,8 +157,7 @@ fn leave<L: Link, N: Known>(board: &mut Board<L, N>, who: u32, conn: Conn<L, N>,
     requires who { who < board.old.book.passes }
     requires row { row_of who board.old.book.history ≡ Some conn.name }
     requires may { MayLeave board.old.book conn exit }
-    ensures left { (events : List Event) × Leaves exit conn.name events × Acts who events None board.old.book board.new.book }
-    ensures stands { StandsThen exit conn board.new }
+    ensures left { IsLeftBy who exit conn board.old.book board.new }
 {
     board.show();
     conn.show();
@@ -186,6 +186,7 @@ pub fn park<L: Link, N: Known>(
     requires turned { FoundNoMore kind conn }
     ensures parked { OnOk result (Acts who (event.Park conn.name kind ∷ []) None board.old.book board.new.book) }
     ensures given_up { IfErr result (λ fault. Acts who (given_up fault conn.name) None board.old.book board.new.book) }
+    ensures why { IfErr result (λ fault. IsRefusedFor fault board.old.book) }
     ensures there { OnOk result (IsThere conn board.new) }
     ensures ended { IfErr result (λ fault. IsGivenUp fault conn board.new) }
     ensures lasts { IfErr result (λ fault. RefusalLasts fault board.new.book) }

@@ -1,7 +1,7 @@
 use Rattle.std.proofs.Common.{◌≡◌, List, Some}
 use Rattle.mpm_base.specs.declared.conn.Ask.{Ask}
 use Rattle.worker_group.specs.Acts.{Acts}
-use Rattle.worker_group.specs.InHand.{IsServed, answers_left}
+use Rattle.worker_group.specs.InHandInside.{IsServed, answers_left}
 use Rattle.worker_group.specs.Service.{answer_events}
 use Rattle.worker_group.proofs.service.converse.Given as goal
 

@@ -43,4 +43,4 @@ returns-clause-served g c =
     c.start.ensures.row in
     has-served who c.args.name c.args.board.now c.queue.new.self.book c.start.new.self.book c.converse-exit.new.board.book
     c.leave.new.board c.in_ok-conn.conn c.converse-exit.new.conn c.converse-exit.result c.in_ok-conn.ensures.name queued started
-    c.converse-exit.ensures.name c.converse-exit.ensures.acts c.converse-exit.ensures.exits c.leave.ensures.left c.leave.ensures.stands
+    c.converse-exit.ensures.name c.converse-exit.ensures.acts c.converse-exit.ensures.exits c.leave.ensures.left
