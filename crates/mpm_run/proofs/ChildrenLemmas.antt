@@ -32,9 +32,10 @@ use Rattle.mpm_run.specs.declared.run_numbers.RunNumbers.{RunNumbers}
 use Rattle.mpm_run.specs.ClosingInside.{IsHaltedWay, LetsGo}
 use Rattle.mpm_run.specs.FirstNumbers.{opened_by}
 use Rattle.mpm_run.specs.ListenInside.{IsOpening, SeenListener, asked_children, waits_of}
-use Rattle.mpm_run.specs.RoundInside.{HasWaited, RetiresSome, halt_events}
+use Rattle.mpm_run.specs.RoundInside.{RetiresSome, halt_events}
 use Rattle.mpm_run.specs.Started.{BeginsWithStarts, IsStartedFirst, starts_of}
 use Rattle.mpm_run.proofs.ListenLemmas.{child-by, count-cons, is-startable}
+use Rattle.mpm_run.proofs.WaitLemmas.{HasWaited}
 
 -- ## Searches
 

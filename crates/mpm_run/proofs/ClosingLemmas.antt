@@ -21,7 +21,7 @@ use Rattle.board.specs.Events.{with_recorded}
 use Rattle.worker_group.specs.declared.service.Exit.{Exit}
 use Rattle.worker_group.specs.Acts.{Acts, ActsInSteps, events_of}
 use Rattle.worker_group.specs.Service.{LeavesRest, left_events}
-use Rattle.mpm_run.specs.ClosingInside.{AllLeftBy, DrainsUntil, IsDrainedWay, LetsGo, LetsOneGo, LettingGo, RefusedWait, letting_events, lingering_given_up, refused_events, state_by}
+use Rattle.mpm_run.specs.ClosingInside.{AllLeftBy, DrainsUntil, IsDrainedWay, LetsGo, LetsOneGo, Departure, RefusedWait, departure_events, lingering_given_up, refused_events, state_by}
 use Rattle.mpm_run.proofs.RoundLemmas.{acts-spelled}
 
 -- ## The state that a pass made
@@ -97,19 +97,19 @@ rest-held_closed why how name named conns b b' d is closed =
 pub lets-none : ActsInSteps → (Way : Exit → Type 0) (b : SeenBook) → row_of 0 b.history ≡ None → LetsGo Way b b
 lets-none steps Way b row = record { gone = []; ways = tt; acts = steps.none 0 None b row }
 
-ways-more : (Way : Exit → Type 0) (gone : List LettingGo) (l : LettingGo) → AllLeftBy Way gone → Way l.way → AllLeftBy Way (gone ++ l ∷ [])
+ways-more : (Way : Exit → Type 0) (gone : List Departure) (l : Departure) → AllLeftBy Way gone → Way l.way → AllLeftBy Way (gone ++ l ∷ [])
 ways-more Way [] l all one = (one, tt)
 ways-more Way (x ∷ gone) l all one = (all.0, ways-more Way gone l all.1 one)
 
 -- the events of some with those of one behind them
-letting-more : (gone : List LettingGo) (l : LettingGo) → flat_map letting_events gone ++ letting_events l ≡ flat_map letting_events (gone ++ l ∷ [])
+letting-more : (gone : List Departure) (l : Departure) → flat_map departure_events gone ++ departure_events l ≡ flat_map departure_events (gone ++ l ∷ [])
 letting-more gone l =
-    ap (λ (es : List Event). flat_map letting_events gone ++ es) (sym (append-nil (letting_events l))) ∙ sym (flat_map-append letting_events gone (l ∷ []))
+    ap (λ (es : List Event). flat_map departure_events gone ++ es) (sym (append-nil (departure_events l))) ∙ sym (flat_map-append departure_events gone (l ∷ []))
 
 -- one more was let go of
 pub lets-more : ActsInSteps → (Way : Exit → Type 0) (name : ConnName) (a b c : SeenBook) → LetsGo Way a b → LetsOneGo Way name b c → LetsGo Way a c
 lets-more steps Way name a b c lets one =
-    let l : LettingGo = record { name = name; way = one.way } in
+    let l : Departure = record { name = name; way = one.way } in
     record {
       gone = lets.gone ++ l ∷ [];
       ways = ways-more Way lets.gone l lets.ways one.is_way;
@@ -128,7 +128,7 @@ refused-wait steps name named why fault a b c held same given =
     (steps.more 0 (event.Hold name ∷ []) (lingering_given_up fault why name) (Some name) None a b c held
     (acts-spelled _ (lingering_given_up fault why name) b c given (ap (lingering_given_up fault why) same)))
 
-ways-both : (Way : Exit → Type 0) (gone more : List LettingGo) → AllLeftBy Way gone → AllLeftBy Way more → AllLeftBy Way (gone ++ more)
+ways-both : (Way : Exit → Type 0) (gone more : List Departure) → AllLeftBy Way gone → AllLeftBy Way more → AllLeftBy Way (gone ++ more)
 ways-both Way [] more all rest = rest
 ways-both Way (x ∷ gone) more all rest = (all.0, ways-both Way gone more all.1 rest)
 
@@ -140,6 +140,6 @@ drains-until steps a b c drains until = record {
   last = until.last;
   acts =
       acts-spelled _ _ a c (steps.more 0 _ _ None None a b c drains.acts until.acts)
-      (sym (append_assoc (flat_map letting_events drains.gone) (flat_map letting_events until.gone) (refused_events until.last))
-      ∙ ap (λ (es : List Event). es ++ refused_events until.last) (sym (flat_map-append letting_events drains.gone until.gone)));
+      (sym (append_assoc (flat_map departure_events drains.gone) (flat_map departure_events until.gone) (refused_events until.last))
+      ∙ ap (λ (es : List Event). es ++ refused_events until.last) (sym (flat_map-append departure_events drains.gone until.gone)));
 }

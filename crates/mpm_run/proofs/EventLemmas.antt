@@ -12,8 +12,8 @@ use Rattle.worker_group.specs.declared.service.Exit.{Exit}
 use Rattle.worker_group.specs.declared.service.Exit.TheVariants as exit
 use Rattle.worker_group.specs.Acts.{Acts, events_of}
 use Rattle.worker_group.specs.Service.{left_events}
-use Rattle.mpm_run.specs.ClosingInside.{LettingGo, RefusedWait, letting_events, lingering_given_up, refused_events}
-use Rattle.mpm_run.specs.RoundInside.{Lettings, Round, Taking, gone_events, lettings_events, round_events, stop_events, taking_events, time_events}
+use Rattle.mpm_run.specs.ClosingInside.{Departure, RefusedWait, departure_events, lingering_given_up, refused_events}
+use Rattle.mpm_run.specs.RoundInside.{Departures, Round, Intake, gone_events, departures_events, round_events, stop_events, intake_events, time_events}
 use Rattle.mpm_run.specs.Times.{signals_in, signals_of, ticks_in, ticks_of}
 
 -- ## Lists of events
@@ -59,12 +59,12 @@ silent-left (exit.GiveUp fault.Halted) name = record { ticks = refl; signals = r
 silent-left (exit.GiveUp fault.Full) name = record { ticks = refl; signals = refl }
 silent-left (exit.GiveUp fault.NoMemory) name = record { ticks = refl; signals = refl }
 
-silent-letting : (l : LettingGo) → AreSilent (letting_events l)
+silent-letting : (l : Departure) → AreSilent (departure_events l)
 silent-letting l = record { ticks = (silent-left l.way l.name).ticks; signals = (silent-left l.way l.name).signals }
 
-pub silent-gone : (gone : List LettingGo) → AreSilent (gone_events gone)
+pub silent-gone : (gone : List Departure) → AreSilent (gone_events gone)
 silent-gone [] = silent-none
-silent-gone (l ∷ gone) = silent-both (letting_events l) (gone_events gone) (silent-letting l) (silent-gone gone)
+silent-gone (l ∷ gone) = silent-both (departure_events l) (gone_events gone) (silent-letting l) (silent-gone gone)
 
 silent-given_up : (w : RefusedWait) (fault : BoardFault) → AreSilent (event.Hold w.name ∷ lingering_given_up fault w.ending w.name)
 silent-given_up w fault.Halted = record { ticks = refl; signals = refl }
@@ -75,19 +75,19 @@ silent-refused : (refused : List RefusedWait) → AreSilent (flat_map refused_ev
 silent-refused [] = silent-none
 silent-refused (w ∷ refused) = silent-both (refused_events w) (flat_map refused_events refused) (silent-given_up w w.refused) (silent-refused refused)
 
-silent-lettings : (l : Lettings) (refused : List RefusedWait) → AreSilent (lettings_events l refused)
+silent-lettings : (l : Departures) (refused : List RefusedWait) → AreSilent (departures_events l refused)
 silent-lettings l refused =
     silent-both (gone_events l.retiring ++ gone_events l.cut ++ gone_events l.drained) (flat_map refused_events refused)
     (silent-both (gone_events l.retiring ++ gone_events l.cut) (gone_events l.drained)
     (silent-both (gone_events l.retiring) (gone_events l.cut) (silent-gone l.retiring) (silent-gone l.cut)) (silent-gone l.drained))
     (silent-refused refused)
 
-silent-taken : (t : Taking) → AreSilent (taking_events t)
+silent-taken : (t : Intake) → AreSilent (intake_events t)
 silent-taken t = record { ticks = (silent-left t.way t.name).ticks; signals = (silent-left t.way t.name).signals }
 
-silent-takes : (takes : List Taking) → AreSilent (flat_map taking_events takes)
+silent-takes : (takes : List Intake) → AreSilent (flat_map intake_events takes)
 silent-takes [] = silent-none
-silent-takes (t ∷ takes) = silent-both (taking_events t) (flat_map taking_events takes) (silent-taken t) (silent-takes takes)
+silent-takes (t ∷ takes) = silent-both (intake_events t) (flat_map intake_events takes) (silent-taken t) (silent-takes takes)
 
 -- ## Ticks and signals
 
@@ -117,24 +117,24 @@ in-first find es fs xs first none = in-both find es fs xs [] first none ∙ appe
 -- what a round did behind its signals neither ticks nor signals
 abbrev rest_of : Round → List Event
 rest_of r =
-    lettings_events r.lettings r.refused ++ map event.Retire r.retired ++ map event.StartChild r.starts ++ flat_map taking_events r.takes
+    departures_events r.departures r.refused ++ map event.Retire r.retired ++ map event.StartChild r.starts ++ flat_map intake_events r.takes
 
 silent-rest : (r : Round) → AreSilent (rest_of r)
 silent-rest r =
-    let retired = silent-both (lettings_events r.lettings r.refused) (map event.Retire r.retired) (silent-lettings r.lettings r.refused) (silent-retires r.retired) in
+    let retired = silent-both (departures_events r.departures r.refused) (map event.Retire r.retired) (silent-lettings r.departures r.refused) (silent-retires r.retired) in
     let started =
-    silent-both (lettings_events r.lettings r.refused ++ map event.Retire r.retired) (map event.StartChild r.starts) retired (silent-starts r.starts) in
-    silent-both (lettings_events r.lettings r.refused ++ map event.Retire r.retired ++ map event.StartChild r.starts)
-    (flat_map taking_events r.takes) started (silent-takes r.takes)
+    silent-both (departures_events r.departures r.refused ++ map event.Retire r.retired) (map event.StartChild r.starts) retired (silent-starts r.starts) in
+    silent-both (departures_events r.departures r.refused ++ map event.Retire r.retired ++ map event.StartChild r.starts)
+    (flat_map intake_events r.takes) started (silent-takes r.takes)
 
 -- it stands behind them
 rest-behind : (r : Round) → round_events r ≡ (time_events r.early r.ticks r.late ++ map event.Ready r.signals) ++ rest_of r
 rest-behind r =
     let front = time_events r.early r.ticks r.late ++ map event.Ready r.signals in
-    let lets = lettings_events r.lettings r.refused in
+    let lets = departures_events r.departures r.refused in
     let retired = map event.Retire r.retired in
     let started = map event.StartChild r.starts in
-    let taken = flat_map taking_events r.takes in
+    let taken = flat_map intake_events r.takes in
     ap (λ (es : List Event). es ++ taken)
     (ap (λ (es : List Event). es ++ started) (append_assoc front lets retired) ∙ append_assoc front (lets ++ retired) started)
     ∙ append_assoc front (lets ++ retired ++ started) taken

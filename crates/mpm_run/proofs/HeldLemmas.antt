@@ -27,15 +27,14 @@ use Rattle.conn_state.specs.declared.turn.LastLinger.{LastLinger}
 use Rattle.conn_state.specs.declared.turn.LastLinger.TheVariants as linger
 use Rattle.conn_state.specs.declared.turn.LingerTurn.{LingerTurn}
 use Rattle.conn_state.specs.declared.turn.LingerTurn.TheVariants as left
-use Rattle.conn_state.specs.Conn.{IsConn, IsUntouched, IsWaiting, SeenConn, TurnFits, is_half_closed, is_usable, lingers}
+use Rattle.conn_state.specs.Conn.{IsConn, IsWaiting, SeenConn, TurnFits, is_half_closed, is_usable, lingers}
 use Rattle.conn_state.specs.Answered.{IsLeft, MayLinger, SentAll, ShowsCause}
-use Rattle.conn_state.specs.Items.{SpellsNone}
 use Rattle.conn_state.specs.Turns.{LingersOn, after_linger}
 use Rattle.board.specs.Book.{full_stop}
 use Rattle.board.specs.Fits.{Fits, FoundNoMore, IsOnItsWay, IsSettled, IsSettledFrom, IsTakenUp, LingersFor, NotesEnd, WaitsAs}
 use Rattle.board.specs.Finds.{cause_of, kind_of, waits_for}
-use Rattle.worker_group.specs.InHand.{IsClosable, IsInHand, IsLingeringFor}
-use Rattle.mpm_run.specs.ClosingInside.{cause_of_late, tail_of}
+use Rattle.worker_group.specs.InHand.{IsClosable, IsInHand}
+use Rattle.mpm_run.specs.ClosingInside.{IsLingeringFor, cause_of_late, tail_of}
 use Rattle.mpm_run.proofs.FoundLemmas.{ChangesInPlace, found-at, found-changed, found-fits, found-named, passes-found}
 
 -- ## Its row

@@ -26,4 +26,5 @@ pub mod TakeLemmas
 pub mod TimeLemmas
 pub mod TurnLemmas
 pub mod UnsignalledLemmas
+pub mod WaitLemmas
 pub mod WatchLemmas

@@ -9,6 +9,7 @@ use Rattle.mpm_base.specs.declared.front.Woke.TheVariants as woke
 use Rattle.script_front.specs.ScriptClock.{AreEchoes}
 use Rattle.conn_machine.specs.declared.event.Event.{Event}
 use Rattle.conn_machine.specs.declared.state.State.{State}
+use Rattle.conn_machine.specs.Runs.{after}
 use Rattle.conn_machine.specs.Sound.{IsSound}
 use Rattle.conn_machine.specs.States.{is_halted}
 use Rattle.conn_state.specs.Conn.{IsFrontOf}
@@ -22,14 +23,17 @@ use Rattle.mpm_run.specs.declared.listen.Pause.{Pause}
 use Rattle.mpm_run.specs.declared.listen.Rest.{Rest}
 use Rattle.mpm_run.specs.ClosingInside.{IsHaltedWay, LetsGo}
 use Rattle.mpm_run.specs.ListenInside.{IsAtStart, IsInStep, IsRestful, KeepsStep, NoneOverdue, OnlyTakes, SeenListener, TookAll}
-use Rattle.mpm_run.specs.Patient.{ArePatient, IsAtRest, IsPatientRun, IsSteady, PassesPatiently}
-use Rattle.mpm_run.specs.RoundInside.{BreaksOff, GoesRound, HasWaited, IsSettledBy, RetiresSome, Round, StartsSome, halt_events, round_events}
+use Rattle.mpm_run.specs.Patient.{ArePatient, IsAtRest, PassesPatiently}
+use Rattle.mpm_run.specs.PatientInside.{IsPatientRun, IsSteady}
+use Rattle.mpm_run.specs.RoundInside.{BreaksOff, GoesRound, RetiresSome, Round, StartsSome, halt_events, round_events}
 use Rattle.mpm_run.specs.Times.{moment_for, ticks_in, ticks_to}
+use Rattle.mpm_run.proofs.ClosingLemmas.{GoesOnFrom, acts-state}
 use Rattle.mpm_run.proofs.EventLemmas.{silent-gone, silent-retires, silent-starts, ticks-round}
 use Rattle.mpm_run.proofs.StopLemmas.{silent-halts}
 use Rattle.mpm_run.proofs.TurnLemmas.{HasServed}
 use Rattle.mpm_run.proofs.UnsignalledLemmas.{none-signalled}
 use Rattle.mpm_run.proofs.PatientLemmas.{MomentOf, echoed-before, none-late-then, patient-round, patient-served, patient-silent, patient-weaker, told-before}
+use Rattle.mpm_run.proofs.WaitLemmas.{HasWaited}
 
 -- ## What the listener keeps
 
@@ -353,24 +357,33 @@ patience-started l m start is starts =
 pub served-patience : (a b : SeenListener) → HasPatience a → HasServed a b → HasPatience b
 served-patience a b patient served =
     subst HasPatience (sym served.others)
-    (patience-served 1 served.events None a.front.told a.calls a.board.book b.board.book (λ (same : 1 ≡ 0). cc) served.acts patient)
+    (patience-served 1 served.serves.events None a.front.told a.calls a.board.book b.board.book (λ (same : 1 ≡ 0). cc) served.serves.acts patient)
 
-served-rests : (rest : Rest) (a b : SeenListener) → TookAll a.front.told a.board.book.state → IsSettledBy rest a.board b.board
-    → Rests rest (record a { board = b.board })
-served-rests rest a b took settled = record {
-  until = settled.until ∙ ap (λ (x : SeenBoard). next_deadline_of x.book.state) (sym settled.same);
-  at_rest = subst (λ (x : SeenBoard). IsAtRest x.book.state) (sym settled.same) settled.at_rest;
-  took = subst (λ (x : SeenBoard). TookAll a.front.told x.book.state) (sym settled.same) took;
+served-rests : (rest : Rest) (a b : SeenListener) → TookAll a.front.told a.board.book.state → rest.until ≡ next_deadline_of a.board.book.state
+    → IsAtRest a.board.book.state → b.board.book.state ≡ a.board.book.state → Rests rest (record a { board = b.board })
+served-rests rest a b took until at_rest same = record {
+  until = until ∙ ap next_deadline_of (sym same);
+  at_rest = subst IsAtRest (sym same) at_rest;
+  took = subst (TookAll a.front.told) (sym same) took;
 }
 
-pub pace-served : (rest : Rest) (a b : SeenListener) → Abreast a → HasPatience a → TookAll a.front.told a.board.book.state → HasServed a b
-    → (rest.quiet ≡ true → IsSettledBy rest a.board b.board) → KeepsPace rest b
-pace-served rest a b abreast patient took served settled =
+-- the state of a listener's board is that after the history
+abbrev pub IsAfter : SeenListener → Type 0
+IsAfter l = after l.board.book.base l.board.book.history ≡ l.board.book.state
+
+pub pace-served : GoesOnFrom → (rest : Rest) (a b : SeenListener) → IsAfter a → IsAfter b → Abreast a → HasPatience a → TookAll a.front.told a.board.book.state
+    → HasServed a b → rest.until ≡ next_deadline_of a.board.book.state → IsRestful rest.quiet a.board.book.state → KeepsPace rest b
+pace-served law rest a b here there abreast patient took served until restful =
     subst (KeepsPace rest) (sym served.others)
     (record {
-      abreast = λ steady. served.serves.moment ∙ abreast steady;
-      patient = patience-served 1 served.events None a.front.told a.calls a.board.book b.board.book (λ (same : 1 ≡ 0). cc) served.acts patient;
-      rested = λ quiet. served-rests rest a b took (settled quiet);
+      abreast = λ steady. served.rest.moment ∙ abreast steady;
+      patient = patience-served 1 served.serves.events None a.front.told a.calls a.board.book b.board.book (λ (same : 1 ≡ 0). cc) served.serves.acts patient;
+      rested =
+          λ quiet.
+          let at_rest = restful.0 quiet in
+          served-rests rest a b took until at_rest
+          (acts-state law 1 [] None a.board.book b.board.book here there
+          (subst (λ (es : List Event). Acts 1 es None a.board.book b.board.book) (served.serves.none at_rest.served) served.serves.acts));
     })
 
 -- ## The end

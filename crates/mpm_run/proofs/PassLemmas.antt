@@ -1,5 +1,5 @@
 -- What passes leave alone, by the laws of the machine.
-use Rattle.std.proofs.Common.{◌≡◌, ◌≢◌, inl, inr, ℕ, suc, ◌<◌, false, not, List, [], ◌∷◌, ◌++◌, length, Option, Some, slice_get, refl, sym, ap, subst, ◌∙◌}
+use Rattle.std.proofs.Common.{◌≡◌, ◌≢◌, inl, inr, ℕ, suc, ◌<◌, false, not, List, [], ◌∷◌, ◌++◌, length, Option, None, Some, slice_get, refl, sym, ap, subst, ◌∙◌}
 use Rattle.std.specs.List.{list_any}
 use Rattle.mpm_base.specs.declared.conn.ConnName.{ConnName}
 use Rattle.conn_machine.specs.declared.event.Entry.{Entry}
@@ -14,14 +14,15 @@ use Rattle.conn_machine.specs.Sizes.{HasSizesOf}
 use Rattle.conn_machine.specs.Rows.{is_live, is_parked, is_unused, is_with_a_pass}
 use Rattle.conn_machine.specs.Runs.{Adds, after}
 use Rattle.conn_machine.specs.States.{is_halted}
-use Rattle.conn_machine.specs.Table.{next}
 use Rattle.board.specs.Book.{SeenBook}
-use Rattle.worker_group.specs.Acts.{Acts, events_of}
-use Rattle.worker_group.specs.Service.{IsUp}
+use Rattle.board.specs.Board.{SeenBoard}
+use Rattle.worker_group.specs.Acts.{Acts, ActsInSteps, events_of}
+use Rattle.worker_group.specs.Service.{HasServed, IsUp, LeavesRest, answer_events, left_events}
 use Rattle.mpm_run.specs.Listen.{HasNoLive}
 use Rattle.board.specs.Finds.{FindsRow, is_due}
 use Rattle.mpm_run.specs.Patient.{NoneDue}
 use Rattle.mpm_run.specs.ListenInside.{NoneParked}
+use Rattle.mpm_run.specs.RoundInside.{ServesSome}
 use Rattle.mpm_run.proofs.FoundLemmas.{found-at, lives}
 
 -- ## What the other passes leave
@@ -31,29 +32,53 @@ abbrev pub LeavesAlone : Type 0
 LeavesAlone = (p : ℕ) (base : State) (old new : List Entry) → p ≢ 0 → Adds p base old new → OnlyServes (after base old) (after base new)
 
 -- so does a pass that did something
-pub only-serves : (who : ℕ) (es : List Event) (has : Option ConnName) (a b : SeenBook) → who ≢ 0 → after a.base a.history ≡ a.state
+only-serves : (who : ℕ) (es : List Event) (has : Option ConnName) (a b : SeenBook) → who ≢ 0 → after a.base a.history ≡ a.state
     → after b.base b.history ≡ b.state → Acts who es has a b → LeavesAlone → OnlyServes a.state b.state
 only-serves who es has a b other here there acts law =
     let late : after a.base b.history ≡ b.state = ap (λ (s : State). after s b.history) (sym acts.base) ∙ there in
     subst (λ (s : State). OnlyServes a.state s) late
     (subst (λ (s : State). OnlyServes s (after a.base b.history)) here (law who a.base a.history b.history other acts.entries))
 
--- the server has not stopped, unless for a full history
-pub still-up : (s s' : State) → OnlyServes s s' → is_halted s.going ≡ false → IsUp s'.going
+-- the server has not stopped, unless for a full history, where it hadn't before
+still-up : (s s' : State) → OnlyServes s s' → is_halted s.going ≡ false → IsUp s'.going
 still-up s s' leaves going =
     elim leaves.server [
       | inl same ↦ inl (ap is_halted same.going ∙ going)
       | inr full ↦ inr full.going
     ]
 
--- or as it was before
-pub up-served : (s s' : State) → OnlyServes s s' → IsUp s.going → IsUp s'.going
+up-served : (s s' : State) → OnlyServes s s' → IsUp s.going → IsUp s'.going
 up-served s s' leaves (inl going) = still-up s s' leaves going
 up-served s s' leaves (inr stopped) =
     elim leaves.server [
       | inl same ↦ inr (same.going ∙ stopped)
       | inr full ↦ inr full.going
     ]
+
+-- so the moment stands, no connection was taken, and the server didn't stop but for a full history
+pub serves-rest : (who : ℕ) (es : List Event) (has : Option ConnName) (a b : SeenBook) → who ≢ 0 → after a.base a.history ≡ a.state
+    → after b.base b.history ≡ b.state → Acts who es has a b → LeavesAlone → LeavesRest a b
+serves-rest who es has a b other here there acts law =
+    let serves = only-serves who es has a b other here there acts law in
+    record { moment = serves.moment; accepted = serves.accepted; up = up-served a.state b.state serves }
+
+-- what the service of a connection added
+pub service-acts : ActsInSteps → (who : ℕ) (name : ConnName) (a b : SeenBoard) → (served : HasServed who name a b)
+    → Acts who (event.Queue name ∷ (event.Start name ∷ answer_events name served.asks) ++ left_events served.left.way served.served.name) None a.book b.book
+service-acts steps who name a b served =
+    steps.more who (event.Queue name ∷ event.Start name ∷ answer_events name served.asks) (left_events served.left.way served.served.name) (Some name) None
+    a.book served.book b.book served.acts served.left.acts
+
+-- one more connection was served, where one was due
+pub serves-more : ActsInSteps → (name : ConnName) (a : SeenBook) (b c : SeenBoard) → (serves : ServesSome a b.book) → (NoneDue a.state → ⊥) → (served : HasServed 1 name b c)
+    → ServesSome a c.book
+serves-more steps name a b c serves due served =
+    let more : List Event = event.Queue name ∷ (event.Start name ∷ answer_events name served.asks) ++ left_events served.left.way served.served.name in
+    record {
+      events = serves.events ++ more;
+      none = λ none. absurd (due none);
+      acts = steps.more 1 serves.events more None None a b.book c.book serves.acts (service-acts steps 1 name b c served);
+    }
 
 -- ## Signals
 

@@ -20,7 +20,7 @@ use Rattle.board.specs.Finds.{ending_moments, next_deadline_of}
 use Rattle.worker_group.specs.Acts.{Acts}
 use Rattle.mpm_run.specs.ListenInside.{AsksFor, NoneOverdue}
 use Rattle.mpm_run.specs.Patient.{AllAt, ArePatient, IsPatientEvent, PassesPatiently}
-use Rattle.mpm_run.specs.RoundInside.{Round, gone_events, lettings_events, round_events, taking_events}
+use Rattle.mpm_run.specs.RoundInside.{Round, gone_events, departures_events, round_events, intake_events}
 use Rattle.mpm_run.specs.Times.{ticks_in}
 use Rattle.mpm_run.proofs.AddedLemmas.{added-events, events_in}
 use Rattle.mpm_run.proofs.EventLemmas.{ticks-round}
@@ -164,8 +164,8 @@ tick-first comings waits s m rest (e ∷ entries) is none passes =
 begins-round : (m : ℕ) (r : Round) → r.early ≡ [] → r.ticks ≡ m ∷ [] → BeginsWith m (round_events r)
 begins-round m r early ticks =
     let rest =
-    gone_events r.late ++ map event.Ready r.signals ++ lettings_events r.lettings r.refused ++ map event.Retire r.retired ++ map event.StartChild r.starts
-    ++ flat_map taking_events r.takes in
+    gone_events r.late ++ map event.Ready r.signals ++ departures_events r.departures r.refused ++ map event.Retire r.retired ++ map event.StartChild r.starts
+    ++ flat_map intake_events r.takes in
     let is : round_events r ≡ event.Tick m ∷ rest = rw (early, ticks) refl in
     let all : m ∷ flat_map ticks_in rest ≡ m ∷ [] = sym (ap (flat_map ticks_in) is) ∙ ticks-round r ∙ ticks in
     record { rest = rest; is = is; none = cc all }

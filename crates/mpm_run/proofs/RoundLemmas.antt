@@ -3,7 +3,7 @@ use Rattle.std.proofs.Common.{◌≡◌, inl, inr, ℕ, ◌<◌, ◌≤◌, Bool
 use Rattle.std.proofs.lemmas.Bool.{false≢true}
 use Rattle.std.proofs.lemmas.Bool.Decides.{nat_tests}
 use Rattle.std.proofs.lemmas.Grind.{flat_map-append}
-use Rattle.std.proofs.lemmas.List.{append_cancel_left, map-append}
+use Rattle.std.proofs.lemmas.List.{map-append}
 use Rattle.std.proofs.lemmas.List.Elements.{filter-append}
 use Rattle.std.specs.List.{flat_map}
 use Rattle.mpm_base.specs.declared.conn.ConnName.{ConnName}
@@ -17,11 +17,11 @@ use Rattle.board.specs.Book.{SeenBook, book_with_entry}
 use Rattle.board.specs.Board.{SeenBoard}
 use Rattle.board.specs.Events.{with_recorded}
 use Rattle.worker_group.specs.declared.service.Exit.TheVariants as exit
-use Rattle.worker_group.specs.Acts.{Acts, ActsInSteps, events_of}
+use Rattle.worker_group.specs.Acts.{Acts, ActsInSteps}
 use Rattle.worker_group.specs.Service.{LeavesRest, RefusalLasts, left_events}
 use Rattle.mpm_run.specs.ListenInside.{MustStop}
-use Rattle.mpm_run.specs.ClosingInside.{DrainsUntil, IsDrainedWay, IsLateWay, IsRetiringWay, LetsGo, LettingGo, RefusedWait, letting_events, refused_events}
-use Rattle.mpm_run.specs.RoundInside.{AllLeft, BreaksOff, GivesUp, GoesRound, IsLeft, LetsGoOfConns, LetsGoUntil, NoneEarly, NoneHas, PassesTime, RetiresSome, Round, SignalsFirst, StartsSome, Taking, TakesSome, TakesUntil, gone_events, round_events, signal_events, taking_events, time_events}
+use Rattle.mpm_run.specs.ClosingInside.{DrainsUntil, IsDrainedWay, IsLateWay, IsRetiringWay, LetsGo, NoneEarly, RefusedWait, refused_events}
+use Rattle.mpm_run.specs.RoundInside.{AllLeft, BreaksOff, GivesUp, GoesRound, IsLeft, LetsGoOfConns, LetsGoUntil, NoneHas, PassesTime, RetiresSome, Round, SignalsFirst, StartsSome, Intake, TakesSome, TakesUntil, gone_events, round_events, signal_events, intake_events, time_events}
 use Rattle.mpm_run.specs.Times.{known_slots, ticks_to}
 
 -- ## No pass has a connection
@@ -80,17 +80,17 @@ takes-none steps b row = record { takes = []; left = tt; acts = steps.none 0 Non
 pub until-none : ActsInSteps → (b : SeenBook) → row_of 0 b.history ≡ None → TakesUntil b b
 until-none steps b row = record { takes = []; acts = steps.none 0 None b row }
 
-left-more : (takes : List Taking) (t : Taking) → AllLeft takes → IsLeft t.way → AllLeft (takes ++ t ∷ [])
+left-more : (takes : List Intake) (t : Intake) → AllLeft takes → IsLeft t.way → AllLeft (takes ++ t ∷ [])
 left-more [] t all one = (one, tt)
 left-more (x ∷ takes) t all one = (all.0, left-more takes t all.1 one)
 
 -- the events of connections with one behind them
-taking-more : (takes : List Taking) (t : Taking) → flat_map taking_events takes ++ taking_events t ≡ flat_map taking_events (takes ++ t ∷ [])
+taking-more : (takes : List Intake) (t : Intake) → flat_map intake_events takes ++ intake_events t ≡ flat_map intake_events (takes ++ t ∷ [])
 taking-more takes t =
-    ap (λ (es : List Event). flat_map taking_events takes ++ es) (sym (append-nil (taking_events t))) ∙ sym (flat_map-append taking_events takes (t ∷ []))
+    ap (λ (es : List Event). flat_map intake_events takes ++ es) (sym (append-nil (intake_events t))) ∙ sym (flat_map-append intake_events takes (t ∷ []))
 
 -- one more was taken and left
-pub takes-more : ActsInSteps → (t : Taking) (a b c : SeenBook) → TakesSome a b → IsLeft t.way → Acts 0 (taking_events t) None b c → TakesSome a c
+pub takes-more : ActsInSteps → (t : Intake) (a b c : SeenBook) → TakesSome a b → IsLeft t.way → Acts 0 (intake_events t) None b c → TakesSome a c
 takes-more steps t a b c takes left one = record {
   takes = takes.takes ++ t ∷ [];
   left = left-more takes.takes t takes.left left;
@@ -103,13 +103,13 @@ pub takes-until : ActsInSteps → (a b c : SeenBook) → TakesSome a b → Takes
 takes-until steps a b c takes until = record {
   takes = takes.takes ++ until.takes;
   acts =
-      acts-spelled _ (flat_map taking_events (takes.takes ++ until.takes)) a c (steps.more 0 _ _ None None a b c takes.acts until.acts)
-      (sym (flat_map-append taking_events takes.takes until.takes));
+      acts-spelled _ (flat_map intake_events (takes.takes ++ until.takes)) a c (steps.more 0 _ _ None None a b c takes.acts until.acts)
+      (sym (flat_map-append intake_events takes.takes until.takes));
 }
 
 -- a connection that was taken was left so
 pub takes-one : ActsInSteps → (name : ConnName) (way : _) (a b c : SeenBook) → Acts 0 (event.Accept name.slot ∷ []) (Some name) a b
-    → Acts 0 (left_events way name) None b c → Acts 0 (taking_events (record { name = name; way = way })) None a c
+    → Acts 0 (left_events way name) None b c → Acts 0 (intake_events (record { name = name; way = way })) None a c
 takes-one steps name way a b c taken left = steps.more 0 (event.Accept name.slot ∷ []) (left_events way name) (Some name) None a b c taken left
 
 -- one that was taken was given up
@@ -119,21 +119,10 @@ takes-given_up steps fault name a b c taken given = record {
   takes = record { name = name; way = exit.GiveUp fault } ∷ [];
   acts =
       acts-spelled _ _ a c (takes-one steps name (exit.GiveUp fault) a b c taken given)
-      (sym (append-nil (taking_events (record { name = name; way = exit.GiveUp fault }))));
+      (sym (append-nil (intake_events (record { name = name; way = exit.GiveUp fault }))));
 }
 
 -- ## A round
-
--- nothing was let go of where nothing changed
-gone-nothing : (gone : List LettingGo) → flat_map letting_events gone ≡ [] → gone ≡ []
-gone-nothing [] none = refl
-gone-nothing (l ∷ gone) none = absurd (cc none)
-
-pub gone-none : (a b : SeenBook) (went : LetsGo IsLateWay a b) → b ≡ a → went.gone ≡ []
-gone-none a b went same =
-    gone-nothing went.gone
-    (append_cancel_left (events_of 0 a.history) (flat_map letting_events went.gone) []
-    (sym went.acts.made ∙ ap (λ (x : SeenBook). events_of 0 x.history) same ∙ sym (append-nil (events_of 0 a.history))))
 
 -- time passed to a moment that is later
 pub passes-later : ActsInSteps → (to : ℕ) (a b c d : SeenBook) → ticks_to a.state.moment to ≡ to ∷ [] → (early : LetsGo IsLateWay a b) → NoneEarly a early.gone
@@ -173,7 +162,7 @@ signals-all slots a b acts =
 -- connections that retire, that were late at once, and that linger were let go of
 pub lets-go-conns : ActsInSteps → (a b c d : SeenBook) → LetsGo IsRetiringWay a b → LetsGo IsLateWay b c → LetsGo IsDrainedWay c d → LetsGoOfConns [] a d
 lets-go-conns steps a b c d retiring cut drained = record {
-  lettings = record { retiring = retiring.gone; cut = cut.gone; drained = drained.gone };
+  departures = record { retiring = retiring.gone; cut = cut.gone; drained = drained.gone };
   ways = record { retiring = retiring.ways; cut = cut.ways; drained = drained.ways };
   acts =
       acts-spelled _ _ a d
@@ -186,7 +175,7 @@ pub lets-go-until : ActsInSteps → (a b c d : SeenBook) → LetsGo IsRetiringWa
 lets-go-until steps a b c d retiring cut until = (
   until.last,
   record {
-    lettings = record { retiring = retiring.gone; cut = cut.gone; drained = until.gone };
+    departures = record { retiring = retiring.gone; cut = cut.gone; drained = until.gone };
     ways = record { retiring = retiring.ways; cut = cut.ways; drained = until.ways };
     acts =
         acts-spelled _ _ a d
@@ -200,7 +189,7 @@ lets-go-until steps a b c d retiring cut until = (
 -- nothing was let go of
 pub lets-go-none : ActsInSteps → (b : SeenBook) → row_of 0 b.history ≡ None → LetsGoOfConns [] b b
 lets-go-none steps b row = record {
-  lettings = record { retiring = []; cut = []; drained = [] };
+  departures = record { retiring = []; cut = []; drained = [] };
   ways = record { retiring = tt; cut = tt; drained = tt };
   acts = steps.none 0 None b row;
 }
@@ -215,7 +204,7 @@ goes-round steps to slots a b c d e f h time signals lets retires starts takes =
         ticks = ticks_to a.state.moment to;
         late = time.late;
         signals = known_slots (length b.base.rows) slots;
-        lettings = lets.lettings;
+        departures = lets.departures;
         refused = [];
         retired = retires.children;
         starts = starts.children;
@@ -224,7 +213,7 @@ goes-round steps to slots a b c d e f h time signals lets retires starts takes =
   soon = time.soon;
   ticks = refl;
   signals = ap (λ (s : _). known_slots (length s.rows) slots) time.acts.base;
-  ways = record { early = time.early_ways; late = time.late_ways; lettings = lets.ways };
+  ways = record { early = time.early_ways; late = time.late_ways; departures = lets.ways };
   none_refused = refl;
   left = takes.left;
   acts =
@@ -244,7 +233,7 @@ breaks-behind steps to slots refused a b c d e f h time signals lets retires sta
         ticks = ticks_to a.state.moment to;
         late = time.late;
         signals = signals.first;
-        lettings = lets.lettings;
+        departures = lets.departures;
         refused = refused;
         retired = retires.children;
         starts = starts.children;
@@ -253,7 +242,7 @@ breaks-behind steps to slots refused a b c d e f h time signals lets retires sta
   soon = inr time.soon;
   ticks = ([], sym (append-nil (ticks_to a.state.moment to)));
   signals = (signals.front.0, ap (λ (s : _). known_slots (length s.rows) slots) (sym time.acts.base) ∙ signals.front.1);
-  ways = record { early = time.early_ways; late = time.late_ways; lettings = lets.ways };
+  ways = record { early = time.early_ways; late = time.late_ways; departures = lets.ways };
   acts =
       steps.more 0 _ _ None None a f h
       (steps.more 0 _ _ None None a e f
@@ -269,7 +258,7 @@ breaks-early to slots a b early =
       ticks = [];
       late = [];
       signals = [];
-      lettings = record { retiring = []; cut = []; drained = [] };
+      departures = record { retiring = []; cut = []; drained = [] };
       refused = [];
       retired = [];
       starts = [];
@@ -280,7 +269,7 @@ breaks-early to slots a b early =
       soon = inl refl;
       ticks = (ticks_to a.state.moment to, refl);
       signals = (known_slots (length a.base.rows) slots, refl);
-      ways = record { early = early.ways; late = tt; lettings = record { retiring = tt; cut = tt; drained = tt } };
+      ways = record { early = early.ways; late = tt; departures = record { retiring = tt; cut = tt; drained = tt } };
       acts = acts-spelled _ (round_events only) a b early.acts (simp append-nil);
     }
 

@@ -7,7 +7,8 @@ use Rattle.conn_machine.specs.Made.{AreOfPasses, IsOpened}
 use Rattle.conn_machine.specs.declared.folded.Folded.{Folded}
 use Rattle.conn_machine.specs.declared.state.State.{State}
 use Rattle.board.specs.Book.{SeenBook}
-use Rattle.mpm_run.specs.FirstNumbers.{AreNumbers, folded_by, opened_book}
+use Rattle.mpm_run.specs.FirstNumbers.{folded_by}
+use Rattle.mpm_run.specs.FirstNumbersInside.{AreNumbers, opened_book}
 use Rattle.mpm_run.specs.ListenInside.{Follows, HasStopped, IsAtStart, IsInStep, IsInTime, WatchesAll, bound_of, waits_of}
 use Rattle.mpm_run.specs.Times.{AreBehind, IsInformed, SignalsAre, TicksAre}
 use Rattle.mpm_run.specs.Watched.{AreClosedAtOnce, AreWatched, IsBoundOnce, IsHushed, IsOpenedAndHushed, accepted_names, link_watched, links_from}

@@ -7,7 +7,6 @@ use Rattle.mpm_base.specs.declared.front.Woke.TheVariants as woke
 use Rattle.conn_machine.specs.declared.event.Entry.{Entry}
 use Rattle.conn_machine.specs.declared.event.Event.{Event}
 use Rattle.conn_machine.specs.Made.{AreOfPasses}
-use Rattle.conn_machine.specs.Passes.{OnlyServes}
 use Rattle.conn_machine.specs.States.{is_halted}
 use Rattle.board.specs.Book.{SeenBook}
 use Rattle.board.specs.Board.{SeenBoard}
@@ -17,14 +16,14 @@ use Rattle.mpm_run.specs.declared.listen.Pause.{Pause}
 use Rattle.mpm_run.specs.declared.listen.Rest.{Rest}
 use Rattle.mpm_run.specs.Listen.{HasNoLive}
 use Rattle.mpm_run.specs.ListenInside.{AsksFor, Follows, HasGivenAll, HasNothingToCome, IsInStep, IsInTime, OnlyTakes, SeenListener, WatchesAll, bound_of, waits_of}
-use Rattle.mpm_run.specs.RoundInside.{BreaksOff, GoesRound, HasWaited, NoneHas, StartsSome}
+use Rattle.mpm_run.specs.RoundInside.{BreaksOff, GoesRound, NoneHas, ServesSome, StartsSome}
 use Rattle.mpm_run.specs.Times.{IsInformed, IsInformedSoFar, moment_for}
 use Rattle.mpm_run.proofs.EventLemmas.{silent-starts}
 use Rattle.mpm_run.proofs.FrontLemmas.{WaitsMore, all-taken, bound-kept, bound-wait, follows-same, follows-trans, follows-wait, rises-after, step-kept, step-wait, time-kept, time-wait, waits-after, waits-kept}
 use Rattle.mpm_run.proofs.InformLemmas.{informed-as, informed-broken, informed-idle, informed-round, informed-so_far, tells-same, tells-silent}
-use Rattle.mpm_run.proofs.PassLemmas.{up-served}
 use Rattle.mpm_run.proofs.RoundLemmas.{none-has}
 use Rattle.mpm_run.proofs.WatchLemmas.{nobody-served, nobody-started, watched-as, watched-wait}
+use Rattle.mpm_run.proofs.WaitLemmas.{HasWaited}
 
 -- the front watches each link that the table took, where this holds
 abbrev pub Watching : Type 0 → SeenListener → Type 0
@@ -272,22 +271,21 @@ broken-round steps tells rest pause first a w b before waited round up follows t
 
 -- the service by another pass
 pub record HasServed (a b : SeenListener) : Type 0 where
-  pub events : List Event
-  pub acts : Acts 1 events None a.board.book b.board.book
-  pub serves : OnlyServes a.board.book.state b.board.book.state
+  pub serves : ServesSome a.board.book b.board.book
+  pub rest : LeavesRest a.board.book b.board.book
   pub others : b ≡ record a { board = b.board }
 
 served-informed : ActsInSteps → (tells : Type 0) (first a b : SeenListener) → IsBetween tells first a → HasServed a b → IsInformed (waits_of a.front.told) a.calls b.board.book
 served-informed steps tells first a b before served =
     informed-as (waits_of a.front.told) a.calls a.board.book b.board.book
-    (tells-same a.board.book b.board.book served.acts.base served.acts.folded
-    (ap (map (λ (e : Entry). e.event)) (steps.others 1 0 served.events None a.board.book b.board.book served.acts another))) served.serves.moment before.informed
+    (tells-same a.board.book b.board.book served.serves.acts.base served.serves.acts.folded
+    (ap (map (λ (e : Entry). e.event)) (steps.others 1 0 served.serves.events None a.board.book b.board.book served.serves.acts another))) served.rest.moment before.informed
 
 served-watched : (tells : Type 0) (first a b : SeenListener) → IsBetween tells first a → HasServed a b → Watching tells first → tells
     → IfSome a.front.told (WatchesAll b.board.book)
 served-watched tells first a b before served began holds =
-    watched-as a.front.told a.board.book b.board.book (nobody-served 1 served.events None a.board.book b.board.book (λ (same : 1 ≡ 0). cc) served.acts)
-    served.serves.accepted (before.watched began holds)
+    watched-as a.front.told a.board.book b.board.book (nobody-served 1 served.serves.events None a.board.book b.board.book (λ (same : 1 ≡ 0). cc) served.serves.acts)
+    served.rest.accepted (before.watched began holds)
 
 -- after it
 pub between-served : ActsInSteps → (tells : Type 0) (first a b : SeenListener) → IsBetween tells first a → HasServed a b → IsBetween tells first b
@@ -295,12 +293,12 @@ between-served steps tells first a b before served =
     subst (IsBetween tells first) (sym served.others)
     (record {
       some = before.some;
-      few = λ began. few-acts steps first.board.book.passes 1 served.events None a.board.book b.board.book before.some served.acts (before.few began);
-      base = served.acts.base ∙ before.base;
-      passes = served.acts.passes ∙ before.passes;
-      free = none-has steps 1 served.events a.board.book b.board.book before.free served.acts;
-      up = up-served a.board.book.state b.board.book.state served.serves before.up;
-      step = step-kept a.front.told a.board.book.state b.board.book.state served.serves.accepted before.step;
+      few = λ began. few-acts steps first.board.book.passes 1 served.serves.events None a.board.book b.board.book before.some served.serves.acts (before.few began);
+      base = served.serves.acts.base ∙ before.base;
+      passes = served.serves.acts.passes ∙ before.passes;
+      free = none-has steps 1 served.serves.events a.board.book b.board.book before.free served.serves.acts;
+      up = served.rest.up before.up;
+      step = step-kept a.front.told a.board.book.state b.board.book.state served.rest.accepted before.step;
       follows = before.follows;
       bound = before.bound;
       watched = served-watched tells first a b before served;
@@ -313,11 +311,11 @@ pub broken-served : ActsInSteps → (tells : Type 0) (first a b : SeenListener) 
 broken-served steps tells first a b before served =
     subst (HasBroken tells first) (sym served.others)
     (record {
-      few = λ began. few-acts steps first.board.book.passes 1 served.events None a.board.book b.board.book before.some served.acts (before.few began);
-      base = served.acts.base ∙ before.base;
-      passes = served.acts.passes ∙ before.passes;
-      free = none-has steps 1 served.events a.board.book b.board.book before.free served.acts;
-      up = up-served a.board.book.state b.board.book.state served.serves before.up;
+      few = λ began. few-acts steps first.board.book.passes 1 served.serves.events None a.board.book b.board.book before.some served.serves.acts (before.few began);
+      base = served.serves.acts.base ∙ before.base;
+      passes = served.serves.acts.passes ∙ before.passes;
+      free = none-has steps 1 served.serves.events a.board.book b.board.book before.free served.serves.acts;
+      up = served.rest.up before.up;
       follows = before.follows;
       bound = before.bound;
       watched = served-watched tells first a b before served;

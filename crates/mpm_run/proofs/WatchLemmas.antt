@@ -31,8 +31,8 @@ use Rattle.worker_group.specs.Acts.{Acts}
 use Rattle.mpm_run.specs.ListenInside.{WatchesAll, number_after}
 use Rattle.mpm_run.specs.declared.listen.End.{End}
 use Rattle.worker_group.specs.Service.{left_events}
-use Rattle.mpm_run.specs.ClosingInside.{IsHaltedWay, LetsGo, LettingGo, RefusedWait, letting_events, lingering_given_up, refused_events}
-use Rattle.mpm_run.specs.RoundInside.{GivesUp, LetsGoOfConns, Lettings, PassesTime, RetiresSome, StartsSome, end_events, gone_events, halt_events, lettings_events, signal_events, way_of}
+use Rattle.mpm_run.specs.ClosingInside.{IsHaltedWay, LetsGo, Departure, RefusedWait, departure_events, lingering_given_up, refused_events}
+use Rattle.mpm_run.specs.RoundInside.{GivesUp, LetsGoOfConns, Departures, PassesTime, RetiresSome, StartsSome, end_events, gone_events, halt_events, departures_events, signal_events, way_of}
 use Rattle.mpm_run.specs.Times.{known_slots, ticks_to}
 use Rattle.mpm_run.specs.Watched.{AreClosedAtOnce, IsClosedAtOnce, accepted_names, link_watched, links_from, name_in, names_given}
 use Rattle.mpm_run.proofs.AddedLemmas.{added-events, added-own, events_in}
@@ -87,9 +87,9 @@ none-left (exit.GiveUp fault.Halted) name = refl
 none-left (exit.GiveUp fault.Full) name = refl
 none-left (exit.GiveUp fault.NoMemory) name = refl
 
-none-gone : (gone : List LettingGo) → TakesNone (gone_events gone)
+none-gone : (gone : List Departure) → TakesNone (gone_events gone)
 none-gone [] = refl
-none-gone (l ∷ gone) = none-both (letting_events l) (gone_events gone) (none-left l.way l.name) (none-gone gone)
+none-gone (l ∷ gone) = none-both (departure_events l) (gone_events gone) (none-left l.way l.name) (none-gone gone)
 
 none-given_up : (fault : BoardFault) (ending : Cause) (name : ConnName) → TakesNone (event.Hold name ∷ lingering_given_up fault ending name)
 none-given_up fault.Halted ending name = refl
@@ -101,7 +101,7 @@ none-refused [] = refl
 none-refused (w ∷ refused) =
     none-both (refused_events w) (flat_map refused_events refused) (none-given_up w.refused w.ending w.name) (none-refused refused)
 
-none-lettings : (l : Lettings) (refused : List RefusedWait) → TakesNone (lettings_events l refused)
+none-lettings : (l : Departures) (refused : List RefusedWait) → TakesNone (departures_events l refused)
 none-lettings l refused =
     none-both (gone_events l.retiring ++ gone_events l.cut ++ gone_events l.drained) (flat_map refused_events refused)
     (none-both (gone_events l.retiring ++ gone_events l.cut) (gone_events l.drained)
@@ -447,7 +447,7 @@ nobody-passed to a b passes =
 
 -- nor do those that retire or linger, and the children behind them
 pub nobody-let_go : (refused : List RefusedWait) (a b : SeenBook) → LetsGoOfConns refused a b → TakesNobody a b
-nobody-let_go refused a b lets = nobody-acts 0 _ None a b lets.acts (none-lettings lets.lettings refused)
+nobody-let_go refused a b lets = nobody-acts 0 _ None a b lets.acts (none-lettings lets.departures refused)
 
 pub nobody-retired : (a b : SeenBook) → RetiresSome a b → TakesNobody a b
 nobody-retired a b retires = nobody-acts 0 _ None a b retires.acts (none-retires retires.children)

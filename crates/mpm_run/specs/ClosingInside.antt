@@ -12,39 +12,44 @@ use Rattle.conn_machine.specs.declared.event.Commanded.TheVariants.{Stop}
 use Rattle.conn_machine.specs.declared.event.Event.{Event}
 use Rattle.conn_machine.specs.declared.event.Event.TheVariants as event
 use Rattle.conn_machine.specs.declared.event.Why.TheVariants as why
+use Rattle.conn_machine.specs.declared.row.Row.{Row}
 use Rattle.conn_machine.specs.declared.state.State.{State}
-use Rattle.conn_machine.specs.Rows.{is_linger_kind, is_lingering, is_parked}
+use Rattle.conn_machine.specs.Rows.{is_held, is_linger_kind, is_lingering, is_parked, live_row}
 use Rattle.conn_machine.specs.States.{is_overdue}
 use Rattle.conn_machine.specs.Table.{next}
+use Rattle.conn_state.specs.Answered.{MayLinger}
+use Rattle.conn_state.specs.Conn.{SeenConn, is_half_closed}
 use Rattle.conn_state.specs.declared.turn.LingerTurn.{LingerTurn}
 use Rattle.conn_state.specs.declared.turn.LingerTurn.TheVariants as left
 use Rattle.board.specs.declared.faults.BoardFault.{BoardFault}
 use Rattle.board.specs.declared.faults.BoardFault.TheVariants as fault
 use Rattle.board.specs.Book.{SeenBook}
+use Rattle.board.specs.Fits.{Fits}
 use Rattle.worker_group.specs.declared.service.Exit.{Exit}
 use Rattle.worker_group.specs.declared.service.Exit.TheVariants as exit
 use Rattle.worker_group.specs.Acts.{Acts}
 use Rattle.worker_group.specs.Service.{IsWayOut, left_events}
+use Rattle.mpm_run.specs.ListenInside.{NoneOverdue}
 
 -- a connection that waited and was held, and how it was left then
-pub record LettingGo : Type 0 where
+pub record Departure : Type 0 where
   pub name : ConnName
   pub way : Exit
 
 -- the events of that
-abbrev pub letting_events : LettingGo → List Event
-letting_events l = event.Hold l.name ∷ left_events l.way l.name
+abbrev pub departure_events : Departure → List Event
+departure_events l = event.Hold l.name ∷ left_events l.way l.name
 
 -- each of them was left in such a way
-abbrev pub AllLeftBy : (Exit → Type 0) → List LettingGo → Type 0
+abbrev pub AllLeftBy : (Exit → Type 0) → List Departure → Type 0
 AllLeftBy Way [] = ⊤
 AllLeftBy Way (l ∷ gone) = Way l.way × AllLeftBy Way gone
 
 -- connections that waited were held, each was left in such a way, and nothing else was done
 pub record LetsGo (Way : Exit → Type 0) (old new : SeenBook) : Type 0 where
-  pub gone : List LettingGo
+  pub gone : List Departure
   pub ways : AllLeftBy Way gone
-  pub acts : Acts 0 (flat_map letting_events gone) None old new
+  pub acts : Acts 0 (flat_map departure_events gone) None old new
 
 -- the connection of that name, which waited, was held and left in such a way, and nothing else was done
 pub record LetsOneGo (Way : Exit → Type 0) (name : ConnName) (old new : SeenBook) : Type 0 where
@@ -83,6 +88,15 @@ pub record GoesLate (way : Exit) : Type 0 where
 -- a late connection goes so, and one that lingered until then is closed as late
 abbrev pub IsLateWay : Exit → Type 0
 IsLateWay way = GoesLate way ⊎ ((why : Cause) × (way ≡ exit.Close why tail.Late))
+
+-- where none is late none was let go of
+abbrev pub NoneEarly : SeenBook → List Departure → Type 0
+NoneEarly old gone = NoneOverdue old.state → gone ≡ []
+
+-- late connections were let go of, none where none was late, and nothing else was done
+pub record LetsGoLate (old new : SeenBook) : Type 0 where
+  pub lets : LetsGo IsLateWay old new
+  pub soon : NoneEarly old lets.gone
 
 -- how many connections are late, those that don't linger yet counted twice: such a one may be late once more, while it lingers
 abbrev pub late_weight : State → ℕ
@@ -126,6 +140,16 @@ pub record LingersOnStill (way : Exit) : Type 0 where
 abbrev pub IsDrainedWay : Exit → Type 0
 IsDrainedWay way = LingersOnStill way ⊎ IsDrainedOut way
 
+-- the listener holds the connection, which lingers for the cause: it was half-closed, and shows it
+pub record IsLingeringFor (why : Cause) (s : State) (c : SeenConn) : Type 0 where
+  pub row : Row
+  pub found : live_row s.rows c.name ≡ Some row
+  pub held : is_held row.place ≡ true
+  pub cause : row.cause ≡ Some why
+  pub fits : Fits c row
+  pub shut : is_half_closed c.linger ≡ true
+  pub shows : MayLinger why c
+
 -- the same of each that was signalled
 abbrev pub DrainsSome : SeenBook → SeenBook → Type 0
 DrainsSome old new = LetsGo IsDrainedWay old new
@@ -148,10 +172,10 @@ refused_events w = event.Hold w.name ∷ lingering_given_up w.refused w.ending w
 
 -- connections that linger were left so, until one could not wait any more, and was given up
 pub record DrainsUntil (old new : SeenBook) : Type 0 where
-  pub gone : List LettingGo
+  pub gone : List Departure
   pub ways : AllLeftBy IsDrainedWay gone
   pub last : RefusedWait
-  pub acts : Acts 0 (flat_map letting_events gone ++ refused_events last) None old new
+  pub acts : Acts 0 (flat_map departure_events gone ++ refused_events last) None old new
 
 -- how many slots are signalled
 abbrev pub signal_count : State → ℕ

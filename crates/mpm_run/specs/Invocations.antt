@@ -1,7 +1,5 @@
 -- The forms of the command line.
 use Rattle.std.specs.Prelude.{◌≡◌, ◌⊎◌, ℕ, List, [], ◌∷◌, codes}
-use Rattle.mpm_run.specs.declared.invocation.Invocation.{Invocation}
-use Rattle.mpm_run.specs.declared.invocation.Invocation.TheVariants as invocation
 
 -- the words that have a script of that name played
 abbrev pub script_words : List ℕ → List (List ℕ)
@@ -10,11 +8,6 @@ script_words name = codes "--script" ∷ name ∷ []
 -- the words that have the configuration of that name tested
 abbrev pub test_words : List ℕ → List (List ℕ)
 test_words name = codes "-t" ∷ codes "-f" ∷ name ∷ []
-
--- the words have this form
-abbrev pub IsInvocation : Invocation → List (List ℕ) → Type 0
-IsInvocation (invocation.Script name) words = words ≡ script_words name.now
-IsInvocation (invocation.Test name) words = words ≡ test_words name.now
 
 -- the words name this file, to be played or tested
 abbrev pub NamesFile : List (List ℕ) → List ℕ → Type 0

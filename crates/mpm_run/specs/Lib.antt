@@ -4,11 +4,14 @@ pub mod ConfiguredInside
 pub mod ExitStatuses
 pub mod ExitStatusesInside
 pub mod FirstNumbers
+pub mod FirstNumbersInside
 pub mod Invocations
+pub mod InvocationsInside
 pub mod Links
 pub mod Listen
 pub mod ListenInside
 pub mod Patient
+pub mod PatientInside
 pub mod Report
 pub mod RoundInside
 pub mod Started

@@ -1,8 +1,7 @@
 -- When time passes in a run over a patient front: where nothing is left to be done before.
-use Rattle.std.specs.Prelude.{◌≡◌, ◌⊎◌, ◌<◌, ℕ, true, false, List, [], ◌∷◌, Option, None, Some, slice_get, Contains, ⊤}
-use Rattle.mpm_base.specs.Front.{FrontTold, WaitTold, Waiting}
+use Rattle.std.specs.Prelude.{◌≡◌, ◌⊎◌, ◌<◌, ℕ, true, false, List, [], ◌∷◌, None, Some, slice_get, Contains, ⊤}
+use Rattle.mpm_base.specs.Front.{WaitTold, Waiting}
 use Rattle.mpm_base.specs.declared.front.Woke.TheVariants as woke
-use Rattle.script_front.specs.ScriptClock.{AreEchoes}
 use Rattle.conn_machine.specs.declared.event.Entry.{Entry}
 use Rattle.conn_machine.specs.declared.event.Event.{Event}
 use Rattle.conn_machine.specs.declared.event.Event.TheVariants as event
@@ -11,7 +10,6 @@ use Rattle.conn_machine.specs.declared.state.State.{State}
 use Rattle.conn_machine.specs.Rows.{is_parked}
 use Rattle.conn_machine.specs.States.{is_signalled}
 use Rattle.conn_machine.specs.Table.{may_retire, next}
-use Rattle.board.specs.Book.{SeenBook}
 use Rattle.board.specs.Finds.{acceptable, has_to_be_drained, is_due, is_let_go, is_quiet, next_deadline_of, startable}
 use Rattle.mpm_run.specs.Times.{moment_for}
 
@@ -90,17 +88,3 @@ AllAt P s (e ∷ entries) = P s e.event × AllAt P (next s e.event) entries
 -- in a history from the state on time passes patiently
 abbrev pub ArePatient : List ℕ → List WaitTold → State → List Entry → Type 0
 ArePatient comings waits s history = AllAt (IsPatientEvent comings waits) s history
-
--- a patient front that tells, and a clock that tells and answered what it was told
-pub record IsSteady (told : Option FrontTold) (calls : Option (List (ℕ × ℕ))) : Type 0 where
-  pub front : FrontTold
-  pub tells : told ≡ Some front
-  pub comings : List ℕ
-  pub patient : front.comings ≡ Some comings
-  pub asked : List (ℕ × ℕ)
-  pub clock : calls ≡ Some asked
-  pub echoes : AreEchoes asked
-
--- over such ones time passes patiently
-abbrev pub IsPatientRun : Option FrontTold → Option (List (ℕ × ℕ)) → SeenBook → Type 0
-IsPatientRun told calls b = (steady : IsSteady told calls) → ArePatient steady.comings steady.front.waits b.base b.history

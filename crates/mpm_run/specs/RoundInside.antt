@@ -1,7 +1,7 @@
 -- The events that the listener adds, by the parts of its round.
 use Rattle.std.specs.Prelude.{◌≡◌, ◌⊎◌, ℕ, Bool, true, false, List, [], ◌∷◌, ◌++◌, length, map, nat_le, if◌then◌else◌, Option, None, option_map, Result, Ok, Err, ⊤}
 use Rattle.std.specs.List.{flat_map}
-use Rattle.mpm_base.specs.Front.{Waits, after_turning_away, after_watch}
+use Rattle.mpm_base.specs.Front.{after_turning_away, after_watch}
 use Rattle.mpm_base.specs.Count.{next_count}
 use Rattle.mpm_base.specs.Link.{LinkTold}
 use Rattle.mpm_base.specs.declared.conn.ConnName.{ConnName}
@@ -13,24 +13,19 @@ use Rattle.conn_machine.specs.declared.event.Event.{Event}
 use Rattle.conn_machine.specs.declared.event.Event.TheVariants as event
 use Rattle.conn_machine.specs.declared.event.Why.{Why}
 use Rattle.conn_machine.specs.declared.event.Why.TheVariants as why
-use Rattle.conn_machine.specs.Runs.{after, full_load, load, row_of}
+use Rattle.conn_machine.specs.Runs.{full_load, load, row_of}
 use Rattle.conn_state.specs.Conn.{IsFrontOf}
 use Rattle.board.specs.declared.faults.BoardFault.{BoardFault}
 use Rattle.board.specs.declared.faults.BoardFault.TheVariants as fault
-use Rattle.board.specs.Board.{SeenBoard}
 use Rattle.board.specs.Book.{SeenBook}
-use Rattle.board.specs.Finds.{next_deadline_of}
 use Rattle.worker_group.specs.declared.service.Exit.{Exit}
 use Rattle.worker_group.specs.declared.service.Exit.TheVariants as exit
 use Rattle.worker_group.specs.Acts.{Acts}
 use Rattle.worker_group.specs.Service.{given_up, left_events}
-use Rattle.mpm_run.specs.ClosingInside.{AllLeftBy, IsDrainedWay, IsLateWay, IsRetiringWay, LettingGo, RefusedWait, letting_events, refused_events}
-use Rattle.mpm_run.specs.ListenInside.{AsksFor, IsInStep, NoneOverdue, SeenListener, why_of}
-use Rattle.mpm_run.specs.Patient.{IsAtRest}
+use Rattle.mpm_run.specs.ClosingInside.{AllLeftBy, IsDrainedWay, IsLateWay, IsRetiringWay, Departure, NoneEarly, RefusedWait, departure_events, refused_events}
+use Rattle.mpm_run.specs.ListenInside.{IsInStep, SeenListener, why_of}
+use Rattle.mpm_run.specs.Patient.{NoneDue}
 use Rattle.mpm_run.specs.declared.listen.End.{End}
-use Rattle.mpm_run.specs.declared.listen.Pause.{Pause}
-use Rattle.mpm_run.specs.declared.listen.Rest.{Rest}
-use Rattle.conn_machine.specs.Sound.{IsSound}
 use Rattle.conn_machine.specs.States.{is_halted}
 use Rattle.mpm_run.specs.Times.{known_slots, ticks_to}
 
@@ -51,13 +46,13 @@ pub record RetiresSome (old new : SeenBook) : Type 0 where
 -- ## Connections that are taken
 
 -- a connection that was taken, and how it was left then
-pub record Taking : Type 0 where
+pub record Intake : Type 0 where
   pub name : ConnName
   pub way : Exit
 
 -- the events by which it was taken and left
-abbrev pub taking_events : Taking → List Event
-taking_events t = event.Accept t.name.slot ∷ left_events t.way t.name
+abbrev pub intake_events : Intake → List Event
+intake_events t = event.Accept t.name.slot ∷ left_events t.way t.name
 
 -- a connection that the front watches waits for its first request, and another one is closed
 abbrev pub way_of : Bool → Exit
@@ -70,7 +65,7 @@ pub record IsLeft (way : Exit) : Type 0 where
   pub way_is : way ≡ way_of watched
 
 -- each of them was left so
-abbrev pub AllLeft : List Taking → Type 0
+abbrev pub AllLeft : List Intake → Type 0
 AllLeft [] = ⊤
 AllLeft (t ∷ takes) = IsLeft t.way × AllLeft takes
 
@@ -83,7 +78,7 @@ pub record IsTaking (link : Option LinkTold) (old new : SeenListener) : Type 0 w
   pub name : ConnName
   pub watched : Bool
   pub told : new.front.told ≡ option_map (after_watch name watched link) old.front.told
-  pub acts : Acts 0 (taking_events (record { name = name; way = way_of watched })) None old.board.book new.board.book
+  pub acts : Acts 0 (intake_events (record { name = name; way = way_of watched })) None old.board.book new.board.book
 
 -- the table counts one connection more; and where the front was in step with that count, as the link was handed out already, it
 -- still is
@@ -102,76 +97,67 @@ EndsTaking link old new = IsTakenStill old new ⊎ IsRefused link old new
 
 -- connections were taken, each left so, and nothing else was done
 pub record TakesSome (old new : SeenBook) : Type 0 where
-  pub takes : List Taking
+  pub takes : List Intake
   pub left : AllLeft takes
-  pub acts : Acts 0 (flat_map taking_events takes) None old new
+  pub acts : Acts 0 (flat_map intake_events takes) None old new
 
 -- connections were taken, until one was refused or given up, and nothing else was done
 pub record TakesUntil (old new : SeenBook) : Type 0 where
-  pub takes : List Taking
-  pub acts : Acts 0 (flat_map taking_events takes) None old new
+  pub takes : List Intake
+  pub acts : Acts 0 (flat_map intake_events takes) None old new
 
--- ## A wait
+-- ## Connections that are served
 
--- the wait was told this and answered that, the moment is the clock's behind the answer, and nothing else happened; the state
--- is that after the history, and sound
-pub record HasWaited (rest : Rest) (pause : Pause) (old new : SeenListener) : Type 0 where
-  pub board : new.board ≡ old.board
-  pub state : after old.board.book.base old.board.book.history ≡ old.board.book.state
-  pub sound : IsSound old.board.book.state
-  pub waits : Waits old.front new.front rest.until rest.quiet pause.woke new.ready
-  pub asks : AsksFor pause.woke old.board.book.state.moment old.calls new.calls pause.moment
-
--- where the next wait may let time pass nothing was done, and nothing is left to be done
-pub record IsSettledBy (rest : Rest) (old new : SeenBoard) : Type 0 where
-  pub same : new ≡ old
-  pub until : rest.until ≡ next_deadline_of old.book.state
-  pub at_rest : IsAtRest old.book.state
+-- the pass that serves made these events and nothing else was done; where no connection was due it made none
+pub record ServesSome (old new : SeenBook) : Type 0 where
+  pub events : List Event
+  pub none : NoneDue old.state → events ≡ []
+  pub acts : Acts 1 events None old new
 
 -- ## A round
 
 -- the connections that were let go of behind the signals: those that were kept alive by a child that stops, those that were late at
 -- once then, and those that were drained
-pub record Lettings : Type 0 where
-  pub retiring : List LettingGo
-  pub cut : List LettingGo
-  pub drained : List LettingGo
+pub record Departures : Type 0 where
+  pub retiring : List Departure
+  pub cut : List Departure
+  pub drained : List Departure
 
 -- what a round did: the late connections that it let go of before and after time passed, the moment to which it passed, the slots
 -- that it signalled, the connections that it let go of then, the one whose further wait was refused, if any, the children that it
 -- let go of, those that it started, and the connections that it took
 pub record Round : Type 0 where
-  pub early : List LettingGo
+  pub early : List Departure
   pub ticks : List ℕ
-  pub late : List LettingGo
+  pub late : List Departure
   pub signals : List ℕ
-  pub lettings : Lettings
+  pub departures : Departures
   pub refused : List RefusedWait
   pub retired : List ℕ
   pub starts : List ℕ
-  pub takes : List Taking
+  pub takes : List Intake
 
 -- the events by which connections were let go of
-abbrev pub gone_events : List LettingGo → List Event
-gone_events gone = flat_map letting_events gone
+abbrev pub gone_events : List Departure → List Event
+gone_events gone = flat_map departure_events gone
 
 -- the events by which time passes
-abbrev pub time_events : List LettingGo → List ℕ → List LettingGo → List Event
+abbrev pub time_events : List Departure → List ℕ → List Departure → List Event
 time_events early ticks late = gone_events early ++ map event.Tick ticks ++ gone_events late
 
 -- the events by which connections are let go of that retire, or linger
-abbrev pub lettings_events : Lettings → List RefusedWait → List Event
-lettings_events l refused =
+abbrev pub departures_events : Departures → List RefusedWait → List Event
+departures_events l refused =
     gone_events l.retiring ++ gone_events l.cut ++ gone_events l.drained ++ flat_map refused_events refused
 
 -- the events of a round, in order
 abbrev pub round_events : Round → List Event
 round_events r =
-    time_events r.early r.ticks r.late ++ map event.Ready r.signals ++ lettings_events r.lettings r.refused
-    ++ map event.Retire r.retired ++ map event.StartChild r.starts ++ flat_map taking_events r.takes
+    time_events r.early r.ticks r.late ++ map event.Ready r.signals ++ departures_events r.departures r.refused
+    ++ map event.Retire r.retired ++ map event.StartChild r.starts ++ flat_map intake_events r.takes
 
 -- each of the connections was left in a way that its part allows
-pub record AreLetGo (l : Lettings) : Type 0 where
+pub record AreLetGo (l : Departures) : Type 0 where
   pub retiring : AllLeftBy IsRetiringWay l.retiring
   pub cut : AllLeftBy IsLateWay l.cut
   pub drained : AllLeftBy IsDrainedWay l.drained
@@ -180,26 +166,22 @@ pub record AreLetGo (l : Lettings) : Type 0 where
 pub record AreWays (r : Round) : Type 0 where
   pub early : AllLeftBy IsLateWay r.early
   pub late : AllLeftBy IsLateWay r.late
-  pub lettings : AreLetGo r.lettings
-
--- where none is late none was let go of before
-abbrev pub NoneEarly : SeenBook → List LettingGo → Type 0
-NoneEarly old early = NoneOverdue old.state → early ≡ []
+  pub departures : AreLetGo r.departures
 
 -- time passed to that moment, where it is later than the one before; late connections were let go of before and after
 pub record PassesTime (to : ℕ) (old new : SeenBook) : Type 0 where
-  pub early : List LettingGo
+  pub early : List Departure
   pub soon : NoneEarly old early
-  pub late : List LettingGo
+  pub late : List Departure
   pub early_ways : AllLeftBy IsLateWay early
   pub late_ways : AllLeftBy IsLateWay late
   pub acts : Acts 0 (time_events early (ticks_to old.state.moment to) late) None old new
 
 -- connections that retire were let go of, and lingering ones drained; the further waits of these were refused
 pub record LetsGoOfConns (refused : List RefusedWait) (old new : SeenBook) : Type 0 where
-  pub lettings : Lettings
-  pub ways : AreLetGo lettings
-  pub acts : Acts 0 (lettings_events lettings refused) None old new
+  pub departures : Departures
+  pub ways : AreLetGo departures
+  pub acts : Acts 0 (departures_events departures refused) None old new
 
 -- the same, until the further wait of one was refused
 abbrev pub LetsGoUntil : SeenBook → SeenBook → Type 0

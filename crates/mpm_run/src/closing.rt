@@ -14,9 +14,9 @@ ghost use Rattle.conn_state.specs.declared.turn.LastLinger.TheVariants as linger
 ghost use Rattle.board.specs.Faults.{IsRefusedFor};
 ghost use Rattle.board.specs.Finds.{has_to_be_drained, is_late, is_let_go, is_waiting};
 ghost use Rattle.worker_group.specs.Acts.{Acts};
-ghost use Rattle.worker_group.specs.InHand.{IsInHand, IsLingeringFor};
+ghost use Rattle.worker_group.specs.InHand.{IsInHand};
 ghost use Rattle.worker_group.specs.Service.{LeavesRest, RefusalLasts};
-ghost use Rattle.mpm_run.specs.ClosingInside.{DrainsSome, DrainsUntil, IsDrainedWay, IsHaltedWay, IsLateWay, IsRetiringWay, LetsGo, LetsLinger, LetsOneGo, cause_of_late, late_weight, lingering_given_up, parked_count, serving_count, signal_count, tail_of};
+ghost use Rattle.mpm_run.specs.ClosingInside.{DrainsSome, DrainsUntil, IsDrainedWay, IsHaltedWay, IsLateWay, IsLingeringFor, IsRetiringWay, LetsGo, LetsGoLate, LetsLinger, LetsOneGo, cause_of_late, late_weight, lingering_given_up, parked_count, serving_count, signal_count, tail_of};
 ghost use Rattle.mpm_run.specs.Listen.{HasNoLive};
 ghost use Rattle.mpm_run.specs.Patient.{NoneToDrain, NoneToLetGo};
 ghost use Rattle.mpm_run.specs.ListenInside.{MustStop, NoneOverdue, NoneParked};
@@ -40,9 +40,8 @@ use worker_group::{close, let_linger};
 pub(crate) fn let_go_late<L: Link, N: Known>(board: &mut Board<L, N>)
     requires passes { 0 < board.old.book.passes }
     requires free { row_of 0 board.old.book.history ≡ None }
-    ensures gone { LetsGo IsLateWay board.old.book board.new.book }
+    ensures gone { LetsGoLate board.old.book board.new.book }
     ensures none { NoneOverdue board.new.book.state }
-    ensures still { NoneOverdue board.old.book.state → board.new ≡ board.old }
     ensures rest { LeavesRest board.old.book board.new.book }
 {
     passes_act_in_steps();
@@ -213,6 +212,7 @@ fn linger_on<L: Link, N: Known>(
     ensures parked { OnOk result (Acts 0 (event.Park conn.name kind ∷ []) None board.old.book board.new.book) }
     ensures state { OnOk result (board.new.book.state ≡ next board.old.book.state (event.Park conn.name kind)) }
     ensures given_up { IfErr result (λ fault. Acts 0 (lingering_given_up fault cause conn.name) None board.old.book board.new.book) }
+    ensures why { IfErr result (λ fault. IsRefusedFor fault board.old.book) }
     ensures lasts { IfErr result (λ fault. RefusalLasts fault board.new.book) }
     ensures rest { LeavesRest board.old.book board.new.book }
 {

@@ -1,6 +1,7 @@
 //! The forms of the command line.
 ghost use Rattle.std.specs.Prelude.{◌≡◌, length, IfSome, IfNone};
-ghost use Rattle.mpm_run.specs.Invocations.{IsInvocation, IsNoInvocation};
+ghost use Rattle.mpm_run.specs.Invocations.{IsNoInvocation};
+ghost use Rattle.mpm_run.specs.InvocationsInside.{IsInvocation};
 
 use mpm_base::Words;
 

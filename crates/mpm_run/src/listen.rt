@@ -3,23 +3,19 @@
 //! Each part of a round says which events it adds under the listener's pass, in order (`specs/RoundInside.antt`). Of the
 //! state it says no more than where it stands in the end, and what the listener alone changes: the moment, and how many
 //! connections were taken.
-ghost use Rattle.std.specs.Prelude.{◌≡◌, ◌<◌, ◌+◌, List, [], None, Some, true, false, is_some, max, IfOk, IfErr, IfSome, OnErr, OnOk};
-ghost use Rattle.std.specs.List.{list_any};
+ghost use Rattle.std.specs.Prelude.{◌≡◌, ◌<◌, [], None, true, false, is_some, max, IfOk, IfErr, IfSome, OnErr, OnOk};
 ghost use Rattle.mpm_base.specs.Count.{next_count};
-ghost use Rattle.mpm_base.specs.Front.{TellsOn};
+ghost use Rattle.mpm_base.specs.Front.{TellsOn, Waits};
 ghost use Rattle.conn_machine.specs.Made.{AreOfPasses, IsOpened};
-ghost use Rattle.conn_machine.specs.Passes.{OnlyServes};
-ghost use Rattle.conn_machine.specs.Rows.{is_live};
-ghost use Rattle.conn_machine.specs.Runs.{row_of};
+ghost use Rattle.conn_machine.specs.Runs.{after, row_of};
+ghost use Rattle.conn_machine.specs.Sound.{IsSound};
 ghost use Rattle.conn_machine.specs.States.{is_halted};
-ghost use Rattle.conn_machine.specs.declared.event.Event.{Event};
 ghost use Rattle.conn_state.specs.Known.{IsOfClient};
 ghost use Rattle.board.specs.Finds.{acceptable, next_deadline_of};
-ghost use Rattle.worker_group.specs.Acts.{Acts};
 ghost use Rattle.worker_group.specs.Service.{IsUp, LeavesRest};
-ghost use Rattle.mpm_run.specs.ListenInside.{Follows, HandedOut, HandsOut, HasStarted, HasStopped, IsArrival, IsAtStart, IsInStep, IsInTime, IsOpening, IsRestful, IsWatching, MustStop, OnlyTakes, TookAll, TurnsEnd, asked_children, bound_of, waits_of, why_of};
-ghost use Rattle.mpm_run.specs.Patient.{IsPatientRun};
-ghost use Rattle.mpm_run.specs.RoundInside.{BreaksOff, EndsTaking, GoesRound, HasWaited, IsSettledBy, IsTaking, NoneHas, StartsSome, TakesSome, TakesUntil};
+ghost use Rattle.mpm_run.specs.ListenInside.{AsksFor, Follows, HandedOut, HandsOut, HasStarted, HasStopped, IsArrival, IsAtStart, IsInStep, IsInTime, IsOpening, IsRestful, IsWatching, MustStop, OnlyTakes, TookAll, TurnsEnd, asked_children, bound_of, waits_of, why_of};
+ghost use Rattle.mpm_run.specs.PatientInside.{IsPatientRun};
+ghost use Rattle.mpm_run.specs.RoundInside.{BreaksOff, EndsTaking, GoesRound, IsTaking, NoneHas, ServesSome, StartsSome, TakesSome, TakesUntil};
 ghost use Rattle.mpm_run.specs.Started.{BeginsWithStarts};
 ghost use Rattle.mpm_run.specs.Times.{IsInformed, IsInformedSoFar, WasInformed, moment_for};
 ghost use Rattle.mpm_run.specs.Watched.{IsHushed};
@@ -31,7 +27,7 @@ use crate::round::{
 };
 use board::{Board, BoardFault};
 use conn_machine::Why;
-use conn_machine::laws_of_runs::histories_go_on_by_one_entry;
+use conn_machine::laws_of_runs::{histories_go_on_by_one_entry, histories_join};
 use conn_state::{Conn, Known};
 use mpm_base::{Arrival, Clock, Front, Link, Moment, Ready, Woke};
 use std::alloc::Global;
@@ -174,18 +170,30 @@ impl<L: Link + Send, F: Front<L = L>, C: Clock, N: Known> Listener<L, F, C, N> {
         ensures informed { OnOk result (IsInformed (waits_of self.new.front.told) self.new.calls self.new.board.book) }
         ensures begun { OnErr result (IsInformedSoFar (waits_of self.new.front.told) self.new.calls self.new.board.book) }
     {
+        histories_join();
         passes_act_in_steps();
         let first = self.start()?;
         let mut rest = first;
         for _ in rt.forever() {
-            let pause = self.pause(rt, rest);
+            self.show();
+            let present = self.moment();
+            let pause = take_pause(
+                rt,
+                &mut self.front,
+                &mut self.clock,
+                &mut self.ready,
+                rest,
+                present,
+            );
             match pause.woke {
-                Woke::Ended if !self.has_live() => return Ok(End::Ended),
+                Woke::Ended if !has_live(&self.board) => return Ok(End::Ended),
                 Woke::Failed => return Ok(End::Failed),
                 _ => (),
             }
             self.take_in(rt, pause.moment)?;
+            self.show();
             rest = self.serve()?;
+            self.show();
         }
         unreachable!()
     }
@@ -208,34 +216,31 @@ impl<L: Link + Send, F: Front<L = L>, C: Clock, N: Known> Listener<L, F, C, N> {
         Ok(find_rest(board))
     }
 
-    /// Waits for the front, and asks the clock for the moment that the wait gave.
-    fn pause<R: Wait>(&mut self, rt: &R, rest: Rest) -> Pause
-        ensures { HasWaited rest result self.old self.new }
+    /// Shows that the state is that after the history, and sound. Does nothing.
+    fn show(&self)
+        ensures after { after self.now.board.book.base self.now.board.book.history ≡ self.now.board.book.state }
+        ensures sound { IsSound self.now.board.book.state }
     {
         show_state(&self.board);
-        let woke = self.front.wait(rt, rest.until, rest.quiet, &mut self.ready);
-        Pause {
-            woke,
-            moment: moment_of(&self.board, &mut self.clock, woke),
-        }
     }
 
-    /// Whether a connection is live: one in hand, or one that waits.
-    fn has_live(&self) -> bool
-        ensures { result ≡ list_any is_live self.now.board.book.state.rows }
+    /// The present moment.
+    fn moment(&self) -> Moment
+        ensures { result ≡ self.now.board.book.state.moment }
     {
-        has_live(&self.board)
+        self.board.moment()
     }
 
     /// Serves what is signalled, and finds what the next wait is told. That is found before the service, as a worker's service
-    /// goes on by itself. Err where the server has stopped.
+    /// goes on by itself; where nothing is left to be done then, nothing is served. Err where the server has stopped.
     fn serve(&mut self) -> Result<Rest, BoardFault>
         requires passes { 1 < self.old.board.book.passes }
         requires free { row_of 1 self.old.board.book.history ≡ None }
-        ensures acts { (events : List Event) × Acts 1 events None self.old.board.book self.new.board.book }
-        ensures serves { OnlyServes self.old.board.book.state self.new.board.book.state }
+        ensures serves { ServesSome self.old.board.book self.new.board.book }
+        ensures rest { LeavesRest self.old.board.book self.new.board.book }
         ensures going { OnOk result (is_halted self.new.board.book.state.going ≡ false) }
-        ensures settled { IfOk result (λ rest. rest.quiet ≡ true → IsSettledBy rest self.old.board self.new.board) }
+        ensures until { IfOk result (λ rest. rest.until ≡ next_deadline_of self.old.board.book.state) }
+        ensures quiet { IfOk result (λ rest. IsRestful rest.quiet self.old.board.book.state) }
         ensures others { self.new ≡ record self.old { board = self.new.board } }
         ensures err { IfErr result (λ fault. MustStop fault self.new.board.book) }
     {
@@ -347,5 +352,24 @@ impl<L: Link + Send, F: Front<L = L>, C: Clock, N: Known> Listener<L, F, C, N> {
         let conn = Conn::new(self.alloc, taken.name, taken.child, taken.generation, link);
         conn.show();
         settle(&mut self.board, conn, watched)
+    }
+}
+
+/// Waits for the front, and asks the clock for the moment that the wait gave. Where it gave none it is the present one.
+fn take_pause<R: Wait, L: Link + Send, F: Front<L = L>, C: Clock>(
+    rt: &R,
+    front: &mut F,
+    clock: &mut C,
+    ready: &mut Ready,
+    rest: Rest,
+    present: Moment,
+) -> Pause
+    ensures waits { Waits (F.seen front.old) (F.seen front.new) rest.until rest.quiet result.woke ready.new }
+    ensures asks { AsksFor result.woke present (C.told clock.old) (C.told clock.new) result.moment }
+{
+    let woke = front.wait(rt, rest.until, rest.quiet, ready);
+    Pause {
+        woke,
+        moment: moment_of(clock, woke, present),
     }
 }

@@ -1,20 +1,19 @@
 //! The parts of the listener's round: a connection that comes is taken and waits, time passes, slots are signalled, connections
 //! are let go of and served, children are started and let go of, and the server stops.
-ghost use Rattle.std.specs.Prelude.{◌≡◌, ◌<◌, List, [], ◌∷◌, None, Some, true, false, is_some, max, IfOk, IfErr, OnErr, OnOk};
+ghost use Rattle.std.specs.Prelude.{◌≡◌, ◌<◌, [], ◌∷◌, None, Some, true, false, is_some, max, IfOk, IfErr, OnErr, OnOk};
 ghost use Rattle.std.specs.List.{list_any};
 ghost use Rattle.mpm_base.specs.Count.{next_count};
 ghost use Rattle.mpm_base.specs.declared.conn.Cause.TheVariants as cause;
 ghost use Rattle.mpm_base.specs.declared.conn.Kind.TheVariants.{Reading};
 ghost use Rattle.mpm_base.specs.declared.conn.Tail.TheVariants.{Direct};
 ghost use Rattle.conn_machine.specs.Made.{IsOpened};
-ghost use Rattle.conn_machine.specs.Passes.{OnlyServes};
 ghost use Rattle.conn_machine.specs.Rows.{is_live};
 ghost use Rattle.conn_machine.specs.Runs.{after, row_of};
 ghost use Rattle.conn_machine.specs.Sound.{IsSound};
 ghost use Rattle.conn_machine.specs.States.{is_halted};
 ghost use Rattle.conn_machine.specs.Table.{is_allowed};
-ghost use Rattle.conn_machine.specs.declared.event.Event.{Event};
 ghost use Rattle.conn_machine.specs.declared.event.Event.TheVariants as event;
+ghost use Rattle.board.specs.Faults.{IsRefusedFor};
 ghost use Rattle.board.specs.Fits.{IsSettled};
 ghost use Rattle.board.specs.Finds.{acceptable, next_deadline_of, startable};
 ghost use Rattle.worker_group.specs.Acts.{Acts};
@@ -24,7 +23,7 @@ ghost use Rattle.mpm_run.specs.ClosingInside.{IsLateWay, LetsGo};
 ghost use Rattle.mpm_run.specs.Listen.{HasNoLive, IsClosedDown};
 ghost use Rattle.mpm_run.specs.ListenInside.{AsksFor, HaltsAs, HasTaken, IsOpening, IsRestful, MustHalt, MustStop, NoneOverdue, NoneParked, asked_children};
 ghost use Rattle.mpm_run.specs.Patient.{NoneDue};
-ghost use Rattle.mpm_run.specs.RoundInside.{GivesUp, LetsGoOfConns, LetsGoUntil, NoneHas, PassesTime, RetiresSome, SignalsFirst, StartsSome, halt_events, signal_events, stop_events, way_of, why_without_memory};
+ghost use Rattle.mpm_run.specs.RoundInside.{GivesUp, LetsGoOfConns, LetsGoUntil, NoneHas, PassesTime, RetiresSome, ServesSome, SignalsFirst, StartsSome, halt_events, signal_events, stop_events, way_of, why_without_memory};
 ghost use Rattle.mpm_run.specs.Started.{BeginsWithStarts};
 ghost use Rattle.mpm_run.specs.Times.{IsBrokenOff, moment_for};
 
@@ -56,6 +55,7 @@ pub fn settle<L: Link, N: Known>(
     ensures left { OnOk result (Acts 0 (left_events (way_of watched) conn.name) None board.old.book board.new.book) }
     ensures closed { watched ≡ false → Acts 0 (left_events (way_of false) conn.name) None board.old.book board.new.book }
     ensures given_up { IfErr result (λ fault. GivesUp fault conn.name board.old.book board.new.book) }
+    ensures why { IfErr result (λ fault. IsRefusedFor fault board.old.book) }
     ensures rest { LeavesRest board.old.book board.new.book }
     ensures err { IfErr result (λ fault. MustStop fault board.new.book) }
 {
@@ -97,16 +97,12 @@ pub fn accept<L: Link, N: Known>(board: &mut Board<L, N>) -> Result<Taken, Board
 }
 
 /// The moment behind a wait: what the clock says where the wait gave one, and else the present one.
-pub fn moment_of<L: Link, N: Known, C: Clock>(
-    board: &Board<L, N>,
-    clock: &mut C,
-    woke: Woke,
-) -> Moment
-    ensures { AsksFor woke board.now.book.state.moment (C.told clock.old) (C.told clock.new) result }
+pub fn moment_of<C: Clock>(clock: &mut C, woke: Woke, present: Moment) -> Moment
+    ensures { AsksFor woke present (C.told clock.old) (C.told clock.new) result }
 {
     match woke {
         Woke::Woke(at) => clock.now(at),
-        Woke::Ended | Woke::Failed => board.moment(),
+        Woke::Ended | Woke::Failed => present,
     }
 }
 
@@ -238,10 +234,9 @@ pub fn start_children<L: Link, N: Known>(board: &mut Board<L, N>) -> Result<(), 
 pub fn serve_all<L: Link, N: Known>(board: &mut Board<L, N>) -> Result<(), BoardFault>
     requires passes { 1 < board.old.book.passes }
     requires free { row_of 1 board.old.book.history ≡ None }
-    ensures acts { (events : List Event) × Acts 1 events None board.old.book board.new.book }
-    ensures serves { OnlyServes board.old.book.state board.new.book.state }
+    ensures serves { ServesSome board.old.book board.new.book }
     ensures served { OnOk result (NoneDue board.new.book.state) }
-    ensures still { NoneDue board.old.book.state → board.new ≡ board.old }
+    ensures rest { LeavesRest board.old.book board.new.book }
     ensures err { IfErr result (λ fault. MustStop fault board.new.book) }
 {
     passes_act_in_steps();

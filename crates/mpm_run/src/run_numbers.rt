@@ -1,6 +1,7 @@
 //! The numbers that a run works by.
 ghost use Rattle.std.specs.Prelude.{◌≡◌};
 ghost use Rattle.mpm_run.specs.FirstNumbers as spec;
+ghost use Rattle.mpm_run.specs.FirstNumbersInside.{AreNumbers};
 
 use mpm_base::{Addr, Shape};
 use mpm_config::{Config, shape_of};
@@ -25,7 +26,7 @@ pub struct RunNumbers {
 /// The numbers of a run by the configuration, but for one child.
 pub fn numbers_of(config: &Config) -> RunNumbers
     ensures value { result ≡ spec.numbers_of config.entry.now }
-    ensures allowed { spec.AreNumbers result }
+    ensures allowed { AreNumbers result }
 {
     RunNumbers {
         slots: 64,

@@ -1,8 +1,6 @@
-use Rattle.std.proofs.Common.{sym, subst, refl}
-use Rattle.board.specs.Board.{SeenBoard}
+use Rattle.std.proofs.Common.{[], None, refl}
 use Rattle.mpm_run.specs.ClosingInside.{IsLateWay}
-use Rattle.mpm_run.specs.ListenInside.{NoneOverdue}
-use Rattle.mpm_run.proofs.ClosingLemmas.{lets-more, lets-none}
+use Rattle.mpm_run.proofs.ClosingLemmas.{lets-more}
 use Rattle.mpm_run.proofs.MeasureLemmas.{late-found}
 use Rattle.mpm_run.proofs.TimeLemmas.{none-late}
 use Rattle.mpm_run.proofs.RoundLemmas.{rest_same}
@@ -11,24 +9,31 @@ use Rattle.mpm_run.proofs.closing.let_go_late.Goals as goal
 pub loop-name-init : goal.loop-name-init
 loop-name-init g c =
     record {
-      gone = lets-none c.passes_act_in_steps.ensures.acts IsLateWay c.args.board.now.book c.requires.free;
-      still = λ none. refl;
+      gone =
+          record {
+            lets = record { gone = []; ways = tt; acts = c.passes_act_in_steps.ensures.acts.none 0 None c.args.board.now.book c.requires.free };
+            soon = λ none. refl;
+          };
+      still = λ none. none;
       rest = rest_same c.args.board.now.book c.args.board.now.book refl;
     }
 
 pub let_go_late_one-requires-clause-free : goal.let_go_late_one-requires-clause-free
-let_go_late_one-requires-clause-free g c = c.loop-name.invariant.gone.acts.row
+let_go_late_one-requires-clause-free g c = c.loop-name.invariant.gone.lets.acts.row
 
 pub loop-name-preserved : goal.loop-name-preserved
 loop-name-preserved g c =
+    let late = c.in-Some.ensures.late in
+    let still = c.loop-name.invariant.still in
     record {
       gone =
-          lets-more c.passes_act_in_steps.ensures.acts IsLateWay c.in-Some.name c.args.board.now.book c.loop-name.board.book c.let_go_late_one.new.board.book c.loop-name.invariant.gone
-          c.let_go_late_one.ensures.gone;
-      still =
-          λ none. absurd
-          (late-found c.loop-name.board.book.state c.in-Some.name c.in-Some.ensures.late
-          (subst (λ (b : SeenBoard). NoneOverdue b.book.state) (sym (c.loop-name.invariant.still none)) none));
+          record {
+            lets =
+                lets-more c.passes_act_in_steps.ensures.acts IsLateWay c.in-Some.name c.args.board.now.book c.loop-name.board.book c.let_go_late_one.new.board.book
+                c.loop-name.invariant.gone.lets c.let_go_late_one.ensures.gone;
+            soon = λ none. absurd (late-found c.loop-name.board.book.state c.in-Some.name late (still none));
+          };
+      still = λ none. absurd (late-found c.loop-name.board.book.state c.in-Some.name late (still none));
       rest =
           c.passes_act_in_steps.ensures.rest c.args.board.now.book c.loop-name.board.book c.let_go_late_one.new.board.book c.loop-name.invariant.rest
           c.let_go_late_one.ensures.rest;

@@ -1,15 +1,14 @@
-use Rattle.std.proofs.Common.{◌≡◌}
 use Rattle.worker_group.specs.Service.{LeavesRest}
-use Rattle.mpm_run.specs.ClosingInside.{IsLateWay, LetsGo, late_weight}
+use Rattle.mpm_run.specs.ClosingInside.{LetsGoLate, late_weight}
 use Rattle.mpm_run.specs.ListenInside.{NoneOverdue}
 use Rattle.mpm_run.proofs.closing.let_go_late.Given as goal
 
--- late connections were let go of, none where none was late
+-- late connections were let go of, none where none was late, and then none is
 abbrev pub invariant-loop-name : goal.invariant-loop-name
 invariant-loop-name g l =
     record {
-      gone : LetsGo IsLateWay l.fn.board.book l.board.book;
-      still : NoneOverdue l.fn.board.book.state → l.board ≡ l.fn.board;
+      gone : LetsGoLate l.fn.board.book l.board.book;
+      still : NoneOverdue l.fn.board.book.state → NoneOverdue l.board.book.state;
       rest : LeavesRest l.fn.board.book l.board.book;
     }
 

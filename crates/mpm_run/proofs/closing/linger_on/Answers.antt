@@ -5,9 +5,8 @@ use Rattle.conn_state.specs.Conn.{SeenConn}
 use Rattle.board.specs.Board.{SeenBoard}
 use Rattle.board.specs.Faults.{IsRefusedFor}
 use Rattle.worker_group.specs.Acts.{Acts}
-use Rattle.worker_group.specs.InHand.{IsLingeringFor}
 use Rattle.worker_group.specs.Service.{LeavesRest}
-use Rattle.mpm_run.specs.ClosingInside.{lingering_given_up}
+use Rattle.mpm_run.specs.ClosingInside.{IsLingeringFor, lingering_given_up}
 use Rattle.mpm_run.proofs.HeldLemmas.{found-no_more, settled-on}
 use Rattle.mpm_run.proofs.closing.linger_on.Goals as goal
 

@@ -8,7 +8,7 @@ returns-clause-gone g c =
     on_ok_weaker c.drain_all.result
     (λ (drains : DrainsSome c.let_go_late.new.board.book c.drain_all.new.board.book).
     lets-go-conns c.passes_act_in_steps.ensures.acts c.args.board.now.book c.let_go_retiring.new.board.book c.let_go_late.new.board.book c.drain_all.new.board.book
-    c.let_go_retiring.ensures.gone c.let_go_late.ensures.gone drains)
+    c.let_go_retiring.ensures.gone c.let_go_late.ensures.gone.lets drains)
     c.drain_all.ensures.drains
 
 pub returns-clause-until : goal.returns-clause-until
@@ -16,7 +16,7 @@ returns-clause-until g c =
     on_err_weaker c.drain_all.result
     (λ (until : DrainsUntil c.let_go_late.new.board.book c.drain_all.new.board.book).
     lets-go-until c.passes_act_in_steps.ensures.acts c.args.board.now.book c.let_go_retiring.new.board.book c.let_go_late.new.board.book c.drain_all.new.board.book
-    c.let_go_retiring.ensures.gone c.let_go_late.ensures.gone until)
+    c.let_go_retiring.ensures.gone c.let_go_late.ensures.gone.lets until)
     c.drain_all.ensures.until
 
 pub returns-clause-rest : goal.returns-clause-rest

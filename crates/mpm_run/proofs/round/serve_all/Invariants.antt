@@ -1,17 +1,16 @@
-use Rattle.std.proofs.Common.{◌≡◌, List, None}
-use Rattle.conn_machine.specs.declared.event.Event.{Event}
+use Rattle.std.proofs.Common.{◌≡◌}
 use Rattle.conn_machine.specs.Passes.{asking_count}
 use Rattle.conn_machine.specs.Runs.{after}
-use Rattle.worker_group.specs.Acts.{Acts}
 use Rattle.mpm_run.specs.Patient.{NoneDue}
+use Rattle.mpm_run.specs.RoundInside.{ServesSome}
 use Rattle.mpm_run.proofs.round.serve_all.Given as goal
 
--- the pass that serves did something, and has no connection
+-- the pass that serves did something, nothing where no connection was due, and has no connection
 abbrev pub invariant-loop-name : goal.invariant-loop-name
 invariant-loop-name g l =
     record {
-      still : NoneDue l.fn.board.book.state → l.board ≡ l.fn.board;
-      acts : (events : List Event) × Acts 1 events None l.fn.board.book l.board.book;
+      serves : ServesSome l.fn.board.book l.board.book;
+      still : NoneDue l.fn.board.book.state → NoneDue l.board.book.state;
       state : after l.board.book.base l.board.book.history ≡ l.board.book.state;
     }
 

@@ -5,11 +5,10 @@ use Rattle.script_front.specs.ScriptFront.{SeenFront, comings_of}
 use Rattle.mpm_run.specs.Configured.{warnings_of}
 use Rattle.mpm_run.specs.ExitStatuses.{EndsFull, EndsUnwritten, EndsWell, HasRun, board_report}
 use Rattle.mpm_run.specs.ExitStatusesInside.{IsLeft, WritesAll}
-use Rattle.mpm_run.specs.Links.{EndsLinks}
-use Rattle.mpm_run.specs.Listen.{HasClosedAll, IsRunFrom}
+use Rattle.mpm_run.specs.Listen.{IsRunFrom}
 use Rattle.mpm_run.specs.Started.{IsStartedFirst}
 use Rattle.mpm_run.specs.Tells.{AllReceive}
-use Rattle.mpm_run.specs.Watched.{AreWatched, IsOpenedAndHushed}
+use Rattle.mpm_run.specs.Watched.{IsOpenedAndHushed}
 use Rattle.mpm_run.specs.declared.outcome.Scripted.{Scripted}
 use Rattle.mpm_run.specs.declared.run_numbers.RunNumbers.{RunNumbers}
 use Rattle.mpm_run.proofs.EndLemmas.{has-end, keeps-time, left-and, left-if, report-full, report-unwritten, report-well}

@@ -6,7 +6,7 @@ use Rattle.board.specs.Book.{SeenBook}
 use Rattle.mpm_run.specs.FirstNumbers.{opened_by}
 use Rattle.mpm_run.specs.Links.{TakesLinks}
 use Rattle.mpm_run.specs.ListenInside.{Follows, HasStopped, SeenListener, IsInTime, WatchesAll, asked_children, waits_of}
-use Rattle.mpm_run.specs.Patient.{IsPatientRun}
+use Rattle.mpm_run.specs.PatientInside.{IsPatientRun}
 use Rattle.mpm_run.specs.Started.{BeginsWithStarts, IsStartedFirst}
 use Rattle.mpm_run.specs.Times.{WasInformed}
 use Rattle.mpm_run.specs.Watched.{AreWatched, IsOpenedAndHushed}

@@ -1,7 +1,7 @@
 use Rattle.std.proofs.Common.{ℕ, List, IfSome, inl, inr, sym, subst}
 use Rattle.std.proofs.lemmas.Option.{IfSome_then}
 use Rattle.mpm_run.specs.ExitStatuses.{EndsConfigRefused, EndsRefused, EndsTestUnwritten, EndsTested, EndsUnread, HasPlayed, seen_call}
-use Rattle.mpm_run.specs.Invocations.{IsInvocation}
+use Rattle.mpm_run.specs.InvocationsInside.{IsInvocation}
 use Rattle.mpm_run.specs.declared.invocation.Invocation.{Invocation}
 use Rattle.mpm_run.proofs.top_call.run.Goals as goal
 
