@@ -95,10 +95,10 @@ pub fn run_server<
         Ok(front) => front,
         Err(front) => return Err(OpenFault::Bind(front)),
     };
-    let Ok(board) = open_board::<L, N>(alloc, numbers) else {
+    let Ok(ready) = Ready::make(alloc) else {
         return Err(OpenFault::NoMemory);
     };
-    let Ok(ready) = Ready::make(alloc) else {
+    let Ok(board) = open_board::<L, N>(alloc, numbers) else {
         return Err(OpenFault::NoMemory);
     };
     board.show();
