@@ -1,8 +1,6 @@
 -- How connections that wait are let go of, one behind the other, and the states that this makes.
-use Rattle.std.proofs.Common.{◌≡◌, ℕ, List, [], ◌∷◌, ◌++◌, map, Option, None, Some, refl, sym, ap, subst, ◌∙◌, append-nil, append_assoc, eq-eqb}
+use Rattle.std.proofs.Common.{◌≡◌, ℕ, List, [], ◌∷◌, ◌++◌, map, Option, None, Some, refl, sym, ap, subst, ◌∙◌, append-nil, append_assoc}
 use Rattle.std.proofs.lemmas.Grind.{flat_map-append}
-use Rattle.std.proofs.lemmas.List.{append_cancel_left, map-append}
-use Rattle.std.proofs.lemmas.List.Elements.{filter-append}
 use Rattle.std.specs.List.{flat_map}
 use Rattle.mpm_base.specs.declared.conn.ConnName.{ConnName}
 use Rattle.mpm_base.specs.declared.conn.Cause.{Cause}
@@ -11,40 +9,26 @@ use Rattle.conn_machine.specs.declared.event.Event.{Event}
 use Rattle.conn_machine.specs.declared.event.Event.TheVariants as event
 use Rattle.conn_machine.specs.declared.event.Entry.{Entry}
 use Rattle.conn_machine.specs.declared.state.State.{State}
-use Rattle.conn_machine.specs.Runs.{Adds, AreEntriesOf, after, entries_of, is_of_pass, row_of}
+use Rattle.conn_machine.specs.Runs.{after}
 use Rattle.conn_machine.specs.Table.{next}
 use Rattle.conn_state.specs.Conn.{SeenConn}
 use Rattle.board.specs.declared.faults.BoardFault.{BoardFault}
-use Rattle.board.specs.Book.{SeenBook, book_with_entry}
+use Rattle.board.specs.Book.{SeenBook, book_with_entry, row_in, AddsOnly}
 use Rattle.board.specs.Board.{SeenBoard}
 use Rattle.board.specs.Events.{with_recorded}
 use Rattle.worker_group.specs.declared.service.Exit.{Exit}
-use Rattle.worker_group.specs.Acts.{Acts, ActsInSteps, events_of}
+use Rattle.worker_group.specs.Acts.{Acts, ActsInSteps}
 use Rattle.worker_group.specs.Service.{LeavesRest, left_events}
 use Rattle.mpm_run.specs.ClosingInside.{AllLeftBy, DrainsUntil, IsDrainedWay, LetsGo, LetsOneGo, Departure, RefusedWait, departure_events, lingering_given_up, refused_events, state_by}
+use Rattle.mpm_run.proofs.AddedLemmas.{added-events}
 use Rattle.mpm_run.proofs.RoundLemmas.{acts-spelled}
 
 -- ## The state that a pass made
-
--- all entries of a pass are of the pass
-own-entries : (who : ℕ) (base : State) (before added : List Entry) → AreEntriesOf who base before added → entries_of who added ≡ added
-own-entries who base before [] are = refl
-own-entries who base before (e ∷ added) are =
-    rw (eq-eqb e.pass who are.0.pass) (ap (λ (es : List Entry). e ∷ es) (own-entries who base (before ++ e ∷ []) added are.1))
 
 -- the state after entries is the one that their events make
 after-events : (s : State) (added : List Entry) → after s added ≡ state_by s (map (λ (e : Entry). e.event) added)
 after-events s [] = refl
 after-events s (e ∷ added) = after-events (next s e.event) added
-
--- the events of what was added are those that the pass has more
-added-events : (who : ℕ) (base : State) (old added : List Entry) (es : List Event) → AreEntriesOf who base old added
-    → events_of who (old ++ added) ≡ events_of who old ++ es → map (λ (e : Entry). e.event) added ≡ es
-added-events who base old added es are grown =
-    append_cancel_left (events_of who old) (map (λ (e : Entry). e.event) added) es
-    (sym (ap (map (λ (e : Entry). e.event)) (filter-append (is_of_pass who) old added ∙ ap (λ (xs : List Entry). entries_of who old ++ xs) (own-entries who base old added are))
-    ∙ map-append (λ (e : Entry). e.event) (entries_of who old) added)
-    ∙ grown)
 
 -- the law of the machine: a history goes on from the state after its first entries
 abbrev pub GoesOnFrom : Type 0
@@ -55,8 +39,7 @@ pub acts-state : GoesOnFrom → (who : ℕ) (es : List Event) (has : Option Conn
     → after b.base b.history ≡ b.state → Acts who es has a b → b.state ≡ state_by a.state es
 acts-state law who es has a b here there acts =
     let added = acts.entries.0 in
-    let same : map (λ (e : Entry). e.event) added ≡ es =
-    added-events who a.base a.history added es acts.entries.2 (ap (events_of who) (sym acts.entries.1) ∙ acts.made) in
+    let same : map (λ (e : Entry). e.event) added ≡ es = added-events who es has a b acts in
     sym there ∙ ap (λ (s : State). after s b.history) acts.base ∙ ap (after a.base) acts.entries.1 ∙ law a.base a.history added
     ∙ ap (λ (s : State). after s added) here ∙ after-events a.state added ∙ ap (state_by a.state) same
 
@@ -64,8 +47,8 @@ acts-state law who es has a b here there acts =
 
 -- it was held
 pub held-acts : ActsInSteps → (name : ConnName) (conns : List (Option SeenConn)) (b b' : SeenBoard)
-    → b' ≡ record (with_recorded 0 (event.Hold name) b) { conns = conns } → Adds 0 b.book.base b.book.history b'.book.history
-    → row_of 0 b'.book.history ≡ Some name → Acts 0 (event.Hold name ∷ []) (Some name) b.book b'.book
+    → b' ≡ record (with_recorded 0 (event.Hold name) b) { conns = conns } → AddsOnly 0 b.book b'.book
+    → row_in 0 b'.book ≡ Some name → Acts 0 (event.Hold name ∷ []) (Some name) b.book b'.book
 held-acts steps name conns b b' is adds row = steps.one 0 (event.Hold name) (Some name) b.book b'.book (ap (λ (v : SeenBoard). v.book) is) adds row
 
 -- and then left
@@ -94,7 +77,7 @@ rest-held_closed why how name named conns b b' d is closed =
 
 -- ## Several
 
-pub lets-none : ActsInSteps → (Way : Exit → Type 0) (b : SeenBook) → row_of 0 b.history ≡ None → LetsGo Way b b
+pub lets-none : ActsInSteps → (Way : Exit → Type 0) (b : SeenBook) → row_in 0 b ≡ None → LetsGo Way b b
 lets-none steps Way b row = record { gone = []; ways = tt; acts = steps.none 0 None b row }
 
 ways-more : (Way : Exit → Type 0) (gone : List Departure) (l : Departure) → AllLeftBy Way gone → Way l.way → AllLeftBy Way (gone ++ l ∷ [])

@@ -8,11 +8,14 @@ use Rattle.conn_machine.specs.declared.event.Event.TheVariants as event
 use Rattle.conn_machine.specs.declared.row.Place.{Place}
 use Rattle.conn_machine.specs.declared.row.Place.TheVariants.{Vacant, Spent, Held, Parked, Queued, Working}
 use Rattle.conn_machine.specs.declared.row.Row.{Row}
+use Rattle.conn_machine.specs.declared.folded.Folded.{Folded}
 use Rattle.conn_machine.specs.declared.state.State.{State}
-use Rattle.conn_machine.specs.Passes.{HasNoneInHand, OnlyServes, asking_count}
+use Rattle.conn_machine.specs.Folds.{opening_record}
+use Rattle.conn_machine.specs.Made.{IsOpened}
+use Rattle.conn_machine.specs.Passes.{HasNoneInHand, OnlyServes, asking_count, EachHasItsOwn}
 use Rattle.conn_machine.specs.Sizes.{HasSizesOf}
 use Rattle.conn_machine.specs.Rows.{is_live, is_parked, is_unused, is_with_a_pass}
-use Rattle.conn_machine.specs.Runs.{Adds, after}
+use Rattle.conn_machine.specs.Runs.{Adds, after, first_row}
 use Rattle.conn_machine.specs.States.{is_halted}
 use Rattle.board.specs.Book.{SeenBook}
 use Rattle.board.specs.Board.{SeenBoard}
@@ -29,7 +32,7 @@ use Rattle.mpm_run.proofs.FoundLemmas.{found-at, lives}
 
 -- the law of the machine: a pass other than the listener leaves alone what the listener decides
 abbrev pub LeavesAlone : Type 0
-LeavesAlone = (p : ℕ) (base : State) (old new : List Entry) → p ≢ 0 → Adds p base old new → OnlyServes (after base old) (after base new)
+LeavesAlone = (p : ℕ) (base : State) (f : Folded) (old new : List Entry) → p ≢ 0 → Adds p base f old new → OnlyServes (after base old) (after base new)
 
 -- so does a pass that did something
 only-serves : (who : ℕ) (es : List Event) (has : Option ConnName) (a b : SeenBook) → who ≢ 0 → after a.base a.history ≡ a.state
@@ -37,7 +40,7 @@ only-serves : (who : ℕ) (es : List Event) (has : Option ConnName) (a b : SeenB
 only-serves who es has a b other here there acts law =
     let late : after a.base b.history ≡ b.state = ap (λ (s : State). after s b.history) (sym acts.base) ∙ there in
     subst (λ (s : State). OnlyServes a.state s) late
-    (subst (λ (s : State). OnlyServes s (after a.base b.history)) here (law who a.base a.history b.history other acts.entries))
+    (subst (λ (s : State). OnlyServes s (after a.base b.history)) here (law who a.base a.folded a.history b.history other acts.entries))
 
 -- the server has not stopped, unless for a full history, where it hadn't before
 still-up : (s s' : State) → OnlyServes s s' → is_halted s.going ≡ false → IsUp s'.going
@@ -85,7 +88,7 @@ serves-more steps name a b c serves due served =
 -- the law of the machine: fewer slots ask for service after a pass other than the listener handed a connection to the workers
 abbrev pub AsksFewer : Type 0
 AsksFewer =
-    (p : ℕ) (base : State) (old new : List Entry) (name : ConnName) (events : List Event) → p ≢ 0 → Adds p base old new
+    (p : ℕ) (base : State) (f : Folded) (old new : List Entry) (name : ConnName) (events : List Event) → p ≢ 0 → Adds p base f old new
     → events_of p new ≡ events_of p old ++ event.Queue name ∷ events → asking_count (after base new) < asking_count (after base old)
 
 -- so it is after the service of a connection
@@ -95,7 +98,7 @@ fewer-asking who name es has a b other here there acts law =
     let late : after a.base b.history ≡ b.state = ap (λ (s : State). after s b.history) (sym acts.base) ∙ there in
     subst (λ (s : State). asking_count b.state < asking_count s) here
     (subst (λ (s : State). asking_count s < asking_count (after a.base a.history)) late
-    (law who a.base a.history b.history name es other acts.entries acts.made))
+    (law who a.base a.folded a.history b.history name es other acts.entries acts.made))
 
 -- ## The rows
 
@@ -140,3 +143,11 @@ due-none s name found none =
     let due = live.passes in
     let not_due = none name.slot live.row (found-at s.rows name live.row live.found) in
     absurd (cc (due, not_due))
+
+-- ## A state in which a server opens
+
+-- each pass has its own connection there, where nothing was folded: none has one
+pub owns-opened : ((s : State) (passes : ℕ) → IsOpened s → EachHasItsOwn s (first_row (opening_record passes))) → (b : SeenBook) → IsOpened b.base
+    → b.folded ≡ opening_record b.passes → EachHasItsOwn b.base (first_row b.folded)
+owns-opened law b opened unfolded =
+    subst (λ (f : Folded). EachHasItsOwn b.base (first_row f)) (sym unfolded) (law b.base b.passes opened)

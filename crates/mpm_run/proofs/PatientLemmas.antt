@@ -10,6 +10,7 @@ use Rattle.conn_machine.specs.declared.event.Entry.{Entry}
 use Rattle.conn_machine.specs.declared.event.Event.{Event}
 use Rattle.conn_machine.specs.declared.event.Event.TheVariants as event
 use Rattle.conn_machine.specs.declared.row.Row.{Row}
+use Rattle.conn_machine.specs.declared.folded.Folded.{Folded}
 use Rattle.conn_machine.specs.declared.state.State.{State}
 use Rattle.conn_machine.specs.Rows.{is_parked}
 use Rattle.conn_machine.specs.Runs.{AreEntriesOf, after, may_make}
@@ -116,11 +117,11 @@ serves-tickless p had weight (event.StartChild k) other may = refl
 serves-tickless p had weight (event.Command c) other may = refl
 serves-tickless p had weight (event.Retire k) other may = refl
 
-serves-added : (p : ℕ) (base : State) (before added : List Entry) → p ≢ 0 → AreEntriesOf p base before added → flat_map ticks_in (events_in added) ≡ []
-serves-added p base before [] other are = refl
-serves-added p base before (e ∷ added) other are =
+serves-added : (p : ℕ) (base : State) (f : Folded) (before added : List Entry) → p ≢ 0 → AreEntriesOf p base f before added → flat_map ticks_in (events_in added) ≡ []
+serves-added p base f before [] other are = refl
+serves-added p base f before (e ∷ added) other are =
     ap (λ (xs : List ℕ). xs ++ flat_map ticks_in (events_in added)) (serves-tickless p _ _ e.event other are.0.role)
-    ∙ serves-added p base (before ++ e ∷ []) added other are.1
+    ∙ serves-added p base f (before ++ e ∷ []) added other are.1
 
 patient-added : (comings : List ℕ) (waits : List WaitTold) (who : ℕ) (es : List Event) (has : _) (a b : SeenBook) (acts : Acts who es has a b)
     → flat_map ticks_in (events_in acts.entries.0) ≡ [] → ArePatient comings waits a.base a.history → ArePatient comings waits b.base b.history
@@ -140,7 +141,7 @@ patient-silent comings waits who es has a b acts none patient =
 pub patient-served : (comings : List ℕ) (waits : List WaitTold) (who : ℕ) (es : List Event) (has : _) (a b : SeenBook) → who ≢ 0 → Acts who es has a b
     → ArePatient comings waits a.base a.history → ArePatient comings waits b.base b.history
 patient-served comings waits who es has a b other acts patient =
-    patient-added comings waits who es has a b acts (serves-added who a.base a.history acts.entries.0 other acts.entries.2) patient
+    patient-added comings waits who es has a b acts (serves-added who a.base a.folded a.history acts.entries.0 other acts.entries.2) patient
 
 -- ## A round
 

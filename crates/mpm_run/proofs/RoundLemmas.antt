@@ -1,5 +1,5 @@
 -- The parts of the listener's round, one behind the other.
-use Rattle.std.proofs.Common.{◌≡◌, inl, inr, ℕ, ◌<◌, ◌≤◌, Bool, Result, Ok, Err, IfErr, OnOk, OnErr, arith, true, false, ◌==◌, cond, nat_lt, List, [], ◌∷◌, ◌++◌, length, map, fold, Option, None, Some, refl, sym, ap, subst, ◌∙◌, append-nil, append_assoc, eq-eqb, eqb-true}
+use Rattle.std.proofs.Common.{◌≡◌, inl, inr, ℕ, ◌<◌, ◌≤◌, Bool, Result, Ok, Err, IfErr, OnOk, OnErr, arith, true, false, ◌==◌, cond, nat_lt, List, [], ◌∷◌, ◌++◌, length, map, Option, None, Some, refl, sym, ap, subst, ◌∙◌, append-nil, append_assoc, eq-eqb, eqb-true}
 use Rattle.std.proofs.lemmas.Bool.{false≢true}
 use Rattle.std.proofs.lemmas.Bool.Decides.{nat_tests}
 use Rattle.std.proofs.lemmas.Grind.{flat_map-append}
@@ -10,10 +10,11 @@ use Rattle.mpm_base.specs.declared.conn.ConnName.{ConnName}
 use Rattle.conn_machine.specs.declared.event.Event.{Event}
 use Rattle.conn_machine.specs.declared.event.Event.TheVariants as event
 use Rattle.conn_machine.specs.declared.event.Entry.{Entry}
-use Rattle.conn_machine.specs.Runs.{Adds, has_after, row_of}
+use Rattle.conn_machine.specs.declared.folded.Folded.{Folded}
+use Rattle.conn_machine.specs.Runs.{entries_of, first_row, row_after}
 use Rattle.board.specs.declared.faults.BoardFault.{BoardFault}
 use Rattle.board.specs.declared.faults.BoardFault.TheVariants as fault
-use Rattle.board.specs.Book.{SeenBook, book_with_entry}
+use Rattle.board.specs.Book.{SeenBook, book_with_entry, row_in, AddsOnly}
 use Rattle.board.specs.Board.{SeenBoard}
 use Rattle.board.specs.Events.{with_recorded}
 use Rattle.worker_group.specs.declared.service.Exit.TheVariants as exit
@@ -26,11 +27,11 @@ use Rattle.mpm_run.specs.Times.{known_slots, ticks_to}
 
 -- ## No pass has a connection
 
-none-by : ActsInSteps → (who p : ℕ) (es : List Event) (a b : SeenBook) (own : Bool) → (p == who) ≡ own → NoneHas a → Acts who es None a b → row_of p b.history ≡ None
-none-by steps who p es a b true own none acts = ap (λ (q : ℕ). row_of q b.history) (eqb-true p who own) ∙ acts.row
+none-by : ActsInSteps → (who p : ℕ) (es : List Event) (a b : SeenBook) (own : Bool) → (p == who) ≡ own → NoneHas a → Acts who es None a b → row_in p b ≡ None
+none-by steps who p es a b true own none acts = ap (λ (q : ℕ). row_in q b) (eqb-true p who own) ∙ acts.row
 none-by steps who p es a b false own none acts =
-    ap (fold (λ (had : Option ConnName) (e : Entry). has_after had e.event e.reply) None)
-    (steps.others who p es None a b acts (λ (same : p ≡ who). false≢true (sym own ∙ eq-eqb p who same)))
+    ap (λ (f : Folded). row_after (first_row f p) (entries_of p b.history)) acts.folded
+    ∙ ap (row_after (first_row a.folded p)) (steps.others who p es None a b acts (λ (same : p ≡ who). false≢true (sym own ∙ eq-eqb p who same)))
     ∙ none p
 
 -- so it is after what a pass did that has none then
@@ -45,12 +46,12 @@ acts-spelled es fs a b acts same = subst (λ (xs : List Event). Acts 0 xs None a
 
 -- a call of the board that records an event, and changes nothing else of the book
 pub acts-added : ActsInSteps → (e : Event) (has : Option ConnName) (b b' : SeenBoard) → b' ≡ with_recorded 0 e b
-    → Adds 0 b.book.base b.book.history b'.book.history → row_of 0 b'.book.history ≡ has → Acts 0 (e ∷ []) has b.book b'.book
+    → AddsOnly 0 b.book b'.book → row_in 0 b'.book ≡ has → Acts 0 (e ∷ []) has b.book b'.book
 acts-added steps e has b b' is adds row = steps.one 0 e has b.book b'.book (ap (λ (v : SeenBoard). v.book) is) adds row
 
 -- ## Starts and ends of children
 
-pub starts-none : ActsInSteps → (b : SeenBook) → row_of 0 b.history ≡ None → StartsSome b b
+pub starts-none : ActsInSteps → (b : SeenBook) → row_in 0 b ≡ None → StartsSome b b
 starts-none steps b row = record { children = []; acts = steps.none 0 None b row }
 
 pub starts-more : ActsInSteps → (k : ℕ) (a b c : SeenBook) → StartsSome a b → Acts 0 (event.StartChild k ∷ []) None b c → StartsSome a c
@@ -61,7 +62,7 @@ starts-more steps k a b c starts one = record {
       (sym (map-append event.StartChild starts.children (k ∷ [])));
 }
 
-pub retires-none : ActsInSteps → (b : SeenBook) → row_of 0 b.history ≡ None → RetiresSome b b
+pub retires-none : ActsInSteps → (b : SeenBook) → row_in 0 b ≡ None → RetiresSome b b
 retires-none steps b row = record { children = []; acts = steps.none 0 None b row }
 
 pub retires-more : ActsInSteps → (k : ℕ) (a b c : SeenBook) → RetiresSome a b → Acts 0 (event.Retire k ∷ []) None b c → RetiresSome a c
@@ -74,10 +75,10 @@ retires-more steps k a b c retires one = record {
 
 -- ## Connections that are taken
 
-pub takes-none : ActsInSteps → (b : SeenBook) → row_of 0 b.history ≡ None → TakesSome b b
+pub takes-none : ActsInSteps → (b : SeenBook) → row_in 0 b ≡ None → TakesSome b b
 takes-none steps b row = record { takes = []; left = tt; acts = steps.none 0 None b row }
 
-pub until-none : ActsInSteps → (b : SeenBook) → row_of 0 b.history ≡ None → TakesUntil b b
+pub until-none : ActsInSteps → (b : SeenBook) → row_in 0 b ≡ None → TakesUntil b b
 until-none steps b row = record { takes = []; acts = steps.none 0 None b row }
 
 left-more : (takes : List Intake) (t : Intake) → AllLeft takes → IsLeft t.way → AllLeft (takes ++ t ∷ [])
@@ -187,7 +188,7 @@ lets-go-until steps a b c d retiring cut until = (
 )
 
 -- nothing was let go of
-pub lets-go-none : ActsInSteps → (b : SeenBook) → row_of 0 b.history ≡ None → LetsGoOfConns [] b b
+pub lets-go-none : ActsInSteps → (b : SeenBook) → row_in 0 b ≡ None → LetsGoOfConns [] b b
 lets-go-none steps b row = record {
   departures = record { retiring = []; cut = []; drained = [] };
   ways = record { retiring = tt; cut = tt; drained = tt };

@@ -15,8 +15,8 @@ use Rattle.conn_machine.specs.declared.folded.Folded.{Folded}
 use Rattle.conn_machine.specs.declared.state.State.{State}
 use Rattle.conn_machine.specs.Rows.{is_live}
 use Rattle.conn_machine.specs.Table.{next}
-use Rattle.conn_machine.specs.Folds.{IsInPassOrderFrom, opening_record}
-use Rattle.conn_machine.specs.Runs.{Run, after}
+use Rattle.conn_machine.specs.Folds.{opening_record}
+use Rattle.conn_machine.specs.Runs.{Run, after, IsInPassOrderFrom}
 use Rattle.conn_machine.specs.Made.{AreMade, AreOfPasses}
 use Rattle.conn_machine.specs.Sound.{IsSound}
 use Rattle.conn_machine.specs.Events.{count_events, is_accept, is_close}
@@ -30,23 +30,21 @@ use Rattle.mpm_run.specs.Links.{EndsLinks}
 use Rattle.mpm_run.specs.Tells.{Receives, AllReceive}
 use Rattle.mpm_run.specs.FirstNumbers.{folded_by, opened_by}
 use Rattle.mpm_run.specs.declared.run_numbers.RunNumbers.{RunNumbers}
-use Rattle.mpm_run.specs.Listen.{HasClosedAll, HasNoLive, IsClosedDown, IsRunFrom}
+use Rattle.mpm_run.specs.Listen.{HasClosedAll, HasNoLive, IsClosedDown, IsRunFrom, NeverFolded}
 
 -- ## The history
 
 -- nothing was folded, where nothing was for as many passes
-pub unfolded_by : (n : RunNumbers) (b : SeenBook) → b.folded ≡ opening_record b.passes → b.passes ≡ n.passes → b.folded ≡ folded_by n
-unfolded_by n b unfolded passes = unfolded ∙ ap opening_record passes
+pub never-folded : (n : RunNumbers) (b : SeenBook) → b.base ≡ opened_by n → b.folded ≡ opening_record b.passes → b.passes ≡ n.passes → NeverFolded n b
+never-folded n b opened unfolded passes = record { opened = opened; folded = unfolded ∙ ap opening_record passes }
 
 -- the history of a board that opened so is a run from there, each state of which is sound
-pub run-from : (n : RunNumbers) (b : SeenBoard) → b.book.base ≡ opened_by n → b.book.folded ≡ folded_by n → AreOfPasses n.passes b.book.history
+pub run-from : (n : RunNumbers) (b : SeenBoard) → AreOfPasses n.passes b.book.history
     → ((s : State) (history : List Entry) → IsSound s → Run s history → StaysSound s history)
-    → Run b.book.base b.book.history → IsInPassOrderFrom b.book.folded b.book.history → AreMade b.book.base b.book.history
+    → Run b.book.base b.book.history → IsInPassOrderFrom b.book.folded b.book.history → AreMade b.book.base b.book.folded b.book.history
     → after b.book.base b.book.history ≡ b.book.state → IsSound b.book.base → StopsByLoad b.book.history
     → TellsFullStop b.book.state.going b.book.history → Agrees b → IsRunFrom n b
-run-from n b opened folded few law run order made state sound stops full agrees = record {
-  opened = opened;
-  folded = folded;
+run-from n b few law run order made state sound stops full agrees = record {
   run = run;
   order = order;
   made = made;
@@ -59,11 +57,11 @@ run-from n b opened folded few law run order made state sound stops full agrees 
 }
 
 -- it is a run from the opening state
-pub run-opened : (n : RunNumbers) (b : SeenBoard) → IsRunFrom n b → Run (opened_by n) b.book.history
-run-opened n b run = subst (λ (s : State). Run s b.book.history) run.opened run.run
+pub run-opened : (n : RunNumbers) (b : SeenBoard) → IsRunFrom n b → NeverFolded n b.book → Run (opened_by n) b.book.history
+run-opened n b run never = subst (λ (s : State). Run s b.book.history) never.opened run.run
 
-state-opened : (n : RunNumbers) (b : SeenBoard) → IsRunFrom n b → after (opened_by n) b.book.history ≡ b.book.state
-state-opened n b run = subst (λ (s : State). after s b.book.history ≡ b.book.state) run.opened run.state
+state-opened : (n : RunNumbers) (b : SeenBoard) → IsRunFrom n b → NeverFolded n b.book → after (opened_by n) b.book.history ≡ b.book.state
+state-opened n b run never = subst (λ (s : State). after s b.book.history ≡ b.book.state) never.opened run.state
 
 -- ## The connections that were taken
 
@@ -105,20 +103,20 @@ none-counted [] none = refl
 none-counted (r ∷ rows) none = none-cons r rows (is_live r) refl none (none-counted rows)
 
 -- where no connection is live each that was taken ended
-pub closed-all : (n : RunNumbers) (b : SeenBoard) → IsRunFrom n b
+pub closed-all : (n : RunNumbers) (b : SeenBoard) → IsRunFrom n b → NeverFolded n b.book
     → count_events is_accept b.book.history ≡ count_events is_close b.book.history + count_by is_live (after (opened_by n) b.book.history).rows
     → IsClosedDown b.book.state → HasClosedAll b
-closed-all n b run closed_or_live down = record {
+closed-all n b run never closed_or_live down = record {
   down = down;
   ended =
       let all : length b.ended ≡ count_events is_accept b.book.history =
       omega (
         arith,
         closed_or_live,
-        none-counted (after (opened_by n) b.book.history).rows (subst HasNoLive (sym (state-opened n b run)) down.live),
+        none-counted (after (opened_by n) b.book.history).rows (subst HasNoLive (sym (state-opened n b run never)) down.live),
         closed-count b.book.base b.book.history b.ended run.agrees.closed,
       ) in
-      subst (λ (f : Folded). f.closed + length b.ended ≡ f.accepted + count_events is_accept b.book.history) (sym run.folded) (ap (λ (m : ℕ). 0 + m) all);
+      subst (λ (f : Folded). f.closed + length b.ended ≡ f.accepted + count_events is_accept b.book.history) (sym never.folded) (ap (λ (m : ℕ). 0 + m) all);
 }
 
 -- ## What ended connections received
@@ -167,7 +165,7 @@ at-most-one number bound count below above = by (cases_order number bound) where
   by (inr (inr higher)) = omega (arith, above (omega (arith, higher)))
 
 -- where no connection is live their links are, each once, those that the table took
-pub ends-links : (n : RunNumbers) (b : SeenBoard) → IsRunFrom n b
+pub ends-links : (n : RunNumbers) (b : SeenBoard) → IsRunFrom n b → NeverFolded n b.book
     → ((number : ℕ) → Run (opened_by n) b.book.history → AreClosed (opened_by n) b.book.history b.ended → AllTell b.ended
     → list_any is_live (after (opened_by n) b.book.history).rows ≡ false → (after (opened_by n) b.book.history).accepted < greatest_count
     → number < (after (opened_by n) b.book.history).accepted → count_by (has_rank number) b.ended ≡ 1)
@@ -176,21 +174,21 @@ pub ends-links : (n : RunNumbers) (b : SeenBoard) → IsRunFrom n b
     → count_by (has_rank number) b.ended ≡ 0)
     → (after (opened_by n) b.book.history).accepted ≡ min (count_events is_accept b.book.history) greatest_count
     → HasClosedAll b → AllTell b.ended → EndsLinks b
-ends-links n b run once no_other counted closed tell few =
-    let opened = run-opened n b run in
-    let state = state-opened n b run in
+ends-links n b run never once no_other counted closed tell few =
+    let opened = run-opened n b run never in
+    let state = state-opened n b run never in
     let few' = subst (λ (s : State). s.accepted < greatest_count) (sym state) few in
-    let of_entries = subst (λ (s : State). AreClosed s b.book.history b.ended) run.opened run.agrees.closed in
+    let of_entries = subst (λ (s : State). AreClosed s b.book.history b.ended) never.opened run.agrees.closed in
     let none : (number : ℕ) → b.book.state.accepted ≤ number → count_by (has_rank number) b.ended ≡ 0 =
     λ number above. no_other number opened of_entries tell few' (subst (λ (s : State). s.accepted ≤ number) (sym state) above) in
     let one : (number : ℕ) → number < b.book.state.accepted → count_by (has_rank number) b.ended ≡ 1 =
     λ number below. once number opened of_entries tell (subst HasNoLive (sym state) closed.down.live) few'
     (subst (λ (s : State). number < s.accepted) (sym state) below) in
-    let all : length b.ended ≡ count_events is_accept b.book.history = closed-plain n b run.folded closed in
+    let all : length b.ended ≡ count_events is_accept b.book.history = closed-plain n b never.folded closed in
     let as_many : length b.ended ≡ b.book.state.accepted = omega (arith, all, counted, few', ap (λ (s : State). s.accepted) state) in
     record {
       tell = tell;
       once = λ number. at-most-one number b.book.state.accepted (count_by (has_rank number) b.ended) (one number) (none number);
       taken = none;
-      as_many = subst (λ (f : Folded). f.closed + length b.ended ≡ b.book.state.accepted) (sym run.folded) (omega (arith, as_many));
+      as_many = subst (λ (f : Folded). f.closed + length b.ended ≡ b.book.state.accepted) (sym never.folded) (omega (arith, as_many));
     }

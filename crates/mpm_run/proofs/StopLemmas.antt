@@ -8,13 +8,12 @@ use Rattle.conn_machine.specs.declared.event.Why.{Why}
 use Rattle.conn_machine.specs.declared.state.Going.{Going}
 use Rattle.conn_machine.specs.declared.state.Going.TheVariants.{Halted}
 use Rattle.conn_machine.specs.declared.state.State.{State}
-use Rattle.conn_machine.specs.Runs.{Adds, row_of}
 use Rattle.conn_machine.specs.Table.{may_command}
 use Rattle.board.specs.Board.{SeenBoard}
 use Rattle.board.specs.Events.{with_recorded}
 use Rattle.conn_machine.specs.States.{is_halted}
 use Rattle.board.specs.declared.faults.BoardFault.{BoardFault}
-use Rattle.board.specs.Book.{SeenBook}
+use Rattle.board.specs.Book.{SeenBook, row_in, AddsOnly}
 use Rattle.worker_group.specs.Acts.{Acts, ActsInSteps}
 use Rattle.worker_group.specs.Service.{LeavesRest}
 use Rattle.mpm_run.specs.declared.listen.End.{End}
@@ -148,8 +147,8 @@ may-halt turns e reason b is reason_is must =
 
 -- and the server stops by it
 pub acts-stopped : ActsInSteps → (turns : Result End BoardFault) (e : End) (reason : Why) (b b' : SeenBoard) → turns ≡ Ok e → reason ≡ why_of e → MustHalt turns b.book
-    → row_of 0 b.book.history ≡ None → b' ≡ with_recorded 0 (event.Command (Stop reason)) b → Adds 0 b.book.base b.book.history b'.book.history
-    → row_of 0 b'.book.history ≡ row_of 0 b.book.history → Acts 0 (halt_events b.book turns) None b.book b'.book
+    → row_in 0 b.book ≡ None → b' ≡ with_recorded 0 (event.Command (Stop reason)) b → AddsOnly 0 b.book b'.book
+    → row_in 0 b'.book ≡ row_in 0 b.book → Acts 0 (halt_events b.book turns) None b.book b'.book
 acts-stopped steps turns e reason b b' is reason_is must free new_is adds row =
     let going = goes-on e b.book (subst (λ (t : Result End BoardFault). MustHalt t b.book) is must) in
     let events : event.Command (Stop reason) ∷ [] ≡ halt_events b.book turns =

@@ -19,9 +19,10 @@ use Rattle.conn_machine.specs.declared.event.Entry.{Entry}
 use Rattle.conn_machine.specs.declared.event.Event.{Event}
 use Rattle.conn_machine.specs.declared.event.Event.TheVariants as event
 use Rattle.conn_machine.specs.declared.event.Reply.{Reply}
+use Rattle.conn_machine.specs.declared.folded.Folded.{Folded}
 use Rattle.conn_machine.specs.declared.state.State.{State}
 use Rattle.conn_machine.specs.States.{is_halted}
-use Rattle.conn_machine.specs.Runs.{AreEntriesOf, entries_of, has_after, is_of_pass, may_make, row_of, taken_name}
+use Rattle.conn_machine.specs.Runs.{AreEntriesOf, entries_of, has_after, is_of_pass, may_make, taken_name, row_from}
 use Rattle.board.specs.declared.faults.BoardFault.{BoardFault}
 use Rattle.board.specs.declared.faults.BoardFault.TheVariants as fault
 use Rattle.board.specs.Book.{SeenBook}
@@ -185,18 +186,18 @@ serves-none p had weight (event.StartChild k) other may = refl
 serves-none p had weight (event.Command c) other may = refl
 serves-none p had weight (event.Retire k) other may = refl
 
-serves-added : (p : ℕ) (base : State) (before added : List Entry) → p ≢ 0 → AreEntriesOf p base before added → TakesNone (events_in added)
-serves-added p base before [] other are = refl
-serves-added p base before (e ∷ added) other are =
+serves-added : (p : ℕ) (base : State) (f : Folded) (before added : List Entry) → p ≢ 0 → AreEntriesOf p base f before added → TakesNone (events_in added)
+serves-added p base f before [] other are = refl
+serves-added p base f before (e ∷ added) other are =
     ap (λ (xs : List ℕ). xs ++ flat_map accepts_in (events_in added)) (serves-none p _ _ e.event other are.0.role)
-    ∙ serves-added p base (before ++ e ∷ []) added other are.1
+    ∙ serves-added p base f (before ++ e ∷ []) added other are.1
 
 -- and where another pass than the listener added what it did
 pub nobody-served : (who : ℕ) (es : List Event) (has : Option ConnName) (a b : SeenBook) → who ≢ 0 → Acts who es has a b → TakesNobody a b
 nobody-served who es has a b other acts = record {
   more = acts.entries.0;
   history = acts.entries.1;
-  none = unnamed acts.entries.0 (serves-added who a.base a.history acts.entries.0 other acts.entries.2);
+  none = unnamed acts.entries.0 (serves-added who a.base a.folded a.history acts.entries.0 other acts.entries.2);
 }
 
 took-name : (e : Event) (answer : Reply) (slot : ℕ) (had : Option ConnName) (name : ConnName) → e ≡ event.Accept slot → has_after had e answer ≡ Some name
@@ -207,16 +208,23 @@ took-name e answer slot had name is has =
 
 -- the law of the machine: the last entry of a pass leaves it the connection that it has
 abbrev pub LeavesItsRow : Type 0
-LeavesItsRow = (p : ℕ) (history : List Entry) (e : Entry) → is_of_pass p e ≡ true → row_of p (history ++ e ∷ []) ≡ has_after (row_of p history) e.event e.reply
+LeavesItsRow =
+    (f : Folded) (p : ℕ) (history : List Entry) (e : Entry) → is_of_pass p e ≡ true
+    → row_from f p (history ++ e ∷ []) ≡ has_after (row_from f p history) e.event e.reply
 
-took-added : LeavesItsRow → (slot : ℕ) (name : ConnName) (base : State) (before after' added : List Entry) → events_in added ≡ event.Accept slot ∷ [] → after' ≡ before ++ added
-    → AreEntriesOf 0 base before added → row_of 0 after' ≡ Some name → accepted_names added ≡ name ∷ []
-took-added law slot name base before after' [] events is are row = absurd (cc events)
-took-added law slot name base before after' (e ∷ []) events is are row =
+took-added : LeavesItsRow → (slot : ℕ) (name : ConnName) (base : State) (f : Folded) (before after' added : List Entry) → events_in added ≡ event.Accept slot ∷ []
+    → after' ≡ before ++ added → AreEntriesOf 0 base f before added → row_from f 0 after' ≡ Some name → accepted_names added ≡ name ∷ []
+took-added law slot name base f before after' [] events is are row = absurd (cc events)
+took-added law slot name base f before after' (e ∷ []) events is are row =
     let event_is : e.event ≡ event.Accept slot = cc events in
-    let has : has_after (row_of 0 before) e.event e.reply ≡ Some name = sym (law 0 before e (eq-eqb e.pass 0 are.0.pass)) ∙ ap (row_of 0) (sym is) ∙ row in
-    append-nil (names_given e.event e.reply) ∙ took-name e.event e.reply slot (row_of 0 before) name event_is has
-took-added law slot name base before after' (e ∷ f ∷ added) events is are row = absurd (cc events)
+    let has : has_after (row_from f 0 before) e.event e.reply ≡ Some name =
+    sym (law f 0 before e (eq-eqb e.pass 0 are.0.pass)) ∙ ap (row_from f 0) (sym is) ∙ row in
+    append-nil (names_given e.event e.reply) ∙ took-name e.event e.reply slot (row_from f 0 before) name event_is has
+took-added law slot name base f before after' (e ∷ e' ∷ added) events is are row = absurd (cc events)
+
+-- the connection that a pass has by the record of the book before
+row-before : (who : ℕ) (es : List Event) (has : Option ConnName) (a b : SeenBook) → Acts who es has a b → row_from a.folded who b.history ≡ has
+row-before who es has a b acts = subst (λ (f : Folded). row_from f who b.history ≡ has) acts.folded acts.row
 
 -- a connection that was taken is named last
 names-took : LeavesItsRow → (slot : ℕ) (name : ConnName) (a b : SeenBook) → Acts 0 (event.Accept slot ∷ []) (Some name) a b
@@ -224,7 +232,8 @@ names-took : LeavesItsRow → (slot : ℕ) (name : ConnName) (a b : SeenBook) �
 names-took law slot name a b acts =
     names-added 0 _ (Some name) a b acts
     ∙ ap (λ (names : List ConnName). accepted_names a.history ++ names)
-    (took-added law slot name a.base a.history b.history acts.entries.0 (added-events 0 _ (Some name) a b acts) acts.entries.1 acts.entries.2 acts.row)
+    (took-added law slot name a.base a.folded a.history b.history acts.entries.0 (added-events 0 _ (Some name) a b acts) acts.entries.1 acts.entries.2
+    (row-before 0 _ (Some name) a b acts))
 
 -- ## A connection that was taken, and left
 
@@ -240,7 +249,7 @@ entries-added : (es : List Event) (has : Option ConnName) (a b : SeenBook) (acts
 entries-added es has a b acts =
     ap (entries_of 0) acts.entries.1
     ∙ filter-append (is_of_pass 0) a.history acts.entries.0
-    ∙ ap (λ (xs : List Entry). entries_of 0 a.history ++ xs) (added-own 0 a.base a.history acts.entries.0 acts.entries.2)
+    ∙ ap (λ (xs : List Entry). entries_of 0 a.history ++ xs) (added-own 0 a.base a.folded a.history acts.entries.0 acts.entries.2)
 
 -- a connection that was taken, and closed by the next entry of the listener
 closed-at-once : LeavesItsRow → (slot : ℕ) (name : ConnName) (a m b : SeenBook) → Acts 0 (event.Accept slot ∷ []) (Some name) a m
@@ -248,7 +257,9 @@ closed-at-once : LeavesItsRow → (slot : ℕ) (name : ConnName) (a m b : SeenBo
 closed-at-once law slot name a m b took left =
     let first = one-entry took.entries.0 (event.Accept slot) (added-events 0 _ (Some name) a m took) in
     let second = one-entry left.entries.0 (event.Close name LinkFailed Direct) (added-events 0 _ None m b left) in
-    let named = took-added law slot name a.base a.history m.history took.entries.0 (added-events 0 _ (Some name) a m took) took.entries.1 took.entries.2 took.row in
+    let named =
+    took-added law slot name a.base a.folded a.history m.history took.entries.0 (added-events 0 _ (Some name) a m took) took.entries.1 took.entries.2
+    (row-before 0 _ (Some name) a m took) in
     record {
       before = entries_of 0 a.history;
       took = first.0;

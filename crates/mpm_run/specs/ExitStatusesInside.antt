@@ -17,6 +17,7 @@ use Rattle.mpm_run.specs.ConfiguredInside.{HasBadConfig}
 use Rattle.mpm_run.specs.ExitStatuses.{HasEnd, HasRun, IsPatient, KeepsTime, WritesText, fault_at}
 use Rattle.mpm_run.specs.FirstNumbers.{numbers_of}
 use Rattle.mpm_run.specs.Links.{KeepsLinks}
+use Rattle.mpm_run.specs.Listen.{NeverFolded}
 use Rattle.mpm_run.specs.Started.{IsStartedFirst}
 use Rattle.mpm_run.specs.Texts.{config_refused, script_refused}
 use Rattle.mpm_run.specs.Watched.{AreWatched, IsOpenedAndHushed}
@@ -64,6 +65,7 @@ IsTestStatus s = (s ≡ 0) ⊎ (s ≡ 1) ⊎ (s ≡ 3) ⊎ (s ≡ 5) ⊎ (s ≡ 
 
 -- what holds of what is left of each run
 pub record IsLeft (s : Scripted) : Type 0 where
+  pub unfolded : NeverFolded (numbers_of s.config) s.board.book
   pub site : s.store.told ≡ editions_of s.front.script
   pub front : IsOpenedAndHushed (numbers_of s.config) s.front.told
   pub started : IsStartedFirst (numbers_of s.config) s.board.book s.front.told

@@ -5,11 +5,10 @@ use Rattle.conn_machine.specs.declared.state.State.{State}
 use Rattle.conn_machine.specs.Rows.{is_live}
 use Rattle.conn_machine.specs.Children.{child_at, is_empty}
 use Rattle.conn_machine.specs.Events.{count_events, is_accept}
-use Rattle.conn_machine.specs.Folds.{IsInPassOrderFrom}
-use Rattle.conn_machine.specs.Runs.{Run, after}
+use Rattle.conn_machine.specs.Runs.{Run, after, IsInPassOrderFrom}
 use Rattle.conn_machine.specs.Made.{AreMade, AreOfPasses}
 use Rattle.conn_machine.specs.Laws.{StaysSound}
-use Rattle.board.specs.Book.{StopsByLoad, TellsFullStop}
+use Rattle.board.specs.Book.{SeenBook, StopsByLoad, TellsFullStop}
 use Rattle.board.specs.Board.{SeenBoard, Agrees}
 use Rattle.mpm_run.specs.FirstNumbers.{folded_by, opened_by}
 use Rattle.mpm_run.specs.declared.run_numbers.RunNumbers.{RunNumbers}
@@ -34,19 +33,23 @@ pub record IsClosedDown (s : State) : Type 0 where
 -- the history that is kept is one of the machine, from the state before it, in the order of its passes behind what was folded, and
 -- each entry is one that its pass, one of so many, may make where it stands; each state on its way is sound; a stop because the history is full
 -- stands only where it is, and one for want of memory only where it isn't; the first is told by the state; and the connections agree
--- with the history. The state before it is the opening one of these numbers, and nothing was folded
+-- with the history
 pub record IsRunFrom (n : RunNumbers) (b : SeenBoard) : Type 0 where
-  pub opened : b.book.base ≡ opened_by n
-  pub folded : b.book.folded ≡ folded_by n
   pub run : Run b.book.base b.book.history
   pub order : IsInPassOrderFrom b.book.folded b.book.history
-  pub made : AreMade b.book.base b.book.history
+  pub made : AreMade b.book.base b.book.folded b.book.history
   pub few : AreOfPasses n.passes b.book.history
   pub state : after b.book.base b.book.history ≡ b.book.state
   pub stays_sound : StaysSound b.book.base b.book.history
   pub stops : StopsByLoad b.book.history
   pub full : TellsFullStop b.book.state.going b.book.history
   pub agrees : Agrees b
+
+-- nothing of what a run by these numbers did was folded: the state before the history is the one in which it opens, and the record is
+-- the opening one
+pub record NeverFolded (n : RunNumbers) (b : SeenBook) : Type 0 where
+  pub opened : b.base ≡ opened_by n
+  pub folded : b.folded ≡ folded_by n
 
 -- it closed each connection: none is live, each child is gone, and as many connections ended as were taken, those that were folded
 -- among both

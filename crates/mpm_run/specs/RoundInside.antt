@@ -13,11 +13,11 @@ use Rattle.conn_machine.specs.declared.event.Event.{Event}
 use Rattle.conn_machine.specs.declared.event.Event.TheVariants as event
 use Rattle.conn_machine.specs.declared.event.Why.{Why}
 use Rattle.conn_machine.specs.declared.event.Why.TheVariants as why
-use Rattle.conn_machine.specs.Runs.{full_load, load, row_of}
+use Rattle.conn_machine.specs.Runs.{full_load, load}
 use Rattle.conn_state.specs.Conn.{IsFrontOf}
 use Rattle.board.specs.declared.faults.BoardFault.{BoardFault}
 use Rattle.board.specs.declared.faults.BoardFault.TheVariants as fault
-use Rattle.board.specs.Book.{SeenBook}
+use Rattle.board.specs.Book.{SeenBook, row_in}
 use Rattle.worker_group.specs.declared.service.Exit.{Exit}
 use Rattle.worker_group.specs.declared.service.Exit.TheVariants as exit
 use Rattle.worker_group.specs.Acts.{Acts}
@@ -31,7 +31,7 @@ use Rattle.mpm_run.specs.Times.{known_slots, ticks_to}
 
 -- no pass has a connection
 abbrev pub NoneHas : SeenBook → Type 0
-NoneHas b = (who : ℕ) → row_of who b.history ≡ None
+NoneHas b = (who : ℕ) → row_in who b ≡ None
 
 -- children were started, and nothing else was done
 pub record StartsSome (old new : SeenBook) : Type 0 where

@@ -5,7 +5,6 @@
 ghost use Rattle.std.specs.Prelude.{◌≡◌, ◌<◌, [], ◌∷◌, None, Some, true, false, IfErr, OnErr, OnOk};
 ghost use Rattle.conn_machine.specs.Made.{IsOpened};
 ghost use Rattle.conn_machine.specs.Rows.{is_linger_kind, lives_and};
-ghost use Rattle.conn_machine.specs.Runs.{row_of};
 ghost use Rattle.conn_machine.specs.States.{is_halted};
 ghost use Rattle.conn_machine.specs.Table.{is_allowed, next};
 ghost use Rattle.conn_machine.specs.declared.event.Event.TheVariants as event;
@@ -13,6 +12,7 @@ ghost use Rattle.conn_state.specs.Answered.{MayLinger};
 ghost use Rattle.conn_state.specs.declared.turn.LastLinger.TheVariants as linger;
 ghost use Rattle.board.specs.Faults.{IsRefusedFor};
 ghost use Rattle.board.specs.Finds.{has_to_be_drained, is_late, is_let_go, is_waiting};
+ghost use Rattle.board.specs.Book.{row_in};
 ghost use Rattle.worker_group.specs.Acts.{Acts};
 ghost use Rattle.worker_group.specs.InHand.{IsInHand};
 ghost use Rattle.worker_group.specs.Service.{LeavesRest, RefusalLasts};
@@ -39,7 +39,7 @@ use worker_group::{close, let_linger};
 /// half-close fails. Takes no memory.
 pub(crate) fn let_go_late<L: Link, N: Known>(board: &mut Board<L, N>)
     requires passes { 0 < board.old.book.passes }
-    requires free { row_of 0 board.old.book.history ≡ None }
+    requires free { row_in 0 board.old.book ≡ None }
     ensures gone { LetsGoLate board.old.book board.new.book }
     ensures none { NoneOverdue board.new.book.state }
     ensures rest { LeavesRest board.old.book board.new.book }
@@ -53,7 +53,7 @@ pub(crate) fn let_go_late<L: Link, N: Known>(board: &mut Board<L, N>)
 /// Lets go of a connection that is late.
 fn let_go_late_one<L: Link, N: Known>(board: &mut Board<L, N>, name: ConnName)
     requires passes { 0 < board.old.book.passes }
-    requires free { row_of 0 board.old.book.history ≡ None }
+    requires free { row_in 0 board.old.book ≡ None }
     requires late { lives_and (is_late board.old.book.state name.slot) board.old.book.state.rows name ≡ true }
     ensures gone { LetsOneGo IsLateWay name board.old.book board.new.book }
     ensures fewer { late_weight board.new.book.state < late_weight board.old.book.state }
@@ -90,7 +90,7 @@ fn cause_of_late(kind: Kind) -> Cause
 /// A connection that is held begins to linger for the cause, or is closed where its half-close fails. Takes no memory.
 fn linger_for<L: Link, N: Known>(board: &mut Board<L, N>, conn: Conn<L, N>, cause: Cause)
     requires passes { 0 < board.old.book.passes }
-    requires row { row_of 0 board.old.book.history ≡ Some conn.name }
+    requires row { row_in 0 board.old.book ≡ Some conn.name }
     requires hand { IsInHand board.old.book.state conn }
     requires open { conn.linger ≡ linger.Open }
     requires allowed { is_allowed board.old.book.state (event.Linger conn.name cause) ≡ true }
@@ -108,7 +108,7 @@ fn linger_for<L: Link, N: Known>(board: &mut Board<L, N>, conn: Conn<L, N>, caus
 /// where its half-close fails. Takes no memory.
 pub(crate) fn let_go_retiring<L: Link, N: Known>(board: &mut Board<L, N>)
     requires passes { 0 < board.old.book.passes }
-    requires free { row_of 0 board.old.book.history ≡ None }
+    requires free { row_in 0 board.old.book ≡ None }
     ensures gone { LetsGo IsRetiringWay board.old.book board.new.book }
     ensures none { NoneToLetGo board.new.book.state }
     ensures rest { LeavesRest board.old.book board.new.book }
@@ -122,7 +122,7 @@ pub(crate) fn let_go_retiring<L: Link, N: Known>(board: &mut Board<L, N>)
 /// Lets go of such a connection.
 fn let_go_retiring_one<L: Link, N: Known>(board: &mut Board<L, N>, name: ConnName)
     requires passes { 0 < board.old.book.passes }
-    requires free { row_of 0 board.old.book.history ≡ None }
+    requires free { row_in 0 board.old.book ≡ None }
     requires retires { lives_and (is_let_go board.old.book.state name.slot) board.old.book.state.rows name ≡ true }
     ensures gone { LetsOneGo IsRetiringWay name board.old.book board.new.book }
     ensures fewer { serving_count board.new.book.state < serving_count board.old.book.state }
@@ -138,7 +138,7 @@ fn let_go_retiring_one<L: Link, N: Known>(board: &mut Board<L, N>, name: ConnNam
 /// Drops what came for each connection that lingers: it goes on lingering, or is closed. None is late before.
 pub(crate) fn drain_all<L: Link, N: Known>(board: &mut Board<L, N>) -> Result<(), BoardFault>
     requires passes { 0 < board.old.book.passes }
-    requires free { row_of 0 board.old.book.history ≡ None }
+    requires free { row_in 0 board.old.book ≡ None }
     requires none_late { NoneOverdue board.old.book.state }
     ensures drains { OnOk result (DrainsSome board.old.book board.new.book) }
     ensures until { OnErr result (DrainsUntil board.old.book board.new.book) }
@@ -157,7 +157,7 @@ pub(crate) fn drain_all<L: Link, N: Known>(board: &mut Board<L, N>) -> Result<()
 /// Drops what came for a connection that lingers.
 fn drain<L: Link, N: Known>(board: &mut Board<L, N>, name: ConnName) -> Result<(), BoardFault>
     requires passes { 0 < board.old.book.passes }
-    requires free { row_of 0 board.old.book.history ≡ None }
+    requires free { row_in 0 board.old.book ≡ None }
     requires none_late { NoneOverdue board.old.book.state }
     requires lingers { lives_and (has_to_be_drained board.old.book.state name.slot) board.old.book.state.rows name ≡ true }
     ensures drains { OnOk result (LetsOneGo IsDrainedWay name board.old.book board.new.book) }
@@ -204,7 +204,7 @@ fn linger_on<L: Link, N: Known>(
     cause: Cause,
 ) -> Result<(), BoardFault>
     requires passes { 0 < board.old.book.passes }
-    requires row { row_of 0 board.old.book.history ≡ Some conn.name }
+    requires row { row_in 0 board.old.book ≡ Some conn.name }
     requires lingers { IsLingeringFor cause board.old.book.state conn }
     requires kind { is_linger_kind kind ≡ true }
     requires allowed { is_halted board.old.book.state.going ≡ false → is_allowed board.old.book.state (event.Park conn.name kind) ≡ true }
@@ -235,7 +235,7 @@ fn give_up_lingering<L: Link, N: Known>(
     fault: BoardFault,
 )
     requires passes { 0 < board.old.book.passes }
-    requires row { row_of 0 board.old.book.history ≡ Some conn.name }
+    requires row { row_in 0 board.old.book ≡ Some conn.name }
     requires lingers { IsLingeringFor cause board.old.book.state conn }
     requires why { IsRefusedFor fault board.old.book }
     ensures acts { Acts 0 (lingering_given_up fault cause conn.name) None board.old.book board.new.book }
@@ -258,7 +258,7 @@ fn give_up_lingering<L: Link, N: Known>(
 pub(crate) fn close_all<L: Link, N: Known>(board: &mut Board<L, N>)
     requires passes { 0 < board.old.book.passes }
     requires opened { IsOpened board.old.book.base }
-    requires free { row_of 0 board.old.book.history ≡ None }
+    requires free { row_in 0 board.old.book ≡ None }
     requires halted { is_halted board.old.book.state.going ≡ true }
     ensures gone { LetsGo IsHaltedWay board.old.book board.new.book }
     ensures none { NoneParked board.new.book.state }
@@ -276,7 +276,7 @@ pub(crate) fn close_all<L: Link, N: Known>(board: &mut Board<L, N>)
 /// Closes a connection that waits, once the server has stopped: one that lingers for its cause, and another one as stopped.
 fn close_one<L: Link, N: Known>(board: &mut Board<L, N>, name: ConnName)
     requires passes { 0 < board.old.book.passes }
-    requires free { row_of 0 board.old.book.history ≡ None }
+    requires free { row_in 0 board.old.book ≡ None }
     requires halted { is_halted board.old.book.state.going ≡ true }
     requires waits { lives_and (is_waiting name.slot) board.old.book.state.rows name ≡ true }
     ensures gone { LetsOneGo IsHaltedWay name board.old.book board.new.book }

@@ -7,11 +7,12 @@ ghost use Rattle.std.specs.Prelude.{◌≡◌, ◌<◌, [], None, true, false, i
 ghost use Rattle.mpm_base.specs.Count.{next_count};
 ghost use Rattle.mpm_base.specs.Front.{TellsOn, Waits};
 ghost use Rattle.conn_machine.specs.Made.{AreOfPasses, IsOpened};
-ghost use Rattle.conn_machine.specs.Runs.{after, row_of};
+ghost use Rattle.conn_machine.specs.Runs.{after};
 ghost use Rattle.conn_machine.specs.Sound.{IsSound};
 ghost use Rattle.conn_machine.specs.States.{is_halted};
 ghost use Rattle.conn_state.specs.Known.{IsOfClient};
 ghost use Rattle.board.specs.Finds.{acceptable, next_deadline_of};
+ghost use Rattle.board.specs.Book.{row_in};
 ghost use Rattle.worker_group.specs.Service.{IsUp, LeavesRest};
 ghost use Rattle.mpm_run.specs.ListenInside.{AsksFor, Follows, HandedOut, HandsOut, HasStarted, HasStopped, IsArrival, IsAtStart, IsInStep, IsInTime, IsOpening, IsRestful, IsWatching, MustStop, OnlyTakes, TookAll, TurnsEnd, asked_children, bound_of, waits_of, why_of};
 ghost use Rattle.mpm_run.specs.PatientInside.{IsPatientRun};
@@ -201,7 +202,7 @@ impl<L: Link + Send, F: Front<L = L>, C: Clock, N: Known> Listener<L, F, C, N> {
     /// Starts the children, and finds what the first wait is told.
     fn start(&mut self) -> Result<Rest, BoardFault>
         requires passes { 0 < self.old.board.book.passes }
-        requires free { row_of 0 self.old.board.book.history ≡ None }
+        requires free { row_in 0 self.old.board.book ≡ None }
         ensures starts { StartsSome self.old.board.book self.new.board.book }
         ensures first { OnOk result (IsOpening self.old.board.book → BeginsWithStarts (asked_children self.old.board.book.base) self.new.board.book.history) }
         ensures going { self.new.board.book.state.going ≡ self.old.board.book.state.going }
@@ -235,7 +236,7 @@ impl<L: Link + Send, F: Front<L = L>, C: Clock, N: Known> Listener<L, F, C, N> {
     /// goes on by itself; where nothing is left to be done then, nothing is served. Err where the server has stopped.
     fn serve(&mut self) -> Result<Rest, BoardFault>
         requires passes { 1 < self.old.board.book.passes }
-        requires free { row_of 1 self.old.board.book.history ≡ None }
+        requires free { row_in 1 self.old.board.book ≡ None }
         ensures serves { ServesSome self.old.board.book self.new.board.book }
         ensures rest { LeavesRest self.old.board.book self.new.board.book }
         ensures going { OnOk result (is_halted self.new.board.book.state.going ≡ false) }
@@ -256,7 +257,7 @@ impl<L: Link + Send, F: Front<L = L>, C: Clock, N: Known> Listener<L, F, C, N> {
     /// children, and takes what has arrived.
     fn take_in<R: Wait>(&mut self, rt: &R, moment: Moment) -> Result<(), BoardFault>
         requires passes { 0 < self.old.board.book.passes }
-        requires free { row_of 0 self.old.board.book.history ≡ None }
+        requires free { row_in 0 self.old.board.book ≡ None }
         requires up { IsUp self.old.board.book.state.going }
         requires step { IsInStep self.old.front.told self.old.board.book.state }
         ensures round { OnOk result (GoesRound (moment_for moment) self.old.ready self.old.board.book self.new.board.book) }
@@ -284,7 +285,7 @@ impl<L: Link + Send, F: Front<L = L>, C: Clock, N: Known> Listener<L, F, C, N> {
     /// Takes the connections that have arrived, while a child admits one and a slot is vacant.
     fn take_all<R: Wait>(&mut self, rt: &R) -> Result<(), BoardFault>
         requires passes { 0 < self.old.board.book.passes }
-        requires free { row_of 0 self.old.board.book.history ≡ None }
+        requires free { row_in 0 self.old.board.book ≡ None }
         requires up { IsUp self.old.board.book.state.going }
         requires step { IsInStep self.old.front.told self.old.board.book.state }
         ensures takes { OnOk result (TakesSome self.old.board.book self.new.board.book) }
@@ -318,7 +319,7 @@ impl<L: Link + Send, F: Front<L = L>, C: Clock, N: Known> Listener<L, F, C, N> {
     /// link the front turns it away, and where the front can't watch it its connection is closed.
     fn take(&mut self, link: L) -> Result<(), BoardFault>
         requires passes { 0 < self.old.board.book.passes }
-        requires free { row_of 0 self.old.board.book.history ≡ None }
+        requires free { row_in 0 self.old.board.book ≡ None }
         requires acceptable { is_some (acceptable self.old.board.book.state) ≡ true }
         requires up { IsUp self.old.board.book.state.going }
         requires arrival { IsArrival self.old.board.book.state.accepted (L.seen link).told }

@@ -8,7 +8,7 @@ ghost use Rattle.mpm_base.specs.declared.conn.Kind.TheVariants.{Reading};
 ghost use Rattle.mpm_base.specs.declared.conn.Tail.TheVariants.{Direct};
 ghost use Rattle.conn_machine.specs.Made.{IsOpened};
 ghost use Rattle.conn_machine.specs.Rows.{is_live};
-ghost use Rattle.conn_machine.specs.Runs.{after, row_of};
+ghost use Rattle.conn_machine.specs.Runs.{after};
 ghost use Rattle.conn_machine.specs.Sound.{IsSound};
 ghost use Rattle.conn_machine.specs.States.{is_halted};
 ghost use Rattle.conn_machine.specs.Table.{is_allowed};
@@ -16,6 +16,7 @@ ghost use Rattle.conn_machine.specs.declared.event.Event.TheVariants as event;
 ghost use Rattle.board.specs.Faults.{IsRefusedFor};
 ghost use Rattle.board.specs.Fits.{IsSettled};
 ghost use Rattle.board.specs.Finds.{acceptable, next_deadline_of, startable};
+ghost use Rattle.board.specs.Book.{row_in};
 ghost use Rattle.worker_group.specs.Acts.{Acts};
 ghost use Rattle.worker_group.specs.InHand.{IsClosable, IsInHand};
 ghost use Rattle.worker_group.specs.Service.{IsUp, LeavesRest, left_events};
@@ -47,7 +48,7 @@ pub fn settle<L: Link, N: Known>(
     watched: bool,
 ) -> Result<(), BoardFault>
     requires passes { 0 < board.old.book.passes }
-    requires row { row_of 0 board.old.book.history ≡ Some conn.name }
+    requires row { row_in 0 board.old.book ≡ Some conn.name }
     requires hand { IsInHand board.old.book.state conn }
     requires allowed { is_halted board.old.book.state.going ≡ false → is_allowed board.old.book.state (event.Park conn.name Reading) ≡ true }
     requires settled { watched ≡ true → IsSettled Reading None conn }
@@ -70,7 +71,7 @@ pub fn settle<L: Link, N: Known>(
 /// Takes a connection into a slot, for the child that takes one. Where it is refused nothing changes.
 pub fn accept<L: Link, N: Known>(board: &mut Board<L, N>) -> Result<Taken, BoardFault>
     requires passes { 0 < board.old.book.passes }
-    requires free { row_of 0 board.old.book.history ≡ None }
+    requires free { row_in 0 board.old.book ≡ None }
     requires acceptable { is_some (acceptable board.old.book.state) ≡ true }
     ensures acts { IfOk result (λ taken. Acts 0 (event.Accept taken.name.slot ∷ []) (Some taken.name) board.old.book board.new.book) }
     ensures refused { OnErr result (board.new ≡ board.old) }
@@ -135,7 +136,7 @@ pub fn pass_time<L: Link, N: Known>(
     moment: Moment,
 ) -> Result<(), BoardFault>
     requires passes { 0 < board.old.book.passes }
-    requires free { row_of 0 board.old.book.history ≡ None }
+    requires free { row_in 0 board.old.book ≡ None }
     requires up { IsUp board.old.book.state.going }
     ensures passes { OnOk result (PassesTime (moment_for moment) board.old.book board.new.book) }
     ensures refused { OnErr result (LetsGo IsLateWay board.old.book board.new.book) }
@@ -162,7 +163,7 @@ pub fn signal_all<L: Link, N: Known>(
     slots: &[u32],
 ) -> Result<(), BoardFault>
     requires passes { 0 < board.old.book.passes }
-    requires free { row_of 0 board.old.book.history ≡ None }
+    requires free { row_in 0 board.old.book ≡ None }
     ensures signals { OnOk result (Acts 0 (signal_events board.old.book slots.now) None board.old.book board.new.book) }
     ensures first { OnErr result (SignalsFirst slots.now board.old.book board.new.book) }
     ensures rest { LeavesRest board.old.book board.new.book }
@@ -178,7 +179,7 @@ pub fn signal_all<L: Link, N: Known>(
 /// Signals the slot, where the table has it. Where it is refused nothing changes.
 fn signal<L: Link, N: Known>(board: &mut Board<L, N>, slot: u32) -> Result<(), BoardFault>
     requires passes { 0 < board.old.book.passes }
-    requires free { row_of 0 board.old.book.history ≡ None }
+    requires free { row_in 0 board.old.book ≡ None }
     ensures signals { OnOk result (Acts 0 (signal_events board.old.book (slot ∷ [])) None board.old.book board.new.book) }
     ensures rest { LeavesRest board.old.book board.new.book }
     ensures refused { OnErr result (board.new ≡ board.old) }
@@ -197,7 +198,7 @@ fn signal<L: Link, N: Known>(board: &mut Board<L, N>, slot: u32) -> Result<(), B
 /// late at once where moments end.
 pub fn let_go_of_conns<L: Link, N: Known>(board: &mut Board<L, N>) -> Result<(), BoardFault>
     requires passes { 0 < board.old.book.passes }
-    requires free { row_of 0 board.old.book.history ≡ None }
+    requires free { row_in 0 board.old.book ≡ None }
     ensures gone { OnOk result (LetsGoOfConns [] board.old.book board.new.book) }
     ensures until { OnErr result (LetsGoUntil board.old.book board.new.book) }
     ensures rest { LeavesRest board.old.book board.new.book }
@@ -212,7 +213,7 @@ pub fn let_go_of_conns<L: Link, N: Known>(board: &mut Board<L, N>) -> Result<(),
 /// Starts children, while fewer run than should.
 pub fn start_children<L: Link, N: Known>(board: &mut Board<L, N>) -> Result<(), BoardFault>
     requires passes { 0 < board.old.book.passes }
-    requires free { row_of 0 board.old.book.history ≡ None }
+    requires free { row_in 0 board.old.book ≡ None }
     ensures starts { StartsSome board.old.book board.new.book }
     ensures started { OnOk result (startable board.new.book.state ≡ None) }
     ensures first { OnOk result (IsOpening board.old.book → BeginsWithStarts (asked_children board.old.book.base) board.new.book.history) }
@@ -233,7 +234,7 @@ pub fn start_children<L: Link, N: Known>(board: &mut Board<L, N>) -> Result<(), 
 /// Serves each connection that is signalled and that a worker of its child is free for.
 pub fn serve_all<L: Link, N: Known>(board: &mut Board<L, N>) -> Result<(), BoardFault>
     requires passes { 1 < board.old.book.passes }
-    requires free { row_of 1 board.old.book.history ≡ None }
+    requires free { row_in 1 board.old.book ≡ None }
     ensures serves { ServesSome board.old.book board.new.book }
     ensures served { OnOk result (NoneDue board.new.book.state) }
     ensures rest { LeavesRest board.old.book board.new.book }
@@ -252,7 +253,7 @@ pub fn serve_all<L: Link, N: Known>(board: &mut Board<L, N>) -> Result<(), Board
 /// Stops the server for what ended the listener's turns, unless it was stopped. Takes no memory.
 pub fn halt<L: Link, N: Known>(board: &mut Board<L, N>, turns: Result<End, BoardFault>)
     requires passes { 0 < board.old.book.passes }
-    requires free { row_of 0 board.old.book.history ≡ None }
+    requires free { row_in 0 board.old.book ≡ None }
     requires must { MustHalt turns board.old.book }
     requires up { IsUp board.old.book.state.going }
     ensures acts { Acts 0 (halt_events board.old.book turns) None board.old.book board.new.book }
@@ -270,7 +271,7 @@ pub fn halt<L: Link, N: Known>(board: &mut Board<L, N>, turns: Result<End, Board
 /// Stops the server for the fault, unless it was stopped: where memory lacks and the history is full, for that. Takes no memory.
 fn stop<L: Link, N: Known>(board: &mut Board<L, N>, fault: BoardFault)
     requires passes { 0 < board.old.book.passes }
-    requires free { row_of 0 board.old.book.history ≡ None }
+    requires free { row_in 0 board.old.book ≡ None }
     requires must { MustStop fault board.old.book }
     requires up { IsUp board.old.book.state.going }
     ensures stops { is_halted board.old.book.state.going ≡ false → Acts 0 (stop_events board.old.book fault) None board.old.book board.new.book }
@@ -320,7 +321,7 @@ pub fn show_state<L: Link, N: Known>(board: &Board<L, N>)
 /// Lets go of each child that may be let go of: of each one that stops, and where no connection is live. Takes no memory.
 pub fn retire_all<L: Link, N: Known>(board: &mut Board<L, N>)
     requires passes { 0 < board.old.book.passes }
-    requires free { row_of 0 board.old.book.history ≡ None }
+    requires free { row_in 0 board.old.book ≡ None }
     ensures retires { RetiresSome board.old.book board.new.book }
     ensures down { is_halted board.old.book.state.going ≡ true → HasNoLive board.old.book.state → IsClosedDown board.new.book.state }
     ensures going { board.new.book.state.going ≡ board.old.book.state.going }

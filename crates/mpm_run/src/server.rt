@@ -6,10 +6,10 @@ ghost use Rattle.conn_machine.specs.Made.{AreOfPasses};
 ghost use Rattle.board.specs.Board.{AreOfClients};
 ghost use Rattle.board.specs.Ranks.{AllTell};
 ghost use Rattle.mpm_run.specs.ExitStatusesInside.{WritesAll};
-ghost use Rattle.mpm_run.specs.FirstNumbers.{folded_by, opened_by};
+ghost use Rattle.mpm_run.specs.FirstNumbers.{opened_by};
 ghost use Rattle.mpm_run.specs.FirstNumbersInside.{AreNumbers, opened_book};
 ghost use Rattle.mpm_run.specs.Links.{EndsLinks, TakesLinks};
-ghost use Rattle.mpm_run.specs.Listen.{HasClosedAll, IsClosedDown, IsRunFrom};
+ghost use Rattle.mpm_run.specs.Listen.{HasClosedAll, IsClosedDown, IsRunFrom, NeverFolded};
 ghost use Rattle.mpm_run.specs.ListenInside.{ComesBack, Follows, HasStopped, IsInTime, IsNamed, LinksTell, waits_of};
 ghost use Rattle.mpm_run.specs.PatientInside.{IsPatientRun};
 ghost use Rattle.mpm_run.specs.Started.{IsStartedFirst};
@@ -74,6 +74,7 @@ pub fn run_server<
     requires unused { IfSome (F.seen front).told IsUnused }
     requires unasked { IfSome (C.told clock) (λ calls. calls ≡ []) }
     ensures run { IfOk result (λ s. IsRunFrom numbers s.board) }
+    ensures unfolded { IfOk result (λ s. NeverFolded numbers s.board.book) }
     ensures closed { IfOk result (λ s. HasClosedAll s.board) }
     ensures clients { IfOk result (λ s. AreOfClients N.known s.board) }
     ensures stopped { IfOk result (λ s. HasStopped (F.seen front) (F.seen s.front) s.board.book.state) }
@@ -163,7 +164,7 @@ fn show_run<L: Link, N: Known>(board: &Board<L, N>, numbers: RunNumbers)
     requires base { board.now.book.base ≡ opened_by numbers }
     requires passes { board.now.book.passes ≡ numbers.passes }
     requires few { AreOfPasses numbers.passes board.now.book.history }
-    ensures unfolded { board.now.book.folded ≡ folded_by numbers }
+    ensures unfolded { NeverFolded numbers board.now.book }
     ensures run { IsRunFrom numbers board.now }
     ensures closed { IsClosedDown board.now.book.state → HasClosedAll board.now }
     ensures links { IsClosedDown board.now.book.state → AllTell board.now.ended → EndsLinks board.now }

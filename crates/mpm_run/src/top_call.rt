@@ -6,6 +6,7 @@ ghost use Rattle.script_front.specs.Editions.{editions_of};
 ghost use Rattle.mpm_run.specs.ExitStatuses.{EndsConfigRefused, EndsFor, EndsFull, EndsRefused, EndsTestUnwritten, EndsTested, EndsUnknown, EndsUnread, EndsUnwritten, EndsWell, HasEnd, HasPlayed, IsExitStatus, IsPatient, KeepsTime, seen_call};
 ghost use Rattle.mpm_run.specs.FirstNumbers as opening;
 ghost use Rattle.mpm_run.specs.Links.{KeepsLinks};
+ghost use Rattle.mpm_run.specs.Listen.{NeverFolded};
 ghost use Rattle.mpm_run.specs.Started.{IsStartedFirst};
 ghost use Rattle.mpm_run.specs.Watched.{AreWatched, IsOpenedAndHushed};
 
@@ -33,6 +34,9 @@ pub fn run<R: Threads + Wait + Sync, D: Store, K: Sink>(
     // Whatever the exit status, what is left of a run is of one of the script that was read, by the configuration that it writes: it
     // closed each connection that it took, and each child is gone.
     ensures kept { IfSome result.scripted (λ s. HasPlayed (seen_call words.now (D.seen store.old) (D.seen store.new) (K.seen out.old) (K.seen out.new) result.shown) s.config s.board s.front) }
+
+    // Nothing of what it did was folded: the history is all of it.
+    ensures unfolded { IfSome result.scripted (λ s. NeverFolded (opening.numbers_of s.config) s.board.book) }
 
     // Its store tells what the lines of the script make of the site.
     ensures site { IfSome result.scripted (λ s. s.store.told ≡ editions_of s.front.script) }

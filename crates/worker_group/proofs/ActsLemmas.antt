@@ -5,9 +5,10 @@ use Rattle.std.proofs.lemmas.List.Elements.{filter-append}
 use Rattle.mpm_base.specs.declared.conn.ConnName.{ConnName}
 use Rattle.conn_machine.specs.declared.event.Event.{Event}
 use Rattle.conn_machine.specs.declared.event.Entry.{Entry}
+use Rattle.conn_machine.specs.declared.folded.Folded.{Folded}
 use Rattle.conn_machine.specs.declared.state.State.{State}
-use Rattle.conn_machine.specs.Runs.{is_of_pass, entries_of, row_of, AreEntriesOf, Adds}
-use Rattle.board.specs.Book.{SeenBook, book_with_entry, entry_of}
+use Rattle.conn_machine.specs.Runs.{is_of_pass, entries_of, AreEntriesOf, Adds}
+use Rattle.board.specs.Book.{SeenBook, book_with_entry, entry_of, row_in, AddsOnly}
 use Rattle.board.specs.Board.{SeenBoard}
 use Rattle.board.specs.Events.{with_recorded}
 use Rattle.worker_group.specs.Acts.{Acts, events_of}
@@ -23,23 +24,23 @@ events-own who history e own =
     ∙ map-append (λ (x : Entry). x.event) (entries_of who history) (e ∷ [])
 
 -- the entries of one pass are none of another's
-none-of_other : (p q : ℕ) (base : State) (before added : List Entry) → AreEntriesOf p base before added → q ≢ p → entries_of q added ≡ []
-none-of_other p q base before [] are differs = refl
-none-of_other p q base before (e ∷ added) are differs =
+none-of_other : (p q : ℕ) (base : State) (f : Folded) (before added : List Entry) → AreEntriesOf p base f before added → q ≢ p → entries_of q added ≡ []
+none-of_other p q base f before [] are differs = refl
+none-of_other p q base f before (e ∷ added) are differs =
     let off : is_of_pass q e ≡ false = ne_eqb e.pass q (λ same. differs (sym same ∙ are.0.pass)) in
-    rw off (none-of_other p q base (before ++ e ∷ []) added are.1 differs)
+    rw off (none-of_other p q base f (before ++ e ∷ []) added are.1 differs)
 
 -- the entries of a pass stay while another adds some
-pub entries-others : (p q : ℕ) (base : State) (old new : List Entry) → Adds p base old new → q ≢ p → entries_of q new ≡ entries_of q old
-entries-others p q base old new adds differs =
+pub entries-others : (p q : ℕ) (base : State) (f : Folded) (old new : List Entry) → Adds p base f old new → q ≢ p → entries_of q new ≡ entries_of q old
+entries-others p q base f old new adds differs =
     ap (entries_of q) adds.1 ∙ filter-append (is_of_pass q) old adds.0
-    ∙ ap (λ (es : List Entry). entries_of q old ++ es) (none-of_other p q base old adds.0 adds.2 differs)
+    ∙ ap (λ (es : List Entry). entries_of q old ++ es) (none-of_other p q base f old adds.0 adds.2 differs)
     ∙ append-nil (entries_of q old)
 
 -- ## Steps of a pass
 
 -- a pass that does nothing has what it had
-pub acts_none : (who : ℕ) (has : Option ConnName) (b : SeenBook) → row_of who b.history ≡ has → Acts who [] has b b
+pub acts_none : (who : ℕ) (has : Option ConnName) (b : SeenBook) → row_in who b ≡ has → Acts who [] has b b
 acts_none who has b row = record {
   base = refl;
   folded = refl;
@@ -50,12 +51,12 @@ acts_none who has b row = record {
 }
 
 -- so does one whose call left the book as it was
-pub acts_same : (who : ℕ) (has : Option ConnName) (b b' : SeenBook) → b' ≡ b → row_of who b.history ≡ has → Acts who [] has b b'
+pub acts_same : (who : ℕ) (has : Option ConnName) (b b' : SeenBook) → b' ≡ b → row_in who b ≡ has → Acts who [] has b b'
 acts_same who has b b' same row = subst (λ (v : SeenBook). Acts who [] has b v) (sym same) (acts_none who has b row)
 
 -- a pass that recorded an event made that, and has what the row says
-pub acts_one : (who : ℕ) (e : Event) (has : Option ConnName) (b b' : SeenBook) → b' ≡ book_with_entry who e b → Adds who b.base b.history b'.history
-    → row_of who b'.history ≡ has → Acts who (e ∷ []) has b b'
+pub acts_one : (who : ℕ) (e : Event) (has : Option ConnName) (b b' : SeenBook) → b' ≡ book_with_entry who e b → AddsOnly who b b'
+    → row_in who b' ≡ has → Acts who (e ∷ []) has b b'
 acts_one who e has b b' is adds row = record {
   base = ap (λ (v : SeenBook). v.base) is;
   folded = ap (λ (v : SeenBook). v.folded) is;
@@ -69,28 +70,29 @@ acts_one who e has b b' is adds row = record {
 
 -- the same of a call of the board that records it, and changes nothing else of the book
 pub acts_recorded : (who : ℕ) (e : Event) (has : Option ConnName) (b b' : SeenBoard) → b' ≡ with_recorded who e b
-    → Adds who b.book.base b.book.history b'.book.history → row_of who b'.book.history ≡ has → Acts who (e ∷ []) has b.book b'.book
+    → AddsOnly who b.book b'.book → row_in who b'.book ≡ has → Acts who (e ∷ []) has b.book b'.book
 acts_recorded who e has b b' is adds row = acts_one who e has b.book b'.book (ap (λ (v : SeenBoard). v.book) is) adds row
 
 -- the entries of a pass, and others behind them
-are-both : (p : ℕ) (base : State) (history a b : List Entry) → AreEntriesOf p base history a → AreEntriesOf p base (history ++ a) b
-    → AreEntriesOf p base history (a ++ b)
-are-both p base history [] b first second = subst (λ (h : List Entry). AreEntriesOf p base h b) (append-nil history) second
-are-both p base history (e ∷ a) b first second = (
+are-both : (p : ℕ) (base : State) (f : Folded) (history a b : List Entry) → AreEntriesOf p base f history a → AreEntriesOf p base f (history ++ a) b
+    → AreEntriesOf p base f history (a ++ b)
+are-both p base f history [] b first second = subst (λ (h : List Entry). AreEntriesOf p base f h b) (append-nil history) second
+are-both p base f history (e ∷ a) b first second = (
   first.0,
-  are-both p base (history ++ e ∷ []) a b first.1
-      (subst (λ (h : List Entry). AreEntriesOf p base h b) (sym (append_assoc history (e ∷ []) a)) second),
+  are-both p base f (history ++ e ∷ []) a b first.1
+      (subst (λ (h : List Entry). AreEntriesOf p base f h b) (sym (append_assoc history (e ∷ []) a)) second),
 )
 
 -- what was added in two steps was added
-adds-more : (p : ℕ) (base base' : State) (a b c : List Entry) → base' ≡ base → Adds p base a b → Adds p base' b c → Adds p base a c
-adds-more p base base' a b c same first second =
-    let behind : AreEntriesOf p base (a ++ first.0) second.0 =
-    subst (λ (h : List Entry). AreEntriesOf p base h second.0) first.1
-    (subst (λ (s : State). AreEntriesOf p s b second.0) same second.2) in (
+adds-more : (who : ℕ) (a b c : SeenBook) → b.base ≡ a.base → b.folded ≡ a.folded → AddsOnly who a b → AddsOnly who b c → AddsOnly who a c
+adds-more who a b c base folded first second =
+    let behind : AreEntriesOf who a.base a.folded (a.history ++ first.0) second.0 =
+    subst (λ (h : List Entry). AreEntriesOf who a.base a.folded h second.0) first.1
+    (subst (λ (f : Folded). AreEntriesOf who a.base f b.history second.0) folded
+    (subst (λ (s : State). AreEntriesOf who s b.folded b.history second.0) base second.2)) in (
       first.0 ++ second.0,
-      second.1 ∙ ap (λ (h : List Entry). h ++ second.0) first.1 ∙ append_assoc a first.0 second.0,
-      are-both p base a first.0 second.0 first.2 behind,
+      second.1 ∙ ap (λ (h : List Entry). h ++ second.0) first.1 ∙ append_assoc a.history first.0 second.0,
+      are-both who a.base a.folded a.history first.0 second.0 first.2 behind,
     )
 
 -- what a pass does in two steps, it does
@@ -100,7 +102,7 @@ acts_more who es fs had has a b c before behind = record {
   base = behind.base ∙ before.base;
   folded = behind.folded ∙ before.folded;
   passes = behind.passes ∙ before.passes;
-  entries = adds-more who a.base b.base a.history b.history c.history before.base before.entries behind.entries;
+  entries = adds-more who a b c before.base before.folded before.entries behind.entries;
   made =
       behind.made ∙ ap (λ (xs : List Event). xs ++ fs) before.made
       ∙ append_assoc (events_of who a.history) es fs;
@@ -118,4 +120,4 @@ acts_as who es fs had has a b acts same_events same_row =
 -- another pass has made what it had made
 pub acts-entries_other : (who other : ℕ) (es : List Event) (has : Option ConnName) (a b : SeenBook) → Acts who es has a b → other ≢ who
     → entries_of other b.history ≡ entries_of other a.history
-acts-entries_other who other es has a b acts differs = entries-others who other a.base a.history b.history acts.entries differs
+acts-entries_other who other es has a b acts differs = entries-others who other a.base a.folded a.history b.history acts.entries differs

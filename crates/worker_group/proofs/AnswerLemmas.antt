@@ -18,12 +18,11 @@ use Rattle.conn_machine.specs.Rows.{is_working, is_live, is_live_as, in_phase, r
 use Rattle.conn_machine.specs.States.{is_halted, child_of}
 use Rattle.conn_machine.specs.Table.{is_allowed, next, note_for, answered_row}
 use Rattle.conn_machine.specs.Sound.{IsSound}
-use Rattle.conn_machine.specs.Runs.{row_of}
 use Rattle.conn_state.specs.declared.turn.LastTurn.{LastTurn}
 use Rattle.conn_state.specs.declared.turn.LastTurn.TheVariants as turn
 use Rattle.conn_state.specs.Conn.{SeenConn, TurnFits, IsConn, is_half_closed}
 use Rattle.conn_state.specs.Turns.{TakesNote}
-use Rattle.board.specs.Book.{SeenBook}
+use Rattle.board.specs.Book.{SeenBook, row_in}
 use Rattle.board.specs.Events.{IsDecided}
 use Rattle.worker_group.specs.Acts.{Acts}
 use Rattle.worker_group.specs.InHand.{IsClosable}
@@ -168,7 +167,7 @@ fewer-answered s s' c c' name ask note sound served goes_on is answers =
 -- ## The events
 
 -- no response was decided, and the pass has the connection still
-pub answers_none : (who : ℕ) (name : ConnName) (b b' : SeenBook) → b' ≡ b → row_of who b.history ≡ Some name
+pub answers_none : (who : ℕ) (name : ConnName) (b b' : SeenBook) → b' ≡ b → row_in who b ≡ Some name
     → (asks : List Ask) × Acts who (answer_events name asks) (Some name) b b'
 answers_none who name b b' same row = ([], acts_same who (Some name) b b' same row)
 

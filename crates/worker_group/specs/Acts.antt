@@ -3,8 +3,8 @@ use Rattle.std.specs.Prelude.{◌≡◌, ◌≢◌, ℕ, List, [], ◌∷◌, ma
 use Rattle.mpm_base.specs.declared.conn.ConnName.{ConnName}
 use Rattle.conn_machine.specs.declared.event.Event.{Event}
 use Rattle.conn_machine.specs.declared.event.Entry.{Entry}
-use Rattle.conn_machine.specs.Runs.{Adds, entries_of, row_of}
-use Rattle.board.specs.Book.{SeenBook, book_with_entry}
+use Rattle.conn_machine.specs.Runs.{entries_of}
+use Rattle.board.specs.Book.{SeenBook, book_with_entry, row_in, AddsOnly}
 
 -- the events of the entries that the pass made, in order
 abbrev pub events_of : ℕ → List Entry → List Event
@@ -16,14 +16,14 @@ pub record Acts (who : ℕ) (events : List Event) (has : Option ConnName) (old n
   pub base : new.base ≡ old.base
   pub folded : new.folded ≡ old.folded
   pub passes : new.passes ≡ old.passes
-  pub entries : Adds who old.base old.history new.history
+  pub entries : AddsOnly who old new
   pub made : events_of who new.history ≡ events_of who old.history ++ events
-  pub row : row_of who new.history ≡ has
+  pub row : row_in who new ≡ has
 
 -- a pass that recorded nothing, or one event, did that, and what it did in two steps it did; every other pass has made what it
 -- had made
 pub record ActsInSteps : Type 0 where
-  pub none : (who : ℕ) (has : Option ConnName) (b : SeenBook) → row_of who b.history ≡ has → Acts who [] has b b
-  pub one : (who : ℕ) (e : Event) (has : Option ConnName) (old new : SeenBook) → new ≡ book_with_entry who e old → Adds who old.base old.history new.history → row_of who new.history ≡ has → Acts who (e ∷ []) has old new
+  pub none : (who : ℕ) (has : Option ConnName) (b : SeenBook) → row_in who b ≡ has → Acts who [] has b b
+  pub one : (who : ℕ) (e : Event) (has : Option ConnName) (old new : SeenBook) → new ≡ book_with_entry who e old → AddsOnly who old new → row_in who new ≡ has → Acts who (e ∷ []) has old new
   pub more : (who : ℕ) (first second : List Event) (had has : Option ConnName) (a b c : SeenBook) → Acts who first had a b → Acts who second has b c → Acts who (first ++ second) has a c
   pub others : (who other : ℕ) (events : List Event) (has : Option ConnName) (old new : SeenBook) → Acts who events has old new → other ≢ who → entries_of other new.history ≡ entries_of other old.history

@@ -1,7 +1,6 @@
 //! The service of a connection by a worker, from its queue until it waits, lingers or is closed.
 ghost use Rattle.std.specs.Prelude.{◌≡◌, ◌<◌, List, [], ◌∷◌, true, false, None, Some, IfSome, IfNone, IfErr, OnOk, OnErr};
 ghost use Rattle.mpm_base.specs.declared.conn.Ask.{Ask};
-ghost use Rattle.conn_machine.specs.Runs.{row_of};
 ghost use Rattle.conn_machine.specs.States.{is_halted};
 ghost use Rattle.conn_machine.specs.Table.{is_allowed};
 ghost use Rattle.conn_machine.specs.declared.event.Event.TheVariants as event;
@@ -10,7 +9,7 @@ ghost use Rattle.conn_state.specs.declared.turn.LastLinger.TheVariants as linger
 ghost use Rattle.conn_state.specs.Answered.{MayLinger};
 ghost use Rattle.conn_state.specs.Conn.{is_half_closed};
 ghost use Rattle.conn_state.specs.Turns.{ShutsOn};
-ghost use Rattle.board.specs.Book.{book_with_entry};
+ghost use Rattle.board.specs.Book.{book_with_entry, row_in};
 ghost use Rattle.board.specs.Faults.{IsRefusedFor};
 ghost use Rattle.board.specs.Fits.{FoundNoMore, IsSettled};
 ghost use Rattle.worker_group.specs.Acts.{Acts};
@@ -44,7 +43,7 @@ pub fn serve<L: Link, N: Known>(
     name: ConnName,
 ) -> Result<(), BoardFault>
     requires who { who < board.old.book.passes }
-    requires free { row_of who board.old.book.history ≡ None }
+    requires free { row_in who board.old.book ≡ None }
     requires allowed { is_halted board.old.book.state.going ≡ false → is_allowed board.old.book.state (event.Queue name) ≡ true }
     ensures served { OnOk result (HasServed who name board.old board.new) }
     ensures why { IfErr result (λ fault. IsRefusedFor fault board.old.book) }
@@ -60,7 +59,7 @@ pub fn serve<L: Link, N: Known>(
 /// Takes turns with the client, until the connection is to be left.
 fn converse<L: Link, N: Known>(board: &mut Board<L, N>, who: u32, conn: &mut Conn<L, N>) -> Exit
     requires who { who < board.old.book.passes }
-    requires row { row_of who board.old.book.history ≡ Some conn.old.name }
+    requires row { row_in who board.old.book ≡ Some conn.old.name }
     requires served { IsServed board.old.book.state conn.old }
     ensures name { conn.new.name ≡ conn.old.name }
     ensures acts { (asks : List Ask) × Acts who (answer_events conn.old.name asks) (Some conn.old.name) board.old.book board.new.book }
@@ -82,7 +81,7 @@ fn serve_turn<L: Link, N: Known>(
     conn: &mut Conn<L, N>,
 ) -> Option<Exit>
     requires who { who < board.old.book.passes }
-    requires row { row_of who board.old.book.history ≡ Some conn.old.name }
+    requires row { row_in who board.old.book ≡ Some conn.old.name }
     requires served { IsServed board.old.book.state conn.old }
     ensures name { conn.new.name ≡ conn.old.name }
     ensures acts { (asks : List Ask) × Acts who (answer_events conn.old.name asks) (Some conn.old.name) board.old.book board.new.book }
@@ -118,7 +117,7 @@ fn answer<L: Link, N: Known>(
     ask: Ask,
 ) -> Option<Exit>
     requires who { who < board.old.book.passes }
-    requires row { row_of who board.old.book.history ≡ Some conn.old.name }
+    requires row { row_in who board.old.book ≡ Some conn.old.name }
     requires served { IsServed board.old.book.state conn.old }
     requires asked { conn.old.turn ≡ turn.Asked ask }
     ensures name { conn.new.name ≡ conn.old.name }
@@ -155,7 +154,7 @@ fn half_close<L: Link, N: Known>(conn: &mut Conn<L, N>, cause: Cause) -> Exit
 /// Parks the connection, lets it linger, closes it, or gives it up.
 fn leave<L: Link, N: Known>(board: &mut Board<L, N>, who: u32, conn: Conn<L, N>, exit: Exit)
     requires who { who < board.old.book.passes }
-    requires row { row_of who board.old.book.history ≡ Some conn.name }
+    requires row { row_in who board.old.book ≡ Some conn.name }
     requires may { MayLeave board.old.book conn exit }
     ensures left { IsLeftBy who exit conn board.old.book board.new }
 {
@@ -179,7 +178,7 @@ pub fn park<L: Link, N: Known>(
     kind: Kind,
 ) -> Result<(), BoardFault>
     requires who { who < board.old.book.passes }
-    requires row { row_of who board.old.book.history ≡ Some conn.name }
+    requires row { row_in who board.old.book ≡ Some conn.name }
     requires allowed { is_halted board.old.book.state.going ≡ false → is_allowed board.old.book.state (event.Park conn.name kind) ≡ true }
     requires hand { IsInHand board.old.book.state conn }
     requires settled { IsSettled kind None conn }
@@ -210,7 +209,7 @@ pub fn let_linger<L: Link, N: Known>(
     cause: Cause,
 )
     requires who { who < board.old.book.passes }
-    requires row { row_of who board.old.book.history ≡ Some conn.name }
+    requires row { row_in who board.old.book ≡ Some conn.name }
     requires hand { IsInHand board.old.book.state conn }
     requires open { conn.linger ≡ linger.Open }
     requires allowed { is_allowed board.old.book.state (event.Linger conn.name cause) ≡ true }
@@ -237,7 +236,7 @@ pub fn give_up<L: Link, N: Known>(
     fault: BoardFault,
 )
     requires who { who < board.old.book.passes }
-    requires row { row_of who board.old.book.history ≡ Some conn.name }
+    requires row { row_in who board.old.book ≡ Some conn.name }
     requires hand { IsInHand board.old.book.state conn }
     requires why { IsRefusedFor fault board.old.book }
     ensures acts { Acts who (given_up fault conn.name) None board.old.book board.new.book }
@@ -264,7 +263,7 @@ pub fn close<L: Link, N: Known>(
     tail: Tail,
 )
     requires who { who < board.old.book.passes }
-    requires row { row_of who board.old.book.history ≡ Some conn.name }
+    requires row { row_in who board.old.book ≡ Some conn.name }
     requires may { IsClosable board.old.book.state cause tail conn }
     ensures closed { board.new.book ≡ book_with_entry who (event.Close conn.name cause tail) board.old.book }
     ensures acts { Acts who (event.Close conn.name cause tail ∷ []) None board.old.book board.new.book }

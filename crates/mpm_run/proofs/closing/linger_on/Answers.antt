@@ -1,9 +1,9 @@
 use Rattle.std.proofs.Common.{None, Some, ap, subst, sym, ◌∙◌, refl}
-use Rattle.conn_machine.specs.Runs.{row_of}
 use Rattle.conn_machine.specs.declared.event.Event.TheVariants as event
 use Rattle.conn_state.specs.Conn.{SeenConn}
 use Rattle.board.specs.Board.{SeenBoard}
 use Rattle.board.specs.Faults.{IsRefusedFor}
+use Rattle.board.specs.Book.{row_in}
 use Rattle.worker_group.specs.Acts.{Acts}
 use Rattle.worker_group.specs.Service.{LeavesRest}
 use Rattle.mpm_run.specs.ClosingInside.{IsLingeringFor, lingering_given_up}
@@ -19,7 +19,7 @@ park-requires-clause-turned g c = found-no_more c.args.kind c.args.conn c.requir
 
 pub give_up_lingering-requires-clause-row : goal.give_up_lingering-requires-clause-row
 give_up_lingering-requires-clause-row g c =
-    ap (λ (b : SeenBoard). row_of 0 b.book.history) c.in-Err.ensures.err ∙ c.requires.row
+    ap (λ (b : SeenBoard). row_in 0 b.book) c.in-Err.ensures.err ∙ c.requires.row
     ∙ ap (λ (x : SeenConn). Some x.name) (sym c.in-Err.ensures.back)
 
 pub give_up_lingering-requires-clause-lingers : goal.give_up_lingering-requires-clause-lingers

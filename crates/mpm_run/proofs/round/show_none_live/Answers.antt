@@ -1,11 +1,16 @@
-use Rattle.std.proofs.Common.{subst}
+use Rattle.std.proofs.Common.{ℕ, subst}
 use Rattle.conn_machine.specs.Passes.{HasNoneInHand}
-use Rattle.mpm_run.proofs.PassLemmas.{none-left}
+use Rattle.conn_machine.specs.Runs.{after}
+use Rattle.board.specs.Book.{row_in}
+use Rattle.mpm_run.proofs.PassLemmas.{none-left, owns-opened}
 use Rattle.mpm_run.proofs.round.show_none_live.Goals as goal
 
 pub returns : goal.returns
 returns g c none parked =
     let b = c.args.board.now.book in
     none-left b.state
-    (subst HasNoneInHand c.show.ensures.state (c.each_pass_has_its_own_connection.ensures.nobody b.base b.history c.requires c.show.ensures.made none))
+    (subst HasNoneInHand c.show.ensures.state
+    (c.each_pass_has_its_own_connection.ensures.nobody (after b.base b.history) (λ (who : ℕ). row_in who b)
+    (c.each_pass_has_its_own_connection.ensures.made b.base b.folded b.history
+    (owns-opened c.each_pass_has_its_own_connection.ensures.opened b c.requires c.show.ensures.unfolded) c.show.ensures.made) none))
     parked

@@ -70,7 +70,7 @@ returns-clause-watched g c tells =
     c.listen.ensures.watched (λ holds. watching-opened c.args.numbers (g.F.Front.seen c.in-Ok.front).told _ c.in-Ok-open_board.board.book c.in-Ok-open_board.ensures.book idle) tells in
     let here = subst (λ (l : SeenListener). IfSome l.front.told (WatchesAll l.board.book)) (sym c.listener.view_is) all in
     subst (λ (b : SeenBoard). IfSome (g.F.Front.seen c.listener.inside.front).told (AreWatched b.book)) (sym c.forget.ensures.same)
-    (are-watched c.args.numbers _ c.listener.inside.board.book c.show_run.ensures.unfolded here)
+    (are-watched c.args.numbers _ c.listener.inside.board.book c.show_run.ensures.unfolded.folded here)
 
 pub returns-clause-patient : goal.returns-clause-patient
 returns-clause-patient g c =

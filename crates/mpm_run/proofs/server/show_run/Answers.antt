@@ -1,34 +1,40 @@
-use Rattle.mpm_run.proofs.RunLemmas.{closed-all, ends-links, run-from, run-opened, unfolded_by}
+use Rattle.mpm_run.proofs.RunLemmas.{closed-all, ends-links, never-folded, run-from, run-opened}
 use Rattle.mpm_run.proofs.server.show_run.Goals as goal
 
 pub returns-clause-unfolded : goal.returns-clause-unfolded
-returns-clause-unfolded g c = unfolded_by c.args.numbers c.args.board.now.book c.show.ensures.unfolded c.requires.passes
+returns-clause-unfolded g c =
+    never-folded c.args.numbers c.args.board.now.book c.requires.base c.show.ensures.unfolded c.requires.passes
 
 pub returns-clause-run : goal.returns-clause-run
 returns-clause-run g c =
-    run-from c.args.numbers c.args.board.now c.requires.base (unfolded_by c.args.numbers c.args.board.now.book c.show.ensures.unfolded c.requires.passes) c.requires.few c.events_keep_states_sound.ensures.run
-    c.show.ensures.run c.show.ensures.order c.show.ensures.made c.show.ensures.state c.show.ensures.opened c.show.ensures.stops c.show.ensures.full c.show.ensures.agrees
+    run-from c.args.numbers c.args.board.now c.requires.few c.events_keep_states_sound.ensures.run c.show.ensures.run c.show.ensures.order
+    c.show.ensures.made c.show.ensures.state c.show.ensures.opened c.show.ensures.stops c.show.ensures.full c.show.ensures.agrees
 
 pub returns-clause-closed : goal.returns-clause-closed
 returns-clause-closed g c down =
     let n = c.args.numbers in
     let b = c.args.board.now in
-    let run = run-from n b c.requires.base (unfolded_by n b.book c.show.ensures.unfolded c.requires.passes) c.requires.few c.events_keep_states_sound.ensures.run
-    c.show.ensures.run c.show.ensures.order c.show.ensures.made c.show.ensures.state c.show.ensures.opened c.show.ensures.stops c.show.ensures.full c.show.ensures.agrees in
-    closed-all n b run
-    (c.accepted_connections_are_closed_or_live.ensures.closed_or_live n.slots n.children n.shape b.book.history (run-opened n b run))
+    let never = never-folded n b.book c.requires.base c.show.ensures.unfolded c.requires.passes in
+    let run =
+    run-from n b c.requires.few c.events_keep_states_sound.ensures.run c.show.ensures.run c.show.ensures.order c.show.ensures.made c.show.ensures.state
+    c.show.ensures.opened c.show.ensures.stops c.show.ensures.full c.show.ensures.agrees in
+    closed-all n b run never
+    (c.accepted_connections_are_closed_or_live.ensures.closed_or_live n.slots n.children n.shape b.book.history (run-opened n b run never))
     down
 
 pub returns-clause-links : goal.returns-clause-links
 returns-clause-links g c down tell =
     let n = c.args.numbers in
     let b = c.args.board.now in
-    let run = run-from n b c.requires.base (unfolded_by n b.book c.show.ensures.unfolded c.requires.passes) c.requires.few c.events_keep_states_sound.ensures.run
-    c.show.ensures.run c.show.ensures.order c.show.ensures.made c.show.ensures.state c.show.ensures.opened c.show.ensures.stops c.show.ensures.full c.show.ensures.agrees in
-    let closed = closed-all n b run
-    (c.accepted_connections_are_closed_or_live.ensures.closed_or_live n.slots n.children n.shape b.book.history (run-opened n b run))
+    let never = never-folded n b.book c.requires.base c.show.ensures.unfolded c.requires.passes in
+    let run =
+    run-from n b c.requires.few c.events_keep_states_sound.ensures.run c.show.ensures.run c.show.ensures.order c.show.ensures.made c.show.ensures.state
+    c.show.ensures.opened c.show.ensures.stops c.show.ensures.full c.show.ensures.agrees in
+    let closed =
+    closed-all n b run never
+    (c.accepted_connections_are_closed_or_live.ensures.closed_or_live n.slots n.children n.shape b.book.history (run-opened n b run never))
     down in
-    ends-links n b run
+    ends-links n b run never
     (λ number. c.ended_links_are_of_closed_connections.ensures.once n.slots n.children n.shape b.book.history b.ended number)
     (λ number. c.ended_links_are_of_closed_connections.ensures.no_other n.slots n.children n.shape b.book.history b.ended number)
     (c.accepted_connections_are_closed_or_live.ensures.accepted n.slots n.children n.shape b.book.history) closed tell

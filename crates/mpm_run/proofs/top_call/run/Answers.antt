@@ -25,6 +25,9 @@ returns-in-Some-Script-clause-refused g c eight =
     subst (λ (w : List (List ℕ)). EndsRefused (seen_call w (g.D.Store.seen c.args.store.now) (g.D.Store.seen c.run_script.new.store) (g.K.Sink.seen c.args.out.now) (g.K.Sink.seen c.run_script.new.out) c.run_script.result.shown))
     (sym (subst (λ (i : Invocation). IsInvocation i c.args.words.now) c.in-Some-Script.field-0-is c.in-Some-Script.ensures.some)) (c.run_script.ensures.refused eight)
 
+pub returns-in-Some-Script-clause-unfolded : goal.returns-in-Some-Script-clause-unfolded
+returns-in-Some-Script-clause-unfolded g c = IfSome_then c.run_script.result.scripted c.run_script.ensures.left (λ s left. left.unfolded)
+
 pub returns-in-Some-Script-clause-site : goal.returns-in-Some-Script-clause-site
 returns-in-Some-Script-clause-site g c = IfSome_then c.run_script.result.scripted c.run_script.ensures.left (λ s left. left.site)
 

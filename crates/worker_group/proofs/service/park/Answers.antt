@@ -1,10 +1,10 @@
 use Rattle.std.proofs.Common.{Option, None, Some, ap, subst, sym, ◌∙◌}
 use Rattle.mpm_base.specs.declared.conn.Cause.{Cause}
-use Rattle.conn_machine.specs.Runs.{row_of}
 use Rattle.conn_machine.specs.declared.event.Event.TheVariants as event
 use Rattle.conn_state.specs.Conn.{SeenConn}
 use Rattle.board.specs.Board.{SeenBoard}
 use Rattle.board.specs.Fits.{IsSettled}
+use Rattle.board.specs.Book.{row_in}
 use Rattle.worker_group.specs.Acts.{Acts}
 use Rattle.worker_group.specs.Service.{IsGivenUp, LeavesRest, given_up}
 use Rattle.worker_group.proofs.ActsLemmas.{acts_one}
@@ -14,7 +14,7 @@ use Rattle.worker_group.proofs.service.park.Goals as goal
 
 pub give_up-requires-clause-row : goal.give_up-requires-clause-row
 give_up-requires-clause-row g c =
-    ap (λ (b : SeenBoard). row_of c.args.who b.book.history) c.in-Err.ensures.err ∙ c.requires.row
+    ap (λ (b : SeenBoard). row_in c.args.who b.book) c.in-Err.ensures.err ∙ c.requires.row
     ∙ ap (λ (x : SeenConn). Some x.name) (sym c.in-Err.ensures.back)
 
 pub park-requires-clause-settled : goal.park-requires-clause-settled
