@@ -1,6 +1,7 @@
 mod DrawLaws
 mod GiveLaws
 mod IdleLaws
+mod KeptLaws
 mod MachineLemmas
 mod PastLemmas
 mod PermitLaws

@@ -11,11 +11,15 @@ ghost use Rattle.conn_machine.specs.declared.row.Row.{Row};
 ghost use Rattle.conn_machine.specs.declared.state.State.{State};
 ghost use Rattle.conn_machine.specs.Rows.{carried_count, is_with_a_pass};
 ghost use Rattle.conn_machine.specs.declared.kept.Ledger.{Ledger};
-ghost use Rattle.conn_machine.specs.Runs.{after};
+ghost use Rattle.conn_machine.specs.declared.event.Entry.{Entry};
+ghost use Rattle.conn_machine.specs.Folds.{opening_record};
+ghost use Rattle.conn_machine.specs.Runs.{AreEntriesOf, after, row_from, row_of};
+ghost use Rattle.table_rule.specs.declared.view.Left.{Left};
+ghost use Rattle.table_rule.specs.declared.view.Origin.{Origin};
 ghost use Rattle.table_rule.specs.declared.view.View.{View};
 ghost use Rattle.table_rule.specs.Histories.{threads_of};
 ghost use Rattle.table_rule.specs.IdleWords.{bias, permits, sum_of};
-ghost use Rattle.table_rule.specs.Ledgers.{MayGiveBack};
+ghost use Rattle.table_rule.specs.Ledgers.{IsSplit, MayGiveBack};
 ghost use Rattle.table_rule.specs.Steps.{Credits, DrawsNext, GivesBack, LiesDown, LooksAtWord, LooksAtIdle, Releases, TakesTurn, Tries, Uncredits, Undoes, WakesUp};
 ghost use Rattle.table_rule.specs.Tie.{AreFirstWords, IsNew, IsTied, origin_of};
 ghost use Rattle.table_rule.specs.Views.{IsAwake, IsIdle, first_view, gone_view, joined_view, new_view, parted_view, resting_view};
@@ -127,3 +131,10 @@ pub fn views_tell_of_connections<K: Kept>()
     each_pass_has_its_own_connection();
     records_open_with_nothing();
 }
+
+/// What a value keeps stands for the whole history: behind its base and its record each pass has the same connection, and what
+/// it may add there it may add to the whole.
+pub fn values_stand_for_whole_histories()
+    ensures row { (origin : Origin) (left : Left) (l : Ledger) (whole : List Entry) (p : ℕ) → IsSplit origin left l whole → p < origin.passes → row_from l.folded p l.history ≡ row_of p whole }
+    ensures entries { (origin : Origin) (left : Left) (l : Ledger) (whole added : List Entry) (p : ℕ) → IsSplit origin left l whole → p < origin.passes → AreEntriesOf p l.base l.folded l.history added → AreEntriesOf p origin.state (opening_record origin.passes) whole added }
+{}

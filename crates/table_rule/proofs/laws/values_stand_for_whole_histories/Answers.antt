@@ -1,0 +1,8 @@
+use Rattle.table_rule.proofs.KeptLaws.{entries_kept, row_kept}
+use Rattle.table_rule.proofs.laws.values_stand_for_whole_histories.Goals as goal
+
+pub returns-clause-row : goal.returns-clause-row
+returns-clause-row c = row_kept
+
+pub returns-clause-entries : goal.returns-clause-entries
+returns-clause-entries c = entries_kept
