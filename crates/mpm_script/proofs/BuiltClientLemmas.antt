@@ -1,12 +1,13 @@
 -- Where each client of a script is, by the list of those of which a line told.
-use Rattle.std.proofs.Common.{◌≡◌, ℕ, ◌<◌, ◌≤◌, Bool, true, false, List, [], ◌∷◌, ◌++◌, Option, None, Some, length, get_or, set, refl, sym, subst, arith}
-use Rattle.std.specs.Prelude.{bytes_eq}
+use Rattle.std.proofs.Common.{◌≡◌, ℕ, zero, suc, ◌<◌, ◌≤◌, Bool, true, false, List, [], ◌∷◌, ◌++◌, Option, None, Some, length, get_or, map, set, refl, ap, sym, subst, ◌∙◌, arith}
+use Rattle.std.specs.Prelude.{bytes_eq, IfSome}
 use Rattle.std.specs.List.{position, position_or_len}
 use Rattle.std.proofs.lemmas.Bool.Decides.{nat_tests}
 use Rattle.std.proofs.lemmas.Grind.{common_steps}
 use Rattle.std.proofs.lemmas.Slice.Eq.{bytes_eq-Decides}
 use Rattle.mpm_script.specs.BuiltLines.{IsBuilt, IsBuiltSite}
-use Rattle.mpm_script.specs.BuiltClientsInside.{AreFollowed, IsCourse, ends, is_course_named, spot_of, with_spot}
+use Rattle.mpm_script.specs.BuiltClientsInside.{AreCourses, AreFollowed, AreOpen, IsCourse, ends, is_course_named, spot_of, with_spot}
+use Rattle.mpm_script.specs.BuiltProgressInside.{IsOpen}
 use Rattle.mpm_script.specs.Clients.{sent_from_line}
 use Rattle.mpm_script.specs.declared.built_clients.Course.{Course}
 use Rattle.mpm_script.specs.declared.built_requests.Spot.{Spot}
@@ -75,6 +76,26 @@ with_spot-missing name at courses none = grind (arith, nat_tests, with_spot_past
 pub spot_of-missing : (name : List ℕ) (courses : List Course) → None ≡ position (is_course_named name) courses
     → spot_of name courses ≡ Some (spot.BeforeHost 0)
 spot_of-missing name courses none = grind (arith, nat_tests, spot_of_past name courses)
+
+-- where a client is put somewhere the names stay, and each is open still
+names_set : (courses : List Course) (i : ℕ) (at : Option Spot) (course : Course) → course ≡ get_or courses i course
+    → map (λ (k : Course). k.name) (set courses i (record course { spot = at })) ≡ map (λ (k : Course). k.name) courses
+names_set [] i at course is = refl
+names_set (first ∷ courses) zero at course is = ap (λ (k : Course). k.name ∷ map (λ (k : Course). k.name) courses) is
+names_set (first ∷ courses) (suc i) at course is = ap (λ ns. first.name ∷ ns) (names_set courses i at course is)
+
+open_set : (courses : List Course) (i : ℕ) (at : Option Spot) (course : Course) → AreOpen courses → IfSome at IsOpen
+    → AreOpen (set courses i (record course { spot = at }))
+open_set [] i at course opened is_open = tt
+open_set (first ∷ courses) zero at course opened is_open = (is_open, opened.1)
+open_set (first ∷ courses) (suc i) at course opened is_open = (opened.0, open_set courses i at course opened.1 is_open)
+
+pub courses_set : (names : List (List ℕ)) (courses : List Course) (i : ℕ) (at : Option Spot) (course : Course) → AreCourses names courses
+    → course ≡ get_or courses i course → IfSome at IsOpen → AreCourses names (set courses i (record course { spot = at }))
+courses_set names courses i at course are is is_open = record {
+  named = are.named ∙ sym (names_set courses i at course is);
+  opened = open_set courses i at course are.opened is_open;
+}
 
 -- ## Each client
 

@@ -11,5 +11,6 @@ pub mod FileNameLemmas
 pub mod FirstLineLemmas
 pub mod LineLemmas
 pub mod LineWordLemmas
+pub mod NamePlaceLemmas
 pub mod OptionLemmas
 pub mod SequenceLemmas

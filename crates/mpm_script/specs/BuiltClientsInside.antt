@@ -1,5 +1,5 @@
 -- How far each client of a script came with what it sends, line by line.
-use Rattle.std.specs.Prelude.{◌≡◌, ℕ, Bool, true, false, List, [], ◌∷◌, ◌++◌, Option, None, Some, IfSome, bytes_eq, if◌then◌else◌, ◌↔◌}
+use Rattle.std.specs.Prelude.{◌≡◌, ℕ, Bool, true, false, List, [], ◌∷◌, ◌++◌, Option, None, Some, IfSome, bytes_eq, map, if◌then◌else◌, ◌↔◌}
 use Rattle.std.specs.List.{AllByRecursion, list_any}
 use Rattle.mpm_script.specs.BuiltLines.{IsPipelined}
 use Rattle.mpm_script.specs.BuiltProgressInside.{IsOpen, BytesMayFollow}
@@ -70,3 +70,8 @@ AreFollowed lines courses = (name : List ℕ) → IsCourse name lines (spot_of n
 -- each client that has not ended is at a place of a request that isn't whole
 abbrev pub AreOpen : List Course → Type 0
 AreOpen courses = AllByRecursion (λ course. IfSome course.spot IsOpen) courses
+
+-- the names are those of the clients, in order, and each client that has not ended is at a place of a request that isn't whole
+pub record AreCourses (names : List (List ℕ)) (courses : List Course) : Type 0 where
+  pub named : names ≡ map (λ course. course.name) courses
+  pub opened : AreOpen courses

@@ -6,5 +6,7 @@ pub mod Escapes
 pub mod EscapesInside
 pub mod FileNames
 pub mod LineWordsInside
+pub mod NamePlaces
+pub mod NamePlacesInside
 pub mod Script
 pub mod ScriptLine

@@ -6,11 +6,12 @@ ghost use Rattle.mpm_script.specs.Clients.{made_by, names_of};
 ghost use Rattle.mpm_script.specs.Script.{is_backwards, is_repeated, is_unknown, moment_from};
 ghost use Rattle.mpm_base.specs.declared.script_line.ScriptLine.{ScriptLine as Line};
 
-use mpm_base::{Moment, NoMemory, Octets, ScriptLine};
+use crate::name_places::NamePlaces;
+use mpm_base::{Moment, NoMemory, ScriptLine};
 use std::alloc::Global;
 
 /// Whether the line makes a connection whose name was used; the names are those of the lines before it.
-pub(crate) fn is_repeated(names: &[Octets], line: &ScriptLine) -> bool
+pub(crate) fn is_repeated(names: &NamePlaces, line: &ScriptLine) -> bool
     ensures { (before : List Line) → names.now ≡ names_of before → result ≡ is_repeated before line.now }
 {
     match line {
@@ -20,7 +21,7 @@ pub(crate) fn is_repeated(names: &[Octets], line: &ScriptLine) -> bool
 }
 
 /// Whether the line names a connection that no earlier line makes; the names are those of the lines before it.
-pub(crate) fn is_unknown(names: &[Octets], line: &ScriptLine) -> bool
+pub(crate) fn is_unknown(names: &NamePlaces, line: &ScriptLine) -> bool
     ensures { (before : List Line) → names.now ≡ names_of before → result ≡ is_unknown before line.now }
 {
     match line {
@@ -52,24 +53,21 @@ pub(crate) fn moment_after(moment: Moment, line: &ScriptLine) -> Moment
 /// Puts the name of the connection that the line makes at the end. Where memory lacks nothing changes.
 pub(crate) fn add_name(
     alloc: Global,
-    names: &mut Vec<Octets>,
+    names: &mut NamePlaces,
     line: &ScriptLine,
 ) -> Result<(), NoMemory>
-    ensures ok { OnOk result (names.new.items ≡ names.old.items ++ made_by line.now) }
-    ensures err { OnErr result (names.new.items ≡ names.old.items) }
+    ensures ok { OnOk result (names.new ≡ names.old ++ made_by line.now) }
+    ensures err { OnErr result (names.new ≡ names.old) }
 {
-    let ScriptLine::Conn(name) = line else {
-        return Ok(());
-    };
-    let name = Octets::of(alloc, name.as_slice())?;
-    match names.push(name) {
-        Ok(()) => Ok(()),
-        Err(_) => Err(NoMemory),
+    match line {
+        ScriptLine::Conn(name) => names.add(alloc, name.as_slice()),
+        _ => Ok(()),
     }
 }
 
-fn has_name(names: &[Octets], name: &[u8]) -> bool
+#[tactic(auto, using(crate::proofs::NamePlaceLemmas::has_place))]
+fn has_name(names: &NamePlaces, name: &[u8]) -> bool
     ensures { result ≡ list_any (λ other. bytes_eq other name.now) names.now }
 {
-    names.iter().any(|other| other.as_slice() == name)
+    names.place(name).is_some()
 }

@@ -2,14 +2,14 @@
 //!
 //! Where a client is with some lines stands in `specs/BuiltClientsInside.antt`.
 ghost use Rattle.std.specs.Prelude.{◌≡◌, ℕ, true, false, List, Option, None, Some, IfOk, IfSome, IfNone, OnOk, [], ◌∷◌, ◌++◌};
-ghost use Rattle.std.specs.List.{position};
 ghost use Rattle.mpm_script.specs.BuiltLines.{IsBuiltAct};
-ghost use Rattle.mpm_script.specs.BuiltClientsInside.{AreFollowed, IsCourse, is_course_named, spot_of, with_spot};
+ghost use Rattle.mpm_script.specs.BuiltClientsInside.{AreFollowed, IsCourse, spot_of, with_spot};
 ghost use Rattle.mpm_script.specs.BuiltProgressInside.{IsOpen};
 ghost use Rattle.mpm_base.specs.declared.script_line.ScriptLine.{ScriptLine as Line};
 ghost use Rattle.mpm_base.specs.declared.script_line.ScriptLine.TheVariants.{Client};
 
 use crate::built_requests::{Spot, after_bytes, first_spot};
+use crate::name_places::NamePlaces;
 use mpm_base::{ClientAct, NoMemory, Octets};
 use std::alloc::Global;
 use std::marker::Model;
@@ -24,6 +24,7 @@ pub(crate) struct Course {
 /// Where each client is of which a line told, as contracts see it.
 #[derive(Drop)]
 pub(crate) struct Courses {
+    places: NamePlaces,
     items: Vec<Course>,
 }
 
@@ -35,9 +36,9 @@ impl Model for Courses {
 
     ghost view = { λ c. c.items.items };
 
-    ghost use Rattle.mpm_script.specs.BuiltClientsInside.{AreOpen};
+    ghost use Rattle.mpm_script.specs.BuiltClientsInside.{AreCourses};
 
-    ghost invariant = { λ c. AreOpen c.items.items };
+    ghost invariant = { λ c. AreCourses c.places c.items.items };
 }
 
 impl Courses {
@@ -47,6 +48,7 @@ impl Courses {
         ensures followed { AreFollowed [] result }
     {
         Courses {
+            places: NamePlaces::make(alloc),
             items: Vec::new(alloc),
         }
     }
@@ -78,7 +80,7 @@ impl Courses {
         ensures is { result ≡ spot_of name.now self.now }
         ensures opened { IfSome result IsOpen }
     {
-        match place_of(&self.items, name) {
+        match self.places.place(name) {
             Some(place) => self.items[place].spot,
             None => Some(first_spot()),
         }
@@ -89,23 +91,27 @@ impl Courses {
         requires { IfSome spot IsOpen }
         ensures { OnOk result (self.new ≡ with_spot name.now spot self.old) }
     {
-        if let Some(place) = place_of(&self.items, name) {
+        if let Some(place) = self.places.place(name) {
             self.items[place].spot = spot;
             return Ok(());
         }
-        let name = Octets::of(alloc, name)?;
-        self.items.push(Course { name, spot })?;
+        self.begin(alloc, name, spot)?;
         Ok(())
     }
-}
 
-/// The place of the first client of that name.
-fn place_of(courses: &[Course], name: &[u8]) -> Option<usize>
-    ensures { result ≡ position (is_course_named name.now) courses.now }
-{
-    courses
-        .iter()
-        .position(|course| course.name.as_slice() == name)
+    /// The client of that name, of which no line told, is there now. Where memory lacks nothing changes.
+    fn begin(&mut self, alloc: Global, name: &[u8], spot: Option<Spot>) -> Result<(), NoMemory>
+        requires { IfSome spot IsOpen }
+        ensures { OnOk result (self.new ≡ self.old ++ record { name = name.now; spot = spot } ∷ []) }
+    {
+        let text = Octets::of(alloc, name)?;
+        self.items.reserve(1)?;
+        self.places.add(alloc, name)?;
+        match self.items.push(Course { name: text, spot }) {
+            Ok(()) => Ok(()),
+            Err(_) => unreachable!(),
+        }
+    }
 }
 
 /// Where a client is after the act, which is built; None where it isn't.

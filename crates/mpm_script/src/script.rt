@@ -14,6 +14,7 @@ ghost use Rattle.mpm_script.specs.declared.script.ScriptFault.TheVariants as fau
 use crate::agreement::{add_name, is_backwards, is_repeated, is_unknown, moment_after};
 use crate::built_lines::first_unbuilt;
 use crate::line_reader::{line_of, one_line};
+use crate::name_places::NamePlaces;
 use mpm_base::{NoMemory, ScriptLine};
 use std::alloc::Global;
 use std::marker::Model;
@@ -131,7 +132,7 @@ fn read_lines(alloc: Global, bytes: &[u8]) -> Result<Script, ScriptFault>
 {
     one_line();
     let mut script = Script::make(alloc);
-    let mut names = Vec::new(alloc);
+    let mut names = NamePlaces::make(alloc);
     let mut moment = 0;
     let mut rest = bytes;
     'lines: while !rest.is_empty() {
@@ -139,13 +140,13 @@ fn read_lines(alloc: Global, bytes: &[u8]) -> Result<Script, ScriptFault>
         let Some((line, behind)) = next_line(alloc, rest)? else {
             return Err(ScriptFault::BadLine(number));
         };
-        if is_repeated(names.as_slice(), &line) {
+        if is_repeated(&names, &line) {
             return Err(ScriptFault::BadLine(number));
         }
         if is_backwards(moment, &line) {
             return Err(ScriptFault::MomentBackwards(number));
         }
-        if is_unknown(names.as_slice(), &line) {
+        if is_unknown(&names, &line) {
             return Err(ScriptFault::UnknownName(number));
         }
         moment = moment_after(moment, &line);

@@ -31,17 +31,15 @@ returns-then-is_repeated-clause-err c = record {
     no_line = λ line behind h.
         let next = rw c.in-Some.is at c.in_ok-line.ensures in
         let same = line_once c.one_line.ensures c.lines.rest.now c.in-Some.line c.in-Some.behind.now line behind next h in
-        let names = c.as_slice.ensures.value ∙ c.lines.invariant.names in
-        subst (λ l. is_repeated c.lines.script l ≡ true) same.0 (sym (c.if-is_repeated.ensures c.lines.script names));
+        subst (λ l. is_repeated c.lines.script l ≡ true) same.0 (sym (c.if-is_repeated.ensures c.lines.script c.lines.invariant.names));
   };
 }
 
 pub lines-preserved : goal.lines-preserved
 lines-preserved c =
     let next = rw c.in-Some.is at c.in_ok-line.ensures in
-    let names = c.as_slice.ensures.value ∙ c.lines.invariant.names in
-    let others = c.as_slice-in-lines.ensures.value ∙ c.lines.invariant.names in
-    let agrees = agrees_if c.lines.script c.in-Some.line (c.if-is_repeated.ensures c.lines.script names) (c.if-is_backwards.ensures c.lines.script c.lines.invariant.moment) (c.if-is_unknown.ensures c.lines.script others) in
+    let names = c.lines.invariant.names in
+    let agrees = agrees_if c.lines.script c.in-Some.line (c.if-is_repeated.ensures c.lines.script names) (c.if-is_backwards.ensures c.lines.script c.lines.invariant.moment) (c.if-is_unknown.ensures c.lines.script names) in
     rw c.in_ok-add.ensures.ok (record {
       are_lines = lines_push c.args.bytes.now c.lines.script c.lines.rest.now c.in-Some.line c.in-Some.behind.now c.lines.invariant.are_lines next;
       agree = agree_push [] c.lines.script c.in-Some.line c.lines.invariant.agree agrees;

@@ -7,7 +7,7 @@ abbrev pub invariant-lines : goal.invariant-lines
 invariant-lines l = record {
   are_lines : AreLines l.bytes l.script l.rest;
   agree : AllAgree [] l.script;
-  names : l.names.items ≡ names_of l.script;
+  names : l.names ≡ names_of l.script;
   moment : l.moment ≡ moment_from 0 l.script;
 }
 
