@@ -3,7 +3,7 @@ ghost use Rattle.std.specs.Prelude.{◌≡◌, ◌<◌, ◌≤◌, true, false, 
 ghost use Rattle.mpm_base.specs.Notes.{says_last};
 ghost use Rattle.mpm_base.specs.declared.conn.Kind.TheVariants.{Reading};
 ghost use Rattle.conn_machine.specs.Children.{is_in_bounds};
-ghost use Rattle.conn_machine.specs.Runs.{row_of};
+ghost use Rattle.board.specs.Book.{row_in};
 ghost use Rattle.conn_machine.specs.Table.{is_allowed};
 ghost use Rattle.conn_state.specs.declared.turn.LastLinger.TheVariants as linger;
 ghost use Rattle.conn_state.specs.Answered.{IsShown};
@@ -58,7 +58,7 @@ fn allow(rt: &impl Abort, board: &Board<ScriptLink, Nothing>, next: Event)
 /// No connection is to be taken, for this fault.
 fn refuses(rt: &impl Abort, board: &mut Board<ScriptLink, Nothing>, fault: AcceptFault)
     requires who { 0 < board.old.book.passes }
-    requires free { row_of 0 board.old.book.history ≡ None }
+    requires free { row_in 0 board.old.book ≡ None }
     ensures { board.new ≡ board.old }
 {
     assert_eq!(rt; board.can_accept(), None);
@@ -78,7 +78,7 @@ fn opened(
     requires slots { (1 ≤ slots) × (slots ≤ 8192) }
     requires shape { is_in_bounds shape ≡ true }
     ensures passes { IfOk result (λ board. board.book.passes ≡ 1) }
-    ensures free { IfOk result (λ board. row_of 0 board.book.history ≡ None) }
+    ensures free { IfOk result (λ board. row_in 0 board.book ≡ None) }
 {
     let mut board = Board::make(alloc, slots, 2, 1, shape)?;
     refuses(rt, &mut board, AcceptFault::NoChild);
@@ -103,11 +103,11 @@ fn arrives(
     bad_read: u64,
 ) -> Result<Conn<ScriptLink, Nothing>, Fail>
     requires who { 0 < board.old.book.passes }
-    requires free { row_of 0 board.old.book.history ≡ None }
+    requires free { row_in 0 board.old.book ≡ None }
     ensures passes { OnOk result (board.new.book.passes ≡ board.old.book.passes) }
     ensures fits { IfOk result (λ conn. IsOf board.new.book.state conn) }
     ensures settled { IfOk result (λ conn. IsSettled Reading None conn) }
-    ensures row { IfOk result (λ conn. row_of 0 board.new.book.history ≡ Some conn.name) }
+    ensures row { IfOk result (λ conn. row_in 0 board.new.book ≡ Some conn.name) }
 {
     let taken = board.accept(0)?;
     assert_eq!(rt; taken.name, name);
@@ -139,12 +139,12 @@ fn waits(
     until: Moment,
 )
     requires who { 0 < board.old.book.passes }
-    requires row { row_of 0 board.old.book.history ≡ Some conn.name }
+    requires row { row_in 0 board.old.book ≡ Some conn.name }
     requires fits { IsOf board.old.book.state conn }
     requires settled { IsSettled kind None conn }
     requires turned { FoundNoMore kind conn }
     ensures passes { board.new.book.passes ≡ board.old.book.passes }
-    ensures free { row_of 0 board.new.book.history ≡ None }
+    ensures free { row_in 0 board.new.book ≡ None }
 {
     let name = conn.name();
     assert_eq!(rt; board.cause(name), None);
@@ -166,14 +166,14 @@ fn serves(
     board: &mut Board<ScriptLink, Nothing>,
 ) -> Result<Conn<ScriptLink, Nothing>, Fail>
     requires who { 0 < board.old.book.passes }
-    requires free { row_of 0 board.old.book.history ≡ None }
+    requires free { row_in 0 board.old.book ≡ None }
     ensures passes { OnOk result (board.new.book.passes ≡ board.old.book.passes) }
     ensures fits { IfOk result (λ conn. IsOf board.new.book.state conn) }
     ensures usable { IfOk result (λ conn. is_usable conn.turn ≡ true) }
     ensures sent { IfOk result (λ conn. conn.pending ≡ []) }
     ensures not_last { IfOk result (λ conn. says_last conn.notes ≡ false) }
     ensures not_shut { IfOk result (λ conn. conn.linger ≡ linger.Open) }
-    ensures row { IfOk result (λ conn. row_of 0 board.new.book.history ≡ Some conn.name) }
+    ensures row { IfOk result (λ conn. row_in 0 board.new.book ≡ Some conn.name) }
 {
     allow(rt, board, Event::Ready(0));
     board.ready(0, 0)?;
@@ -224,7 +224,7 @@ fn answers(
     last: bool,
 ) -> Result<(), Fail>
     requires who { 0 < board.old.book.passes }
-    requires row { row_of 0 board.old.book.history ≡ Some conn.old.name }
+    requires row { row_in 0 board.old.book ≡ Some conn.old.name }
     requires fits { IsOf board.old.book.state conn.old }
     requires usable { is_usable conn.old.turn ≡ true }
     requires sent { conn.old.pending ≡ [] }
@@ -236,7 +236,7 @@ fn answers(
     ensures sent { OnOk result (conn.new.pending ≡ []) }
     ensures last { OnOk result (says_last conn.new.notes ≡ last) }
     ensures not_shut { OnOk result (conn.new.linger ≡ linger.Open) }
-    ensures row { OnOk result (row_of 0 board.new.book.history ≡ Some conn.new.name) }
+    ensures row { OnOk result (row_in 0 board.new.book ≡ Some conn.new.name) }
 {
     answered_connections_fit_their_rows();
     reads(rt, board, conn, ReadTurn::Asked(FOUND));
@@ -280,11 +280,11 @@ fn ends(
     tail: Tail,
 )
     requires who { 0 < board.old.book.passes }
-    requires row { row_of 0 board.old.book.history ≡ Some conn.name }
+    requires row { row_in 0 board.old.book ≡ Some conn.name }
     requires fits { IsOf board.old.book.state conn }
     requires shown { IsShown cause tail conn }
     ensures passes { board.new.book.passes ≡ board.old.book.passes }
-    ensures free { row_of 0 board.new.book.history ≡ None }
+    ensures free { row_in 0 board.new.book ≡ None }
 {
     let name = conn.name();
     allow(rt, board, Event::Close(name, cause, tail));
@@ -300,7 +300,7 @@ fn ticks(
 ) -> Result<(), Fail>
     requires who { 0 < board.old.book.passes }
     ensures passes { OnOk result (board.new.book.passes ≡ board.old.book.passes) }
-    ensures row { row_of 0 board.new.book.history ≡ row_of 0 board.old.book.history }
+    ensures row { row_in 0 board.new.book ≡ row_in 0 board.old.book }
 {
     allow(rt, board, Event::Tick(moment));
     board.tick(0, moment)?;
@@ -311,9 +311,9 @@ fn ticks(
 /// The server stops, and refuses what comes then.
 fn stops(rt: &impl Abort, board: &mut Board<ScriptLink, Nothing>)
     requires who { 0 < board.old.book.passes }
-    requires free { row_of 0 board.old.book.history ≡ None }
+    requires free { row_in 0 board.old.book ≡ None }
     ensures passes { board.new.book.passes ≡ board.old.book.passes }
-    ensures free { row_of 0 board.new.book.history ≡ None }
+    ensures free { row_in 0 board.new.book ≡ None }
 {
     assert_eq!(rt; board.going(), Going::Serving);
     assert_eq!(rt; board.can_retire(), None);

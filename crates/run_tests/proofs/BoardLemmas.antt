@@ -10,7 +10,7 @@ use Rattle.conn_machine.specs.declared.event.Event.TheVariants.{StartChild}
 use Rattle.conn_machine.specs.declared.folded.Folded.{Folded}
 use Rattle.conn_machine.specs.Children.{is_in_bounds}
 use Rattle.conn_machine.specs.Folds.{opening_record}
-use Rattle.conn_machine.specs.Runs.{after, Adds, AreEntriesOf}
+use Rattle.conn_machine.specs.Runs.{after, AreEntriesOf}
 use Rattle.conn_machine.specs.States.{opening_state}
 use Rattle.table_rule.specs.declared.view.Origin.{Origin}
 use Rattle.table_rule.specs.declared.view.View.{View}
@@ -19,7 +19,7 @@ use Rattle.table_rule.specs.Tie.{IsNew}
 use Rattle.board_lock.specs.Passes.{HasNoTurn, TookTurn, fresh_view}
 use Rattle.board.specs.declared.faults.BoardFault.{BoardFault}
 use Rattle.board.specs.Board.{SeenBoard}
-use Rattle.board.specs.Book.{entry_of}
+use Rattle.board.specs.Book.{AddsOnly, entry_of}
 use Rattle.board.specs.Events.{IsAdded, with_recorded}
 use Rattle.board.specs.Ledger.{ledger_of}
 use Rattle.board.specs.ReportLine.{line_of}
@@ -74,6 +74,12 @@ base_is : {K : Type 0} (v w : Me (Option K) View) (b : SeenBoard) → TookTurn v
 base_is v w b took unfolded =
     ap (λ (u : View). u.origin.state) took.view ∙ sym (took.is_found.parts.base ∙ ap (after v.0.origin.state) (none_left v w b took unfolded))
 
+-- its record is the opening one of the passes
+record_is : {K : Type 0} (v w : Me (Option K) View) (b : SeenBoard) → TookTurn v w (ledger_of b) → b.book.folded ≡ opening_record b.book.passes
+    → b.book.folded ≡ opening_record w.0.origin.passes
+record_is v w b took unfolded =
+    unfolded ∙ ap opening_record (took.is_found.parts.passes ∙ sym (ap (λ (u : View). u.origin.passes) took.view))
+
 -- ## What a turn may leave
 
 -- the board as it was found
@@ -92,18 +98,21 @@ may_stay v w b took = (
 
 -- an entry of pass 0 is one that it may make behind what it has seen
 own_entry : {K : Type 0} (v w : Me (Option K) View) (b : SeenBoard) (e : Entry) → TookTurn v w (ledger_of b) → b.book.folded ≡ opening_record b.book.passes
-    → v.0.who.number ≡ 0 → Adds 0 b.book.base b.book.history (b.book.history ++ e ∷ []) → AreEntriesOf w.0.who.number w.0.origin.state w.0.seen (e ∷ [])
+    → v.0.who.number ≡ 0 → AddsOnly 0 b.book (record b.book { history = b.book.history ++ e ∷ [] })
+    → AreEntriesOf w.0.who.number w.0.origin.state (opening_record w.0.origin.passes) w.0.seen (e ∷ [])
 own_entry v w b e took unfolded number adds =
     let who : w.0.who.number ≡ 0 = ap (λ (u : View). u.who.number) took.view ∙ number in
     let is : adds.0 ≡ e ∷ [] = append_cancel_left b.book.history adds.0 (e ∷ []) (sym adds.1) in
-    let own = subst (AreEntriesOf 0 b.book.base b.book.history) is adds.2 in
-    subst (λ q. AreEntriesOf q w.0.origin.state w.0.seen (e ∷ [])) (sym who)
-    (subst (λ s. AreEntriesOf 0 s w.0.seen (e ∷ [])) (sym (base_is v w b took unfolded))
-    (subst (λ h. AreEntriesOf 0 b.book.base h (e ∷ [])) (sym (seen_is v w b took unfolded)) own))
+    let own = subst (AreEntriesOf 0 b.book.base b.book.folded b.book.history) is adds.2 in
+    let first = opening_record w.0.origin.passes in
+    subst (λ q. AreEntriesOf q w.0.origin.state first w.0.seen (e ∷ [])) (sym who)
+    (subst (λ s. AreEntriesOf 0 s first w.0.seen (e ∷ [])) (sym (base_is v w b took unfolded))
+    (subst (λ h. AreEntriesOf 0 b.book.base first h (e ∷ [])) (sym (seen_is v w b took unfolded))
+    (subst (λ (f : Folded). AreEntriesOf 0 b.book.base f b.book.history (e ∷ [])) (record_is v w b took unfolded) own)))
 
 -- the board with the entry that starts the child
 may_start : {K : Type 0} (v w : Me (Option K) View) (b : SeenBoard) (k : ℕ) → TookTurn v w (ledger_of b) → b.book.folded ≡ opening_record b.book.passes
-    → v.0.who.number ≡ 0 → Adds 0 b.book.base b.book.history (with_recorded 0 (StartChild k) b).book.history → MayGiveBack w.0 (ledger_of (with_recorded 0 (StartChild k) b))
+    → v.0.who.number ≡ 0 → AddsOnly 0 b.book (with_recorded 0 (StartChild k) b).book → MayGiveBack w.0 (ledger_of (with_recorded 0 (StartChild k) b))
 may_start v w b k took unfolded number adds = (
   ledger_of b,
   ap (λ (u : View). u.turn) took.view,
@@ -119,10 +128,10 @@ may_start v w b k took unfolded number adds = (
 -- the board after the call that starts a child, whatever it answers
 pub may_end : {K T : Type 0} (v w : Me (Option K) View) (old new : SeenBoard) (k : ℕ) (result : Result T BoardFault) → TookTurn v w (ledger_of old)
     → old.book.folded ≡ opening_record old.book.passes → v.0.who.number ≡ 0 → OnOk result (IsAdded 0 (StartChild k) old new) → OnErr result (new ≡ old)
-    → Adds 0 old.book.base old.book.history new.book.history → MayGiveBack w.0 (ledger_of new)
+    → AddsOnly 0 old.book new.book → MayGiveBack w.0 (ledger_of new)
 may_end v w old new k (Ok x) took unfolded number ok err adds =
     subst (λ b. MayGiveBack w.0 (ledger_of b)) (sym ok.new_is)
-    (may_start v w old k took unfolded number (subst (λ b. Adds 0 old.book.base old.book.history b.book.history) ok.new_is adds))
+    (may_start v w old k took unfolded number (subst (λ b. AddsOnly 0 old.book b.book) ok.new_is adds))
 may_end v w old new k (Err e) took unfolded number ok err adds =
     subst (λ b. MayGiveBack w.0 (ledger_of b)) (sym err) (may_stay v w old took)
 

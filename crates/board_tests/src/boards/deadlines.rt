@@ -1,6 +1,6 @@
 //! Several connections that wait, and which of them is late first.
 ghost use Rattle.std.specs.Prelude.{◌≡◌, ◌<◌, None, IfOk, OnOk};
-ghost use Rattle.conn_machine.specs.Runs.{row_of};
+ghost use Rattle.board.specs.Book.{row_in};
 
 use crate::boards::{FIRST, REQUEST, SHAPE, allow, arrives, ends, opened, ticks};
 use board::Board;
@@ -27,9 +27,9 @@ fn joins(
     name: ConnName,
 ) -> Result<(), Fail>
     requires who { 0 < board.old.book.passes }
-    requires free { row_of 0 board.old.book.history ≡ None }
+    requires free { row_in 0 board.old.book ≡ None }
     ensures passes { OnOk result (board.new.book.passes ≡ board.old.book.passes) }
-    ensures free { OnOk result (row_of 0 board.new.book.history ≡ None) }
+    ensures free { OnOk result (row_in 0 board.new.book ≡ None) }
 {
     let conn = arrives(rt, alloc, board, name, REQUEST, false, 0)?;
     let taken = conn.name();
@@ -44,9 +44,9 @@ fn joins(
 /// The late connection that is found is that one, and no deadline is before this. It is held and closed.
 fn leaves(rt: &impl Abort, board: &mut Board<ScriptLink, Nothing>, name: ConnName, deadline: Moment)
     requires who { 0 < board.old.book.passes }
-    requires free { row_of 0 board.old.book.history ≡ None }
+    requires free { row_in 0 board.old.book ≡ None }
     ensures passes { board.new.book.passes ≡ board.old.book.passes }
-    ensures free { row_of 0 board.new.book.history ≡ None }
+    ensures free { row_in 0 board.new.book ≡ None }
 {
     assert_eq!(rt; board.overdue(), Some(name));
     assert_eq!(rt; board.next_deadline(), Some(deadline));
@@ -59,7 +59,7 @@ fn leaves(rt: &impl Abort, board: &mut Board<ScriptLink, Nothing>, name: ConnNam
 /// A board with three connections that wait: two until 60,000, and one until 61,000.
 fn crowded(rt: &impl Abort, alloc: Global) -> Result<Board<ScriptLink, Nothing>, Fail>
     ensures passes { IfOk result (λ board. 0 < board.book.passes) }
-    ensures free { IfOk result (λ board. row_of 0 board.book.history ≡ None) }
+    ensures free { IfOk result (λ board. row_in 0 board.book ≡ None) }
 {
     let mut board = opened(rt, alloc, 3, SHAPE)?;
     joins(rt, alloc, &mut board, FIRST)?;
@@ -76,9 +76,9 @@ fn goes_on(
     board: &mut Board<ScriptLink, Nothing>,
 ) -> Result<(), Fail>
     requires who { 0 < board.old.book.passes }
-    requires free { row_of 0 board.old.book.history ≡ None }
+    requires free { row_in 0 board.old.book ≡ None }
     ensures passes { OnOk result (board.new.book.passes ≡ board.old.book.passes) }
-    ensures free { OnOk result (row_of 0 board.new.book.history ≡ None) }
+    ensures free { OnOk result (row_in 0 board.new.book ≡ None) }
 {
     ticks(rt, board, 60_000)?;
     leaves(rt, board, FIRST, 60_000);

@@ -1,7 +1,7 @@
 //! Connections that linger in a board, to each of their tails.
 ghost use Rattle.std.specs.Prelude.{◌≡◌, ◌<◌, None, Some, IfOk, OnOk};
 ghost use Rattle.mpm_base.specs.declared.conn.Cause.TheVariants.{LastSent};
-ghost use Rattle.conn_machine.specs.Runs.{row_of};
+ghost use Rattle.board.specs.Book.{row_in};
 ghost use Rattle.conn_state.specs.declared.turn.LastLinger.TheVariants as linger;
 ghost use Rattle.conn_state.specs.Answered.{MayLinger};
 ghost use Rattle.conn_state.specs.Turns.{after_linger};
@@ -42,12 +42,12 @@ fn lingers(
     mut conn: Conn<ScriptLink, Nothing>,
 )
     requires who { 0 < board.old.book.passes }
-    requires row { row_of 0 board.old.book.history ≡ Some conn.name }
+    requires row { row_in 0 board.old.book ≡ Some conn.name }
     requires fits { IsOf board.old.book.state conn }
     requires shows { MayLinger LastSent conn }
     requires not_shut { conn.linger ≡ linger.Open }
     ensures passes { board.new.book.passes ≡ board.old.book.passes }
-    ensures free { row_of 0 board.new.book.history ≡ None }
+    ensures free { row_in 0 board.new.book ≡ None }
 {
     lingering_connections_keep_their_cause();
     assert!(rt; conn.shut());
@@ -72,7 +72,7 @@ fn lingering(
     bad_read: u64,
 ) -> Result<Board<ScriptLink, Nothing>, Fail>
     ensures passes { IfOk result (λ board. 0 < board.book.passes) }
-    ensures free { IfOk result (λ board. row_of 0 board.book.history ≡ None) }
+    ensures free { IfOk result (λ board. row_in 0 board.book ≡ None) }
 {
     let mut board = opened(rt, alloc, 1, ONE_RESPONSE)?;
     let conn = arrives(rt, alloc, &mut board, FIRST, coming, ends, bad_read)?;
@@ -86,9 +86,9 @@ fn lingering(
 /// The listener takes the connection that lingers.
 fn holds(rt: &impl Abort, board: &mut Board<ScriptLink, Nothing>) -> Conn<ScriptLink, Nothing>
     requires who { 0 < board.old.book.passes }
-    requires free { row_of 0 board.old.book.history ≡ None }
+    requires free { row_in 0 board.old.book ≡ None }
     ensures passes { board.new.book.passes ≡ board.old.book.passes }
-    ensures row { row_of 0 board.new.book.history ≡ Some result.name }
+    ensures row { row_in 0 board.new.book ≡ Some result.name }
     ensures fits { IsOf board.new.book.state result }
     ensures lingers { LingersFor LastSent result }
 {
@@ -108,9 +108,9 @@ fn drains(
     wanted: LingerTurn,
 ) -> Conn<ScriptLink, Nothing>
     requires who { 0 < board.old.book.passes }
-    requires free { row_of 0 board.old.book.history ≡ None }
+    requires free { row_in 0 board.old.book ≡ None }
     ensures passes { board.new.book.passes ≡ board.old.book.passes }
-    ensures row { row_of 0 board.new.book.history ≡ Some result.name }
+    ensures row { row_in 0 board.new.book ≡ Some result.name }
     ensures fits { IsOf board.new.book.state result }
     ensures linger { result.linger ≡ after_linger wanted }
     ensures shows { MayLinger LastSent result }
@@ -125,9 +125,9 @@ fn drains(
 /// More may come for the connection, which lingers on until its time is over.
 fn lingers_on(rt: &impl Abort, board: &mut Board<ScriptLink, Nothing>)
     requires who { 0 < board.old.book.passes }
-    requires free { row_of 0 board.old.book.history ≡ None }
+    requires free { row_in 0 board.old.book ≡ None }
     ensures passes { board.new.book.passes ≡ board.old.book.passes }
-    ensures free { row_of 0 board.new.book.history ≡ None }
+    ensures free { row_in 0 board.new.book ≡ None }
 {
     let conn = drains(rt, board, LingerTurn::NotReady);
     conn.show();

@@ -3,7 +3,7 @@ ghost use Rattle.std.specs.Prelude.{◌≡◌, ◌<◌, true, false, None, Some,
 ghost use Rattle.mpm_base.specs.Notes.{says_last};
 ghost use Rattle.conn_state.specs.declared.turn.LastLinger.TheVariants as linger;
 ghost use Rattle.conn_state.specs.Conn.{is_usable};
-ghost use Rattle.conn_machine.specs.Runs.{row_of};
+ghost use Rattle.board.specs.Book.{row_in};
 ghost use Rattle.board.specs.Fits.{IsOf};
 
 use crate::boards::{
@@ -25,14 +25,14 @@ fn keeps(
     mut conn: Conn<ScriptLink, Nothing>,
 )
     requires who { 0 < board.old.book.passes }
-    requires row { row_of 0 board.old.book.history ≡ Some conn.name }
+    requires row { row_in 0 board.old.book ≡ Some conn.name }
     requires fits { IsOf board.old.book.state conn }
     requires usable { is_usable conn.turn ≡ true }
     requires sent { conn.pending ≡ [] }
     requires not_last { says_last conn.notes ≡ false }
     requires not_shut { conn.linger ≡ linger.Open }
     ensures passes { board.new.book.passes ≡ board.old.book.passes }
-    ensures free { row_of 0 board.new.book.history ≡ None }
+    ensures free { row_in 0 board.new.book ≡ None }
 {
     reads(rt, board, &mut conn, ReadTurn::More);
     assert!(rt; conn.rest_empty());
@@ -42,9 +42,9 @@ fn keeps(
 /// The connection that waits, of a child that has stopped, is held and closed. No other waits.
 fn goes(rt: &impl Abort, board: &mut Board<ScriptLink, Nothing>)
     requires who { 0 < board.old.book.passes }
-    requires free { row_of 0 board.old.book.history ≡ None }
+    requires free { row_in 0 board.old.book ≡ None }
     ensures passes { board.new.book.passes ≡ board.old.book.passes }
-    ensures free { row_of 0 board.new.book.history ≡ None }
+    ensures free { row_in 0 board.new.book ≡ None }
 {
     allow(rt, board, Event::Hold(FIRST));
     assert_eq!(rt; board.cause(FIRST), None);
