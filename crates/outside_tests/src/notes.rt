@@ -1,20 +1,23 @@
-//! What notes say, by a hand-made sequence of calls.
+//! What notes say.
+use crate::texts::grown;
 use mpm_base::{Note, Notes};
-use std::test::Fail;
+use std::alloc::Global;
+use std::io;
 
-#[test]
-fn the_last_note_says_whether_it_is_the_last(rt: HostRuntime) -> Result<(), Fail> {
-    let mut notes = Notes::make(rt.alloc());
-    assert!(rt; !notes.says_last());
-    for last in [true, false, true] {
-        notes.push(Note {
+/// Shows whether the last note says that it is the last, at first and behind each of these.
+pub fn show_notes(rt: &impl Print, alloc: Global, rows: &str) -> io::Result<()> {
+    let mut notes = Notes::make(alloc);
+    println!(rt; "at first => {}", notes.says_last())?;
+    for row in rows.lines() {
+        let last = row == "last";
+        grown(notes.push(Note {
             date: 1,
             asked_close: !last,
             last,
             code: 200,
             page: None,
-        })?;
-        assert_eq!(rt; notes.says_last(), last);
+        }))?;
+        println!(rt; "{row} => {}", notes.says_last())?;
     }
     Ok(())
 }

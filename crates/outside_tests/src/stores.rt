@@ -1,0 +1,102 @@
+//! What stores answer.
+use crate::texts::{calls_of, grown, number_of, show_bytes, words};
+use mpm_base::{NoMemory, Store};
+use stand_ins::{Calls, Files, MemStore, PlainStore};
+use std::alloc::Global;
+use std::io;
+
+/// The files that the rows set and unset.
+fn files_of(alloc: Global, rows: &str) -> Result<Files, NoMemory> {
+    let mut files = Files::make(alloc);
+    for row in rows.lines() {
+        let (word, rest) = words(row);
+        let (name, bytes) = words(rest);
+        if word == "set" {
+            files.set(name, bytes.as_bytes())?;
+        } else {
+            files.unset(name);
+        }
+    }
+    Ok(files)
+}
+
+/// Shows the files that the rows set and unset, in their order.
+pub fn show_files(rt: &impl Print, alloc: Global, rows: &str) -> io::Result<()> {
+    let files = grown(files_of(alloc, rows))?;
+    for file in files.as_slice() {
+        let name = String::from_utf8_lossy(alloc, file.name.as_slice())?;
+        show_bytes(rt, alloc, name.as_str(), file.bytes.as_slice())?;
+        println!(rt; "")?;
+    }
+    Ok(())
+}
+
+/// Shows what a store of the files answers whose listed calls fail, and where call 0 is listed, which is none, also what a plain one does.
+pub fn show_store(rt: &impl Print, alloc: Global, rows: &str) -> io::Result<()> {
+    let (files, rest) = rows.split_once("--\n").unwrap_or((rows, ""));
+    let (fails, calls) = rest.split_once('\n').unwrap_or((rest, ""));
+    let listed = grown(calls_of(alloc, fails))?;
+    let mut store = MemStore::make(alloc, grown(files_of(alloc, files))?, listed);
+    show_calls(rt, alloc, &mut store, calls)?;
+    println!(rt; "{} faults", store.faults())?;
+    if fails.starts_with('0') {
+        let mut plain = PlainStore::make(alloc, grown(files_of(alloc, files))?);
+        show_calls(rt, alloc, &mut plain, calls)?;
+    }
+    Ok(())
+}
+
+/// Shows what the store answers to each call.
+fn show_calls<D: Store>(
+    rt: &impl Print,
+    alloc: Global,
+    store: &mut D,
+    calls: &str,
+) -> io::Result<()> {
+    for call in calls.lines() {
+        print!(rt; "{call} =>")?;
+        show_call(rt, alloc, store, call)?;
+        println!(rt; "")?;
+    }
+    Ok(())
+}
+
+/// Shows what the store answers to the call.
+fn show_call<D: Store>(
+    rt: &impl Print,
+    alloc: Global,
+    store: &mut D,
+    call: &str,
+) -> io::Result<()> {
+    let (word, rest) = words(call);
+    let (name, most) = words(rest);
+    match word {
+        "read" => match store.read(alloc, name, number_of(most)) {
+            Ok(bytes) => show_bytes(rt, alloc, "", bytes.as_slice()),
+            Err(fault) => print!(rt; " {fault:?}"),
+        },
+        "names" => match store.names(alloc, name, most.parse::<u32>().unwrap_or(0)) {
+            Ok(names) => print!(rt; " {} names", names.len()),
+            Err(fault) => print!(rt; " {fault:?}"),
+        },
+        _ => {
+            store.renew();
+            Ok(())
+        }
+    }
+}
+
+/// Shows what a file is in each edition, and in one more.
+pub fn show_editions(rt: &impl Print, alloc: Global, rows: &str) -> io::Result<()> {
+    let mut store = MemStore::make(alloc, Files::make(alloc), Calls::make(alloc));
+    for row in rows.lines() {
+        let files = grown(files_of(alloc, row))?;
+        grown(store.later(files))?;
+    }
+    show_calls(
+        rt,
+        alloc,
+        &mut store,
+        "read a 9\nrenew\nread a 9\nrenew\nread a 9\nrenew\nread a 9\nrenew\nread a 9",
+    )
+}
