@@ -1,10 +1,10 @@
 //! Bodies as clients send them, whole and cut, at the bounds of each rule (RFC 9112, sections 6 and 7.1).
 ghost use Rattle.std.specs.Prelude.{◌<◌, ◌≤◌, length};
 
+use crate::texts::{grown, number_of, text_of, words};
 use http_read::{BodyAnswer, BodyKind, BodyReader};
-use std::alloc::{AllocError, Global};
-use std::process::Abort;
-use std::test::Fail;
+use std::alloc::Global;
+use std::io;
 
 /// Reads the text as it comes: first so many bytes of it, then piece by piece. Answers as one call that got all of it would.
 fn read_cut(kind: BodyKind, text: &[u8], first: usize, piece: usize) -> BodyAnswer
@@ -26,184 +26,65 @@ fn read_cut(kind: BodyKind, text: &[u8], first: usize, piece: usize) -> BodyAnsw
     }
 }
 
-/// The answer is the same for the whole text, for the text byte by byte, and for the text cut behind each of its bytes.
-fn expect(rt: &impl Abort, kind: BodyKind, text: &[u8], answer: BodyAnswer) {
-    assert_eq!(rt;
-        read_cut(kind, text, 0, 1),
-        answer,
-        "byte by byte: {text:?}"
-    );
-    for cut in 0..text.len() {
-        assert_eq!(rt;
-            read_cut(kind, text, cut, 16384),
-            answer,
-            "cut behind {cut}: {text:?}"
-        );
-    }
-    assert_eq!(rt;
-        read_cut(kind, text, text.len(), 1),
-        answer,
-        "whole: {text:?}"
-    );
-}
-
-/// The same for a long text, with fewer cuts.
-fn expect_long(rt: &impl Abort, text: &[u8], answer: BodyAnswer) {
-    assert_eq!(rt; read_cut(BodyKind::Chunked, text, 0, 1), answer);
-    assert_eq!(rt; read_cut(BodyKind::Chunked, text, 3, 7), answer);
-    assert_eq!(rt; read_cut(BodyKind::Chunked, text, text.len(), 1), answer);
-    let near = text.len() - text.len().min(9);
-    for cut in near..text.len() {
-        assert_eq!(rt;
-            read_cut(BodyKind::Chunked, text, cut, 16384),
-            answer,
-            "cut behind {cut}"
-        );
+/// The kind of body that the words name.
+fn kind_of(text: &str) -> BodyKind {
+    match words(text) {
+        ("length", length) => BodyKind::Length(number_of(length)),
+        ("chunked", _) => BodyKind::Chunked,
+        _ => BodyKind::Nothing,
     }
 }
 
-fn with_run(
-    alloc: Global,
-    front: &[u8],
-    unit: &[u8],
-    times: usize,
-    end: &[u8],
-) -> Result<Vec<u8>, AllocError> {
-    let mut text = front.to_vec(alloc)?;
-    for _ in 0..times {
-        text.extend_from_slice(unit)?;
-    }
-    text.extend_from_slice(end)?;
-    Ok(text)
-}
-
-#[test]
-fn reads_bodies_without_chunks(rt: HostRuntime) {
-    let rows: [(BodyKind, &[u8], BodyAnswer); 7] = [
-        (BodyKind::Nothing, b"", BodyAnswer::Done(0)),
-        (BodyKind::Nothing, b"GET", BodyAnswer::Done(0)),
-        (BodyKind::Length(0), b"GET", BodyAnswer::Done(0)),
-        (BodyKind::Length(5), b"", BodyAnswer::Took(0)),
-        (BodyKind::Length(5), b"hell", BodyAnswer::Took(4)),
-        (BodyKind::Length(5), b"hello", BodyAnswer::Done(5)),
-        (BodyKind::Length(5), b"helloGET", BodyAnswer::Done(5)),
-    ];
-    for (kind, text, answer) in rows {
-        expect(&rt, kind, text, answer);
-    }
-}
-
-#[test]
-fn reads_whole_chunked_bodies(rt: HostRuntime) {
-    let rows: [(&[u8], u64); 13] = [
-        (b"0\r\n\r\n", 5),
-        (b"5\r\nhello\r\n0\r\n\r\n", 15),
-        (b"5\r\nhello\r\n0\r\n\r\nGET / HTTP/1.1\r\n", 15),
-        (b"2\r\nhe\r\n3\r\nllo\r\n0\r\n\r\n", 20),
-        (b"a\r\n0123456789\r\nA\r\n0123456789\r\n0\r\n\r\n", 35),
-        (b"0005\r\nhello\r\n0000\r\n\r\n", 21),
-        (b"0000000000000005\r\nhello\r\n0\r\n\r\n", 30),
-        (b"5;name=value\r\nhello\r\n0;x\r\n\r\n", 28),
-        (b"5 \t\r\nhello\r\n0 ;\r\n\r\n", 19),
-        (b"0\r\nA: b\r\n\r\n", 11),
-        (b"0\r\nA: b\nC: d\n\n", 14),
-        (b"0\r\n\n", 4),
-        (b"0\r\n\rX\r\n\r\n", 9),
-    ];
-    for (text, len) in rows {
-        expect(&rt, BodyKind::Chunked, text, BodyAnswer::Done(len));
-    }
-}
-
-#[test]
-fn waits_for_the_rest_of_a_chunked_body(rt: HostRuntime) {
-    let rows: [(&[u8], u64); 14] = [
-        (b"", 0),
-        (b"5", 0),
-        (b"5;x", 0),
-        (b"5\r", 0),
-        (b"5\r\n", 3),
-        (b"5\r\nhe", 5),
-        (b"5\r\nhello", 8),
-        (b"5\r\nhello\r", 9),
-        (b"5\r\nhello\r\n", 10),
-        (b"5\r\nhello\r\n0", 10),
-        (b"5\r\nhello\r\n0\r\nA: b", 13),
-        (b"0\r\n\r", 3),
-        (b"0\r\nA\n\rX", 5),
-        (b"40000000\r\n", 10),
-    ];
-    for (text, taken) in rows {
-        expect(&rt, BodyKind::Chunked, text, BodyAnswer::Took(taken));
-    }
-}
-
-#[test]
-fn refuses_what_breaks_the_form(rt: HostRuntime) {
-    let rows: [(&[u8], u16); 18] = [
-        (b"00000000000000005", 400),
-        (b"\r\n", 400),
-        (b";x\r\n", 400),
-        (b" 5\r\n", 400),
-        (b"g", 400),
-        (b"-5\r\n", 400),
-        (b"0x5\r\n", 400),
-        (b"5 5\r\n", 400),
-        (b"5\nhello\r\n", 400),
-        (b"5;x\nhello\r\n", 400),
-        (b"5\rhello\r\n", 400),
-        (b"5\r\nhelloX\r\n", 400),
-        (b"5\r\nhello\n0\r\n\r\n", 400),
-        (b"5\r\nhello\rX", 400),
-        (b"5\r\nhello\r\nhello\r\n", 400),
-        (b"40000001\r\n", 413),
-        (b"1\r\na\r\n40000000\r\n", 413),
-        (b"FFFFFFFFFFFFFFFF\r\n", 413),
-    ];
-    for (text, code) in rows {
-        expect(&rt, BodyKind::Chunked, text, BodyAnswer::Bad(code));
-    }
-    let within = b"1\r\na\r\n3FFFFFFF\r\n";
-    expect(&rt, BodyKind::Chunked, within, BodyAnswer::Took(16));
-}
-
-#[test]
-fn keeps_the_limits_of_lines(rt: HostRuntime) -> Result<(), Fail> {
-    let bad = BodyAnswer::Bad(400);
-    let rows: [(&[u8], &[u8], usize, &[u8], BodyAnswer); 12] = [
-        // Chunk lines of 1,024 and 1,025 bytes; 1,023 and 1,024 without an end.
-        (b"5;", b"a", 1020, b"\r\n", BodyAnswer::Took(1024)),
-        (b"5;", b"a", 1021, b"\r\n", bad),
-        (b"5", b" ", 1022, b"", BodyAnswer::Took(0)),
-        (b"5", b" ", 1023, b"", bad),
-        // Trailer lines of 8,190 and 8,191 bytes; 8,189 and 8,190 without an end.
-        (b"0\r\n", b"a", 8189, b"\n\n", BodyAnswer::Done(8194)),
-        (b"0\r\n", b"a", 8190, b"\n\n", bad),
-        (b"0\r\n", b"a", 8189, b"", BodyAnswer::Took(3)),
-        (b"0\r\n", b"a", 8190, b"", bad),
-        // 100 and 101 trailer lines; the 101st counts once it is whole.
-        (b"0\r\n", b"a\n", 100, b"\r\n", BodyAnswer::Done(205)),
-        (b"0\r\n", b"a\n", 100, b"a", BodyAnswer::Took(203)),
-        (b"0\r\n", b"a\n", 101, b"", bad),
-        (b"0\r\n", b"a\n", 101, b"\n", bad),
-    ];
-    for (front, unit, times, end, answer) in rows {
-        let text = with_run(rt.alloc(), front, unit, times, end)?;
-        expect_long(&rt, &text, answer);
+/// Shows the answer to each body, and each other one that it has byte by byte, in pieces of seven bytes, or cut behind one of its
+/// last 64 bytes.
+pub fn show_bodies(rt: &impl Print, alloc: Global, kind: &str, rows: &str) -> io::Result<()> {
+    let kind = kind_of(kind);
+    for row in rows.lines() {
+        let text = grown(text_of(alloc, row))?;
+        let bytes = text.as_slice();
+        let answer = read_cut(kind, bytes, bytes.len(), 1);
+        println!(rt; "{row} => {answer:?}")?;
+        show_other(rt, answer, read_cut(kind, bytes, 0, 1), 0)?;
+        show_other(rt, answer, read_cut(kind, bytes, 3, 7), 3)?;
+        show_cuts(rt, kind, bytes, answer)?;
     }
     Ok(())
 }
 
-#[test]
-fn passes_a_gibibyte(rt: HostRuntime) -> Result<(), Fail> {
-    let piece = with_run(rt.alloc(), b"", b"0123456789abcdef", 4096, b"")?;
-    assert_eq!(rt; piece.len(), 65536);
-    assert_eq!(rt;
-        read_many(BodyKind::Length(1_073_741_824), b"", &piece, 16383),
-        BodyAnswer::Done(65536)
-    );
-    let chunk = read_many(BodyKind::Chunked, b"40000000\r\n", &piece, 16383);
-    assert_eq!(rt; chunk, BodyAnswer::Took(65536));
+/// Shows each other answer that the body has where it is cut behind one of its last 64 bytes.
+fn show_cuts(rt: &impl Print, kind: BodyKind, text: &[u8], answer: BodyAnswer) -> io::Result<()> {
+    let near = text.len() - text.len().min(64);
+    for cut in near..text.len() {
+        show_other(rt, answer, read_cut(kind, text, cut, 16384), cut)?;
+    }
+    Ok(())
+}
+
+/// Shows the answer where it isn't that one.
+fn show_other(
+    rt: &impl Print,
+    answer: BodyAnswer,
+    found: BodyAnswer,
+    cut: usize,
+) -> io::Result<()> {
+    if found == answer {
+        return Ok(());
+    }
+    println!(rt; "but {found:?} where it is cut behind {cut}")
+}
+
+/// Shows the last answer to bodies of a gibibyte, and how each of them begins.
+pub fn show_gibibyte(rt: &impl Print, alloc: Global, rows: &str) -> io::Result<()> {
+    let piece = grown(text_of(alloc, "`4096 0123456789abcdef`"))?;
+    let bytes = piece.as_slice();
+    for row in rows.lines() {
+        let (kind, front) = row.split_once(": ").unwrap_or((row, ""));
+        let front = grown(text_of(alloc, front))?;
+        if front.len() <= bytes.len() {
+            let answer = read_many(kind_of(kind), front.as_slice(), bytes, 16383);
+            println!(rt; "{row} => {answer:?}")?;
+        }
+    }
     Ok(())
 }
 
@@ -244,11 +125,11 @@ fn looked_at(text: &[u8]) -> usize {
     looked
 }
 
-#[test]
-fn looks_at_each_byte_once(rt: HostRuntime) -> Result<(), Fail> {
-    let text = with_run(rt.alloc(), b"5;", b"a", 1020, b"\r\nhello\r\n0\r\n\r\n")?;
-    assert_eq!(rt; looked_at(&text), text.len());
-    let text = with_run(rt.alloc(), b"0\r\n", b"a", 8189, b"\n\n")?;
-    assert_eq!(rt; looked_at(&text), text.len());
+/// Shows how many bytes are looked at of each chunked body, and how many it has.
+pub fn show_looks(rt: &impl Print, alloc: Global, rows: &str) -> io::Result<()> {
+    for row in rows.lines() {
+        let text = grown(text_of(alloc, row))?;
+        println!(rt; "{row} => {} of {}", looked_at(text.as_slice()), text.len())?;
+    }
     Ok(())
 }

@@ -1,52 +1,35 @@
 //! The status pages, whole.
-use mpm_base::{Octets, Snapshot};
+use crate::texts::{grown, small_of};
+use mpm_base::{NoMemory, Octets, Snapshot};
 use scoreboard::{page_auto, page_html};
-use std::test::Fail;
+use std::alloc::Global;
+use std::io;
 
-const TEXT: &str = "\
-Generation: 0
-BusyWorkers: 1
-IdleWorkers: 1
-ConnsTotal: 4
-ConnsAsyncWriting: 0
-ConnsAsyncKeepAlive: 3
-ConnsAsyncClosing: 0
-Scoreboard: W_..
-";
-
-const HTML: &str = "\
-<html><head><title>Server Status</title></head><body><pre>
-Generation: 0
-BusyWorkers: 1
-IdleWorkers: 1
-ConnsTotal: 4
-ConnsAsyncWriting: 0
-ConnsAsyncKeepAlive: 3
-ConnsAsyncClosing: 0
-Scoreboard: W_..
-</pre></body></html>
-";
-
-#[test]
-fn pages_are_these_bytes(rt: HostRuntime) -> Result<(), Fail> {
-    let alloc = rt.alloc();
-    let snapshot = Snapshot {
-        generation: 0,
-        busy: 1,
-        idle: 1,
-        total: 4,
-        writing: 0,
-        keep_alive: 3,
-        closing: 0,
-        letters: Octets::of(alloc, b"W_..")?,
-    };
-    let rows = [
-        (page_auto(alloc, &snapshot)?, TEXT, 140),
-        (page_html(alloc, &snapshot)?, HTML, 220),
-    ];
-    for (page, want, length) in rows {
-        assert_eq!(rt; page.as_slice(), want.as_bytes());
-        assert_eq!(rt; page.len(), length);
+/// Shows both pages of each snapshot, and how many bytes they have.
+pub fn show_pages(rt: &impl Print, alloc: Global, rows: &str) -> io::Result<()> {
+    for row in rows.lines() {
+        let snapshot = grown(snapshot_of(alloc, row))?;
+        let text = grown(page_auto(alloc, &snapshot))?;
+        let page = grown(page_html(alloc, &snapshot))?;
+        println!(rt; "{row} => {} and {}", text.len(), page.len())?;
+        print!(rt; "{}", String::from_utf8_lossy(alloc, text.as_slice())?)?;
+        print!(rt; "{}", String::from_utf8_lossy(alloc, page.as_slice())?)?;
     }
     Ok(())
+}
+
+/// The snapshot of these numbers and letters.
+fn snapshot_of(alloc: Global, row: &str) -> Result<Snapshot, NoMemory> {
+    let mut words = row.split(' ');
+    let letters = Octets::of(alloc, words.next().unwrap_or("").as_bytes())?;
+    Ok(Snapshot {
+        generation: small_of(words.next().unwrap_or("")),
+        busy: small_of(words.next().unwrap_or("")),
+        idle: small_of(words.next().unwrap_or("")),
+        total: small_of(words.next().unwrap_or("")),
+        writing: small_of(words.next().unwrap_or("")),
+        keep_alive: small_of(words.next().unwrap_or("")),
+        closing: small_of(words.next().unwrap_or("")),
+        letters,
+    })
 }

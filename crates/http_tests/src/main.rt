@@ -1,0 +1,60 @@
+//! Tests of the crates of HTTP, by their public calls alone: heads and bodies as clients send them, responses and pages by example. The
+//! file `stdin` has the texts, section by section, and `stdout` what must come of each.
+//!
+//! In the input a line that begins with `== ` begins a section: the words up to a colon say what its rows are, and the rest is its
+//! title. In a text `|` stands for a carriage return and a line feed, `~` for a line feed, `^` for a carriage return, and a number and
+//! a text between backquotes for the text so many times.
+//!
+//! - `body KIND`: bodies. `gibibyte`: a kind and how the body begins. `body looks`: chunked bodies.
+//! - `heads LINE FIELD FIELDS`: heads, by these limits. `requests`: heads, and what they ask. `hosts`: no rows, for each byte in a host.
+//! - `root`: heads of the one form that the program reads.
+//! - `answers SECOND LAST`: heads that are answered at the second. `refusals`: codes. `continue`: no rows.
+//! - `pages`: the letters and the numbers of a snapshot.
+#![tactic(auto)]
+
+mod bodies;
+mod heads;
+mod pages;
+mod responses;
+mod root_heads;
+mod texts;
+
+use std::alloc::Global;
+use std::io;
+
+fn main(rt: HostRuntime) -> io::Result<()> {
+    let input = io::read_to_string(rt.alloc(), rt.reader())?;
+    let mut sections = input.as_str().split("\n== ");
+    let _ = sections.next();
+    for section in sections {
+        let (title, rows) = section.split_once('\n').unwrap_or((section, ""));
+        println!(&rt; "== {title}")?;
+        let (kind, _) = title.split_once(':').unwrap_or((title, ""));
+        let (word, rest) = texts::words(kind);
+        show_section(&rt, rt.alloc(), word, rest, rows)?;
+    }
+    Ok(())
+}
+
+/// Shows what comes of the rows of a section of that kind.
+fn show_section(
+    rt: &impl Print,
+    alloc: Global,
+    word: &str,
+    kind: &str,
+    rows: &str,
+) -> io::Result<()> {
+    match word {
+        "body" if kind == "looks" => bodies::show_looks(rt, alloc, rows),
+        "body" => bodies::show_bodies(rt, alloc, kind, rows),
+        "gibibyte" => bodies::show_gibibyte(rt, alloc, rows),
+        "heads" => heads::show_heads(rt, alloc, kind, rows),
+        "requests" => heads::show_requests(rt, alloc, rows),
+        "hosts" => heads::show_hosts(rt, alloc),
+        "root" => root_heads::show_root_heads(rt, alloc, rows),
+        "answers" => responses::show_answers(rt, alloc, kind, rows),
+        "refusals" => responses::show_refusals(rt, alloc, rows),
+        "continue" => responses::show_continue(rt, alloc),
+        _ => pages::show_pages(rt, alloc, rows),
+    }
+}
