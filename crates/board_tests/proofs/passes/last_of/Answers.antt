@@ -1,8 +1,8 @@
 use Rattle.std.proofs.Common.{◌≡◌, ap, ◌∙◌}
 use Rattle.std.specs.Prelude.{slice_get}
 use Rattle.board_lock.specs.Passes.{HasNoTurn}
-use Rattle.run_tests.proofs.BoardLemmas.{at_first, last_has}
-use Rattle.run_tests.proofs.passes.last_of.Goals as goal
+use Rattle.board_tests.proofs.BoardLemmas.{at_first, last_has}
+use Rattle.board_tests.proofs.passes.last_of.Goals as goal
 
 pub returns-clause-free : goal.returns-clause-free
 returns-clause-free c =

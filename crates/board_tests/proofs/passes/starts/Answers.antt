@@ -1,5 +1,5 @@
-use Rattle.run_tests.proofs.BoardLemmas.{has_passes, may_end}
-use Rattle.run_tests.proofs.passes.starts.Goals as goal
+use Rattle.board_tests.proofs.BoardLemmas.{has_passes, may_end}
+use Rattle.board_tests.proofs.passes.starts.Goals as goal
 
 pub start_child-started-requires-clause-who : goal.start_child-started-requires-clause-who
 start_child-started-requires-clause-who g c = has_passes _ _ c.turn-turn.result.kept c.turn-turn.ensures.turn

@@ -1,0 +1,27 @@
+//! Plays the runs that its input asks for, over stores and outputs in memory, and prints what came of each: its exit status and its
+//! place, what it wrote, and where it opened how far its script came, what happened to each connection and, where the run asks for it,
+//! the history. The file `stdin` has the runs, and `stdout` what must come of them. So a further run is lines of these two files.
+//!
+//! In the input a line that begins with `== ` has the title of a run; the lines behind it say what it is over:
+//!
+//! - `words WORD ..`: the words of the command line. `s` is the name of the one file of the folder.
+//! - `| TEXT`: a line of the file. `+ TEXT`: more of it, without the end of a line. `times N TEXT`: the text so many times.
+//! - `store N`, `output N`: the store's, the output's call of that number fails.
+//! - `slow`: the output takes single bytes.
+//! - `history`: the history is shown.
+//!
+//! With `rt try --fail-alloc N` the Nth allocation fails, for each N. The program then ends with an error where the run of that
+//! moment stopped as it must; where it ends well and prints something else, the run told something wrong.
+#![tactic(auto)]
+
+mod case;
+mod playing;
+mod shown;
+
+use playing::play_all;
+use std::io;
+
+fn main(rt: HostRuntime) -> io::Result<()> {
+    let input = io::read_to_string(rt.alloc(), rt.reader())?;
+    play_all(&rt, rt.alloc(), input.as_str())
+}

@@ -1,0 +1,99 @@
+//! What is printed of a run.
+use conn_machine::{Entry, Going, Why};
+use conn_state::Ended;
+use mpm_run::Outcome;
+use stand_ins::{MemSink, ScriptLink};
+use std::alloc::Global;
+use std::io;
+
+/// Prints what was written, and where a run opened how far its script came, how its connections ended, and its history where it is
+/// asked for.
+pub fn show_outcome(
+    rt: &impl Print,
+    alloc: Global,
+    outcome: &Outcome,
+    out: &MemSink,
+    history: bool,
+) -> io::Result<()> {
+    let text = String::from_utf8_lossy(alloc, out.bytes())?;
+    print!(rt; "{text}")?;
+    let Some(scripted) = &outcome.scripted else {
+        return Ok(());
+    };
+    let lines = scripted.front.script().lines().len();
+    println!(rt; "played {} of {lines}", scripted.front.happened())?;
+    show_connections(rt, alloc, scripted.board.ended())?;
+    if history {
+        show_history(rt, scripted.board.history())?;
+    }
+    Ok(())
+}
+
+/// Prints how each connection ended.
+fn show_connections(
+    rt: &impl Print,
+    alloc: Global,
+    connections: &[Ended<ScriptLink>],
+) -> io::Result<()> {
+    for ended in connections {
+        show_connection(rt, alloc, ended)?;
+    }
+    Ok(())
+}
+
+/// Prints how the connection ended, the codes of its responses, and what its link was sent.
+fn show_connection(rt: &impl Print, alloc: Global, ended: &Ended<ScriptLink>) -> io::Result<()> {
+    print!(rt;
+        "{}.{} {:?} {:?}",
+        ended.name.slot, ended.name.life, ended.cause, ended.tail
+    )?;
+    for note in ended.notes.as_slice() {
+        print!(rt; " {}", note.code)?;
+    }
+    let link = &ended.link;
+    println!(rt; ", shuts {}, closes {}", link.shuts(), link.closes())?;
+    show_bytes(rt, alloc, "received", link.received())?;
+    show_bytes(rt, alloc, "left", link.left())?;
+    show_bytes(rt, alloc, "sent", link.sent())
+}
+
+/// Prints the bytes under the name.
+fn show_bytes(rt: &impl Print, alloc: Global, name: &str, bytes: &[u8]) -> io::Result<()> {
+    let text = String::from_utf8_lossy(alloc, bytes)?;
+    println!(rt; "{name} {text:?}")
+}
+
+/// Prints each entry: its pass, its number, its event and its reply.
+pub fn show_history(rt: &impl Print, history: &[Entry]) -> io::Result<()> {
+    for entry in history {
+        println!(rt;
+            "{} {} {:?} {:?}",
+            entry.pass, entry.ordinal, entry.event, entry.reply
+        )?;
+    }
+    Ok(())
+}
+
+/// Whether the run stopped for want of memory, and as it must then: each link that was taken was closed once, and there is a
+/// report just where its server was told so.
+pub fn shows_want_of_memory(outcome: &Outcome, out: &MemSink) -> bool {
+    let Some(scripted) = &outcome.scripted else {
+        return outcome.status == 6 && out.bytes().is_empty();
+    };
+    let written = match scripted.board.going() {
+        Going::Halted(Why::NoMemory) => is_report(out.bytes()),
+        Going::Halted(_) => out.bytes().is_empty(),
+        _ => false,
+    };
+    outcome.status == 6 && written && are_closed(scripted.board.ended())
+}
+
+/// Whether the bytes begin and end as a report does.
+fn is_report(bytes: &[u8]) -> bool {
+    bytes.starts_with(b"Generation: 0\nAccepted: ") && bytes.ends_with(b"\n")
+}
+
+/// Whether each link was closed once.
+fn are_closed(connections: &[Ended<ScriptLink>]) -> bool {
+    connections.iter().all(|ended| ended.link.closes() == 1)
+}
