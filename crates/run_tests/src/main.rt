@@ -11,7 +11,8 @@
 //! - `history`: the history is shown.
 //!
 //! With `rt try --fail-alloc N` the Nth allocation fails, for each N. The program then ends with an error where the run of that
-//! moment stopped as it must; where it ends well and prints something else, the run told something wrong.
+//! moment stopped as it must. Where the output itself found no memory for its bytes, it has failed: that run has status 5 then, and
+//! a front of its text. Where the program ends well and prints something else, the run told something wrong.
 #![tactic(auto)]
 
 mod case;
