@@ -17,13 +17,13 @@ use Rattle.http_read.specs.LookedAt.{HasLookedAt}
 use Rattle.http_read.specs.BodyForm.{IsBody, IsBodyFront, BeginsBody, BreaksBody}
 use Rattle.http_read.specs.BodyPlaces.{StandsAt, begun_len}
 use Rattle.http_read.specs.BodyAnswers.{CountsBytes, AnswersBody}
-use Rattle.http_read.specs.Requests.{BeginsRefusal, WaitsForRequest}
+use Rattle.http_read.specs.Requests.{BeginsRefusal}
 use Rattle.http_conn.specs.declared.stage.Stage.{Stage}
 use Rattle.http_conn.specs.declared.stage.Stage.TheVariants as stage
 use Rattle.http_conn.specs.declared.steps.Step.{Step}
 use Rattle.http_conn.specs.declared.steps.Step.TheVariants as step
 use Rattle.http_conn.specs.Rest.{StandsInHead, StandsInBody, StandsBehind, is_awaited}
-use Rattle.http_conn.specs.Steps.{is_told, StepFinds, StepWants, StepKeeps, Steps}
+use Rattle.http_conn.specs.Steps.{is_told, WaitsInHead, WaitsInBody, StepFinds, StepWants, StepKeeps, Steps}
 use Rattle.http_conn.specs.StepsInside.{StartsBody}
 
 -- ## The head
@@ -48,10 +48,12 @@ head-refused limits unread reader code refused rest h =
     inl (subst (λ xs. IsRefusal limits xs code) (sym h.rest_is) (subst (λ l. IsRefusal l unread code) h.limits_are refused), refl)
 
 -- more of the head has to come
-pub head-waits : (limits : Limits) (unread : List ℕ) (reader : HeadReader) → HeadIs reader.limits unread answer.More
-    → (rest : List ℕ) → StandsInHead limits unread reader rest → WaitsForRequest limits rest
-head-waits limits unread reader more rest h =
-    inl (subst (λ xs. HeadIs limits xs answer.More) (sym h.rest_is) (subst (λ l. HeadIs l unread answer.More) h.limits_are more))
+pub head-waits : (limits : Limits) (unread : List ℕ) (reader new : HeadReader) → HeadIs reader.limits unread answer.More → new.looked ≡ length unread
+    → (rest : List ℕ) → StandsInHead limits unread reader rest → WaitsInHead limits unread new rest
+head-waits limits unread reader new more all rest h = record {
+  front = subst (λ xs. HeadIs limits xs answer.More) (sym h.rest_is) (subst (λ l. HeadIs l unread answer.More) h.limits_are more);
+  looked = all;
+}
 
 -- ## The body
 
@@ -82,16 +84,22 @@ body-goes_on limits unread unread' request old new n counts answers left rest h 
           goes.stands;
     }
 
+-- all is read of what a body's reader leaves
+all-looked : (n : ℕ) (unread unread' : List ℕ) (new : BodyPlace) → CountsBytes (length unread) (Took n) new → unread' ≡ drop n unread
+    → begun_len new ≡ length unread'
+all-looked n unread unread' new counts left = omega (arith, counts, ap length left, length-drop n unread)
+
 -- more of the body has to come
-pub body-waits : (limits : Limits) (unread : List ℕ) (request : RequestParts) (old new : BodyPlace) (n : ℕ) → AnswersAll request.body old unread (Took n) new
-    → (rest : List ℕ) → StandsInBody limits unread request old rest → WaitsForRequest limits rest
-body-waits limits unread request old new n answers rest h = inr (record {
-  request = request;
+pub body-waits : (limits : Limits) (unread unread' : List ℕ) (request : RequestParts) (old new : BodyPlace) (n : ℕ)
+    → CountsBytes (length unread) (Took n) new → AnswersAll request.body old unread (Took n) new → unread' ≡ drop n unread
+    → (rest : List ℕ) → StandsInBody limits unread request old rest → WaitsInBody limits unread' request new rest
+body-waits limits unread unread' request old new n counts answers left rest h = record {
   head_len = h.head_len;
-  line = drop n unread;
   head = h.head;
-  front = subst (λ xs. IsBodyFront request.body xs (drop n unread)) (sym h.body_is) (answers h.taken h.stands).front;
-})
+  front = subst (IsBodyFront request.body (drop h.head_len rest)) (sym left)
+      (subst (λ xs. IsBodyFront request.body xs (drop n unread)) (sym h.body_is) (answers h.taken h.stands).front);
+  looked = all-looked n unread unread' new counts left;
+}
 
 -- the body is whole
 pub body-whole : (limits : Limits) (unread unread' : List ℕ) (request : RequestParts) (old new : BodyPlace) (n : ℕ)
@@ -179,11 +187,11 @@ head-stands limits unread reader new same within looked rest h =
 
 -- more of the head has to come
 pub head-goes_on : (limits : Limits) (unread : List ℕ) (reader new : HeadReader) → HeadIs reader.limits unread answer.More
-    → new.limits ≡ reader.limits → new.looked ≤ length unread → HasLookedAt (take new.looked unread) new
+    → new.looked ≡ length unread → new.limits ≡ reader.limits → new.looked ≤ length unread → HasLookedAt (take new.looked unread) new
     → Steps limits unread unread (stage.Head reader) (stage.Head new) step.Wants
-head-goes_on limits unread reader new more same within looked = record {
+head-goes_on limits unread reader new more all same within looked = record {
   stands = head-stands limits unread reader new same within looked;
-  wants = head-waits limits unread reader more;
+  wants = head-waits limits unread reader new more all;
   keeps = λ rest h. more.small;
   no_more = omega arith;
   finds = tt;
@@ -229,7 +237,7 @@ pub body-takes : (limits : Limits) (unread unread' : List ℕ) (request : Reques
     → Steps limits unread unread' (stage.Body request old) (stage.Body request new) step.Wants
 body-takes limits unread unread' request old new n counts answers left = record {
   stands = body-goes_on limits unread unread' request old new n counts (answers request.body) left;
-  wants = body-waits limits unread request old new n (answers request.body);
+  wants = body-waits limits unread unread' request old new n counts (answers request.body) left;
   keeps = λ rest h. subst (λ xs. length xs ≤ 65536) (sym left) (line-short request.body (h.taken ++ unread) (drop n unread) (answers request.body h.taken h.stands).front);
   no_more = fewer n unread unread' left;
   finds = tt;
@@ -267,7 +275,7 @@ body-refuses limits unread request old new code answers = record {
 
 -- the request was whole, or refused, before
 pub found-before : (limits : Limits) (unread : List ℕ) (s : Stage) (given : Step) → is_told given ≡ false → StepFinds given s
-    → ((rest : List ℕ) → StepWants given limits rest) → StepKeeps given unread → Steps limits unread unread s s given
+    → ((rest : List ℕ) → StepWants given limits unread s rest) → StepKeeps given unread → Steps limits unread unread s s given
 found-before limits unread s given nothing finds wants keeps = record {
   stands = λ rest h. h;
   wants = λ rest h. wants rest;

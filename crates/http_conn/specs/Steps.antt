@@ -1,9 +1,13 @@
 -- One step of reading, by the bytes that are there.
-use Rattle.std.specs.Prelude.{◌≡◌, ℕ, ◌≤◌, Bool, true, false, ◌||◌, List, take, length, ⊤}
+use Rattle.std.specs.Prelude.{◌≡◌, ℕ, ◌≤◌, Bool, true, false, ◌||◌, List, take, drop, length, ⊤}
 use Rattle.http_read.specs.declared.request.Limits.{Limits}
+use Rattle.http_read.specs.declared.head_reader.HeadReader.{HeadReader}
+use Rattle.http_read.specs.declared.body.BodyPlace.{BodyPlace}
+use Rattle.http_read.specs.RequestParts.{RequestParts}
+use Rattle.http_read.specs.Head.{BeginsHead, IsHeadFront}
 use Rattle.http_read.specs.LookedAt.{HasLookedAt}
+use Rattle.http_read.specs.BodyForm.{IsBodyFront}
 use Rattle.http_read.specs.BodyPlaces.{begun_len}
-use Rattle.http_read.specs.Requests.{WaitsForRequest}
 use Rattle.http_conn.specs.declared.stage.Stage.{Stage}
 use Rattle.http_conn.specs.declared.stage.Stage.TheVariants as stage
 use Rattle.http_conn.specs.declared.steps.Step.{Step}
@@ -28,14 +32,33 @@ StepFinds step.Awaited s = is_awaited s ≡ true
 StepFinds step.Wants s = ⊤
 StepFinds step.NoMemory s = ⊤
 
+-- more of the head has to come, and the reader has looked at all that is there
+pub record WaitsInHead (limits : Limits) (unread : List ℕ) (reader : HeadReader) (rest : List ℕ) : Type 0 where
+  pub front : IsHeadFront limits rest
+  pub looked : reader.looked ≡ length unread
+
+-- more of the body has to come; the unread bytes are the line of it that isn't whole, and the reader has looked at all of them
+pub record WaitsInBody (limits : Limits) (unread : List ℕ) (request : RequestParts) (reader : BodyPlace) (rest : List ℕ) : Type 0 where
+  pub head_len : ℕ
+  pub head : BeginsHead limits rest request head_len
+  pub front : IsBodyFront request.body (drop head_len rest) unread
+  pub looked : begun_len reader ≡ length unread
+
+-- more of the next request has to come, and all that is there was read
+abbrev pub WaitsIn : Limits → List ℕ → Stage → List ℕ → Type 0
+WaitsIn limits unread (stage.Head reader) rest = WaitsInHead limits unread reader rest
+WaitsIn limits unread (stage.Body request reader) rest = WaitsInBody limits unread request reader rest
+WaitsIn limits unread (stage.Whole request) rest = ⊥
+WaitsIn limits unread (stage.Refused code expected) rest = ⊥
+
 -- more has to come where the step says so
-abbrev pub StepWants : Step → Limits → List ℕ → Type 0
-StepWants step.Whole limits rest = ⊤
-StepWants step.Refused limits rest = ⊤
-StepWants step.Accepted limits rest = ⊤
-StepWants step.Awaited limits rest = ⊤
-StepWants step.Wants limits rest = WaitsForRequest limits rest
-StepWants step.NoMemory limits rest = ⊤
+abbrev pub StepWants : Step → Limits → List ℕ → Stage → List ℕ → Type 0
+StepWants step.Whole limits unread s rest = ⊤
+StepWants step.Refused limits unread s rest = ⊤
+StepWants step.Accepted limits unread s rest = ⊤
+StepWants step.Awaited limits unread s rest = ⊤
+StepWants step.Wants limits unread s rest = WaitsIn limits unread s rest
+StepWants step.NoMemory limits unread s rest = ⊤
 
 -- the readers may go on with the bytes that are there
 abbrev pub IsReadable : List ℕ → Stage → Type 0
@@ -56,7 +79,7 @@ StepKeeps step.NoMemory unread = ⊤
 -- a step through the bytes that are there: what is kept stands for the same bytes
 pub record Steps (limits : Limits) (unread unread' : List ℕ) (s s' : Stage) (answer : Step) : Type 0 where
   pub stands : (rest : List ℕ) → StandsAs limits unread s rest → StandsAs limits unread' s' rest
-  pub wants : (rest : List ℕ) → StandsAs limits unread s rest → StepWants answer limits rest
+  pub wants : (rest : List ℕ) → StandsAs limits unread s rest → StepWants answer limits unread' s' rest
   pub keeps : (rest : List ℕ) → StandsAs limits unread s rest → StepKeeps answer unread'
   pub no_more : length unread' ≤ length unread
   pub finds : StepFinds answer s'

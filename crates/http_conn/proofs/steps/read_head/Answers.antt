@@ -1,4 +1,4 @@
-use Rattle.std.proofs.Common.{false, drop, sym, ap, subst, ◌∙◌}
+use Rattle.std.proofs.Common.{false, drop, refl, sym, ap, subst, ◌∙◌}
 use Rattle.http_conn.specs.declared.stage.Stage.TheVariants as stage
 use Rattle.http_conn.specs.declared.steps.Step.TheVariants as step
 use Rattle.http_conn.specs.Steps.{Steps}
@@ -14,7 +14,7 @@ returns-in-Whole c limits =
 pub returns-in-More : goal.returns-in-More
 returns-in-More c limits =
     subst (λ xs. Steps limits xs xs (stage.Head c.args.reader) (stage.Head c.read.new.self) step.Wants) c.as_slice.ensures
-    (head-goes_on limits c.as_slice.result.now c.args.reader c.read.new.self c.in-More.ensures.head c.in-More.ensures.limits c.in-More.ensures.within c.in-More.ensures.looked)
+    (head-goes_on limits c.as_slice.result.now c.args.reader c.read.new.self c.in-More.ensures.head (c.in-More.ensures.all refl) c.in-More.ensures.limits c.in-More.ensures.within c.in-More.ensures.looked)
 
 pub returns-in-Refused : goal.returns-in-Refused
 returns-in-Refused c limits =
