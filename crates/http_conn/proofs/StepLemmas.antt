@@ -156,7 +156,7 @@ begun-steps true limits unread unread' reader request place len head left stands
   wants = λ rest h. tt;
   keeps = λ rest h. tt;
   no_more = fewer len unread unread' left;
-  finds = is;
+  finds = record { in_head = refl; in_body = refl; awaited_is = is };
   told_once = is;
   not_twice = λ e. refl;
 }
@@ -165,7 +165,7 @@ begun-steps false limits unread unread' reader request place len head left stand
   wants = λ rest h. tt;
   keeps = λ rest h. tt;
   no_more = fewer len unread unread' left;
-  finds = tt;
+  finds = record { in_head = refl; in_body = refl; awaited_is = is };
   told_once = is;
   not_twice = λ e. refl;
 }
@@ -194,7 +194,7 @@ head-goes_on limits unread reader new more all same within looked = record {
   wants = head-waits limits unread reader new more all;
   keeps = λ rest h. more.small;
   no_more = omega arith;
-  finds = tt;
+  finds = record { same_head = refl; same_body = refl; in_part = refl };
   told_once = refl;
   not_twice = λ e. refl;
 }
@@ -208,7 +208,7 @@ head-no_memory limits unread reader new same within looked = record {
   wants = λ rest h. tt;
   keeps = λ rest h. tt;
   no_more = omega arith;
-  finds = tt;
+  finds = record { in_head = refl; stays = refl };
   told_once = refl;
   not_twice = λ e. refl;
 }
@@ -240,7 +240,7 @@ body-takes limits unread unread' request old new n counts answers left = record 
   wants = body-waits limits unread unread' request old new n counts (answers request.body) left;
   keeps = λ rest h. subst (λ xs. length xs ≤ 65536) (sym left) (line-short request.body (h.taken ++ unread) (drop n unread) (answers request.body h.taken h.stands).front);
   no_more = fewer n unread unread' left;
-  finds = tt;
+  finds = record { same_head = refl; same_body = refl; in_part = refl };
   told_once = told-nothing request.expects;
   not_twice = λ e. absurd (false≢true e);
 }
@@ -254,7 +254,7 @@ body-ends limits unread unread' request old new n fits answers left = record {
   wants = λ rest h. tt;
   keeps = λ rest h. tt;
   no_more = fewer n unread unread' left;
-  finds = refl;
+  finds = record { behind_head = refl; whole = refl };
   told_once = told-nothing request.expects;
   not_twice = λ e. absurd (false≢true e);
 }
@@ -274,7 +274,7 @@ body-refuses limits unread request old new code answers = record {
 }
 
 -- the request was whole, or refused, before
-pub found-before : (limits : Limits) (unread : List ℕ) (s : Stage) (given : Step) → is_told given ≡ false → StepFinds given s
+pub found-before : (limits : Limits) (unread : List ℕ) (s : Stage) (given : Step) → is_told given ≡ false → StepFinds given s s
     → ((rest : List ℕ) → StepWants given limits unread s rest) → StepKeeps given unread → Steps limits unread unread s s given
 found-before limits unread s given nothing finds wants keeps = record {
   stands = λ rest h. h;

@@ -47,6 +47,20 @@ is_awaited (stage.Body request reader) = request.expects
 is_awaited (stage.Whole request) = request.expects
 is_awaited (stage.Refused code expected) = expected
 
+-- the head of the next request isn't whole
+abbrev pub is_in_head : Stage → Bool
+is_in_head (stage.Head reader) = true
+is_in_head (stage.Body request reader) = false
+is_in_head (stage.Whole request) = false
+is_in_head (stage.Refused code expected) = false
+
+-- the head of the next request was accepted, and its body isn't whole
+abbrev pub is_in_body : Stage → Bool
+is_in_body (stage.Head reader) = false
+is_in_body (stage.Body request reader) = true
+is_in_body (stage.Whole request) = false
+is_in_body (stage.Refused code expected) = false
+
 -- the next request is whole
 abbrev pub is_whole : Stage → Bool
 is_whole (stage.Head reader) = false

@@ -12,7 +12,7 @@ use Rattle.http_conn.specs.declared.stage.Stage.{Stage}
 use Rattle.http_conn.specs.declared.stage.Stage.TheVariants as stage
 use Rattle.http_conn.specs.declared.steps.Step.{Step}
 use Rattle.http_conn.specs.declared.steps.Step.TheVariants as step
-use Rattle.http_conn.specs.Rest.{StandsAs, is_awaited, is_whole, is_refused}
+use Rattle.http_conn.specs.Rest.{StandsAs, is_awaited, is_in_head, is_in_body, is_whole, is_refused}
 
 -- the client is to be told to send the body
 abbrev pub is_told : Step → Bool
@@ -23,14 +23,36 @@ is_told step.Awaited = true
 is_told step.Wants = false
 is_told step.NoMemory = false
 
+-- the step went from the head of the next request to its body, whose client waits to be told to send it or doesn't
+pub record PassesHead (awaited : Bool) (s s' : Stage) : Type 0 where
+  pub in_head : is_in_head s ≡ true
+  pub in_body : is_in_body s' ≡ true
+  pub awaited_is : is_awaited s' ≡ awaited
+
+-- the step stays in the same part of the next request
+pub record StaysInPart (s s' : Stage) : Type 0 where
+  pub same_head : is_in_head s' ≡ is_in_head s
+  pub same_body : is_in_body s' ≡ is_in_body s
+  pub in_part : (is_in_head s' || is_in_body s') ≡ true
+
+-- the next request is whole, and its head was accepted before
+pub record EndsBody (s s' : Stage) : Type 0 where
+  pub behind_head : is_in_head s ≡ false
+  pub whole : is_whole s' ≡ true
+
+-- memory lacked for the head of the next request
+pub record LacksInHead (s s' : Stage) : Type 0 where
+  pub in_head : is_in_head s ≡ true
+  pub stays : is_in_head s' ≡ true
+
 -- what the step found of the next request
-abbrev pub StepFinds : Step → Stage → Type 0
-StepFinds step.Whole s = is_whole s ≡ true
-StepFinds step.Refused s = is_refused s ≡ true
-StepFinds step.Accepted s = ⊤
-StepFinds step.Awaited s = is_awaited s ≡ true
-StepFinds step.Wants s = ⊤
-StepFinds step.NoMemory s = ⊤
+abbrev pub StepFinds : Step → Stage → Stage → Type 0
+StepFinds step.Whole s s' = EndsBody s s'
+StepFinds step.Refused s s' = is_refused s' ≡ true
+StepFinds step.Accepted s s' = PassesHead false s s'
+StepFinds step.Awaited s s' = PassesHead true s s'
+StepFinds step.Wants s s' = StaysInPart s s'
+StepFinds step.NoMemory s s' = LacksInHead s s'
 
 -- more of the head has to come, and the reader has looked at all that is there
 pub record WaitsInHead (limits : Limits) (unread : List ℕ) (reader : HeadReader) (rest : List ℕ) : Type 0 where
@@ -82,6 +104,6 @@ pub record Steps (limits : Limits) (unread unread' : List ℕ) (s s' : Stage) (a
   pub wants : (rest : List ℕ) → StandsAs limits unread s rest → StepWants answer limits unread' s' rest
   pub keeps : (rest : List ℕ) → StandsAs limits unread s rest → StepKeeps answer unread'
   pub no_more : length unread' ≤ length unread
-  pub finds : StepFinds answer s'
+  pub finds : StepFinds answer s s'
   pub told_once : is_awaited s' ≡ (is_awaited s || is_told answer)
   pub not_twice : is_told answer ≡ true → is_awaited s ≡ false
