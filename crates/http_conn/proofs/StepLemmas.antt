@@ -1,5 +1,5 @@
 -- One step through the bytes that are there.
-use Rattle.std.proofs.Common.{◌≡◌, ℕ, ◌+◌, ◌≤◌, ◌||◌, Bool, true, false, if◌then◌else◌, List, [], ◌++◌, take, drop, length, refl, sym, ap, subst, ◌∙◌, inl, inr, arith, append_assoc, length-append}
+use Rattle.std.proofs.Common.{◌≡◌, ℕ, ◌+◌, ◌<◌, ◌≤◌, ◌||◌, Bool, true, false, if◌then◌else◌, List, [], ◌++◌, take, drop, length, refl, sym, ap, subst, ◌∙◌, inl, inr, arith, append_assoc, length-append}
 use Rattle.std.proofs.lemmas.Bool.{false≢true}
 use Rattle.std.proofs.lemmas.List.{take-append-drop, take_all, length-drop, drop-drop}
 use Rattle.std.proofs.Math.Seq.{take-append-add, drop-append-add}
@@ -135,12 +135,12 @@ body-refused limits unread request old new code answers rest h = inr (record {
 fewer : (n : ℕ) (unread unread' : List ℕ) → unread' ≡ drop n unread → length unread' ≤ length unread
 fewer n unread unread' left = omega (arith, ap length left, length-drop n unread)
 
--- no byte is fewer than a head may have
-nil-short : (line : List ℕ) → line ≡ [] → length line ≤ 65536
+-- no byte is shorter than a line may be
+nil-short : (line : List ℕ) → line ≡ [] → length line < 8190
 nil-short line none = omega (arith, ap length none)
 
--- a line of a body that isn't whole is shorter than a head may be
-line-short : (of : BodyKind) (bytes line : List ℕ) → IsBodyFront of bytes line → length line ≤ 65536
+-- a line of a body that isn't whole is shorter than a trailer line may be
+line-short : (of : BodyKind) (bytes line : List ℕ) → IsBodyFront of bytes line → length line < 8190
 line-short kind.Nothing bytes line front = absurd front
 line-short (kind.Length n) bytes line front = nil-short line front.1
 line-short kind.Chunked bytes line (inl front) = let short = front.begun.short in omega (arith, short)
@@ -238,7 +238,7 @@ pub body-takes : (limits : Limits) (unread unread' : List ℕ) (request : Reques
 body-takes limits unread unread' request old new n counts answers left = record {
   stands = body-goes_on limits unread unread' request old new n counts (answers request.body) left;
   wants = body-waits limits unread unread' request old new n counts (answers request.body) left;
-  keeps = λ rest h. subst (λ xs. length xs ≤ 65536) (sym left) (line-short request.body (h.taken ++ unread) (drop n unread) (answers request.body h.taken h.stands).front);
+  keeps = λ rest h. subst (λ xs. length xs < 8190) (sym left) (line-short request.body (h.taken ++ unread) (drop n unread) (answers request.body h.taken h.stands).front);
   no_more = fewer n unread unread' left;
   finds = record { same_head = refl; same_body = refl; in_part = refl };
   told_once = told-nothing request.expects;
@@ -275,7 +275,7 @@ body-refuses limits unread request old new code answers = record {
 
 -- the request was whole, or refused, before
 pub found-before : (limits : Limits) (unread : List ℕ) (s : Stage) (given : Step) → is_told given ≡ false → StepFinds given s s
-    → ((rest : List ℕ) → StepWants given limits unread s rest) → StepKeeps given unread → Steps limits unread unread s s given
+    → ((rest : List ℕ) → StepWants given limits unread s rest) → StepKeeps given unread s → Steps limits unread unread s s given
 found-before limits unread s given nothing finds wants keeps = record {
   stands = λ rest h. h;
   wants = λ rest h. wants rest;

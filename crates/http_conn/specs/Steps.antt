@@ -1,5 +1,5 @@
 -- One step of reading, by the bytes that are there.
-use Rattle.std.specs.Prelude.{◌≡◌, ℕ, ◌≤◌, Bool, true, false, ◌||◌, List, take, drop, length, ⊤}
+use Rattle.std.specs.Prelude.{◌≡◌, ℕ, ◌<◌, ◌≤◌, Bool, true, false, ◌||◌, List, take, drop, length, ⊤}
 use Rattle.http_read.specs.declared.request.Limits.{Limits}
 use Rattle.http_read.specs.declared.head_reader.HeadReader.{HeadReader}
 use Rattle.http_read.specs.declared.body.BodyPlace.{BodyPlace}
@@ -89,20 +89,27 @@ IsReadable unread (stage.Body request reader) = begun_len reader ≤ length unre
 IsReadable unread (stage.Whole request) = ⊤
 IsReadable unread (stage.Refused code expected) = ⊤
 
--- where more has to come no more bytes are kept than a head may have
-abbrev pub StepKeeps : Step → List ℕ → Type 0
-StepKeeps step.Whole unread = ⊤
-StepKeeps step.Refused unread = ⊤
-StepKeeps step.Accepted unread = ⊤
-StepKeeps step.Awaited unread = ⊤
-StepKeeps step.Wants unread = length unread ≤ 65536
-StepKeeps step.NoMemory unread = ⊤
+-- no more bytes are there than a head may have, or a line of a body that isn't whole
+abbrev pub IsShortIn : List ℕ → Stage → Type 0
+IsShortIn unread (stage.Head reader) = length unread ≤ 65536
+IsShortIn unread (stage.Body request reader) = length unread < 8190
+IsShortIn unread (stage.Whole request) = ⊥
+IsShortIn unread (stage.Refused code expected) = ⊥
+
+-- few bytes are kept where more has to come
+abbrev pub StepKeeps : Step → List ℕ → Stage → Type 0
+StepKeeps step.Whole unread s = ⊤
+StepKeeps step.Refused unread s = ⊤
+StepKeeps step.Accepted unread s = ⊤
+StepKeeps step.Awaited unread s = ⊤
+StepKeeps step.Wants unread s = IsShortIn unread s
+StepKeeps step.NoMemory unread s = ⊤
 
 -- a step through the bytes that are there: what is kept stands for the same bytes
 pub record Steps (limits : Limits) (unread unread' : List ℕ) (s s' : Stage) (answer : Step) : Type 0 where
   pub stands : (rest : List ℕ) → StandsAs limits unread s rest → StandsAs limits unread' s' rest
   pub wants : (rest : List ℕ) → StandsAs limits unread s rest → StepWants answer limits unread' s' rest
-  pub keeps : (rest : List ℕ) → StandsAs limits unread s rest → StepKeeps answer unread'
+  pub keeps : (rest : List ℕ) → StandsAs limits unread s rest → StepKeeps answer unread' s'
   pub no_more : length unread' ≤ length unread
   pub finds : StepFinds answer s s'
   pub told_once : is_awaited s' ≡ (is_awaited s || is_told answer)
