@@ -148,7 +148,7 @@ some-reply : (site : SeenSite) (item : Item) (note : Note) (reply : Reply) → I
 some-reply site (inl request) note reply is =
     subst (λ xs. 0 < length xs) (sym is.head) (some-head site (plan_for site request) note.last _)
 some-reply site (inr refusal) note reply is =
-    subst (λ xs. 0 < length xs) (sym is.head) (some-refusal note.code _)
+    subst (λ xs. 0 < length xs) (sym is.1.head) (some-refusal note.code _)
 
 -- no response is empty
 pub some-response : (site : SeenSite) (item : Item) (note : Note) (response : List ℕ) → IsResponse site item note response → 0 < length response

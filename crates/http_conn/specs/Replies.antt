@@ -76,10 +76,10 @@ body_bytes site body.Nothing = []
 body_bytes site (body.Own bytes) = bytes
 body_bytes site (body.File file from to) = file_range (slice_get site.files file) from to
 
--- the reply is the one to the item with the note
+-- the reply is the one to the item with the note; that to a refusal has the refusal's code
 abbrev pub IsReplyTo : SeenSite → Item → Note → Reply → Type 0
 IsReplyTo site (inl request) note reply = IsReply site (plan_for site request) note [] reply
-IsReplyTo site (inr refusal) note reply = IsRefusalReply note [] reply
+IsReplyTo site (inr refusal) note reply = (note.code ≡ refusal.code) × IsRefusalReply note [] reply
 
 -- the bytes are the response to the item with the note: the head of the reply, and the bytes of its body
 pub record IsResponse (site : SeenSite) (item : Item) (note : Note) (bytes : List ℕ) : Type 0 where
