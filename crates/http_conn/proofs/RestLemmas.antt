@@ -9,6 +9,7 @@ use Rattle.http_read.specs.LookedAt.{HasLookedAt}
 use Rattle.http_read.specs.BodyPlaces.{StandsAt, begun_len}
 use Rattle.http_conn.specs.declared.stage.Stage.{Stage}
 use Rattle.http_conn.specs.declared.stage.Stage.TheVariants as stage
+use Rattle.http_conn.specs.Replies.{Expects}
 use Rattle.http_conn.specs.Rest.{StandsInHead, StandsInBody, StandsBehind, StandsAs}
 use Rattle.http_conn.proofs.ItemLemmas.{KeepsHeads, KeepsSpelled, KeepsRefused, refused-more}
 
@@ -49,3 +50,12 @@ stands-more heads spelled refused limits unread more (stage.Body request reader)
 stands-more heads spelled refused limits unread more (stage.Whole request) rest h = behind-more spelled limits unread more request rest h
 stands-more heads spelled refused limits unread more (stage.Refused code expected) rest h =
     refused-more refused limits rest more (record { code = code; expected = expected }) h
+
+-- a head whose client waits to be told to send the body stays one
+pub expects-more : KeepsHeads → (limits : Limits) (bytes more : List ℕ) → Expects limits bytes → Expects limits (bytes ++ more)
+expects-more keeps limits bytes more e = record {
+  request = e.request;
+  head_len = e.head_len;
+  head = keeps limits bytes more e.request e.head_len e.head;
+  expects = e.expects;
+}

@@ -1,12 +1,13 @@
 //! Laws of the items of a connection's bytes and of the replies to them. Each is the contract of a function that does nothing.
-ghost use Rattle.std.specs.Prelude.{◌≡◌, ℕ, ◌<◌, true, List, ◌++◌, length};
+ghost use Rattle.std.specs.Prelude.{◌≡◌, ℕ, ◌<◌, true, false, List, [], ◌∷◌, ◌++◌, drop, length};
+ghost use Rattle.mpm_base.specs.Notes.{says_last};
 ghost use Rattle.mpm_base.specs.declared.note.Note.{Note};
 ghost use Rattle.http_read.specs.declared.request.Limits.{Limits};
 ghost use Rattle.http_read.specs.Requests.{ReadRefusal, BeginsRefusal, WaitsForRequest};
 ghost use Rattle.file_table.specs.Site.{SeenSite};
 ghost use Rattle.http_core.specs.Status.{refuses_head};
 ghost use Rattle.http_conn.specs.Items.{Item, BeginsItem, AreFirst};
-ghost use Rattle.http_conn.specs.Replies.{IsFitting, IsResponse};
+ghost use Rattle.http_conn.specs.Replies.{AreReplies, Expects, IsFitting, IsNoteFor, IsResponse, first_part, item_ask};
 ghost use Rattle.http_conn.specs.Rest.{StandsAs};
 ghost use Rattle.http_conn.specs.declared.stage.Stage.{Stage};
 
@@ -37,6 +38,21 @@ pub fn answered_items_stay()
     keeps_spelling();
 }
 
+/// The next item goes on behind the answered ones with its note, where no note before it was the last.
+pub fn answered_items_go_on()
+    ensures { (site : SeenSite) (limits : Limits) (notes : List Note) (bytes : List ℕ) (items : List Item) (rest : List ℕ)
+        (item : Item) (size : ℕ) (note : Note) → IsFitting site limits notes bytes items rest → says_last notes ≡ false
+        → BeginsItem limits rest item size → IsNoteFor (item_ask site item) note
+        → IsFitting site limits (notes ++ note ∷ []) bytes (items ++ item ∷ []) (drop size rest) }
+{}
+
+/// The response to the next item goes on behind the replies before it.
+pub fn replies_go_on()
+    ensures { (site : SeenSite) (items : List Item) (notes : List Note) (replies : List ℕ) (item : Item) (note : Note) (response : List ℕ)
+        → AreReplies site items notes replies → IsResponse site item note response
+        → AreReplies site (items ++ item ∷ []) (notes ++ note ∷ []) (replies ++ (first_part item ++ response)) }
+{}
+
 /// No response is empty.
 pub fn responses_have_bytes()
     ensures { (site : SeenSite) (item : Item) (note : Note) (response : List ℕ) → IsResponse site item note response
@@ -56,4 +72,11 @@ pub fn kept_bytes_go_on()
 {
     keeps_answer();
     keeps_spelling();
+}
+
+/// A head whose client waits to be told to send the body stays one, whatever comes behind it.
+pub fn expecting_heads_stay()
+    ensures { (limits : Limits) (bytes more : List ℕ) → Expects limits bytes → Expects limits (bytes ++ more) }
+{
+    keeps_answer();
 }
