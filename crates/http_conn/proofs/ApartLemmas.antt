@@ -1,5 +1,6 @@
--- Where an item stands at the front of the bytes, none has to come.
-use Rattle.std.proofs.Common.{◌≡◌, ◌≢◌, ℕ, List, drop, inl, inr, subst}
+-- Where an item stands at the front of the bytes, none has to come; and where more has to come, a client that waits was found.
+use Rattle.std.proofs.Common.{◌≡◌, ◌≢◌, ℕ, Bool, true, List, drop, inl, inr, sym, ap, subst, ◌∙◌}
+use Rattle.std.proofs.lemmas.Bool.{false≢true}
 use Rattle.http_read.specs.declared.request.BodyKind.{BodyKind}
 use Rattle.http_read.specs.declared.request.Limits.{Limits}
 use Rattle.http_read.specs.declared.head.HeadAnswer.{HeadAnswer}
@@ -7,8 +8,13 @@ use Rattle.http_read.specs.declared.head.HeadAnswer.TheVariants as answer
 use Rattle.http_read.specs.RequestParts.{RequestParts}
 use Rattle.http_read.specs.Head.{BeginsHead, HeadIs}
 use Rattle.http_read.specs.BodyForm.{BodyForm, WholeBody, BodyFront, BrokenBody, HasForm}
-use Rattle.http_read.specs.Requests.{WaitsForRequest}
+use Rattle.http_read.specs.Requests.{BeginsRefusal, WaitsForRequest}
+use Rattle.http_conn.specs.declared.stage.Stage.{Stage}
+use Rattle.http_conn.specs.declared.stage.Stage.TheVariants as stage
 use Rattle.http_conn.specs.Items.{Item, BeginsItem}
+use Rattle.http_conn.specs.Replies.{Expects}
+use Rattle.http_conn.specs.Rest.{StandsAs, is_awaited}
+use Rattle.http_conn.specs.Steps.{WaitsIn}
 
 -- bytes have one answer about their head
 abbrev pub OneHead : Type 0
@@ -54,3 +60,37 @@ waits-apart one_head one_body limits bytes (inr refusal) size (inl refused, none
 waits-apart one_head one_body limits bytes (inr refusal) size (inr broken, none) waits =
     let front = waits-behind one_head one_body limits bytes broken.request broken.head_len (BrokenBody refusal.code) broken.head broken.broken waits in
     absurd (let same = front.1 in cc)
+
+-- ## The client that waits to be told to send the body
+
+-- a step that asks for more has bytes that wait for it
+pub waits-for_request : (limits : Limits) (unread : List ℕ) (s : Stage) (rest : List ℕ) → WaitsIn limits unread s rest → WaitsForRequest limits rest
+waits-for_request limits unread (stage.Head reader) rest w = inl w.front
+waits-for_request limits unread (stage.Body request reader) rest w =
+    inr (record { request = request; head_len = w.head_len; line = unread; head = w.head; front = w.front })
+waits-for_request limits unread (stage.Whole request) rest w = absurd w
+waits-for_request limits unread (stage.Refused code expected) rest w = absurd w
+
+-- the client was found before a step asks for more
+pub client-found : OneHead → (limits : Limits) (unread : List ℕ) (s : Stage) (rest : List ℕ) → WaitsIn limits unread s rest → Expects limits rest → is_awaited s ≡ true
+client-found one limits unread (stage.Head reader) rest w e =
+    absurd (let same = one limits rest (answer.Whole e.request e.head_len) answer.More e.head w.front (λ e. cc) (λ e. cc) in cc)
+client-found one limits unread (stage.Body request reader) rest w e =
+    ap (λ (r : RequestParts). r.expects) (same-head one limits rest request e.request w.head_len e.head_len w.head e.head).0 ∙ e.expects
+client-found one limits unread (stage.Whole request) rest w e = absurd w
+client-found one limits unread (stage.Refused code expected) rest w e = absurd w
+
+-- a refusal behind an accepted head whose client waits
+refused-expects : (limits : Limits) (code : ℕ) (expected : Bool) (rest : List ℕ) → BeginsRefusal limits rest (record { code = code; expected = expected })
+    → expected ≡ true → Expects limits rest
+refused-expects limits code expected rest (inl refused) is = absurd (false≢true (sym refused.1 ∙ is))
+refused-expects limits code expected rest (inr broken) is =
+    record { request = broken.request; head_len = broken.head_len; head = broken.head; expects = sym broken.expected_is ∙ is }
+
+-- no other client is found
+pub found-expects : (limits : Limits) (unread : List ℕ) (s : Stage) (rest : List ℕ) → StandsAs limits unread s rest → is_awaited s ≡ true → Expects limits rest
+found-expects limits unread (stage.Head reader) rest h is = absurd (false≢true is)
+found-expects limits unread (stage.Body request reader) rest h is = record { request = request; head_len = h.head_len; head = h.head; expects = is }
+found-expects limits unread (stage.Whole request) rest h is =
+    record { request = request; head_len = h.whole.head_len; head = h.whole.head; expects = is }
+found-expects limits unread (stage.Refused code expected) rest h is = refused-expects limits code expected rest h is

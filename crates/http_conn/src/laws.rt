@@ -8,7 +8,8 @@ ghost use Rattle.file_table.specs.Site.{SeenSite};
 ghost use Rattle.http_core.specs.Status.{refuses_head};
 ghost use Rattle.http_conn.specs.Items.{Item, BeginsItem, AreFirst};
 ghost use Rattle.http_conn.specs.Replies.{AreReplies, Expects, IsFitting, IsNoteFor, IsResponse, first_part, item_ask};
-ghost use Rattle.http_conn.specs.Rest.{StandsAs};
+ghost use Rattle.http_conn.specs.Rest.{StandsAs, is_awaited};
+ghost use Rattle.http_conn.specs.Steps.{WaitsIn};
 ghost use Rattle.http_conn.specs.declared.stage.Stage.{Stage};
 
 use http_read::{keeps_answer, keeps_spelling, one_answer, one_form};
@@ -79,4 +80,20 @@ pub fn expecting_heads_stay()
     ensures { (limits : Limits) (bytes more : List ℕ) → Expects limits bytes → Expects limits (bytes ++ more) }
 {
     keeps_answer();
+}
+
+/// Where a step of reading asks for more, the bytes spell neither a request nor a refusal.
+pub fn steps_wait_for_requests()
+    ensures { (limits : Limits) (unread : List ℕ) (stage : Stage) (rest : List ℕ) → WaitsIn limits unread stage rest
+        → WaitsForRequest limits rest }
+{}
+
+/// A client that waits to be told to send the body is found before a step of reading asks for more, and no other client is found.
+pub fn waiting_clients_are_found()
+    ensures found { (limits : Limits) (unread : List ℕ) (stage : Stage) (rest : List ℕ) → WaitsIn limits unread stage rest
+        → Expects limits rest → is_awaited stage ≡ true }
+    ensures only { (limits : Limits) (unread : List ℕ) (stage : Stage) (rest : List ℕ) → StandsAs limits unread stage rest
+        → is_awaited stage ≡ true → Expects limits rest }
+{
+    one_answer();
 }
