@@ -1,8 +1,8 @@
 //! One connection over its link, for whole HTTP: requests with their bodies, and the responses that are decided. In the making;
 //! it is to take the place of `conn_state`.
 //!
-//! `read_on` reads the next request by the bytes that are there (`specs/Steps.antt`), and keeps those of a head, but of a body
-//! none. Which bytes that stands for is a relation (`specs/Rest.antt`).
+//! `read_on` reads the next request by the bytes that are there (`specs/Steps.antt`), and keeps those of a head, but of a
+//! body only a line that isn't whole. Which bytes that stands for is a relation (`specs/Rest.antt`).
 //!
 //! The items of the bytes that a connection received stand in `specs/Items.antt`: whole requests, and at most one refusal. The
 //! replies to them, and what is sent before a reply, stand in `specs/Replies.antt`; the laws of both are in `laws`. `Outgoing`

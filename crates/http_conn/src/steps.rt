@@ -81,8 +81,8 @@ fn read_body(request: Request, reader: BodyReader, unread: &mut Received) -> (St
     }
 }
 
-/// Reads on by the bytes that are there, and takes what they say of the next request. Of a body it keeps no bytes, and where
-/// more has to come it leaves no more than a head may have.
+/// Reads on by the bytes that are there, and takes what they say of the next request. Where more has to come it keeps of a
+/// body only the line that isn't whole, and of a head no more bytes than one may have.
 pub fn read_on(alloc: Global, stage: Stage, unread: &mut Received) -> (Stage, Step)
     requires { IsReadable unread.old stage }
     ensures { (limits : Limits) → Steps limits unread.old unread.new stage result.0 result.1 }
