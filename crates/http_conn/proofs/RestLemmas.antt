@@ -11,6 +11,7 @@ use Rattle.http_conn.specs.declared.stage.Stage.{Stage}
 use Rattle.http_conn.specs.declared.stage.Stage.TheVariants as stage
 use Rattle.http_conn.specs.Replies.{Expects}
 use Rattle.http_conn.specs.Rest.{StandsInHead, StandsInBody, StandsBehind, StandsAs}
+use Rattle.http_conn.specs.Steps.{IsReadable}
 use Rattle.http_conn.proofs.ItemLemmas.{KeepsHeads, KeepsSpelled, KeepsRefused, refused-more}
 
 -- in a head
@@ -59,3 +60,10 @@ expects-more keeps limits bytes more e = record {
   head = keeps limits bytes more e.request e.head_len e.head;
   expects = e.expects;
 }
+
+-- the readers may go on with what stands for any bytes
+pub stands-readable : (limits : Limits) (unread : List ℕ) (s : Stage) (rest : List ℕ) → StandsAs limits unread s rest → IsReadable unread s
+stands-readable limits unread (stage.Head reader) rest h = (h.within, h.looked)
+stands-readable limits unread (stage.Body request reader) rest h = h.within
+stands-readable limits unread (stage.Whole request) rest h = tt
+stands-readable limits unread (stage.Refused code expected) rest h = tt

@@ -9,7 +9,7 @@ ghost use Rattle.http_core.specs.Status.{refuses_head};
 ghost use Rattle.http_conn.specs.Items.{Item, BeginsItem, AreFirst};
 ghost use Rattle.http_conn.specs.Replies.{AreReplies, Expects, IsFitting, IsNoteFor, IsResponse, first_part, item_ask};
 ghost use Rattle.http_conn.specs.Rest.{StandsAs, is_awaited};
-ghost use Rattle.http_conn.specs.Steps.{WaitsIn};
+ghost use Rattle.http_conn.specs.Steps.{IsReadable, WaitsIn};
 ghost use Rattle.http_conn.specs.declared.stage.Stage.{Stage};
 
 use http_read::{keeps_answer, keeps_spelling, one_answer, one_form};
@@ -74,6 +74,12 @@ pub fn kept_bytes_go_on()
     keeps_answer();
     keeps_spelling();
 }
+
+/// The readers may go on with what stands for any bytes.
+pub fn kept_bytes_are_readable()
+    ensures { (limits : Limits) (unread : List ℕ) (stage : Stage) (rest : List ℕ) → StandsAs limits unread stage rest
+        → IsReadable unread stage }
+{}
 
 /// A head whose client waits to be told to send the body stays one, whatever comes behind it.
 pub fn expecting_heads_stay()
