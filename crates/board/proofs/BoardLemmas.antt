@@ -15,7 +15,8 @@ use Rattle.conn_state.specs.Conn.{SeenConn}
 use Rattle.conn_state.specs.Answered.{SeenEnded}
 use Rattle.conn_state.specs.Known.{KnownOutside}
 use Rattle.board.specs.Book.{SeenBook}
-use Rattle.board.specs.Board.{SeenBoard, IsHome, AreHome, IsBoard, conn_at}
+use Rattle.board.specs.Board.{SeenBoard, IsHome, AreHome, conn_at}
+use Rattle.board.specs.BoardInside.{IsBoard}
 use Rattle.board.specs.QueuesInside.{waits_in, queues_of}
 use Rattle.board.specs.RowsInside.{RowsChangeAlone}
 use Rattle.board.proofs.QueueLemmas.{queued-set}

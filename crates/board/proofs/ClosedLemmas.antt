@@ -15,7 +15,8 @@ use Rattle.conn_state.specs.Answered.{SeenEnded, IsEnded}
 use Rattle.conn_state.specs.Known.{KnownOutside, IsOfClient}
 use Rattle.board.specs.Book.{SeenBook, entry_of, book_with_entry}
 use Rattle.board.specs.Fits.{IsClosing}
-use Rattle.board.specs.Board.{SeenBoard, AreClosed, AreEnded, ClosesFirst, WaitForClients, IsBoard}
+use Rattle.board.specs.Board.{SeenBoard, AreClosed, AreEnded, ClosesFirst, WaitForClients}
+use Rattle.board.specs.BoardInside.{IsBoard}
 use Rattle.board.proofs.BoardLemmas.{AreThere}
 use Rattle.board.proofs.EventLemmas.{opening-there}
 use Rattle.board.proofs.ClientLemmas.{clients_first, ended_clients, ended_unknown}

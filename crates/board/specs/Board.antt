@@ -1,5 +1,5 @@
 -- What is seen of a board, and how its connections agree with its rows and its history.
-use Rattle.std.specs.Prelude.{◌≡◌, ℕ, ◌+◌, ◌≤◌, Bool, true, false, List, [], ◌∷◌, length, count_by, Option, None, Some, slice_get, slice_index_or, ⊤}
+use Rattle.std.specs.Prelude.{◌≡◌, ℕ, Bool, true, false, List, [], ◌∷◌, length, Option, None, Some, slice_get, slice_index_or, ⊤}
 use Rattle.conn_machine.specs.declared.row.Place.{Place}
 use Rattle.conn_machine.specs.declared.row.Place.TheVariants.{Vacant, Spent, Held, Parked, Queued, Working}
 use Rattle.conn_machine.specs.declared.row.Row.{Row}
@@ -7,15 +7,12 @@ use Rattle.conn_machine.specs.declared.event.Event.{Event}
 use Rattle.conn_machine.specs.declared.event.Event.TheVariants as event
 use Rattle.conn_machine.specs.declared.event.Entry.{Entry}
 use Rattle.conn_machine.specs.declared.state.State.{State}
-use Rattle.conn_machine.specs.Rows.{is_live}
 use Rattle.conn_machine.specs.Table.{next}
-use Rattle.timeout_queues.specs.Waiting.{ParkedName}
 use Rattle.conn_state.specs.Conn.{SeenConn}
 use Rattle.conn_state.specs.Answered.{SeenEnded, IsEnded}
 use Rattle.conn_state.specs.Known.{KnownOutside, IsOfClient}
 use Rattle.board.specs.Book.{SeenBook}
 use Rattle.board.specs.Fits.{Fits, IsSettled, IsClosing}
-use Rattle.board.specs.QueuesInside.{queues_of}
 
 -- a board: its history and state, the connections that it has by their slots, and those that ended
 pub record SeenBoard : Type 0 where
@@ -106,11 +103,3 @@ pub record AreOfClients (known : Option KnownOutside) (b : SeenBoard) : Type 0 w
   pub ended : EndedForClients known b.ended
 
 -- ## Every board
-
--- a board whose type knows this agrees with its history, its links are those of clients, its timeout queues have the rows that
--- wait, and each live connection finds room among those that ended
-pub record IsBoard (known : Option KnownOutside) (b : SeenBoard) (queues : List (Option ParkedName)) (room : ℕ) : Type 0 where
-  pub agrees : Agrees b
-  pub clients : AreOfClients known b
-  pub queued : queues ≡ queues_of b.book.state.rows
-  pub has_room : length b.ended + count_by is_live b.book.state.rows ≤ room

@@ -1,4 +1,5 @@
 pub mod Board
+pub mod BoardInside
 pub mod Book
 pub mod BookInside
 pub mod Events

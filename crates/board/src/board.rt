@@ -1,6 +1,6 @@
 //! The board's events.
 ghost use Rattle.std.specs.Prelude.{◌≡◌, ◌<◌, ◌≤◌, true, false, Some, None, [], ◌∷◌, ◌++◌, length, slice_set, IfOk, IfErr, OnOk, OnErr};
-ghost use Rattle.conn_machine.specs.Children.{is_in_bounds};
+ghost use Rattle.mpm_base.specs.Shape.{is_in_bounds};
 ghost use Rattle.conn_machine.specs.States.{is_halted, opening_state};
 ghost use Rattle.conn_machine.specs.Table.{is_allowed, cell_at, reply, taken_reply};
 ghost use Rattle.conn_machine.specs.Runs.{IsInPassOrderFrom, Run, after, full_load, load, may_order};
@@ -63,7 +63,8 @@ pub struct Board<L: Link, N: Known> {
 
 impl<L: Link, N: Known> Model for Board<L, N> {
     ghost use Rattle.std.specs.Prelude.{vec_capacity};
-    ghost use Rattle.board.specs.Board.{SeenBoard, IsBoard};
+    ghost use Rattle.board.specs.Board.{SeenBoard};
+    ghost use Rattle.board.specs.BoardInside.{IsBoard};
 
     ghost Value = { SeenBoard };
 

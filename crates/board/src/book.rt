@@ -1,6 +1,6 @@
 //! The history that a board keeps, and the state after it.
 ghost use Rattle.std.specs.Prelude.{◌≡◌, ◌<◌, ◌≤◌, ◌^◌, true, false, [], ◌∷◌, ◌++◌, length, nat_le, vec_len, vec_capacity, if◌then◌else◌, IfOk, IfErr, OnOk, OnErr};
-ghost use Rattle.conn_machine.specs.Children.{is_in_bounds};
+ghost use Rattle.mpm_base.specs.Shape.{is_in_bounds};
 ghost use Rattle.conn_machine.specs.States.{is_halted, opening_state};
 ghost use Rattle.conn_machine.specs.Table.{is_allowed, reply};
 ghost use Rattle.conn_machine.specs.Runs.{IsInPassOrderFrom, Run, after, asks_page, full_load, has_after, load, may_make};

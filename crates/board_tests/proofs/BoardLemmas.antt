@@ -8,7 +8,7 @@ use Rattle.mpm_base.specs.declared.shape.Shape.{Shape}
 use Rattle.conn_machine.specs.declared.event.Entry.{Entry}
 use Rattle.conn_machine.specs.declared.event.Event.TheVariants.{StartChild}
 use Rattle.conn_machine.specs.declared.folded.Folded.{Folded}
-use Rattle.conn_machine.specs.Children.{is_in_bounds}
+use Rattle.mpm_base.specs.Shape.{is_in_bounds}
 use Rattle.conn_machine.specs.Folds.{opening_record}
 use Rattle.conn_machine.specs.Runs.{after, AreEntriesOf}
 use Rattle.conn_machine.specs.States.{opening_state}

@@ -2,7 +2,7 @@
 ghost use Rattle.std.specs.Prelude.{◌≡◌, ◌<◌, ◌≤◌, true, false, None, Some, [], IfOk, OnOk};
 ghost use Rattle.mpm_base.specs.Notes.{says_last};
 ghost use Rattle.mpm_base.specs.declared.conn.Kind.TheVariants.{Reading};
-ghost use Rattle.conn_machine.specs.Children.{is_in_bounds};
+ghost use Rattle.mpm_base.specs.Shape.{is_in_bounds};
 ghost use Rattle.board.specs.Book.{row_in};
 ghost use Rattle.conn_machine.specs.Table.{is_allowed};
 ghost use Rattle.conn_state.specs.declared.turn.LastLinger.TheVariants as linger;

@@ -10,7 +10,8 @@ use Rattle.conn_machine.specs.declared.child.ChildPhase.{ChildPhase}
 use Rattle.conn_machine.specs.declared.child.ChildPhase.TheVariants.{Empty, Running, Stopping}
 use Rattle.conn_machine.specs.declared.state.State.{State}
 use Rattle.conn_machine.specs.Rows.{carried_count, open_count}
-use Rattle.conn_machine.specs.Children.{child_at, is_empty, is_running, is_in_bounds, is_between}
+use Rattle.conn_machine.specs.Children.{child_at, is_empty, is_running}
+use Rattle.mpm_base.specs.Shape.{is_in_bounds, is_between}
 use Rattle.mpm_base.specs.Moment.{greatest_moment}
 use Rattle.conn_machine.specs.Table.{picked_child, taken_row}
 use Rattle.conn_machine.specs.Sound.{IsSound}

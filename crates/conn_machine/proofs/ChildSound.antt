@@ -18,7 +18,8 @@ use Rattle.conn_machine.specs.declared.event.Commanded.TheVariants.{Graceful, Re
 use Rattle.conn_machine.specs.declared.state.State.{State}
 use Rattle.conn_machine.specs.Lists.{update}
 use Rattle.conn_machine.specs.Rows.{is_unused, is_live, is_live_in, is_lingering, carried_count, is_carried_by, open_count, is_open_in, is_served_in, is_queued, is_working}
-use Rattle.conn_machine.specs.Children.{child_at, is_empty, is_running, is_stopping, no_child, stopped_child, all_stopped, started_child, retired_child, is_in_bounds, running_count}
+use Rattle.conn_machine.specs.Children.{child_at, is_empty, is_running, is_stopping, no_child, stopped_child, all_stopped, started_child, retired_child, running_count}
+use Rattle.mpm_base.specs.Shape.{is_in_bounds}
 use Rattle.conn_machine.specs.States.{child_of, is_serving, is_halted, is_overdue, unused_row, opening_state}
 use Rattle.mpm_base.specs.Moment.{greatest_moment}
 use Rattle.conn_machine.specs.Table.{may_tick, next_tick, next_ready, child_passes, may_start_child, next_start_child, may_retire, next_retire, greatest_generation, command_fits, may_command, next_command}

@@ -18,7 +18,7 @@ use Rattle.conn_machine.specs.declared.counts.Totals.{Totals}
 use Rattle.conn_machine.specs.declared.row.Row.{Row}
 use Rattle.conn_machine.specs.Rows.{is_vacant, is_working, is_with_a_pass, is_parked_as, is_closing, is_live, is_carried_by, is_open_in, is_live_in, is_working_in, is_served_in, is_free_cell, lowest_free_cell}
 use Rattle.conn_machine.specs.States.{unused_row}
-use Rattle.conn_machine.specs.CountsInside.{one_if, moved, standing_of, changed_totals, CountsAll, no_counts, counts_of, Moves, CountsChild, IsChanged, IsOpening, IsCounted}
+use Rattle.conn_machine.specs.CountsInside.{one_if, moved, standing_of, changed_totals, CountsAll, no_counts, counts_of, MovesStanding, CountsChild, IsChanged, AreOpeningCounts, IsCounted}
 use Rattle.conn_machine.proofs.CellLemmas.{count_by-any, count_by-none}
 use Rattle.conn_machine.proofs.CountLemmas.{count_none}
 use Rattle.conn_machine.proofs.UpdateLemmas.{count_cons}
@@ -124,7 +124,7 @@ and_assoc false b c = refl
 
 -- the numbers of the child go on being the counts
 child_changed : (k : ℕ) (rows : List Row) (i : ℕ) (r r' : Row) (old new : ChildCounts) → length rows < 2 ^ 32 → i < length rows
-    → r ≡ get_or rows i r → Moves k (standing_of r) (standing_of r') old new → CountsChild old rows k → CountsChild new (set rows i r') k
+    → r ≡ get_or rows i r → MovesStanding k (standing_of r) (standing_of r') old new → CountsChild old rows k → CountsChild new (set rows i r') k
 child_changed k rows i r r' old new few below is moves was =
     let l = moves.leaves in
     let e = moves.enters in
@@ -205,7 +205,7 @@ unused_child k slots = record {
 }
 
 -- the counts of slots that were never used
-pub counted_opening : (counts : Counts) (slots : ℕ) (rows : List Row) → slots < 2 ^ 32 → IsOpening slots counts
+pub counted_opening : (counts : Counts) (slots : ℕ) (rows : List Row) → slots < 2 ^ 32 → AreOpeningCounts slots counts
     → rows ≡ replicate slots unused_row → IsCounted counts rows
 counted_opening counts slots rows few opening is =
     rw is (record {

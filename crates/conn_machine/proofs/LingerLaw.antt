@@ -19,7 +19,7 @@ use Rattle.conn_machine.specs.States.{is_halted, is_signalled}
 use Rattle.conn_machine.specs.Table.{is_allowed, next, may_accept, taken_row, may_wait, may_park, parked_row, wait_until, held_row, queued_row, served_row, answered_row, may_linger, linger_cause_fits, lingering_row, greatest_life, closed_row, next_command}
 use Rattle.conn_machine.specs.Runs.{Run, after}
 use Rattle.conn_machine.specs.Sound.{WaitsFor, IsSound}
-use Rattle.conn_machine.specs.Laws.{LingersOn}
+use Rattle.conn_machine.specs.Laws.{StaysLingering}
 use Rattle.conn_machine.proofs.AllowedLemmas.{accept-row}
 use Rattle.conn_machine.proofs.ChangeLaw.{Change, stays, goes_on, answered, taken, closed, spent, is_met, is_made}
 use Rattle.conn_machine.proofs.NameLaw.{IsPast, past_stays, past_named, vacant_live}
@@ -32,10 +32,10 @@ use Rattle.conn_machine.proofs.WaitLemmas.{park_kind}
 
 -- the row, where it is live, lingers as that one does
 abbrev pub StaysSo : Row → Row → Type 0
-StaysSo r r' = is_live r' ≡ true → LingersOn r r'
+StaysSo r r' = is_live r' ≡ true → StaysLingering r r'
 
 -- a row lingers as itself
-lingers_same : (r : Row) → LingersOn r r
+lingers_same : (r : Row) → StaysLingering r r
 lingers_same r = record { deadline = refl; cause = refl }
 
 -- what one row of a list is changed into lingers as the row, where it is that one
@@ -136,18 +136,18 @@ so_next s (event.Retire k) slot r r' sound may live lingers at got = so_kept s.r
 pub record IsStill (name : ConnName) (first r : Row) : Type 0 where
   pub live : is_live r ≡ true
   pub life : r.life ≡ name.life
-  pub lingers : LingersOn first r
+  pub lingers : StaysLingering first r
 
 -- the same of the row of the name's slot, unless it went past the name's life
 abbrev pub IsStillIn : ConnName → Row → List Row → Type 0
 IsStillIn name first rows = (r : Row) → slice_get rows name.slot ≡ Some r → IsStill name first r ⊎ IsPast name.life r
 
 -- a row that lingers as another does lingers
-still_lingers : (first r : Row) → is_lingering first ≡ true → LingersOn first r → is_lingering r ≡ true
+still_lingers : (first r : Row) → is_lingering first ≡ true → StaysLingering first r → is_lingering r ≡ true
 still_lingers first r lingers still = rw still.cause lingers
 
 -- one that lingers as one does that lingers as a third does lingers so
-lingers_further : (first r r' : Row) → LingersOn first r → LingersOn r r' → LingersOn first r'
+lingers_further : (first r r' : Row) → StaysLingering first r → StaysLingering r r' → StaysLingering first r'
 lingers_further first r r' before now = record { deadline = now.deadline ∙ before.deadline; cause = now.cause ∙ before.cause }
 
 -- a change of a row that is still the name's keeps it so, or it goes past the name's life
@@ -200,13 +200,13 @@ still_first name rows r lives x at =
 
 -- a row that has the name, and is still the name's or past its life, is still the name's
 still_named : (name : ConnName) (first r : Row) → is_live_as name r ≡ true → IsStill name first r ⊎ IsPast name.life r
-    → LingersOn first r
+    → StaysLingering first r
 still_named name first r named (inl still) = still.lingers
 still_named name first r named (inr past) = absurd (cc (past_named name r past))
 
 -- a connection that lingers does so as long as it lives
 pub lingers_on : (s : State) (history : List Entry) (name : ConnName) (r r' : Row) → IsSound s → Run s history
-    → live_row s.rows name ≡ Some r → is_lingering r ≡ true → live_row (after s history).rows name ≡ Some r' → LingersOn r r'
+    → live_row s.rows name ≡ Some r → is_lingering r ≡ true → live_row (after s history).rows name ≡ Some r' → StaysLingering r r'
 lingers_on s history name r r' sound run lives lingers lives' =
     let found = named_where name (slice_get (after s history).rows name.slot) r' lives' in
     still_named name r r' found.1

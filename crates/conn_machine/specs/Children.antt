@@ -1,5 +1,5 @@
 -- The children, and the numbers of a generation.
-use Rattle.std.specs.Prelude.{ℕ, Bool, true, false, ◌&&◌, List, map, count_by, nat_le, if◌then◌else◌, slice_index_or}
+use Rattle.std.specs.Prelude.{ℕ, Bool, true, false, List, map, count_by, if◌then◌else◌, slice_index_or}
 use Rattle.mpm_base.specs.declared.shape.Shape.{Shape}
 use Rattle.conn_machine.specs.declared.child.ChildPhase.{ChildPhase}
 use Rattle.conn_machine.specs.declared.child.ChildPhase.TheVariants.{Empty, Running, Stopping}
@@ -54,13 +54,3 @@ started_child generation shape c = record { phase = Running; generation = genera
 -- the child is gone
 abbrev pub retired_child : Child → Child
 retired_child c = record c { phase = Empty; shape = record c.shape { threads = 0 } }
-
--- the number lies between the two
-abbrev pub is_between : ℕ → ℕ → ℕ → Bool
-is_between low high n = nat_le low n && nat_le n high
-
--- a configuration may give these numbers
-abbrev pub is_in_bounds : Shape → Bool
-is_in_bounds s =
-    is_between 1 64 s.threads && is_between 1 10000 s.factor && is_between 1000 65535000 s.read_ms && is_between 1 65535000 s.keep_ms
-    && is_between 1 65535 s.most && is_between 1 32 s.children && is_between 1 s.children s.target

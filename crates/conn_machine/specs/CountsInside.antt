@@ -88,7 +88,7 @@ pub record EntersOwn (x : Standing) (old new : ChildCounts) : Type 0 where
   pub busy : (c : ℕ) → bit_at new.busy c ≡ bit_at old.busy c + one_if (is_in_cell c x.place)
 
 -- the counts of a child without the row, which may be another child's
-pub record Leaves (k : ℕ) (x : Standing) (old new : ChildCounts) : Type 0 where
+pub record LosesStanding (k : ℕ) (x : Standing) (old new : ChildCounts) : Type 0 where
   pub own : (x.child == k) ≡ true → LeavesOwn x old new
   pub other : (x.child == k) ≡ false → new ≡ old
 
@@ -98,9 +98,9 @@ pub record Enters (k : ℕ) (x : Standing) (old new : ChildCounts) : Type 0 wher
   pub other : (x.child == k) ≡ false → new ≡ old
 
 -- the counts of a child once a row stands otherwise: it goes, and comes
-pub record Moves (k : ℕ) (before now : Standing) (old new : ChildCounts) : Type 0 where
+pub record MovesStanding (k : ℕ) (before now : Standing) (old new : ChildCounts) : Type 0 where
   pub between : ChildCounts
-  pub leaves : Leaves k before old between
+  pub leaves : LosesStanding k before old between
   pub enters : Enters k now between new
 
 -- the numbers are the counts of the child's rows, and each bit is the count of its cell
@@ -118,7 +118,7 @@ abbrev pub is_countable : List ChildCounts → Standing → Bool
 is_countable children x = nat_lt x.child (length children) && has_bit_for (counts_of children x.child).busy x.place
 
 -- the counts of so many slots, none of which was ever used
-pub record IsOpening (slots : ℕ) (counts : Counts) : Type 0 where
+pub record AreOpeningCounts (slots : ℕ) (counts : Counts) : Type 0 where
   pub totals : counts.totals ≡ record { vacant = slots; live = 0; in_hand = 0; working = 0; writing = 0; keep_alive = 0; closing = 0 }
   pub children : counts.children.items ≡ replicate 32 no_counts
   pub exact : counts.exact ≡ true
@@ -127,7 +127,7 @@ pub record IsOpening (slots : ℕ) (counts : Counts) : Type 0 where
 pub record IsChanged (before now : Standing) (old new : Counts) : Type 0 where
   pub totals : new.totals ≡ changed_totals before.place now.place old.totals
   pub exact : new.exact ≡ true → old.exact ≡ true
-  pub children : new.exact ≡ true → (k : ℕ) → Moves k before now (counts_of old.children.items k) (counts_of new.children.items k)
+  pub children : new.exact ≡ true → (k : ℕ) → MovesStanding k before now (counts_of old.children.items k) (counts_of new.children.items k)
 
 -- the counts are those of the rows; of the children only while they are exact
 pub record IsCounted (counts : Counts) (rows : List Row) : Type 0 where

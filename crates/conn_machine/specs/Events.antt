@@ -50,18 +50,18 @@ is_tick (event.Tick moment) = true
 is_tick other = false
 
 -- a command `graceful` was taken: a new generation begins
-abbrev pub is_graceful : Event → Bool
-is_graceful (event.Command (Graceful shape)) = true
-is_graceful other = false
+abbrev pub begins_generation : Event → Bool
+begins_generation (event.Command (Graceful shape)) = true
+begins_generation other = false
 
 -- a command `graceful` was refused
-abbrev pub is_refused : Event → Bool
-is_refused (event.Command (Refused reason)) = true
-is_refused other = false
+abbrev pub is_refused_entry : Event → Bool
+is_refused_entry (event.Command (Refused reason)) = true
+is_refused_entry other = false
 
 -- an order: a command `graceful`, taken or refused
 abbrev pub is_order : Event → Bool
-is_order e = is_graceful e || is_refused e
+is_order e = begins_generation e || is_refused_entry e
 
 -- the event closes a connection for the cause
 abbrev pub is_close_for : Cause → Event → Bool

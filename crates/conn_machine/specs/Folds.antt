@@ -7,7 +7,7 @@ use Rattle.conn_machine.specs.declared.folded.Edition.{Edition}
 use Rattle.conn_machine.specs.declared.folded.Folded.{Folded}
 use Rattle.conn_machine.specs.declared.state.State.{State}
 use Rattle.conn_machine.specs.Children.{is_empty}
-use Rattle.conn_machine.specs.Events.{causes, count_events, is_accept, is_answer, is_close, is_close_for, is_graceful, is_order, is_ready, is_start_child, is_tick}
+use Rattle.conn_machine.specs.Events.{causes, count_events, is_accept, is_answer, is_close, is_close_for, begins_generation, is_order, is_ready, is_start_child, is_tick}
 use Rattle.conn_machine.specs.Runs.{after, entries_of, first_row, row_after, row_from}
 use Rattle.mpm_base.specs.Cause.{cause_number}
 use Rattle.mpm_base.specs.declared.conn.ConnName.{ConnName}
@@ -57,7 +57,7 @@ orders_from number history = enumerate_from number (filter (λ e. is_order e.eve
 abbrev pub begun_editions : ℕ → ℕ → List Entry → List Edition
 begun_editions newest orders history =
     map (λ p. record { generation = p.0; edition = p.1.0 })
-    (enumerate_from (newest + 1) (filter (λ p. is_graceful p.1.event) (orders_from (orders + 1) history)))
+    (enumerate_from (newest + 1) (filter (λ p. begins_generation p.1.event) (orders_from (orders + 1) history)))
 
 -- the child is there, and of the generation
 abbrev pub is_child_of : ℕ → Child → Bool

@@ -80,7 +80,7 @@ pub record StartsFresh (s : State) (slot : ℕ) : Type 0 where
   pub no_signal : is_signalled s slot ≡ false
 
 -- the connection lingers for the cause and until the deadline that it had
-pub record LingersOn (old new : Row) : Type 0 where
+pub record StaysLingering (old new : Row) : Type 0 where
   pub deadline : new.deadline ≡ old.deadline
   pub cause : new.cause ≡ old.cause
 

@@ -11,7 +11,8 @@ use Rattle.conn_machine.specs.declared.row.Row.{Row}
 use Rattle.conn_machine.specs.declared.child.Child.{Child}
 use Rattle.conn_machine.specs.declared.state.State.{State}
 use Rattle.conn_machine.specs.Rows.{is_live, is_live_in, is_lingering, is_linger_kind, is_from, has_note, carried_count, open_count, is_served_in}
-use Rattle.conn_machine.specs.Children.{child_at, is_empty, is_running, is_in_bounds}
+use Rattle.conn_machine.specs.Children.{child_at, is_empty, is_running}
+use Rattle.mpm_base.specs.Shape.{is_in_bounds}
 use Rattle.conn_machine.specs.States.{child_of, is_serving}
 use Rattle.mpm_base.specs.Moment.{greatest_moment}
 

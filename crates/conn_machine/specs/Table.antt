@@ -31,7 +31,8 @@ use Rattle.conn_machine.specs.declared.state.Going.TheVariants.{Ending, Halted}
 use Rattle.conn_machine.specs.declared.state.State.{State}
 use Rattle.conn_machine.specs.Lists.{update}
 use Rattle.conn_machine.specs.Rows.{is_vacant, is_held, is_parked, is_queued, is_working, in_phase, is_from, is_live, is_lingering, is_live_in, has_note, row_passes, lives_and, carried_count, lowest_free_cell}
-use Rattle.conn_machine.specs.Children.{is_empty, is_running, is_stopping, child_at, all_stopped, running_count, started_child, retired_child, is_in_bounds}
+use Rattle.conn_machine.specs.Children.{is_empty, is_running, is_stopping, child_at, all_stopped, running_count, started_child, retired_child}
+use Rattle.mpm_base.specs.Shape.{is_in_bounds}
 use Rattle.conn_machine.specs.States.{later, is_serving, is_halted, is_over, is_signalled, child_of, pick_child, is_overdue}
 use Rattle.mpm_base.specs.Moment.{greatest_moment}
 

@@ -1,7 +1,7 @@
 //! Which events a state allows: the event table's conditions as a plain program.
 ghost use Rattle.std.specs.Prelude.{◌≡◌, ◌≤◌, length};
-ghost use Rattle.conn_machine.specs.Children as children;
 ghost use Rattle.conn_machine.specs.Table as table;
+ghost use Rattle.mpm_base.specs.Shape as bounds;
 
 use crate::event::{Commanded, Event, Why};
 use crate::row::Row;
@@ -10,14 +10,14 @@ use mpm_base::{Cause, ConnName, GREATEST_MOMENT, Kind, Moment, Shape, Tail};
 
 /// Whether the number lies between the two, or is one of them.
 fn is_within(low: u64, high: u64, n: u64) -> bool
-    ensures { result ≡ children.is_between low high n }
+    ensures { result ≡ bounds.is_between low high n }
 {
     low <= n && n <= high
 }
 
 /// Whether a configuration may give these numbers.
 pub fn is_in_bounds(shape: &Shape) -> bool
-    ensures { result ≡ children.is_in_bounds shape.now }
+    ensures { result ≡ bounds.is_in_bounds shape.now }
 {
     is_within(1, 64, shape.threads as u64)
         && is_within(1, 10_000, shape.factor as u64)

@@ -228,7 +228,7 @@ impl ChildCounts {
 impl Counts {
     /// The counts of so many slots, none of which was ever used.
     pub fn opening(alloc: Global, slots: u32) -> Result<Counts, NoMemory>
-        ensures { IfOk result (spec.IsOpening slots) }
+        ensures { IfOk result (spec.AreOpeningCounts slots) }
     {
         let Ok(children) = vec![in alloc; ChildCounts::none(); MOST_CHILDREN] else {
             return Err(NoMemory);
@@ -274,7 +274,7 @@ impl Counts {
     fn leave(&mut self, row: Standing)
         ensures totals { self.new.totals ≡ self.old.totals }
         ensures exact { self.new.exact ≡ self.old.exact }
-        ensures children { (k : ℕ) → spec.Leaves k row (spec.counts_of self.old.children.items k) (spec.counts_of self.new.children.items k) }
+        ensures children { (k : ℕ) → spec.LosesStanding k row (spec.counts_of self.old.children.items k) (spec.counts_of self.new.children.items k) }
     {
         if (row.child as usize) < self.children.len() {
             let counts = &mut self.children[row.child as usize];

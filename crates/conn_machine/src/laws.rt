@@ -20,7 +20,7 @@ ghost use Rattle.conn_machine.specs.declared.folded.Folded.{Folded};
 ghost use Rattle.conn_machine.specs.declared.state.State.{State};
 ghost use Rattle.conn_machine.specs.Arrivals.{arrival_count};
 ghost use Rattle.conn_machine.specs.Rows.{is_live, is_live_in, is_lingering, live_row, owner_of};
-ghost use Rattle.conn_machine.specs.Children.{is_in_bounds};
+ghost use Rattle.mpm_base.specs.Shape.{is_in_bounds};
 ghost use Rattle.conn_machine.specs.States.{opening_state, pick_child};
 ghost use Rattle.conn_machine.specs.Table.{is_allowed, next};
 ghost use Rattle.conn_machine.specs.Runs.{Adds, Run, after, entries_of, first_row, row_from};
@@ -29,7 +29,7 @@ ghost use Rattle.conn_machine.specs.Made.{AreMade, AreOfPasses, HasSeen, IsOpene
 ghost use Rattle.conn_machine.specs.Passes.{EachHasItsOwn, HasNoneInHand, OnlyServes, asking_count};
 ghost use Rattle.conn_machine.specs.Events.{count_events, is_accept, is_close};
 ghost use Rattle.conn_machine.specs.Sound.{IsSound};
-ghost use Rattle.conn_machine.specs.Laws.{IsChosen, IsEarned, IsTakenFor, LingersOn, OnlyGrows, StartsFresh, StaysSound, is_alive, is_alive_or_closed};
+ghost use Rattle.conn_machine.specs.Laws.{IsChosen, IsEarned, IsTakenFor, StaysLingering, OnlyGrows, StartsFresh, StaysSound, is_alive, is_alive_or_closed};
 
 use admission::pick_is_a_candidate;
 
@@ -112,7 +112,7 @@ pub fn taken_connections_start_afresh()
 
 /// A connection that lingers keeps its deadline and its cause as long as it lives.
 pub fn lingering_deadlines_never_move()
-    ensures { (s : State) (history : List Entry) (name : ConnName) (r r' : Row) → IsSound s → Run s history → live_row s.rows name ≡ Some r → is_lingering r ≡ true → live_row (after s history).rows name ≡ Some r' → LingersOn r r' }
+    ensures { (s : State) (history : List Entry) (name : ConnName) (r r' : Row) → IsSound s → Run s history → live_row s.rows name ≡ Some r → is_lingering r ≡ true → live_row (after s history).rows name ≡ Some r' → StaysLingering r r' }
 {}
 
 /// The responses of a live connection only grow, and none comes after one that says that it is the last.

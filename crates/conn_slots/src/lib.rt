@@ -59,7 +59,7 @@ impl<T> Model for Slots<T> {
 }
 
 impl<T> Entry<T> {
-    ghost use Rattle.conn_slots.specs.Lending.{lends_entry};
+    ghost use Rattle.conn_slots.specs.LendingInside.{lends_entry};
 
     // The life of the vacant entry's next item.
     fn next_life(&self) -> u32
@@ -118,7 +118,8 @@ fn slot_behind(slot: u32, n: u32) -> Option<u32>
 }
 
 impl<T> Slots<T> {
-    ghost use Rattle.conn_slots.specs.Lending.{lends_item, lends_live};
+    ghost use Rattle.conn_slots.specs.Lending.{lends_live};
+    ghost use Rattle.conn_slots.specs.LendingInside.{lends_item};
 
     /// A table of `n` slots that were never used. No later call needs memory.
     pub fn make(alloc: Global, n: u32) -> Result<Slots<T>, NoMemory>

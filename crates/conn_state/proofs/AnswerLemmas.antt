@@ -14,7 +14,7 @@ use Rattle.conn_state.specs.Response.{IsResponse, response_at}
 use Rattle.conn_state.specs.Replies.{IsNoteFor, first_part}
 use Rattle.conn_state.specs.Conn.{SeenConn, is_usable, Streams, TurnFits}
 use Rattle.conn_state.specs.Turns.{IsNoteOf, TakesNote}
-use Rattle.conn_state.specs.Held.{IsSizeOf, IsHeld}
+use Rattle.conn_state.specs.HeldInside.{IsSizeOf, IsHeld}
 use Rattle.conn_state.proofs.LinkLemmas.{open-link, still-open}
 use Rattle.conn_state.proofs.ConnLemmas.{usable-streams, told-broken, streams-answered}
 

@@ -19,7 +19,7 @@ use Rattle.conn_state.specs.Response.{IsResponse}
 use Rattle.conn_state.specs.Replies.{IsFitting, AreReplies, IsNoteFor, first_part}
 use Rattle.conn_state.specs.Conn.{SeenConn, is_usable, Streams, BrokeOff, StreamsWhile, LinkFits, TurnFits, IsConn}
 use Rattle.conn_state.specs.Turns.{after_reading, is_gone, KeepsRead, AsksNothing, after_writing, with_sent}
-use Rattle.conn_state.specs.Held.{IsSizeOf, IsHeld}
+use Rattle.conn_state.specs.HeldInside.{IsSizeOf, IsHeld}
 use Rattle.conn_state.specs.ExchangeInside.{TakesIn, IsSame, SendsOn}
 use Rattle.conn_state.proofs.KnownLemmas.{client-received, client-sent}
 use Rattle.conn_state.proofs.LinkLemmas.{before-open, told-open_received, told-open_sent, open-link, still-open}

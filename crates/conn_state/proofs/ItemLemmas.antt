@@ -5,7 +5,7 @@ use Rattle.mpm_base.specs.declared.conn.Ask.{Ask}
 use Rattle.http_read.specs.declared.root_head.RootHead.{RootHead}
 use Rattle.http_read.specs.RootHead.{BeginsWith, IsNoFront}
 use Rattle.conn_state.specs.Items.{Item, BeginsItem, IsAskedIn, SpellsNone, request_ask, refusal_ask}
-use Rattle.conn_state.specs.Held.{HasSize}
+use Rattle.conn_state.specs.HeldInside.{HasSize}
 
 -- a whole request has its size
 pub size-request : (bytes : List ℕ) (request : RootHead) (size : ℕ) (ask : Ask) → BeginsWith bytes request size → ask ≡ request_ask request → HasSize bytes ask size

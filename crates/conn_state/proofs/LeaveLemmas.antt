@@ -16,7 +16,7 @@ use Rattle.conn_state.specs.Replies.{IsFitting, AreReplies}
 use Rattle.conn_state.specs.Known.{KnownOutside}
 use Rattle.conn_state.specs.Conn.{SeenConn, is_usable, is_half_closed, lingers, IsFrontOf, LinkFits, LingerFits, StreamsWhile, TurnFits, IsDone, IsConn}
 use Rattle.conn_state.specs.Turns.{after_linger, is_drained, is_linger_failure}
-use Rattle.conn_state.specs.Held.{IsHeld}
+use Rattle.conn_state.specs.HeldInside.{IsHeld}
 use Rattle.conn_state.specs.ExchangeInside.{DropsOn}
 use Rattle.conn_state.proofs.KnownLemmas.{client-received}
 use Rattle.conn_state.proofs.LinkLemmas.{before-shut}

@@ -2,7 +2,7 @@ pub mod Answered
 pub mod Conn
 pub mod ExchangeInside
 pub mod FindsInside
-pub mod Held
+pub mod HeldInside
 pub mod Items
 pub mod Known
 pub mod Replies

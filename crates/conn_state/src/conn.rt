@@ -47,7 +47,7 @@ pub struct Conn<L: Link, N: Known> {
 
 impl<L: Link, N: Known> Model for Conn<L, N> {
     ghost use Rattle.conn_state.specs.Conn.{SeenConn};
-    ghost use Rattle.conn_state.specs.Held.{IsHeld};
+    ghost use Rattle.conn_state.specs.HeldInside.{IsHeld};
 
     ghost Value = { SeenConn };
 

@@ -3,11 +3,11 @@ ghost use Rattle.std.specs.Prelude.{◌<◌, IfSome};
 ghost use Rattle.mpm_base.specs.declared.conn.Ask.{Ask};
 ghost use Rattle.conn_state.specs.Items.{IsAskedIn, SpellsNone};
 ghost use Rattle.conn_state.specs.Turns.{after_reading};
-ghost use Rattle.conn_state.specs.Held.{IsSizeOf};
+ghost use Rattle.conn_state.specs.HeldInside.{IsSizeOf};
 ghost use Rattle.conn_state.specs.ExchangeInside.{ReadsPiece, TakesIn, SendsOn, DropsOn, DropsPiece, IsSame};
 
 use crate::buffers::{Pending, Received};
-use crate::item::{Found, find_item};
+use crate::item::{FoundItem, find_item};
 use crate::turn::{LingerTurn, ReadTurn, WriteTurn};
 use mpm_base::{Got, Link, Sent, one_request};
 use std::alloc::Global;
@@ -20,7 +20,7 @@ const MOST_DROPPED: usize = 1_048_576;
 
 /// What a turn of reading answers, and the size of the item that it found.
 #[derive(Clone, Copy, Debug, PartialEq, Eq)]
-pub struct Reading {
+pub struct ReadAnswer {
     /// The answer.
     pub turn: ReadTurn,
     /// How many bytes the item has; 0 where there is none.
@@ -29,7 +29,7 @@ pub struct Reading {
 
 /// Reads until the first item is whole or refused, or the link gives no more. The link is asked only while more bytes have
 /// to come.
-pub fn read_item<L: Link>(alloc: Global, link: &mut L, bytes: &mut Received) -> Reading
+pub fn read_item<L: Link>(alloc: Global, link: &mut L, bytes: &mut Received) -> ReadAnswer
     ensures takes { TakesIn (L.seen link.old).told (L.seen link.new).told (L.seen link.old).counts (L.seen link.new).counts
         bytes.old bytes.new result.turn }
     ensures size { IsSizeOf (after_reading result.turn) bytes.new result.size }
@@ -39,22 +39,22 @@ pub fn read_item<L: Link>(alloc: Global, link: &mut L, bytes: &mut Received) -> 
     one_request();
     loop {
         match find_item(alloc, bytes.as_slice()) {
-            Found::Item(ask, size) => {
-                return Reading {
+            FoundItem::Item(ask, size) => {
+                return ReadAnswer {
                     turn: ReadTurn::Asked(ask),
                     size,
                 };
             }
-            Found::Nothing => (),
-            Found::NoMemory => {
-                return Reading {
+            FoundItem::Nothing => (),
+            FoundItem::NoMemory => {
+                return ReadAnswer {
                     turn: ReadTurn::NoMemory,
                     size: 0,
                 };
             }
         }
         if let Some(turn) = read_piece(link, bytes) {
-            return Reading { turn, size: 0 };
+            return ReadAnswer { turn, size: 0 };
         }
     }
 }

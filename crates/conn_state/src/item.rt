@@ -9,7 +9,7 @@ use std::alloc::Global;
 
 /// What the bytes say of their first item.
 #[derive(Clone, Copy, Debug, PartialEq, Eq)]
-pub enum Found {
+pub enum FoundItem {
     /// A whole request, or a refusal: what it asks of the table, and how many bytes it has; a refusal has none.
     Item(Ask, usize),
     /// More bytes have to come.
@@ -19,14 +19,14 @@ pub enum Found {
 }
 
 /// What the bytes say of their first item.
-pub fn find_item(alloc: Global, bytes: &[u8]) -> Found
+pub fn find_item(alloc: Global, bytes: &[u8]) -> FoundItem
     ensures { Finds bytes.now result }
 {
     match next_root_head(alloc, bytes) {
-        RootAnswer::Whole(request, length) => Found::Item(asked_by(&request), length as usize),
-        RootAnswer::More => Found::Nothing,
-        RootAnswer::Refused(code) => Found::Item(asked_by_refusal(code), 0),
-        RootAnswer::NoMemory => Found::NoMemory,
+        RootAnswer::Whole(request, length) => FoundItem::Item(asked_by(&request), length as usize),
+        RootAnswer::More => FoundItem::Nothing,
+        RootAnswer::Refused(code) => FoundItem::Item(asked_by_refusal(code), 0),
+        RootAnswer::NoMemory => FoundItem::NoMemory,
     }
 }
 

@@ -8,7 +8,7 @@ use lib.ListN.{get_elem?}
 use Rattle.crossbeam_queue.specs.Fifo.{Pushes, Pops, Forks, Learns}
 use Rattle.atomic_table.proofs.Lists.{at_set, at_snoc}
 use Rattle.fd_queue.specs.declared.seat.SeatView.{SeatView}
-use Rattle.fd_queue.specs.Seats.{AreBelow, InOrder, PutsItem, StandsWith, Stood, TakesItem, WasHolding, new_seat, seat_view}
+use Rattle.fd_queue.specs.Seats.{AreBelow, InOrder, PutsItem, StandsWith, HaveStood, TakesItem, WasHolding, new_seat, seat_view}
 
 below_more : (n m : ℕ) (places : List ℕ) → n ≤ m → AreBelow n places → AreBelow m places
 below_more n m [] le b = tt
@@ -69,7 +69,7 @@ module _ {T : Type 0} where
       let s = was.2.1 in let a = s.alone is in let c = length-append was.2.0 was.0 in let m = was.1 in omega arith
 
   -- what the rule says of a seat
-  pub stood : (id : ℕ) (v : SeatView T) → Learns (InOrder {T = T}) id v (Stood v)
+  pub stood : (id : ℕ) (v : SeatView T) → Learns (InOrder {T = T}) id v (HaveStood v)
   stood id v items views f at = (f.gone, f.seats id v at)
 
   pub puts : (n id : ℕ) (v : SeatView T) (x : T) → Pushes (InOrder {T = T}) n id v x (PutsItem v x)

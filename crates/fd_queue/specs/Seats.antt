@@ -23,24 +23,24 @@ module _ {T : Type 0} where
   IsNewSeat v = v ≡ new_seat v.alone
 
   -- the second list begins with the first
-  abbrev pub GoesOnFrom : List T → List T → Type 0
-  GoesOnFrom known all = (rest : List T) × (all ≡ known ++ rest)
+  abbrev pub ExtendsItems : List T → List T → Type 0
+  ExtendsItems known all = (rest : List T) × (all ≡ known ++ rest)
 
   -- where these items are gone and those stand in the queue: the seat knows the first of them all; what it took is among
   -- those that are gone, and what it put among all; where it is alone there are no others
   pub record StandsWith (gone items : List T) (v : SeatView T) : Type 0 where
-    pub known : GoesOnFrom v.known (gone ++ items)
+    pub known : ExtendsItems v.known (gone ++ items)
     pub taken : AreBelow (length gone) v.taken
     pub put : AreBelow (length (gone ++ items)) v.put
     pub alone : v.alone ≡ true → (length gone ≡ length v.taken) × (length (gone ++ items) ≡ length v.put)
 
   -- these items stand in the queue, behind some that are gone
-  abbrev pub Stood : SeatView T → List T → Type 0
-  Stood v items = (gone : List T) × StandsWith gone items v
+  abbrev pub HaveStood : SeatView T → List T → Type 0
+  HaveStood v items = (gone : List T) × StandsWith gone items v
 
   -- at one moment so many items stood in the queue
   abbrev pub WasHolding : ℕ → SeatView T → Type 0
-  WasHolding n v = (items : List T) × (length items ≡ n) × Stood v items
+  WasHolding n v = (items : List T) × (length items ≡ n) × HaveStood v items
 
   -- the rule: all seats stand with the items of the queue and those that are gone; a seat that is alone is the only one
   pub record InOrder (items : List T) (views : List (SeatView T)) : Type 0 where
@@ -51,13 +51,13 @@ module _ {T : Type 0} where
   -- the item stands at the next place of all that was put
   abbrev pub PutsItem : SeatView T → T → SeatView T → Type 0
   PutsItem v item w =
-      (before : List T) × GoesOnFrom v.known before × AreBelow (length before) v.put
+      (before : List T) × ExtendsItems v.known before × AreBelow (length before) v.put
       × (w ≡ seat_view (before ++ item ∷ []) (v.put ++ length before ∷ []) v.taken v.alone)
 
   -- the item is the one that was put at a place, which is behind all places that the seat took from before
   abbrev pub TakesItem : SeatView T → T → SeatView T → Type 0
   TakesItem v item w =
-      (place : ℕ) × (slice_get w.known place ≡ Some item) × GoesOnFrom v.known w.known × AreBelow place v.taken
+      (place : ℕ) × (slice_get w.known place ≡ Some item) × ExtendsItems v.known w.known × AreBelow place v.taken
       × (w ≡ seat_view w.known v.put (v.taken ++ place ∷ []) v.alone)
 
   -- the item was put so often

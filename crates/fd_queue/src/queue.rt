@@ -2,7 +2,7 @@
 ghost use Rattle.std.specs.Prelude.{◌≡◌, ◌<◌, ◌≤◌, ⊤, true, false, ℕ, IfOk, MatchOption, MatchResult, slice_get, Some, vec_len, vec_capacity};
 ghost use Rattle.crossbeam_queue.specs.Passes.{view, IsPassOf, ruled_capacity};
 ghost use Rattle.fd_queue.specs.declared.seat.Item.TheVariants.{End};
-ghost use Rattle.fd_queue.specs.Seats.{new_seat, InOrder, IsNewSeat, PutsItem, PutsAll, Stood, TakesItem, WasHolding};
+ghost use Rattle.fd_queue.specs.Seats.{new_seat, InOrder, IsNewSeat, PutsItem, PutsAll, HaveStood, TakesItem, WasHolding};
 
 use crate::seat::{Item, SeatView};
 use crossbeam_queue::protocol::{Lesson, Outcome, Protocol, Split};
@@ -28,18 +28,18 @@ impl<T> Outcome<T, SeatView<T>> for PutStep {
 }
 
 impl<T> Lesson<T, SeatView<T>> for PutStep {
-    ghost fact = { Stood };
+    ghost fact = { HaveStood };
 }
 
 /// An item is taken.
-struct TakeStep;
+struct PopStep;
 
-impl<T> Outcome<T, SeatView<T>> for TakeStep {
+impl<T> Outcome<T, SeatView<T>> for PopStep {
     ghost then = { TakesItem };
 }
 
-impl<T> Lesson<T, SeatView<T>> for TakeStep {
-    ghost fact = { Stood };
+impl<T> Lesson<T, SeatView<T>> for PopStep {
+    ghost fact = { HaveStood };
 }
 
 /// A further seat is made.
@@ -118,7 +118,7 @@ impl<T: Drop> FdQueue<T> {
         ensures taken { MatchOption result (view seat.new ≡ view seat.old) (λ item. TakesItem (view seat.old) item (view seat.new)) }
         ensures empty { MatchOption result (WasHolding 0 (view seat.old)) (λ _. ⊤) }
     {
-        self.ring.pop_as::<TakeStep, R>(rt, seat)
+        self.ring.pop_as::<PopStep, R>(rt, seat)
     }
 
     /// Puts End so often, and answers how often: less only where the queue was full at some moment of the call.

@@ -13,7 +13,7 @@ use Rattle.http_read.specs.FieldLimit.{has_long_field}
 use Rattle.http_read.specs.Head.{IsRefusal}
 use Rattle.http_read.specs.BodyForm.{BreaksBody, BreaksChunked}
 use Rattle.http_read.specs.Requests.{ReadRefusal, BeginsRefusal}
-use Rattle.http_core.specs.Status.{refuses_head}
+use Rattle.http_core.specs.Code.{refuses_head}
 
 -- where it is refused, that is by one of the codes
 abbrev HasCode : {A : Type 0} → Result A ℕ → Type 0

@@ -12,7 +12,7 @@ use Rattle.http_read.specs.Requests.{ReadRefusal}
 use Rattle.file_table.specs.Site.{SeenSite}
 use Rattle.http_core.specs.Ask.{ask_for, plan_for}
 use Rattle.http_core.specs.Reply.{IsReply, IsRefusalReply}
-use Rattle.http_core.specs.Status.{continue_text}
+use Rattle.http_core.specs.Code.{continue_text}
 use Rattle.http_core.specs.declared.reply.Body.{Body}
 use Rattle.http_core.specs.declared.reply.Body.TheVariants as body
 use Rattle.http_core.specs.declared.reply.Reply.{Reply}

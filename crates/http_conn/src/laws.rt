@@ -5,7 +5,7 @@ ghost use Rattle.mpm_base.specs.declared.note.Note.{Note};
 ghost use Rattle.http_read.specs.declared.request.Limits.{Limits};
 ghost use Rattle.http_read.specs.Requests.{ReadRefusal, BeginsRefusal, WaitsForRequest};
 ghost use Rattle.file_table.specs.Site.{SeenSite};
-ghost use Rattle.http_core.specs.Status.{refuses_head};
+ghost use Rattle.http_core.specs.Code.{refuses_head};
 ghost use Rattle.http_conn.specs.Items.{Item, BeginsItem, AreFirst};
 ghost use Rattle.http_conn.specs.Replies.{AreReplies, Expects, IsFitting, IsNoteFor, IsResponse, first_part, item_ask};
 ghost use Rattle.http_conn.specs.Rest.{StandsAs, is_awaited};

@@ -1,7 +1,7 @@
 pub mod Ask
+pub mod Code
 pub mod Range
 pub mod RangeInside
 pub mod Reply
 pub mod Served
-pub mod Status
 pub mod Target

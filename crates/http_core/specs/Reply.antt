@@ -8,7 +8,7 @@ use Rattle.mpm_base.specs.declared.store.File.{File}
 use Rattle.file_table.specs.ContentType.{type_of_name}
 use Rattle.file_table.specs.Site.{SeenSite}
 use Rattle.http_core.specs.Served.{code_of}
-use Rattle.http_core.specs.Status.{status_text}
+use Rattle.http_core.specs.Code.{code_text}
 use Rattle.http_core.specs.declared.plan.Plan.{Plan}
 use Rattle.http_core.specs.declared.plan.Served.{Served}
 use Rattle.http_core.specs.declared.plan.Served.TheVariants as served
@@ -67,22 +67,22 @@ type_line site (served.Unsatisfied size) = head_line_of (codes "Content-Type: te
 type_line site (served.Moved path) = head_line_of (codes "Content-Type: text/plain")
 type_line site (served.Refused code) = head_line_of (codes "Content-Type: text/plain")
 
--- a body that says the status
-abbrev pub status_body : ℕ → List ℕ
-status_body code = status_text code ++ codes "\n"
+-- a body that says the code
+abbrev pub code_body : ℕ → List ℕ
+code_body code = code_text code ++ codes "\n"
 
 -- how many bytes the body of a GET has
 abbrev pub reply_length : Served → ℕ
 reply_length (served.Whole part) = part.to - part.from
 reply_length (served.Part part) = part.to - part.from
 reply_length served.Options = 0
-reply_length (served.Unsatisfied size) = length (status_body 416)
-reply_length (served.Moved path) = length (status_body 301)
-reply_length (served.Refused code) = length (status_body code)
+reply_length (served.Unsatisfied size) = length (code_body 416)
+reply_length (served.Moved path) = length (code_body 301)
+reply_length (served.Refused code) = length (code_body code)
 
 -- the first two lines of a head
 abbrev pub first_lines : ℕ → List ℕ → List ℕ
-first_lines code date = head_line_of (codes "HTTP/1.1 " ++ status_text code) ++ head_line_of (codes "Date: " ++ date)
+first_lines code date = head_line_of (codes "HTTP/1.1 " ++ code_text code) ++ head_line_of (codes "Date: " ++ date)
 
 -- the last lines of a head, for a body of so many bytes
 abbrev pub last_lines : ℕ → List ℕ
@@ -99,9 +99,9 @@ abbrev pub body_of_get : Served → Body
 body_of_get (served.Whole part) = body.File part.file part.from part.to
 body_of_get (served.Part part) = body.File part.file part.from part.to
 body_of_get served.Options = body.Nothing
-body_of_get (served.Unsatisfied size) = body.Own (status_body 416)
-body_of_get (served.Moved path) = body.Own (status_body 301)
-body_of_get (served.Refused code) = body.Own (status_body code)
+body_of_get (served.Unsatisfied size) = body.Own (code_body 416)
+body_of_get (served.Moved path) = body.Own (code_body 301)
+body_of_get (served.Refused code) = body.Own (code_body code)
 
 -- the body of the response of this plan; a HEAD has none
 abbrev pub reply_body : Plan → Body
@@ -117,11 +117,11 @@ pub record IsReply (site : SeenSite) (plan : Plan) (note : Note) (before : List 
 -- the head of the response to a refused head
 abbrev pub refusal_head : ℕ → List ℕ → List ℕ
 refusal_head code date =
-    first_lines code date ++ head_line_of (codes "Connection: close") ++ head_line_of (codes "Content-Type: text/plain") ++ last_lines (length (status_body code))
+    first_lines code date ++ head_line_of (codes "Connection: close") ++ head_line_of (codes "Content-Type: text/plain") ++ last_lines (length (code_body code))
 
 -- the reply is the response to a refused head, by the note's code
 pub record IsRefusalReply (note : Note) (before : List ℕ) (reply : Reply) : Type 0 where
   pub date : HttpDate
   pub second : unix_secs date ≡ note.date
   pub head : reply.head ≡ before ++ refusal_head note.code (date_text date)
-  pub body : reply.body ≡ body.Own (status_body note.code)
+  pub body : reply.body ≡ body.Own (code_body note.code)

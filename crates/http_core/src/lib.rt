@@ -2,20 +2,20 @@
 //!
 //! `ask_of` answers what is asked of the table for a request, and the plan of its response (`specs/Served.antt`,
 //! `Ask.antt`), by its target (`Target`), its method and its range (`Range`). `response` writes the head by that plan
-//! and the table's note behind what the buffer holds, and names the body (`Reply`, `Status`): the bytes of a file
+//! and the table's note behind what the buffer holds, and names the body (`Reply`, `Code`): the bytes of a file
 //! stay in the site. `refusal` answers a head that was refused.
 #![tactic(auto)]
 
+mod code;
 mod plan;
 mod planning;
 mod range;
 mod reply;
-mod status;
 mod target;
 mod writing;
 
+pub use code::continue_text;
 pub use plan::{FilePart, Plan, Served};
 pub use planning::ask_of;
 pub use range::{Range, Selection};
 pub use reply::{Body, Reply, refusal, response};
-pub use status::continue_text;

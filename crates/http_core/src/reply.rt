@@ -5,10 +5,10 @@ ghost use Rattle.mpm_base.specs.Moment.{IsSecond};
 ghost use Rattle.http_core.specs.Ask.{IsServedOf};
 ghost use Rattle.http_core.specs.Reply as spec;
 ghost use Rattle.http_core.specs.Reply.{IsRefusalReply, IsReply};
-ghost use Rattle.http_core.specs.Status.{refuses_head};
+ghost use Rattle.http_core.specs.Code.{refuses_head};
 
+use crate::code::code_text;
 use crate::plan::{Plan, Served};
-use crate::status::status_text;
 use crate::writing::{write_head, write_refusal};
 use file_table::Site;
 use httpdate::HttpDate;
@@ -44,11 +44,11 @@ fn date_at(second: u64) -> HttpDate
     date
 }
 
-/// A body that says the status.
-fn status_body(alloc: Global, code: u16) -> Result<Octets, NoMemory>
-    ensures { IfOk result (λ text. text ≡ spec.status_body code) }
+/// A body that says the code.
+fn code_body(alloc: Global, code: u16) -> Result<Octets, NoMemory>
+    ensures { IfOk result (λ text. text ≡ spec.code_body code) }
 {
-    let mut text = Octets::of(alloc, status_text(code))?;
+    let mut text = Octets::of(alloc, code_text(code))?;
     text.add(b"\n")?;
     Ok(text)
 }
@@ -61,7 +61,7 @@ fn body_of_get(alloc: Global, served: &Served) -> Result<Body, NoMemory>
         Served::Whole(part) => Ok(Body::File(part.file, part.from, part.to)),
         Served::Part(part) => Ok(Body::File(part.file, part.from, part.to)),
         Served::Options => Ok(Body::Nothing),
-        _ => Ok(Body::Own(status_body(alloc, served.code())?)),
+        _ => Ok(Body::Own(code_body(alloc, served.code())?)),
     }
 }
 
@@ -105,7 +105,7 @@ pub fn refusal(alloc: Global, head: Octets, note: &Note) -> Result<Reply, NoMemo
     let mut head = head;
     let date = date_at(note.date);
     write_refusal(&mut head, note.code, &date)?;
-    let text = status_body(alloc, note.code)?;
+    let text = code_body(alloc, note.code)?;
     Ok(Reply {
         head,
         body: Body::Own(text),

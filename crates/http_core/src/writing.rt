@@ -5,8 +5,8 @@ ghost use Rattle.httpdate.specs.Date.{date_text};
 ghost use Rattle.http_core.specs.Ask.{IsServedOf};
 ghost use Rattle.http_core.specs.Reply as spec;
 
+use crate::code::code_text;
 use crate::plan::{FilePart, Plan, Served};
-use crate::status::status_text;
 use file_table::{Site, content_type};
 use httpdate::HttpDate;
 use mpm_base::{NoMemory, Octets};
@@ -43,7 +43,7 @@ fn add_line(head: &mut Octets, name: &[u8], value: &[u8]) -> Result<(), NoMemory
 fn add_first_lines(head: &mut Octets, code: u16, date: &HttpDate) -> Result<(), NoMemory>
     ensures { OnOk result (head.new ≡ head.old ++ spec.first_lines code (date_text date.now)) }
 {
-    add_line(head, b"HTTP/1.1 ", status_text(code))?;
+    add_line(head, b"HTTP/1.1 ", code_text(code))?;
     add_line(head, b"Date: ", &date.to_bytes())
 }
 
@@ -144,7 +144,7 @@ fn length_of(served: &Served) -> u64
         Served::Whole(part) => part.to.saturating_sub(part.from),
         Served::Part(part) => part.to.saturating_sub(part.from),
         Served::Options => 0,
-        _ => status_text(served.code()).len() as u64 + 1,
+        _ => code_text(served.code()).len() as u64 + 1,
     }
 }
 
@@ -187,5 +187,5 @@ pub fn write_refusal(head: &mut Octets, code: u16, date: &HttpDate) -> Result<()
     add_first_lines(head, code, date)?;
     add_connection(head, true, 1)?;
     head.add(TEXT)?;
-    add_last_lines(head, status_text(code).len() as u64 + 1)
+    add_last_lines(head, code_text(code).len() as u64 + 1)
 }

@@ -8,7 +8,7 @@ use Rattle.http_read.specs.declared.head.HeadAnswer.TheVariants as answer
 use Rattle.http_read.specs.RequestParts.{RequestParts}
 use Rattle.http_read.specs.Head.{BeginsHead, IsRefusal, HeadIs}
 use Rattle.http_read.specs.BodyForm.{BodyForm, WholeBody, BodyFront, BrokenBody, HasForm, BeginsBody, BreaksBody}
-use Rattle.http_read.specs.Requests.{BeginsWholeRequest, ReadRefusal, BeginsRefusal, SpellsRequests, IsLeft, AreItems}
+use Rattle.http_read.specs.Requests.{BeginsWholeRequest, ReadRefusal, BeginsRefusal, SpellsRequests, IsRemainder, AreItems}
 
 -- what stands at the front of bytes: a head that is refused or isn't whole, or a head with what follows it
 data ReadFront : Type 0 where
@@ -57,7 +57,7 @@ module _
   LeftFront limits rest None (HeadOnly given) = given ≡ answer.More
   LeftFront limits rest None (WithBody request n form) = (line : List ℕ) × (form ≡ BodyFront line)
 
-  left_front : (limits : Limits) (rest : List ℕ) (refusal : Option ReadRefusal) → IsLeft limits rest refusal → (front : ReadFront) × (ReadFrontIs limits rest front × LeftFront limits rest refusal front)
+  left_front : (limits : Limits) (rest : List ℕ) (refusal : Option ReadRefusal) → IsRemainder limits rest refusal → (front : ReadFront) × (ReadFrontIs limits rest front × LeftFront limits rest refusal front)
   left_front limits rest (Some refusal) (inl h) = (HeadOnly (answer.Refused refusal.code), ((h.0, (λ e. cc), (λ request n e. cc)), (refl, h.1)))
   left_front limits rest (Some refusal) (inr h) = (WithBody h.request h.head_len (BrokenBody refusal.code), ((h.head, h.broken), (refl, h.expected_is)))
   left_front limits rest None (inl h) = (HeadOnly answer.More, ((h, (λ e. cc), (λ request n e. cc)), refl))
@@ -68,7 +68,7 @@ module _
   not_whole limits rest request n m (Some refusal) h = let e = h.0 in cc
   not_whole limits rest request n m None h = let e = h.1 in cc
 
-  whole_or_left : (limits : Limits) (bytes : List ℕ) (request : RequestParts) (size : ℕ) (refusal : Option ReadRefusal) → BeginsWholeRequest limits bytes request size → IsLeft limits bytes refusal → ⊥
+  whole_or_left : (limits : Limits) (bytes : List ℕ) (request : RequestParts) (size : ℕ) (refusal : Option ReadRefusal) → BeginsWholeRequest limits bytes request size → IsRemainder limits bytes refusal → ⊥
   whole_or_left limits bytes request size refusal h left =
       let front = left_front limits bytes refusal left in
       let same = same_fronts limits bytes front.0 (WithBody request h.head_len (WholeBody h.body_len)) front.1.0 (h.head, h.body) in
@@ -81,7 +81,7 @@ module _
       let bodies : h.body_len ≡ k.body_len = cc in
       (cc, omega (arith, h.size_is, k.size_is, heads, bodies))
 
-  same_left : (limits : Limits) (rest : List ℕ) (refusal other : Option ReadRefusal) → IsLeft limits rest refusal → IsLeft limits rest other → refusal ≡ other
+  same_left : (limits : Limits) (rest : List ℕ) (refusal other : Option ReadRefusal) → IsRemainder limits rest refusal → IsRemainder limits rest other → refusal ≡ other
   same_left limits rest refusal other h k =
       let front = left_front limits rest refusal h in
       let seen = left_front limits rest other k in
@@ -110,14 +110,14 @@ module _
     pub same_rest : rest ≡ left
 
   pub same_items : (limits : Limits) (bytes : List ℕ) (requests others : List (RequestParts × ℕ)) (refusal other : Option ReadRefusal) (rest left : List ℕ)
-      → SpellsRequests limits bytes requests rest → IsLeft limits rest refusal → SpellsRequests limits bytes others left → IsLeft limits left other → SameItems requests others refusal other rest left
+      → SpellsRequests limits bytes requests rest → IsRemainder limits rest refusal → SpellsRequests limits bytes others left → IsRemainder limits left other → SameItems requests others refusal other rest left
   same_items limits bytes [] [] refusal other rest left s h t k =
       let same : rest ≡ left = s ∙ sym t in
-      record { same_requests = refl; same_refusal = same_left limits left refusal other (subst (λ r. IsLeft limits r refusal) same h) k; same_rest = same }
+      record { same_requests = refl; same_refusal = same_left limits left refusal other (subst (λ r. IsRemainder limits r refusal) same h) k; same_rest = same }
   same_items limits bytes [] (request ∷ others) refusal other rest left s h t k =
-      absurd (whole_or_left limits bytes request.0 request.1 refusal t.0 (subst (λ r. IsLeft limits r refusal) s h))
+      absurd (whole_or_left limits bytes request.0 request.1 refusal t.0 (subst (λ r. IsRemainder limits r refusal) s h))
   same_items limits bytes (request ∷ requests) [] refusal other rest left s h t k =
-      absurd (whole_or_left limits bytes request.0 request.1 other s.0 (subst (λ r. IsLeft limits r other) t k))
+      absurd (whole_or_left limits bytes request.0 request.1 other s.0 (subst (λ r. IsRemainder limits r other) t k))
   same_items limits bytes (request ∷ requests) (asked ∷ others) refusal other rest left s h t k =
       let first = same_requests limits bytes request.0 asked.0 request.1 asked.1 s.0 t.0 in
       let behind = same_items limits (drop asked.1 bytes) requests others refusal other rest left

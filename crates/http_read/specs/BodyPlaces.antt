@@ -1,5 +1,5 @@
 -- Where in a body its reader stands.
-use Rattle.std.specs.Prelude.{◌≡◌, ◌≢◌, ℕ, ◌+◌, ◌^◌, ◌<◌, ◌≤◌, List, [], ◌∷◌, ◌++◌, length, Option, ⊤}
+use Rattle.std.specs.Prelude.{◌≡◌, ◌≢◌, ℕ, ◌+◌, ◌<◌, ◌≤◌, List, [], ◌∷◌, ◌++◌, length, Option, ⊤}
 use Rattle.std.specs.Char.{is_ascii_hexdigit}
 use Rattle.std.specs.Str.Parse.{digits_value}
 use Rattle.httparse.specs.Ascii.{carriage_return, semicolon}
@@ -16,26 +16,6 @@ use Rattle.http_read.specs.declared.chunk_line.ChunkLinePart.TheVariants.{Digits
 use Rattle.http_read.specs.declared.chunk_line.ChunkLineFront.{ChunkLineFront}
 use Rattle.http_read.specs.declared.chunked.ChunkedPlace.{ChunkedPlace}
 use Rattle.http_read.specs.declared.chunked.ChunkedPlace.TheVariants.{Line, Data, DataLineFeed, Trailer, LastLineFeed}
-
--- a size of so many digits is below that power of 16
-abbrev pub IsSmallSize : ChunkLinePart → ℕ → ℕ → Type 0
-IsSmallSize Digits len size = size < 16 ^ len
-IsSmallSize Pad len size = ⊤
-IsSmallSize Extension len size = ⊤
-IsSmallSize CarriageReturn len size = ⊤
-
--- the front of a chunk line is shorter than 1,024 bytes
-pub record IsSmallFront (f : ChunkLineFront) : Type 0 where
-  pub len : f.len < 1024
-  pub size : IsSmallSize f.part f.len f.size
-
--- the counts of a place in a chunked body stay within their limits
-abbrev pub IsSmallChunked : ChunkedPlace → Type 0
-IsSmallChunked (Line sum f) = (sum ≤ 1073741824) × IsSmallFront f
-IsSmallChunked (Data sum left) = sum ≤ 1073741824
-IsSmallChunked (DataLineFeed sum) = sum ≤ 1073741824
-IsSmallChunked (Trailer count len) = (count ≤ 100) × (len < 8190)
-IsSmallChunked (LastLineFeed count) = count ≤ 100
 
 -- how many bytes of a line that isn't whole were looked at, in a chunked body
 abbrev pub chunked_begun_len : ChunkedPlace → ℕ
@@ -142,8 +122,3 @@ StandsAt of bytes (Chunked p) = IsChunkedKind of × StandsInChunked bytes p
 abbrev pub begun_len : BodyPlace → ℕ
 begun_len (Plain left) = 0
 begun_len (Chunked p) = chunked_begun_len p
-
--- the counts of a place stay within their limits
-abbrev pub IsSmallPlace : BodyPlace → Type 0
-IsSmallPlace (Plain left) = ⊤
-IsSmallPlace (Chunked p) = IsSmallChunked p

@@ -10,7 +10,8 @@ use Rattle.http_read.specs.declared.chunked.ChunkedPlace.{ChunkedPlace}
 use Rattle.http_read.specs.declared.chunked.ChunkedPlace.TheVariants.{Line, Data, DataLineFeed, Trailer, LastLineFeed}
 use Rattle.http_read.specs.declared.chunked.ChunkedMove.{ChunkedMove}
 use Rattle.http_read.specs.declared.chunked.ChunkedMove.TheVariants.{On, Done, Bad}
-use Rattle.http_read.specs.BodyPlaces.{IsSmallFront, IsSmallChunked, chunked_begun_len}
+use Rattle.http_read.specs.BodyPlaces.{chunked_begun_len}
+use Rattle.http_read.specs.BodyPlacesInside.{IsSmallFront, IsSmallChunked}
 
 -- nothing of a chunk line
 abbrev pub first_front : ChunkLineFront

@@ -1,5 +1,6 @@
 pub mod RequestParts
 pub mod Spans
+pub mod SpansInside
 pub mod RootHead
 pub mod FieldValues
 pub mod HeadRules
@@ -15,6 +16,7 @@ pub mod ChunkLines
 pub mod TrailerLines
 pub mod BodyForm
 pub mod BodyPlaces
+pub mod BodyPlacesInside
 pub mod BodyAnswers
 pub mod ChunkStepsInside
 pub mod Requests

@@ -50,11 +50,11 @@ SpellsRequests limits bytes (request ∷ requests) rest =
     BeginsWholeRequest limits bytes request.0 request.1 × SpellsRequests limits (drop request.1 bytes) requests rest
 
 -- the rest is a refusal, or the front of a request that isn't whole
-abbrev pub IsLeft : Limits → List ℕ → Option ReadRefusal → Type 0
-IsLeft limits rest (Some refusal) = BeginsRefusal limits rest refusal
-IsLeft limits rest None = WaitsForRequest limits rest
+abbrev pub IsRemainder : Limits → List ℕ → Option ReadRefusal → Type 0
+IsRemainder limits rest (Some refusal) = BeginsRefusal limits rest refusal
+IsRemainder limits rest None = WaitsForRequest limits rest
 
 -- these are all the items of the bytes: whole requests, then a refusal where one comes, behind which nothing is read; and this is the rest
 pub record AreItems (limits : Limits) (bytes : List ℕ) (requests : List (RequestParts × ℕ)) (refusal : Option ReadRefusal) (rest : List ℕ) : Type 0 where
   pub spelled : SpellsRequests limits bytes requests rest
-  pub left : IsLeft limits rest refusal
+  pub left : IsRemainder limits rest refusal

@@ -41,7 +41,7 @@ pub struct BodyReader {
 
 impl Model for BodyReader {
     ghost use Rattle.http_read.specs.declared.body.BodyPlace.{BodyPlace};
-    ghost use Rattle.http_read.specs.BodyPlaces.{IsSmallPlace};
+    ghost use Rattle.http_read.specs.BodyPlacesInside.{IsSmallPlace};
 
     ghost Value = { BodyPlace };
 

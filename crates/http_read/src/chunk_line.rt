@@ -1,7 +1,7 @@
 //! A chunk line (RFC 9112, section 7.1), byte by byte: each byte is looked at once.
 ghost use Rattle.std.specs.Prelude.{◌≡◌, ◌+◌, ◌<◌};
 ghost use Rattle.http_read.specs.ChunkStepsInside.{first_front, line_step, digit_step, pad_step, extension_step, longer, IsSmallLineMove};
-ghost use Rattle.http_read.specs.BodyPlaces.{IsSmallFront, IsSmallSize};
+ghost use Rattle.http_read.specs.BodyPlacesInside.{IsSmallFront, IsSmallSize};
 
 use httparse::parse_hex_digit;
 

@@ -1,7 +1,8 @@
 //! A chunked body (RFC 9112, section 7.1): where in it a reader stands, and what further bytes make of that.
 ghost use Rattle.std.specs.Prelude.{◌≡◌, ℕ, ◌+◌, ◌<◌, ◌≤◌, length, drop};
 ghost use Rattle.http_read.specs.ChunkStepsInside.{first_place, chunked_step, behind_line, trailer_step, behind_trailer, run, run_on, outcome_of, move_begun_len, IsSmallMove, IsSmallLineMove};
-ghost use Rattle.http_read.specs.BodyPlaces.{chunked_begun_len, IsSmallChunked};
+ghost use Rattle.http_read.specs.BodyPlaces.{chunked_begun_len};
+ghost use Rattle.http_read.specs.BodyPlacesInside.{IsSmallChunked};
 
 use crate::chunk_line::{ChunkLineFront, ChunkLineMove};
 use crate::codes::{BAD_REQUEST, CONTENT_TOO_LARGE};

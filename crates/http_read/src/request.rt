@@ -48,7 +48,8 @@ impl Model for Request {
     ghost Value = { RequestParts };
 
     ghost use Rattle.httparse.specs.Spans.{span_bytes};
-    ghost use Rattle.http_read.specs.Spans.{range_at, AreWithin};
+    ghost use Rattle.http_read.specs.Spans.{range_at};
+    ghost use Rattle.http_read.specs.SpansInside.{AreWithin};
 
     ghost view = { λ r. record {
       method = span_bytes r.head.items r.method;

@@ -2,7 +2,7 @@
 ghost use Rattle.std.specs.Prelude.{◌≡◌, true, IfOk, IsUtf8};
 ghost use Rattle.mpm_base.specs.Moment.{IsSecond};
 ghost use Rattle.http_core.specs.Ask.{IsServedOf};
-ghost use Rattle.http_core.specs.Status.{refuses_head};
+ghost use Rattle.http_core.specs.Code.{refuses_head};
 
 use crate::heads::LIMITS;
 use crate::texts::{grown, number_of, text_of, words};

@@ -57,18 +57,18 @@ next_round Signals round = round
 next_round Serves round = round + 1
 
 -- an entry of a pass
-abbrev pub entry_of : ℕ → ℕ → Event → Reply → Entry
-entry_of p n e answer = record { pass = p; ordinal = n; event = e; reply = answer }
+abbrev pub entry_by : ℕ → ℕ → Event → Reply → Entry
+entry_by p n e answer = record { pass = p; ordinal = n; event = e; reply = answer }
 
 -- the entries of a step: the child starts; the connection is taken and waits; it is signalled; it is handed to a worker,
 -- served, and waits again
 abbrev pub step_entries : Stage → ℕ → List Entry
-step_entries Starts round = entry_of 0 round (event.StartChild 0) Done ∷ []
-step_entries Takes round = entry_of 0 (round + 1) (event.Accept 0) (Took toy_name 0 0) ∷ entry_of 0 (round + 2) (event.Park toy_name Reading) Done ∷ []
-step_entries Signals round = entry_of 0 (round + 3) (event.Ready 0) Done ∷ []
+step_entries Starts round = entry_by 0 round (event.StartChild 0) Done ∷ []
+step_entries Takes round = entry_by 0 (round + 1) (event.Accept 0) (Took toy_name 0 0) ∷ entry_by 0 (round + 2) (event.Park toy_name Reading) Done ∷ []
+step_entries Signals round = entry_by 0 (round + 3) (event.Ready 0) Done ∷ []
 step_entries Serves round =
-    entry_of 1 (3 * round) (event.Queue toy_name) Done ∷ entry_of 1 (3 * round + 1) (event.Start toy_name) (Cell 0)
-    ∷ entry_of 1 (3 * round + 2) (event.Park toy_name Reading) Done ∷ []
+    entry_by 1 (3 * round) (event.Queue toy_name) Done ∷ entry_by 1 (3 * round + 1) (event.Start toy_name) (Cell 0)
+    ∷ entry_by 1 (3 * round + 2) (event.Park toy_name Reading) Done ∷ []
 
 -- what is done in the step of that number
 abbrev pub stage_at : ℕ → Stage

@@ -13,7 +13,7 @@ use Rattle.mpm_base.specs.declared.front.Woke.TheVariants as woke
 use Rattle.mpm_base.specs.declared.script_line.ScriptLine.{ScriptLine}
 
 -- what waited to be taken just before a wait let time pass: connections that had arrived, and command lines that had come
-pub record Waiting : Type 0 where
+pub record Backlog : Type 0 where
   pub arrivals : ℕ
   pub lines : ℕ
 
@@ -24,7 +24,7 @@ pub record WaitTold : Type 0 where
   pub quiet : Bool
   pub slots : List ℕ
   pub answer : Woke
-  pub passed : Option Waiting
+  pub passed : Option Backlog
 
 -- a watch of a front: the number of the link, the name under which it was to be watched, and what the watch answered
 pub record WatchTold : Type 0 where
@@ -85,21 +85,6 @@ pub record FrontSeen : Type 0 where
 abbrev pub TellsOn : (FrontTold → FrontTold → Type 0) → Option FrontTold → Option FrontTold → Type 0
 TellsOn Goes None told' = told' ≡ None
 TellsOn Goes (Some t) told' = (t' : FrontTold) × (told' ≡ Some t') × Goes t t'
-
--- nothing was asked of it yet, and a patient one stands at moment 0
-pub record IsUnused (t : FrontTold) : Type 0 where
-  pub arrived : t.arrived ≡ 0
-  pub accepted : t.accepted ≡ 0
-  pub watches : t.watches ≡ []
-  pub turned_away : t.turned_away ≡ []
-  pub lines : t.lines ≡ []
-  pub read : t.read ≡ 0
-  pub bound : t.bound ≡ []
-  pub dialled : t.dialled ≡ []
-  pub hushed : t.hushed ≡ false
-  pub waits : t.waits ≡ []
-  pub failed : t.failed ≡ false
-  pub stands : is_some t.comings ≡ true → t.moment ≡ 0
 
 -- ## Opening and closing
 
@@ -172,12 +157,12 @@ abbrev pub next_coming : ℕ → List ℕ → Option ℕ
 next_coming moment comings = find (nat_lt moment) comings
 
 -- how many connections and command lines wait to be taken
-abbrev pub waiting_in : FrontTold → Waiting
+abbrev pub waiting_in : FrontTold → Backlog
 waiting_in t = record { arrivals = t.arrived - t.accepted; lines = length t.lines - t.read }
 
 -- a patient front let time pass in a wait: the wait was told that it may, and no accept failed since the one before; the front
 -- went on to the earlier of `until` and the next moment at which something comes by itself, and woke; and this waited before
-pub record LetsTimePass (comings : List ℕ) (until : Option ℕ) (quiet : Bool) (answer : Woke) (waited : Waiting) (t t' : FrontTold) : Type 0 where
+pub record LetsTimePass (comings : List ℕ) (until : Option ℕ) (quiet : Bool) (answer : Woke) (waited : Backlog) (t t' : FrontTold) : Type 0 where
   pub may : quiet ≡ true
   pub steady : t.failed ≡ false
   pub to : earlier until (next_coming t.moment comings) ≡ Some t'.moment
@@ -186,7 +171,7 @@ pub record LetsTimePass (comings : List ℕ) (until : Option ℕ) (quiet : Bool)
   pub waited_is : waited ≡ waiting_in t
 
 -- a patient front, at which something comes by itself at these moments, lets time pass only so, and else stands where it stood
-abbrev pub IsPatient : List ℕ → Option ℕ → Bool → Woke → Option Waiting → FrontTold → FrontTold → Type 0
+abbrev pub IsPatient : List ℕ → Option ℕ → Bool → Woke → Option Backlog → FrontTold → FrontTold → Type 0
 IsPatient comings until quiet answer None t t' = t'.moment ≡ t.moment
 IsPatient comings until quiet answer (Some waited) t t' = LetsTimePass comings until quiet answer waited t t'
 
@@ -209,7 +194,7 @@ pub record GoesForward (until : Option ℕ) (quiet : Bool) (answer : Woke) (read
   pub comings : t'.comings ≡ t.comings
   pub failed : t'.failed ≡ false
   pub answers : IsAnswerOf answer t'
-  pub passed : Option Waiting
+  pub passed : Option Backlog
   pub patient : IfSome t.comings (λ comings. IsPatient comings until quiet answer passed t t')
   pub waits : t'.waits ≡ t.waits ++ record { until = until; quiet = quiet; slots = ready; answer = answer; passed = passed } ∷ []
 

@@ -8,6 +8,7 @@ pub mod Moment
 pub mod Notes
 pub mod RootRequest
 pub mod RootRequestInside
+pub mod Shape
 pub mod Sink
 pub mod StopsInside
 pub mod Store

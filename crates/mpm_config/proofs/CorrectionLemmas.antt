@@ -1,5 +1,5 @@
 -- The corrections in terms of plain numbers, and what holds of the numbers after them.
-use Rattle.std.proofs.Common.{◌≡◌, ℕ, ◌+◌, ◌-◌, ◌*◌, ◌/◌, ◌%◌, ◌<◌, ◌≤◌, ◌^◌, ◌==◌, nat_lt, if◌then◌else◌, Some, None, unwrap_or, arith}
+use Rattle.std.proofs.Common.{◌≡◌, ℕ, ◌+◌, ◌-◌, ◌*◌, ◌/◌, ◌%◌, ◌<◌, ◌≤◌, ◌^◌, ◌==◌, ◌&&◌, Bool, true, nat_lt, if◌then◌else◌, Some, None, unwrap_or, subst, sym, arith}
 use Rattle.std.proofs.Math.Nat.{mul-le-mul_right}
 use Rattle.std.proofs.lemmas.Nat.{le-div, div_below, div-add-mod'}
 use Rattle.std.proofs.lemmas.Bool.Decides.{nat_tests}
@@ -8,7 +8,9 @@ use Rattle.mpm_config.specs.declared.directive.Quantity.TheVariants.{ServerLimit
 use Rattle.mpm_config.specs.Numbers.{IsInRange}
 use Rattle.mpm_config.specs.Correction.{order, after_corrections}
 use Rattle.mpm_config.specs.CorrectionInside.{AllReady}
-use Rattle.mpm_config.specs.Shape.{shape_of_numbers, IsInBounds}
+use Rattle.mpm_config.specs.Shape.{shape_of_numbers}
+use Rattle.mpm_base.specs.Shape.{is_between, is_in_bounds}
+use Rattle.mpm_base.specs.declared.shape.Shape.{Shape}
 
 -- a number that is raised to a bound, lowered to one, made 1 where it is 0, made a multiple
 abbrev pub up : ℕ → ℕ → ℕ
@@ -84,7 +86,25 @@ workers_bounds w t limit a b k =
       omega (arith, div_below (down (whole (up w t) t) (limit * t)) t 33 a (omega arith)),
     )
 
-pub in_bounds : (n : Numbers) → IsInRange n → IsInBounds (shape_of_numbers (after_corrections n))
+-- a number between two others lies between them as the bounds of a shape say it
+within : (low high n : ℕ) → low ≤ n → n ≤ high → is_between low high n ≡ true
+within low high n h k = grind (arith, nat_tests)
+
+both : (x y : Bool) → x ≡ true → y ≡ true → (x && y) ≡ true
+both x y h k = subst (λ b. (b && y) ≡ true) (sym h) k
+
+-- a shape whose numbers lie in their bounds is in bounds
+bounded : (s : Shape) → is_between 1 64 s.threads ≡ true → is_between 1 10000 s.factor ≡ true → is_between 1000 65535000 s.read_ms ≡ true
+    → is_between 1 65535000 s.keep_ms ≡ true → is_between 1 65535 s.most ≡ true → is_between 1 32 s.children ≡ true
+    → is_between 1 s.children s.target ≡ true → is_in_bounds s ≡ true
+bounded s threads factor read keep most children target =
+    both _ _ (both _ _ (both _ _ (both _ _ (both _ _ (both _ _ threads factor) read) keep) most) children) target
+
+-- the corrected threads of a child
+pub corrected_threads : (n : Numbers) → IsInRange n → (1 ≤ (after_corrections n).threads) × ((after_corrections n).threads ≤ 64)
+corrected_threads n h = threads_bounds n.threads n.thread_limit (h ThreadLimit).least (h ThreadLimit).greatest
+
+pub in_bounds : (n : Numbers) → IsInRange n → is_in_bounds (shape_of_numbers (after_corrections n)) ≡ true
 in_bounds n h =
     let limit = h ThreadLimit in
     let servers = h ServerLimit in
@@ -94,12 +114,11 @@ in_bounds n h =
     let most_range = h MaxKeepAliveRequests in
     let t = threads_bounds n.threads n.thread_limit limit.least limit.greatest in
     let w = workers_bounds n.max_workers (down (one n.threads) n.thread_limit) n.server_limit t.0 servers.least servers.greatest in
-    record {
-      threads = record { from = t.0; to = t.1 };
-      factor = record { from = factor_range.least; to = factor_range.greatest };
-      read_ms = record { from = read_range.least; to = read_range.greatest };
-      keep_ms = record { from = keep_range.least; to = keep_range.greatest };
-      most = record { from = down-ge n.most 65535 1 most_range.least (omega arith); to = down-le n.most 65535 };
-      children = record { from = w.0; to = w.1 };
-      target = record { from = down-ge (one n.start_servers) _ 1 (one-ge n.start_servers) w.0; to = down-le (one n.start_servers) _ };
-    }
+    bounded (shape_of_numbers (after_corrections n))
+    (within 1 64 _ t.0 t.1)
+    (within 1 10000 _ factor_range.least factor_range.greatest)
+    (within 1000 65535000 _ read_range.least read_range.greatest)
+    (within 1 65535000 _ keep_range.least keep_range.greatest)
+    (within 1 65535 _ (down-ge n.most 65535 1 most_range.least (omega arith)) (down-le n.most 65535))
+    (within 1 32 _ w.0 w.1)
+    (within 1 _ _ (down-ge (one n.start_servers) _ 1 (one-ge n.start_servers) w.0) (down-le (one n.start_servers) _))

@@ -6,12 +6,12 @@ use Rattle.mpm_base.specs.Digits.{decimal}
 use Rattle.mpm_base.specs.declared.addr.Addr.{Addr}
 use Rattle.mpm_config.specs.declared.directive.Quantity.{Quantity}
 use Rattle.mpm_config.specs.declared.directive.Quantity.TheVariants.{AsyncRequestWorkerFactor, KeepAliveTimeout}
-use Rattle.mpm_config.specs.declared.range.Range.{Range}
+use Rattle.mpm_config.specs.declared.range.NumberRange.{NumberRange}
 use Rattle.mpm_config.specs.Range.{range_of, millisecond_range, octet_range, port_range, number_in}
 use Rattle.mpm_config.specs.Directive.{is_same_word}
 
 -- a whole number, of at most nine digits, in a range of the table
-abbrev pub number : Range → List ℕ → Option ℕ
+abbrev pub number : NumberRange → List ℕ → Option ℕ
 number r v = option_and_then (number_in r) (decimal 9 v)
 
 -- what stands before and after the first byte c

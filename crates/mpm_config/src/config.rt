@@ -1,5 +1,5 @@
 //! A configuration.
-ghost use Rattle.std.specs.Prelude.{◌≡◌, ◌≤◌};
+ghost use Rattle.std.specs.Prelude.{◌≡◌, ◌≤◌, true};
 
 use crate::correction::correct;
 use crate::numbers::Numbers;
@@ -35,7 +35,8 @@ impl Model for Config {
 }
 
 ghost use Rattle.mpm_config.specs.Config.{with_limits, IsConfiguration};
-ghost use Rattle.mpm_config.specs.Shape.{default_shape, shape_of_numbers, IsInBounds};
+ghost use Rattle.mpm_base.specs.Shape.{is_in_bounds};
+ghost use Rattle.mpm_config.specs.Shape.{shape_of_numbers};
 
 impl Config {
     /// What every configuration keeps, for callers that see it as one value. It does nothing.
@@ -77,14 +78,10 @@ fn shape_by(now: &Numbers) -> Shape
 /// What the table of connections works by.
 pub fn shape_of(config: &Config) -> Shape
     ensures value { result ≡ shape_of_numbers config.entry.now.current }
-    ensures bounds { IsInBounds result }
+    ensures bounds { is_in_bounds result ≡ true }
 {
     shape_by(&config.now)
 }
-
-/// What the table of connections works by under the empty configuration.
-pub fn default_shape() -> Shape
-    ensures { result ≡ default_shape }
 {
     shape_by(&Numbers::initial())
 }

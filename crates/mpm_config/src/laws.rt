@@ -7,7 +7,8 @@ ghost use Rattle.mpm_config.specs.Line.{logical_lines, Line, Rise};
 ghost use Rattle.mpm_config.specs.Numbers.{IsInRange};
 ghost use Rattle.mpm_config.specs.Reading.{after_line, after_lines, and_then, hides, settings_of, IsAtLine, Progress};
 ghost use Rattle.mpm_config.specs.Settings.{with_setting, IsSameDirective, Settings};
-ghost use Rattle.mpm_config.specs.Shape.{shape_of_numbers, IsInBounds};
+ghost use Rattle.mpm_base.specs.Shape.{is_in_bounds};
+ghost use Rattle.mpm_config.specs.Shape.{shape_of_numbers};
 ghost use Rattle.mpm_config.specs.declared.fault.ConfFault.{ConfFault};
 ghost use Rattle.mpm_config.specs.declared.numbers.Numbers.{Numbers};
 ghost use Rattle.mpm_config.specs.declared.setting.Setting.{Setting};
@@ -36,5 +37,5 @@ pub fn first_refusal_decides()
 
 /// Numbers in their ranges are, once they are corrected, those of a shape in its bounds.
 pub fn corrected_numbers_are_in_bounds()
-    ensures { (n : Numbers) → IsInRange n → IsInBounds (shape_of_numbers (after_corrections n)) }
+    ensures { (n : Numbers) → IsInRange n → is_in_bounds (shape_of_numbers (after_corrections n)) ≡ true }
 {}

@@ -3,9 +3,8 @@
 //!
 //! `read_config` accepts just the texts of the language and answers what they configure, with a warning for each
 //! number that was corrected; else it names the first fault with its line. `carry_limits` keeps the two limits
-//! over a restart, and `shape_of` gives the shape of a configuration, which is in its bounds;
-//! `default_shape` gives that of the empty one. The definition is `config_of` in `specs/Reading.antt`: the lines of a
-//! text (`Line`), the kind of each (`Form`), its words (`Words`), what they set (`Directive`, `Value`, `Range`, `Setting`, `Settings`) and the corrections
+//! over a restart, and `shape_of` gives the shape of a configuration, which is in its bounds.
+//! The definition is `config_of` in `specs/Reading.antt`: the lines of a text (`Line`), the kind of each (`Form`), its words (`Words`), what they set (`Directive`, `Value`, `NumberRange`, `Setting`, `Settings`) and the corrections
 //! (`Correction`). `laws` says what these come to.
 #![tactic(auto)]
 
@@ -26,7 +25,7 @@ mod value;
 mod warning;
 mod word;
 
-pub use config::{Config, carry_limits, default_shape, shape_of};
+pub use config::{Config, carry_limits, shape_of};
 pub use correction::warning_text;
 pub use fault::ConfFault;
 pub use laws::{

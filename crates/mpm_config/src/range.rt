@@ -6,7 +6,7 @@ use crate::directive::Quantity;
 
 /// The numbers that a value may be.
 #[derive(Clone, Copy, Debug, PartialEq, Eq)]
-pub struct Range {
+pub struct NumberRange {
     /// What stands where no line names the directive.
     pub default: u32,
     /// The least number that may be written.
@@ -22,7 +22,7 @@ pub struct Range {
 /// The greatest whole number: nine digits.
 pub const WHOLE: u32 = 999_999_999;
 
-pub const SERVER_LIMIT: Range = Range {
+pub const SERVER_LIMIT: NumberRange = NumberRange {
     default: 16,
     least: 1,
     greatest: 32,
@@ -30,7 +30,7 @@ pub const SERVER_LIMIT: Range = Range {
     unit: 1,
 };
 
-pub const THREAD_LIMIT: Range = Range {
+pub const THREAD_LIMIT: NumberRange = NumberRange {
     default: 64,
     least: 1,
     greatest: 64,
@@ -38,7 +38,7 @@ pub const THREAD_LIMIT: Range = Range {
     unit: 1,
 };
 
-pub const START_SERVERS: Range = Range {
+pub const START_SERVERS: NumberRange = NumberRange {
     default: 3,
     least: 0,
     greatest: WHOLE,
@@ -46,7 +46,7 @@ pub const START_SERVERS: Range = Range {
     unit: 1,
 };
 
-pub const MIN_SPARE_THREADS: Range = Range {
+pub const MIN_SPARE_THREADS: NumberRange = NumberRange {
     default: 75,
     least: 0,
     greatest: WHOLE,
@@ -54,7 +54,7 @@ pub const MIN_SPARE_THREADS: Range = Range {
     unit: 1,
 };
 
-pub const MAX_SPARE_THREADS: Range = Range {
+pub const MAX_SPARE_THREADS: NumberRange = NumberRange {
     default: 250,
     least: 0,
     greatest: WHOLE,
@@ -62,7 +62,7 @@ pub const MAX_SPARE_THREADS: Range = Range {
     unit: 1,
 };
 
-pub const THREADS_PER_CHILD: Range = Range {
+pub const THREADS_PER_CHILD: NumberRange = NumberRange {
     default: 25,
     least: 0,
     greatest: WHOLE,
@@ -70,7 +70,7 @@ pub const THREADS_PER_CHILD: Range = Range {
     unit: 1,
 };
 
-pub const MAX_REQUEST_WORKERS: Range = Range {
+pub const MAX_REQUEST_WORKERS: NumberRange = NumberRange {
     default: 400,
     least: 0,
     greatest: WHOLE,
@@ -78,7 +78,7 @@ pub const MAX_REQUEST_WORKERS: Range = Range {
     unit: 1,
 };
 
-pub const MAX_CONNECTIONS_PER_CHILD: Range = Range {
+pub const MAX_CONNECTIONS_PER_CHILD: NumberRange = NumberRange {
     default: 0,
     least: 0,
     greatest: WHOLE,
@@ -86,7 +86,7 @@ pub const MAX_CONNECTIONS_PER_CHILD: Range = Range {
     unit: 1,
 };
 /// In hundredths.
-pub const ASYNC_REQUEST_WORKER_FACTOR: Range = Range {
+pub const ASYNC_REQUEST_WORKER_FACTOR: NumberRange = NumberRange {
     default: 200,
     least: 1,
     greatest: 10_000,
@@ -94,7 +94,7 @@ pub const ASYNC_REQUEST_WORKER_FACTOR: Range = Range {
     unit: 1,
 };
 /// In seconds.
-pub const TIMEOUT: Range = Range {
+pub const TIMEOUT: NumberRange = NumberRange {
     default: 60,
     least: 1,
     greatest: 65_535,
@@ -102,7 +102,7 @@ pub const TIMEOUT: Range = Range {
     unit: 1_000,
 };
 /// In seconds.
-pub const KEEP_ALIVE_TIMEOUT: Range = Range {
+pub const KEEP_ALIVE_TIMEOUT: NumberRange = NumberRange {
     default: 5,
     least: 1,
     greatest: 65_535,
@@ -110,7 +110,7 @@ pub const KEEP_ALIVE_TIMEOUT: Range = Range {
     unit: 1_000,
 };
 /// The same directive where its value ends in `ms`, in milliseconds.
-pub const KEEP_ALIVE_MILLISECONDS: Range = Range {
+pub const KEEP_ALIVE_MILLISECONDS: NumberRange = NumberRange {
     default: 5_000,
     least: 1,
     greatest: 65_535_000,
@@ -118,7 +118,7 @@ pub const KEEP_ALIVE_MILLISECONDS: Range = Range {
     unit: 1,
 };
 
-pub const MAX_KEEP_ALIVE_REQUESTS: Range = Range {
+pub const MAX_KEEP_ALIVE_REQUESTS: NumberRange = NumberRange {
     default: 100,
     least: 0,
     greatest: WHOLE,
@@ -126,7 +126,7 @@ pub const MAX_KEEP_ALIVE_REQUESTS: Range = Range {
     unit: 1,
 };
 /// In seconds.
-pub const GRACEFUL_SHUTDOWN_TIMEOUT: Range = Range {
+pub const GRACEFUL_SHUTDOWN_TIMEOUT: NumberRange = NumberRange {
     default: 0,
     least: 0,
     greatest: 65_535,
@@ -134,7 +134,7 @@ pub const GRACEFUL_SHUTDOWN_TIMEOUT: Range = Range {
     unit: 1_000,
 };
 
-pub const LIMIT_REQUEST_LINE: Range = Range {
+pub const LIMIT_REQUEST_LINE: NumberRange = NumberRange {
     default: 8_190,
     least: 1,
     greatest: 65_000,
@@ -142,7 +142,7 @@ pub const LIMIT_REQUEST_LINE: Range = Range {
     unit: 1,
 };
 
-pub const LIMIT_REQUEST_FIELD_SIZE: Range = Range {
+pub const LIMIT_REQUEST_FIELD_SIZE: NumberRange = NumberRange {
     default: 8_190,
     least: 1,
     greatest: 65_000,
@@ -150,7 +150,7 @@ pub const LIMIT_REQUEST_FIELD_SIZE: Range = Range {
     unit: 1,
 };
 
-pub const LIMIT_REQUEST_FIELDS: Range = Range {
+pub const LIMIT_REQUEST_FIELDS: NumberRange = NumberRange {
     default: 100,
     least: 0,
     greatest: 1_000,
@@ -159,7 +159,7 @@ pub const LIMIT_REQUEST_FIELDS: Range = Range {
 };
 
 /// A port.
-pub const PORT: Range = Range {
+pub const PORT: NumberRange = NumberRange {
     default: 8_080,
     least: 1,
     greatest: 65_535,
@@ -167,7 +167,7 @@ pub const PORT: Range = Range {
     unit: 1,
 };
 /// A part of an IPv4 address.
-pub const OCTET: Range = Range {
+pub const OCTET: NumberRange = NumberRange {
     default: 0,
     least: 0,
     greatest: 255,
@@ -179,7 +179,7 @@ impl Quantity {
     ghost use Rattle.mpm_config.specs.Range.{range_of};
 
     /// The line of the table.
-    pub fn range(self) -> Range
+    pub fn range(self) -> NumberRange
         ensures { result ≡ range_of self }
     {
         match self {

@@ -8,7 +8,8 @@ ghost use Rattle.mpm_config.specs.Value.{address, parts_around, decimals, hundre
 
 use crate::directive::{Quantity, is_word};
 use crate::range::{
-    ASYNC_REQUEST_WORKER_FACTOR, KEEP_ALIVE_MILLISECONDS, KEEP_ALIVE_TIMEOUT, OCTET, PORT, Range,
+    ASYNC_REQUEST_WORKER_FACTOR, KEEP_ALIVE_MILLISECONDS, KEEP_ALIVE_TIMEOUT, NumberRange, OCTET,
+    PORT,
 };
 use mpm_base::{Addr, decimal};
 
@@ -22,7 +23,7 @@ fn whole(value: &[u8], most: usize) -> Option<u32>
     Some(n as u32)
 }
 
-impl Range {
+impl NumberRange {
     /// What a number is kept as, where it is in the range.
     pub fn keep(self, n: u32) -> Option<u32>
         requires { IsWellFormed self }

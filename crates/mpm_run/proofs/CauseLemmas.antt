@@ -9,8 +9,8 @@ use Rattle.mpm_script.specs.Clients.{clients_of}
 use Rattle.mpm_script.specs.Script.{ScriptIs}
 use Rattle.mpm_script.specs.declared.script.ScriptFault.{ScriptFault}
 use Rattle.mpm_run.specs.Configured.{HasConfig}
-use Rattle.mpm_run.specs.ExitStatuses.{Call, EndsConfigRefused, EndsRefused, EndsUnread, HasFile, HasPlayed, HasRun, HasScript, IsTooLarge, fault_at, most_script}
-use Rattle.mpm_run.specs.ExitStatusesInside.{IsConfigRefusalOf, IsPlayed, IsRefusalOf, Refuses}
+use Rattle.mpm_run.specs.ExitStatuses.{Call, EndsConfigRefused, EndsRefused, EndsUnread, HasFile, HasPlayed, HasRun, HasScript, IsRefusedAsLarge, fault_at, most_script}
+use Rattle.mpm_run.specs.ExitStatusesInside.{IsConfigRefusalOf, IsPlayed, IsRefusalOf, RefusesRun}
 use Rattle.mpm_run.specs.Invocations.{NamesFile, script_words}
 use Rattle.mpm_run.specs.Texts.{script_refused, store_fault}
 use Rattle.mpm_run.specs.declared.outcome.Scripted.{Scripted}
@@ -45,7 +45,7 @@ has_file most call name bytes answer reads is =
 
 -- a file that was not read for its size is too large
 pub too_large : (most : ℕ) (call : Call) (name : List ℕ) (size : ℕ) (answer : Result (List ℕ) StoreFault) → ReadsFile call.store call.store' name most answer
-    → answer ≡ Err (store.Large size) → IsTooLarge most call name
+    → answer ≡ Err (store.Large size) → IsRefusedAsLarge most call name
 too_large most call name size answer reads is =
     let read = subst (ReadsFile call.store call.store' name most) is reads in
     record { refused = read.counted.refusals; large = is_large most call.store.told name size read.may }
@@ -109,7 +109,7 @@ misconfigured call name bytes lines command has is refusal =
 -- the file is missing
 pub unread-missing : (call : Call) (most : ℕ) (name : List ℕ) (answer : Result (List ℕ) StoreFault) → NamesFile call.words name
     → ReadsFile call.store call.store' name most answer → answer ≡ Err store.Missing
-    → Refuses call.sink call.sink' (Some 0) (store_fault name) call.shown → EndsUnread call
+    → RefusesRun call.sink call.sink' (Some 0) (store_fault name) call.shown → EndsUnread call
 unread-missing call most name answer command reads is refused =
     let read = subst (ReadsFile call.store call.store' name most) is reads in
     record {
@@ -123,7 +123,7 @@ unread-missing call most name answer command reads is refused =
 -- a call of the store failed
 pub unread-failed : (call : Call) (most : ℕ) (name : List ℕ) (answer : Result (List ℕ) StoreFault) → NamesFile call.words name
     → ReadsFile call.store call.store' name most answer → answer ≡ Err store.Failed
-    → Refuses call.sink call.sink' None (store_fault name) call.shown → EndsUnread call
+    → RefusesRun call.sink call.sink' None (store_fault name) call.shown → EndsUnread call
 unread-failed call most name answer command reads is refused =
     let read = subst (ReadsFile call.store call.store' name most) is reads in
     record {
@@ -137,7 +137,7 @@ unread-failed call most name answer command reads is refused =
 -- the script is too large
 pub refused-large : (call : Call) (name : List ℕ) (size : ℕ) (answer : Result (List ℕ) StoreFault) → call.words ≡ script_words name
     → ReadsFile call.store call.store' name most_script answer → answer ≡ Err (store.Large size)
-    → Refuses call.sink call.sink' (Some 0) (script_refused 0 BadLine) call.shown → EndsRefused call
+    → RefusesRun call.sink call.sink' (Some 0) (script_refused 0 BadLine) call.shown → EndsRefused call
 refused-large call name size answer command reads is refused =
     inl (record {
       name = name;
@@ -150,7 +150,7 @@ refused-large call name size answer command reads is refused =
 
 -- a script is refused for the fault
 pub refusal_of : (sink sink' : SinkSeen) (e : ScriptFault) (shown : Option ℕ) (line : ℕ) (why : ScriptRefusal) → e ≡ fault_at why line
-    → Refuses sink sink' (Some line) (script_refused line why) shown → IsRefusalOf sink sink' e shown
+    → RefusesRun sink sink' (Some line) (script_refused line why) shown → IsRefusalOf sink sink' e shown
 refusal_of sink sink' e shown line why is refused = record {
   line = line;
   why = why;

@@ -17,9 +17,9 @@ use Rattle.mpm_script.specs.Clients.{clients_of}
 use Rattle.stand_ins.specs.PlainStore.{AnswersUnlessNoMemory, file_answer}
 use Rattle.script_front.specs.Editions.{editions_of}
 use Rattle.mpm_run.specs.Configured.{Configures, HasConfig, config_fault, most_config, warnings_of}
-use Rattle.mpm_run.specs.ConfiguredInside.{Accepts, HasReadConfig, IsConfigFrom, IsConfigOf, IsOfText, IsRefusalFor, IsScriptConfig}
+use Rattle.mpm_run.specs.ConfiguredInside.{IsAccepted, HasReadConfig, IsConfigFrom, IsConfigOf, IsOfText, IsRefusalFor, IsScriptConfig}
 use Rattle.mpm_run.specs.ExitStatuses.{Call, EndsConfigRefused, EndsTested, EndsTestUnwritten, HasRun, HasTested}
-use Rattle.mpm_run.specs.ExitStatusesInside.{IsConfigRefusalOf, IsPlayed, Refuses, RefusesConfig}
+use Rattle.mpm_run.specs.ExitStatusesInside.{IsConfigRefusalOf, IsPlayed, RefusesRun, RefusesConfig}
 use Rattle.mpm_run.specs.Invocations.{test_words}
 use Rattle.mpm_run.specs.Texts.{config_refused, syntax_ok}
 use Rattle.mpm_run.specs.declared.config_reading.NoConfig.{NoConfig}
@@ -46,7 +46,7 @@ read-notices text c w is = settings-notices (text_settings text) c w is
 
 -- so it is accepted
 pub accepts : (text told : List ℕ) (c : Configuration) (w : List Notice) → config_of text ≡ Ok (record { config = c; warnings = w })
-    → (w ≡ notices c.written → told ≡ warnings_of c) → Accepts text c told
+    → (w ≡ notices c.written → told ≡ warnings_of c) → IsAccepted text c told
 accepts text told c w is told_is =
     let same = read-notices text c w is in
     record {
@@ -78,7 +78,7 @@ no-config text fault no.Failed refused is = is
 
 -- a configuration comes of a text
 pub from-ok : (answer : Result (List ℕ) StoreFault) (read : Configuration × List ℕ) → IsConfigFrom answer (Ok read)
-    → (text : List ℕ) × (answer ≡ Ok text) × Accepts text read.0 read.1
+    → (text : List ℕ) × (answer ≡ Ok text) × IsAccepted text read.0 read.1
 from-ok (Ok text) read is = (text, refl, is)
 from-ok (Err store.Missing) read is = absurd (cc is)
 from-ok (Err store.Failed) read is = absurd (cc is)
@@ -165,7 +165,7 @@ ends-test-unwritten call name answer read command reads is shows failed =
 -- a configuration was tested that is refused
 test-refusal : (call : Call) (name : List ℕ) (answer : Result (List ℕ) StoreFault) (why : ConfigRefusal) (number : ℕ) → call.words ≡ test_words name
     → ReadsFile call.store call.store' name most_config answer → RefusesText answer why number ⊎ RefusesSize answer why number
-    → Refuses call.sink call.sink' (Some number) (config_refused number why) call.shown → EndsConfigRefused call
+    → RefusesRun call.sink call.sink' (Some number) (config_refused number why) call.shown → EndsConfigRefused call
 test-refusal call name answer why number command reads (inl refuses) refused =
     let has = has_file most_config call name refuses.text answer reads refuses.is in
     inr (inr (record {
@@ -181,8 +181,8 @@ test-refusal call name answer why number command reads (inl refuses) refused =
     }))
 test-refusal call name answer why number command reads (inr refuses) refused =
     let here =
-    subst (λ (w : ConfigRefusal). Refuses call.sink call.sink' (Some 0) (config_refused 0 w) call.shown) refuses.why_is
-    (subst (λ (n : ℕ). Refuses call.sink call.sink' (Some n) (config_refused n why) call.shown) refuses.number_is refused) in
+    subst (λ (w : ConfigRefusal). RefusesRun call.sink call.sink' (Some 0) (config_refused 0 w) call.shown) refuses.why_is
+    (subst (λ (n : ℕ). RefusesRun call.sink call.sink' (Some n) (config_refused n why) call.shown) refuses.number_is refused) in
     inr (inl (record {
       name = name;
       command = command;
@@ -194,7 +194,7 @@ test-refusal call name answer why number command reads (inr refuses) refused =
 
 pub ends-test-refused : (call : Call) (name : List ℕ) (answer : Result (List ℕ) StoreFault) (why : ConfigRefusal) (number : ℕ)
     → call.words ≡ test_words name → ReadsFile call.store call.store' name most_config answer → IsConfigFrom answer (Err (no.Refused why number))
-    → Refuses call.sink call.sink' (Some number) (config_refused number why) call.shown → EndsConfigRefused call
+    → RefusesRun call.sink call.sink' (Some number) (config_refused number why) call.shown → EndsConfigRefused call
 ends-test-refused call name answer why number command reads is refused =
     test-refusal call name answer why number command reads (from-refused answer why number is) refused
 

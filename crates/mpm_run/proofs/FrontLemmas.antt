@@ -16,7 +16,7 @@ use Rattle.conn_machine.specs.declared.state.State.{State}
 use Rattle.conn_state.specs.Conn.{IsFresh}
 use Rattle.conn_state.specs.Known.{IsOfClient, KnownOutside, TellsFrom}
 use Rattle.mpm_run.specs.Watched.{IsHushed}
-use Rattle.mpm_run.specs.ListenInside.{AsksFor, Follows, HasClients, HasGivenAll, IsArrival, IsInStep, IsInTime, IsNamed, KeepsStep, OnlyTakes, bound_of, waits_of}
+use Rattle.mpm_run.specs.ListenInside.{AsksFor, Follows, HasClients, HasGivenAll, IsArrival, IsInStep, IsInTime, IsKnownOfFront, KeepsStep, OnlyTakes, bound_of, waits_of}
 
 -- ## Counts
 
@@ -334,7 +334,7 @@ tells-next clients told link l has is handed =
 
 -- so it is of a known client
 pub handed-known : {L : Type 0} (known : Option KnownOutside) (link_seen : L → LinkSeen) (told : Option FrontTold) (link : L)
-    → IsNamed known link_seen told → IsHandedOut told (link_seen link).told → IsOfClient known (link_seen link).told
+    → IsKnownOfFront known link_seen told → IsHandedOut told (link_seen link).told → IsOfClient known (link_seen link).told
 handed-known None link_seen told link named handed = tt
 handed-known (Some k) link_seen told link named handed =
     let tells = (named.links refl).each link in
@@ -342,7 +342,7 @@ handed-known (Some k) link_seen told link named handed =
 
 -- what is known stays so while the front is the one that it was
 pub named-follows : {L : Type 0} (known : Option KnownOutside) (link_seen : L → LinkSeen) (old new : FrontSeen) → Follows old new
-    → IsNamed known link_seen old.told → IsNamed known link_seen new.told
+    → IsKnownOfFront known link_seen old.told → IsKnownOfFront known link_seen new.told
 named-follows None link_seen old new follows named = record { front = tt; links = named.links }
 named-follows (Some k) link_seen old new follows named = record { front = follows.clients k.clients named.front; links = named.links }
 

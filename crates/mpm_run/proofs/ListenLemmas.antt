@@ -19,7 +19,8 @@ use Rattle.conn_machine.specs.declared.state.Going.{Going}
 use Rattle.conn_machine.specs.declared.state.Going.TheVariants.{Serving, Ending, Halted}
 use Rattle.conn_machine.specs.declared.state.State.{State}
 use Rattle.conn_machine.specs.Rows.{is_unused, is_parked, is_live, is_live_in, is_with_a_pass}
-use Rattle.conn_machine.specs.Children.{no_child, child_at, is_empty, is_running, is_stopping, running_count, is_in_bounds, is_between, started_child, retired_child}
+use Rattle.conn_machine.specs.Children.{no_child, child_at, is_empty, is_running, is_stopping, running_count, started_child, retired_child}
+use Rattle.mpm_base.specs.Shape.{is_in_bounds, is_between}
 use Rattle.conn_machine.specs.States.{is_halted, is_serving, is_signalled}
 use Rattle.conn_machine.specs.Lists.{update}
 use Rattle.conn_machine.specs.Table.{is_allowed, next, child_passes, may_retire, may_be_held}

@@ -3,7 +3,7 @@ use Rattle.std.proofs.Common.{◌≡◌, ◌≢◌, ◌⊎◌, ◌<◌, ◌≤�
 use Rattle.std.proofs.lemmas.Bool.Decides.{nat_tests}
 use Rattle.std.proofs.lemmas.List.Elements.{Contains-append_left, Contains-append_right}
 use Rattle.std.specs.List.{flat_map}
-use Rattle.mpm_base.specs.Front.{FrontSeen, FrontTold, GoesForward, HasNoneToTake, IsAnswerOf, IsPatient, LetsTimePass, TellsOn, WaitTold, Waiting, after_hush, earlier, hushed_front, next_coming}
+use Rattle.mpm_base.specs.Front.{FrontSeen, FrontTold, GoesForward, HasNoneToTake, IsAnswerOf, IsPatient, LetsTimePass, TellsOn, WaitTold, Backlog, after_hush, earlier, hushed_front, next_coming}
 use Rattle.mpm_base.specs.declared.front.Woke.{Woke}
 use Rattle.mpm_base.specs.declared.front.Woke.TheVariants as woke
 use Rattle.script_front.specs.ScriptClock.{AreEchoes}
@@ -97,7 +97,7 @@ front-cases true to (x ∷ y ∷ xs) front = absurd (cc front.1)
 -- ## A wait
 
 -- the moment behind a wait is that of the front
-pace-of : (answer : Woke) (present moment : ℕ) (t t' : FrontTold) (comings : List ℕ) (until : Option ℕ) (quiet : Bool) (passed : Option Waiting)
+pace-of : (answer : Woke) (present moment : ℕ) (t t' : FrontTold) (comings : List ℕ) (until : Option ℕ) (quiet : Bool) (passed : Option Backlog)
     → MomentOf answer present moment → IsAnswerOf answer t' → IsPatient comings until quiet answer passed t t' → present ≡ moment_for t.moment
     → moment_for moment ≡ moment_for t'.moment
 pace-of (woke.Woke m) present moment t t' comings until quiet passed is answers patient here = ap moment_for (is ∙ answers)
@@ -186,12 +186,12 @@ none-waits told t s is step steady (inr (inr failed)) waits =
     absurd (cc (has, steady))
 
 -- what holds of a wait in which time passed
-record PassedIn (comings : List ℕ) (rest : Rest) (answer : Woke) (passed : Option Waiting) (t t' : FrontTold) : Type 0 where
-  pub waited : Waiting
+record PassedIn (comings : List ℕ) (rest : Rest) (answer : Woke) (passed : Option Backlog) (t t' : FrontTold) : Type 0 where
+  pub waited : Backlog
   pub is : passed ≡ Some waited
   pub lets : LetsTimePass comings rest.until rest.quiet answer waited t t'
 
-passed-in : (comings : List ℕ) (rest : Rest) (answer : Woke) (passed : Option Waiting) (t t' : FrontTold)
+passed-in : (comings : List ℕ) (rest : Rest) (answer : Woke) (passed : Option Backlog) (t t' : FrontTold)
     → IsPatient comings rest.until rest.quiet answer passed t t' → moment_for t.moment < moment_for t'.moment → PassedIn comings rest answer passed t t'
 passed-in comings rest answer None t t' patient later = absurd (omega (arith, patient, later))
 passed-in comings rest answer (Some waited) t t' patient later = record { waited = waited; is = refl; lets = patient }
@@ -227,7 +227,7 @@ passes-at rest pause a w b steady paced sound step u p =
             woke = p.lets.wakes;
             taken =
                 λ waits. none-waits a.front.told u.before.front a.board.book.state u.before.tells step p.lets.steady rests.took
-                (subst (λ (x : Waiting). 0 < x.arrivals) p.lets.waited_is waits);
+                (subst (λ (x : Backlog). 0 < x.arrivals) p.lets.waited_is waits);
           };
     }
 

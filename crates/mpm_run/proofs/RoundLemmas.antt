@@ -22,7 +22,7 @@ use Rattle.worker_group.specs.Acts.{Acts, ActsInSteps}
 use Rattle.worker_group.specs.Service.{LeavesRest, RefusalLasts, left_events}
 use Rattle.mpm_run.specs.ListenInside.{MustStop}
 use Rattle.mpm_run.specs.ClosingInside.{DrainsUntil, IsDrainedWay, IsLateWay, IsRetiringWay, LetsGo, NoneEarly, RefusedWait, refused_events}
-use Rattle.mpm_run.specs.RoundInside.{AllLeft, BreaksOff, GivesUp, GoesRound, IsLeft, LetsGoOfConns, LetsGoUntil, NoneHas, PassesTime, RetiresSome, Round, SignalsFirst, StartsSome, Intake, TakesSome, TakesUntil, gone_events, round_events, signal_events, intake_events, time_events}
+use Rattle.mpm_run.specs.RoundInside.{AllLeft, BreaksOff, GivesUp, GoesRound, IsLeftAsWatched, LetsGoOfConns, LetsGoUntil, NoneHas, PassesTime, RetiresSome, Round, SignalsFirst, StartsSome, Intake, TakesSome, TakesUntil, gone_events, round_events, signal_events, intake_events, time_events}
 use Rattle.mpm_run.specs.Times.{known_slots, ticks_to}
 
 -- ## No pass has a connection
@@ -81,7 +81,7 @@ takes-none steps b row = record { takes = []; left = tt; acts = steps.none 0 Non
 pub until-none : ActsInSteps → (b : SeenBook) → row_in 0 b ≡ None → TakesUntil b b
 until-none steps b row = record { takes = []; acts = steps.none 0 None b row }
 
-left-more : (takes : List Intake) (t : Intake) → AllLeft takes → IsLeft t.way → AllLeft (takes ++ t ∷ [])
+left-more : (takes : List Intake) (t : Intake) → AllLeft takes → IsLeftAsWatched t.way → AllLeft (takes ++ t ∷ [])
 left-more [] t all one = (one, tt)
 left-more (x ∷ takes) t all one = (all.0, left-more takes t all.1 one)
 
@@ -91,7 +91,7 @@ taking-more takes t =
     ap (λ (es : List Event). flat_map intake_events takes ++ es) (sym (append-nil (intake_events t))) ∙ sym (flat_map-append intake_events takes (t ∷ []))
 
 -- one more was taken and left
-pub takes-more : ActsInSteps → (t : Intake) (a b c : SeenBook) → TakesSome a b → IsLeft t.way → Acts 0 (intake_events t) None b c → TakesSome a c
+pub takes-more : ActsInSteps → (t : Intake) (a b c : SeenBook) → TakesSome a b → IsLeftAsWatched t.way → Acts 0 (intake_events t) None b c → TakesSome a c
 takes-more steps t a b c takes left one = record {
   takes = takes.takes ++ t ∷ [];
   left = left-more takes.takes t takes.left left;

@@ -1,7 +1,8 @@
 -- A server that has just opened.
 use Rattle.std.proofs.Common.{◌≡◌, inl, inr, ℕ, true, List, [], ◌∷◌, ◌++◌, drop, length, map, ◌≤◌, Option, None, Some, option_map, IfSome, refl, sym, ap, subst, ◌∙◌, arith}
 use Rattle.mpm_base.specs.Clock.{asked_at}
-use Rattle.mpm_base.specs.Front.{Binds, BoundTold, FrontSeen, FrontTold, IsUnused, WaitTold, after_bind, moments_of}
+use Rattle.mpm_base.specs.Front.{Binds, BoundTold, FrontSeen, FrontTold, WaitTold, after_bind, moments_of}
+use Rattle.mpm_run.specs.UnusedInside.{IsUnused}
 use Rattle.mpm_base.specs.declared.addr.Addr.{Addr}
 use Rattle.conn_machine.specs.Made.{AreOfPasses, IsOpened}
 use Rattle.conn_machine.specs.declared.folded.Folded.{Folded}

@@ -35,7 +35,7 @@ use Rattle.worker_group.specs.Service.{left_events}
 use Rattle.mpm_run.specs.ClosingInside.{IsHaltedWay, LetsGo, Departure, RefusedWait, departure_events, lingering_given_up, refused_events}
 use Rattle.mpm_run.specs.RoundInside.{GivesUp, LetsGoOfConns, Departures, PassesTime, RetiresSome, StartsSome, end_events, gone_events, halt_events, departures_events, signal_events, way_of}
 use Rattle.mpm_run.specs.Times.{known_slots, ticks_to}
-use Rattle.mpm_run.specs.Watched.{AreClosedAtOnce, IsClosedAtOnce, accepted_names, link_watched, links_from, name_in, names_given}
+use Rattle.mpm_run.specs.Watched.{AreClosedAtOnce, IsClosedAtOnce, accepted_names, link_watched, links_from, names_taken, names_given}
 use Rattle.mpm_run.proofs.AddedLemmas.{added-events, added-own, events_in}
 
 -- ## Events that take no connection
@@ -204,7 +204,7 @@ took-name : (e : Event) (answer : Reply) (slot : ℕ) (had : Option ConnName) (n
     → names_given e answer ≡ name ∷ []
 took-name e answer slot had name is has =
     let took : taken_name answer ≡ Some name = subst (λ (x : Event). has_after had x answer ≡ Some name) is has in
-    ap (λ (x : Event). names_given x answer) is ∙ ap name_in took
+    ap (λ (x : Event). names_given x answer) is ∙ ap names_taken took
 
 -- the law of the machine: the last entry of a pass leaves it the connection that it has
 abbrev pub LeavesItsRow : Type 0

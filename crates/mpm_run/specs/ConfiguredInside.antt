@@ -21,13 +21,13 @@ IsRefusalFor fault no.Missing = ⊥
 IsRefusalFor fault no.Failed = ⊥
 
 -- the text is accepted as this configuration, whose warnings these are
-pub record Accepts (text : List ℕ) (c : Configuration) (told : List ℕ) : Type 0 where
+pub record IsAccepted (text : List ℕ) (c : Configuration) (told : List ℕ) : Type 0 where
   pub accepted : config_of text ≡ Ok (with_notices c)
   pub told_is : told ≡ warnings_of c
 
 -- the configuration of a text, or why there is none; memory may lack for each
 abbrev pub IsConfigOf : List ℕ → Result (Configuration × List ℕ) NoConfig → Type 0
-IsConfigOf text (Ok read) = Accepts text read.0 read.1
+IsConfigOf text (Ok read) = IsAccepted text read.0 read.1
 IsConfigOf text (Err (no.Refused why number)) = config_of text ≡ Err (config_fault why number)
 IsConfigOf text (Err no.NoMemory) = ⊤
 IsConfigOf text (Err no.Missing) = ⊥

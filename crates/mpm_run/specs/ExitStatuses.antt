@@ -102,7 +102,7 @@ pub record EndsUnread (call : Call) : Type 0 where
   pub text : WritesText call.sink call.sink' (store_fault name)
 
 -- the file of that name is too large: the store counted a refusal, and where it tells its files that one is
-pub record IsTooLarge (most : ℕ) (call : Call) (name : List ℕ) : Type 0 where
+pub record IsRefusedAsLarge (most : ℕ) (call : Call) (name : List ℕ) : Type 0 where
   pub refused : Rises call.store.counts.refusals call.store'.counts.refusals
   pub large : IfSome call.store.told (λ t. (bytes : List ℕ) × (bytes_of name t.files ≡ Some bytes) × (most < length bytes))
 
@@ -111,7 +111,7 @@ pub record EndsTooLarge (call : Call) : Type 0 where
   pub name : List ℕ
   pub command : call.words ≡ script_words name
   pub kept : KeepsFiles call
-  pub cause : IsTooLarge most_script call name
+  pub cause : IsRefusedAsLarge most_script call name
   pub shows : call.shown ≡ Some 0
   pub text : WritesText call.sink call.sink' (script_refused 0 BadLine)
 
@@ -145,7 +145,7 @@ pub record EndsTestTooLarge (call : Call) : Type 0 where
   pub name : List ℕ
   pub command : call.words ≡ test_words name
   pub kept : KeepsFiles call
-  pub cause : IsTooLarge most_config call name
+  pub cause : IsRefusedAsLarge most_config call name
   pub shows : call.shown ≡ Some 0
   pub text : WritesText call.sink call.sink' (config_refused 0 BadValue)
 
@@ -246,8 +246,8 @@ pub record KeepsTime (b : SeenBoard) (f : SeenFront) (calls : List (ℕ × ℕ))
 
 -- time passed only where nothing was left to be done, as a wait of the front let it: to the moment of an `at` line, or to the
 -- least deadline
-abbrev pub IsPatient : SeenBoard → SeenFront → Type 0
-IsPatient b f = ArePatient (comings_of f.script) f.told.waits b.book.base b.book.history
+abbrev pub KeepsPatience : SeenBoard → SeenFront → Type 0
+KeepsPatience b f = ArePatient (comings_of f.script) f.told.waits b.book.base b.book.history
 
 -- how a run that stopped so may end: with 6 besides wherever memory lacked for its report
 abbrev pub EndsFor : Going → ℕ → Type 0

@@ -14,7 +14,7 @@ use Rattle.conn_machine.specs.declared.state.Going.{Going}
 use Rattle.conn_machine.specs.declared.state.Going.TheVariants.{Halted}
 use Rattle.mpm_run.specs.Configured.{Configures, HasConfig}
 use Rattle.mpm_run.specs.ConfiguredInside.{HasBadConfig}
-use Rattle.mpm_run.specs.ExitStatuses.{HasEnd, HasRun, IsPatient, KeepsTime, WritesText, fault_at}
+use Rattle.mpm_run.specs.ExitStatuses.{HasEnd, HasRun, KeepsPatience, KeepsTime, WritesText, fault_at}
 use Rattle.mpm_run.specs.FirstNumbers.{numbers_of}
 use Rattle.mpm_run.specs.Links.{KeepsLinks}
 use Rattle.mpm_run.specs.Listen.{NeverFolded}
@@ -64,7 +64,7 @@ IsTestStatus s = (s ≡ 0) ⊎ (s ≡ 1) ⊎ (s ≡ 3) ⊎ (s ≡ 5) ⊎ (s ≡ 
 -- ## What is left
 
 -- what holds of what is left of each run
-pub record IsLeft (s : Scripted) : Type 0 where
+pub record IsLeftOfRun (s : Scripted) : Type 0 where
   pub unfolded : NeverFolded (numbers_of s.config) s.board.book
   pub site : s.store.told ≡ editions_of s.front.script
   pub front : IsOpenedAndHushed (numbers_of s.config) s.front.told
@@ -72,7 +72,7 @@ pub record IsLeft (s : Scripted) : Type 0 where
   pub watched : AreWatched s.board.book s.front.told
   pub links : KeepsLinks s.board s.front.told
   pub time : KeepsTime s.board s.front s.clock
-  pub patient : IsPatient s.board s.front
+  pub patient : KeepsPatience s.board s.front
   pub ended : s.board.book.state.going ≡ Halted why.FrontEnded → HasEnd s.board s.front
 
 -- what is left is of a run of the script, by the configuration that its lines write
@@ -104,13 +104,13 @@ pub record IsRefusalOf (sink sink' : SinkSeen) (e : ScriptFault) (shown : Option
   pub text : WritesText sink sink' (script_refused line why)
 
 -- a run is refused: this number is shown, and the text was written
-pub record Refuses (sink sink' : SinkSeen) (shown : Option ℕ) (text : List ℕ) (shown' : Option ℕ) : Type 0 where
+pub record RefusesRun (sink sink' : SinkSeen) (shown : Option ℕ) (text : List ℕ) (shown' : Option ℕ) : Type 0 where
   pub shows : shown' ≡ shown
   pub writes : WritesText sink sink' text
 
 -- a run is refused as there is no configuration
 abbrev pub RefusesConfig : SinkSeen → SinkSeen → NoConfig → Option ℕ → Type 0
-RefusesConfig sink sink' (no.Refused why number) shown = Refuses sink sink' (Some number) (config_refused number why) shown
+RefusesConfig sink sink' (no.Refused why number) shown = RefusesRun sink sink' (Some number) (config_refused number why) shown
 RefusesConfig sink sink' no.NoMemory shown = ⊥
 RefusesConfig sink sink' no.Missing shown = ⊥
 RefusesConfig sink sink' no.Failed shown = ⊥

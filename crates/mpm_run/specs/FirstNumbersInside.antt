@@ -1,6 +1,6 @@
 -- What the numbers of a run are like, and how its board opens.
 use Rattle.std.specs.Prelude.{◌≡◌, ◌≤◌, true, []}
-use Rattle.conn_machine.specs.Children.{is_in_bounds}
+use Rattle.mpm_base.specs.Shape.{is_in_bounds}
 use Rattle.board.specs.Book.{SeenBook}
 use Rattle.mpm_run.specs.declared.run_numbers.RunNumbers.{RunNumbers}
 use Rattle.mpm_run.specs.FirstNumbers.{folded_by, opened_by}

@@ -18,4 +18,5 @@ pub mod Started
 pub mod Tells
 pub mod Texts
 pub mod Times
+pub mod UnusedInside
 pub mod Watched

@@ -76,7 +76,7 @@ pub record SeenListener : Type 0 where
   pub ready : List ℕ
 
 -- what is known of the outside is what the front tells, and then each link of the type tells
-pub record IsNamed {L : Type 0} (known : Option KnownOutside) (link_seen : L → LinkSeen) (told : Option FrontTold) : Type 0 where
+pub record IsKnownOfFront {L : Type 0} (known : Option KnownOutside) (link_seen : L → LinkSeen) (told : Option FrontTold) : Type 0 where
   pub front : IfSome known (λ k. HasClients k.clients told)
   pub links : is_some known ≡ true → LinksTell link_seen
 
@@ -203,7 +203,7 @@ pub record HasEnded (old new : FrontSeen) (s : State) : Type 0 where
   pub all : HasTakenAll old new s
 
 -- the server stopped because a wait of the front failed
-pub record HasFailed (old new : FrontSeen) (s : State) : Type 0 where
+pub record HasFrontFailed (old new : FrontSeen) (s : State) : Type 0 where
   pub going : s.going ≡ Halted why.FrontFailed
   pub failed : Rises old.counts.faults new.counts.faults
 
@@ -252,7 +252,7 @@ IsEnd going = (going ≡ Halted why.FrontEnded) ⊎ (going ≡ Halted why.Full) 
 -- why it stopped: nothing more could come, a wait failed, the history was full, or memory lacked
 abbrev pub StoppedFor : FrontSeen → FrontSeen → State → Type 0
 StoppedFor old new s =
-    HasEnded old new s ⊎ HasFailed old new s ⊎ (s.going ≡ Halted why.Full) ⊎ (s.going ≡ Halted why.NoMemory)
+    HasEnded old new s ⊎ HasFrontFailed old new s ⊎ (s.going ≡ Halted why.Full) ⊎ (s.going ≡ Halted why.NoMemory)
 
 -- it stopped for one of these, and closed down
 pub record HasStopped (old new : FrontSeen) (s : State) : Type 0 where

@@ -1,6 +1,6 @@
 -- When time passes in a run over a patient front: where nothing is left to be done before.
 use Rattle.std.specs.Prelude.{◌≡◌, ◌⊎◌, ◌<◌, ℕ, true, false, List, [], ◌∷◌, None, Some, slice_get, Contains, ⊤}
-use Rattle.mpm_base.specs.Front.{WaitTold, Waiting}
+use Rattle.mpm_base.specs.Front.{WaitTold, Backlog}
 use Rattle.mpm_base.specs.declared.front.Woke.TheVariants as woke
 use Rattle.conn_machine.specs.declared.event.Entry.{Entry}
 use Rattle.conn_machine.specs.declared.event.Event.{Event}
@@ -47,7 +47,7 @@ NoneSignalled s = (slot : ℕ) (r : Row) → slice_get s.rows slot ≡ Some r �
 pub record LetPass (wait : WaitTold) (to : ℕ) (s : State) : Type 0 where
   pub quiet : wait.quiet ≡ true
   pub until : wait.until ≡ next_deadline_of s
-  pub waited : Waiting
+  pub waited : Backlog
   pub passed : wait.passed ≡ Some waited
   pub woke : wait.answer ≡ woke.Woke to
   pub taken : 0 < waited.arrivals → acceptable s ≡ None

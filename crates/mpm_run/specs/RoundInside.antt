@@ -60,14 +60,14 @@ way_of true = exit.Park Reading
 way_of false = exit.Close cause.LinkFailed Direct
 
 -- the connection was left so, as the front watches it or doesn't
-pub record IsLeft (way : Exit) : Type 0 where
+pub record IsLeftAsWatched (way : Exit) : Type 0 where
   pub watched : Bool
   pub way_is : way ≡ way_of watched
 
 -- each of them was left so
 abbrev pub AllLeft : List Intake → Type 0
 AllLeft [] = ⊤
-AllLeft (t ∷ takes) = IsLeft t.way × AllLeft takes
+AllLeft (t ∷ takes) = IsLeftAsWatched t.way × AllLeft takes
 
 -- the connection was given up for the fault, and nothing else was done
 abbrev pub GivesUp : BoardFault → ConnName → SeenBook → SeenBook → Type 0
@@ -87,13 +87,13 @@ pub record IsTakenStill (old new : SeenListener) : Type 0 where
   pub step : IsInStep old.front.told new.board.book.state → IsInStep new.front.told new.board.book.state
 
 -- the table counts no connection more, and the front turned the link away
-pub record IsRefused (link : Option LinkTold) (old new : SeenListener) : Type 0 where
+pub record IsTurnedAway (link : Option LinkTold) (old new : SeenListener) : Type 0 where
   pub accepted : new.board.book.state.accepted ≡ old.board.book.state.accepted
   pub told : new.front.told ≡ option_map (after_turning_away link) old.front.told
 
 -- a connection that could not be taken so: the table took it all the same; or it refused its link, which the front turned away
 abbrev pub EndsTaking : Option LinkTold → SeenListener → SeenListener → Type 0
-EndsTaking link old new = IsTakenStill old new ⊎ IsRefused link old new
+EndsTaking link old new = IsTakenStill old new ⊎ IsTurnedAway link old new
 
 -- connections were taken, each left so, and nothing else was done
 pub record TakesSome (old new : SeenBook) : Type 0 where

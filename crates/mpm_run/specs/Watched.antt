@@ -32,13 +32,13 @@ pub record IsOpenedAndHushed (n : RunNumbers) (t : FrontTold) : Type 0 where
 -- ## Watches
 
 -- the name, where there is one
-abbrev pub name_in : Option ConnName → List ConnName
-name_in None = []
-name_in (Some name) = name ∷ []
+abbrev pub names_taken : Option ConnName → List ConnName
+names_taken None = []
+names_taken (Some name) = name ∷ []
 
 -- the name that the event gave to a connection that was taken
 abbrev pub names_given : Event → Reply → List ConnName
-names_given (event.Accept slot) answer = name_in (taken_name answer)
+names_given (event.Accept slot) answer = names_taken (taken_name answer)
 names_given (event.Park name kind) answer = []
 names_given (event.Hold name) answer = []
 names_given (event.Queue name) answer = []

@@ -97,7 +97,7 @@ pub struct Listener<L: Link + Send, F: Front<L = L>, C: Clock, N: Known> {
 }
 
 impl<L: Link + Send, F: Front<L = L>, C: Clock, N: Known> Model for Listener<L, F, C, N> {
-    ghost use Rattle.mpm_run.specs.ListenInside.{SeenListener, IsNamed};
+    ghost use Rattle.mpm_run.specs.ListenInside.{SeenListener, IsKnownOfFront};
 
     ghost Value = { SeenListener };
 
@@ -108,7 +108,7 @@ impl<L: Link + Send, F: Front<L = L>, C: Clock, N: Known> Model for Listener<L, 
       ready = l.ready;
     } };
 
-    ghost invariant = { λ l. IsNamed N.known L.seen (F.seen l.front).told };
+    ghost invariant = { λ l. IsKnownOfFront N.known L.seen (F.seen l.front).told };
 }
 
 impl<L: Link + Send, F: Front<L = L>, C: Clock, N: Known> Listener<L, F, C, N> {

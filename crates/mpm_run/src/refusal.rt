@@ -1,6 +1,6 @@
 //! The ends of runs that are refused: each writes its text, unless memory lacks for it.
 ghost use Rattle.std.specs.Prelude.{◌≡◌, ◌⊎◌, None, Some, IsNone};
-ghost use Rattle.mpm_run.specs.ExitStatusesInside.{Refuses};
+ghost use Rattle.mpm_run.specs.ExitStatusesInside.{RefusesRun};
 ghost use Rattle.mpm_run.specs.Texts.{config_refused, script_refused, store_fault, usage};
 
 use crate::exit_status;
@@ -17,7 +17,7 @@ use std::alloc::Global;
 pub fn refuse_words<K: Sink>(alloc: Global, out: &mut K) -> Outcome
     ensures known { (result.status ≡ 2) ⊎ (result.status ≡ 6) }
     ensures scripted { IsNone result.scripted }
-    ensures refused { result.status ≡ 2 → Refuses (K.seen out.old) (K.seen out.new) None usage result.shown }
+    ensures refused { result.status ≡ 2 → RefusesRun (K.seen out.old) (K.seen out.new) None usage result.shown }
     ensures silent { result.status ≡ 6 → (K.seen out.new).told ≡ (K.seen out.old).told }
 {
     match usage_text(alloc) {
@@ -30,7 +30,7 @@ pub fn refuse_words<K: Sink>(alloc: Global, out: &mut K) -> Outcome
 pub fn refuse_unread<K: Sink>(alloc: Global, name: &str, shown: Option<u64>, out: &mut K) -> Outcome
     ensures known { (result.status ≡ 3) ⊎ (result.status ≡ 6) }
     ensures scripted { IsNone result.scripted }
-    ensures refused { result.status ≡ 3 → Refuses (K.seen out.old) (K.seen out.new) shown (store_fault name.now) result.shown }
+    ensures refused { result.status ≡ 3 → RefusesRun (K.seen out.old) (K.seen out.new) shown (store_fault name.now) result.shown }
     ensures silent { result.status ≡ 6 → (K.seen out.new).told ≡ (K.seen out.old).told }
 {
     match store_fault_text(alloc, name.as_bytes()) {
@@ -43,7 +43,7 @@ pub fn refuse_unread<K: Sink>(alloc: Global, name: &str, shown: Option<u64>, out
 pub fn refuse_script<K: Sink>(alloc: Global, why: ScriptRefusal, line: u64, out: &mut K) -> Outcome
     ensures known { (result.status ≡ 8) ⊎ (result.status ≡ 6) }
     ensures scripted { IsNone result.scripted }
-    ensures refused { result.status ≡ 8 → Refuses (K.seen out.old) (K.seen out.new) (Some line) (script_refused line why) result.shown }
+    ensures refused { result.status ≡ 8 → RefusesRun (K.seen out.old) (K.seen out.new) (Some line) (script_refused line why) result.shown }
     ensures silent { result.status ≡ 6 → (K.seen out.new).told ≡ (K.seen out.old).told }
 {
     match script_refused_text(alloc, line, why) {
@@ -61,7 +61,7 @@ pub fn refuse_config<K: Sink>(
 ) -> Outcome
     ensures known { (result.status ≡ 1) ⊎ (result.status ≡ 6) }
     ensures scripted { IsNone result.scripted }
-    ensures refused { result.status ≡ 1 → Refuses (K.seen out.old) (K.seen out.new) (Some number) (config_refused number why) result.shown }
+    ensures refused { result.status ≡ 1 → RefusesRun (K.seen out.old) (K.seen out.new) (Some number) (config_refused number why) result.shown }
     ensures silent { result.status ≡ 6 → (K.seen out.new).told ≡ (K.seen out.old).told }
 {
     match config_refused_text(alloc, number, why) {
@@ -74,7 +74,7 @@ pub fn refuse_config<K: Sink>(
 fn refuse<K: Sink>(out: &mut K, status: u8, shown: Option<u64>, text: &Octets) -> Outcome
     ensures status { result.status ≡ status }
     ensures scripted { IsNone result.scripted }
-    ensures refused { Refuses (K.seen out.old) (K.seen out.new) shown text.now result.shown }
+    ensures refused { RefusesRun (K.seen out.old) (K.seen out.new) shown text.now result.shown }
 {
     let _ = write_all(out, text.as_slice());
     unopened(status, shown)

@@ -10,7 +10,7 @@ ghost use Rattle.script_front.specs.ScriptFront.{IsOfScript};
 ghost use Rattle.mpm_run.specs.Configured.{warnings_of};
 ghost use Rattle.mpm_run.specs.ConfiguredInside.{IsOfText, IsScriptConfig};
 ghost use Rattle.mpm_run.specs.ExitStatuses.{EndsConfigRefused, EndsFor, EndsFull, EndsRefused, EndsUnread, EndsUnwritten, EndsWell, HasPlayed, HasRun, board_report, fault_at, seen_call};
-ghost use Rattle.mpm_run.specs.ExitStatusesInside.{EndsReport, IsConfigRefusalOf, IsExitStatusOf, IsFullStop, IsLeft, IsPlayed, IsPlayedStatus, IsRefusalOf, IsScriptStatus, IsStoppedStatus, RefusesConfig, ReportsAs, status_of_writes};
+ghost use Rattle.mpm_run.specs.ExitStatusesInside.{EndsReport, IsConfigRefusalOf, IsExitStatusOf, IsFullStop, IsLeftOfRun, IsPlayed, IsPlayedStatus, IsRefusalOf, IsScriptStatus, IsStoppedStatus, RefusesConfig, ReportsAs, status_of_writes};
 ghost use Rattle.mpm_run.specs.Invocations.{script_words};
 ghost use Rattle.mpm_run.specs.ListenInside.{IsEnd};
 
@@ -21,7 +21,7 @@ use crate::outcome::{Outcome, Scripted, no_memory};
 use crate::refusal::{refuse_config, refuse_script, refuse_unread};
 use crate::report::report_text;
 use crate::run_numbers::numbers_of;
-use crate::server::{OpenFault, Served, run_server};
+use crate::server::{OpenFault, ServedRun, run_server};
 use crate::texts::ScriptRefusal;
 use crate::writing::write_all;
 use board::Board;
@@ -52,7 +52,7 @@ pub fn run_script<R: Wait, D: Store, K: Sink>(
     out: &mut K,
 ) -> Outcome
     ensures kept { IfSome result.scripted (λ s. HasPlayed (seen_call (script_words name.now) (D.seen store.old) (D.seen store.new) (K.seen out.old) (K.seen out.new) result.shown) s.config s.board s.front) }
-    ensures left { IfSome result.scripted IsLeft }
+    ensures left { IfSome result.scripted IsLeftOfRun }
     ensures stopped { IfSome result.scripted (λ s. EndsFor s.board.book.state.going result.status) }
     ensures known { IsScriptStatus result.status }
     ensures served { result.status ≡ 0 → IsSomeAnd result.scripted (λ s. EndsWell (K.seen out.old) (K.seen out.new) s.config s.board) }
@@ -106,7 +106,7 @@ fn refusal_at(fault: ScriptFault) -> Option<(u64, ScriptRefusal)>
 fn play_script<R: Wait, K: Sink>(rt: &R, alloc: Global, script: Script, out: &mut K) -> Outcome
     requires { HaveTextNames script }
     ensures kept { IfSome result.scripted (λ s. IsPlayed script s) }
-    ensures left { IfSome result.scripted IsLeft }
+    ensures left { IfSome result.scripted IsLeftOfRun }
     ensures stopped { IfSome result.scripted (λ s. EndsFor s.board.book.state.going result.status) }
     ensures shown { IsSome result.scripted → result.shown ≡ None }
     ensures known { IsPlayedStatus result.status ⊎ (result.status ≡ 1) }
@@ -170,7 +170,7 @@ fn serve_script<R: Wait, K: Sink>(
     ensures kept { IfSome result.scripted (λ s. HasRun config (clients_of script) s.board) }
     ensures script { IfSome result.scripted (λ s. s.front.script ≡ script) }
     ensures config { IfSome result.scripted (λ s. s.config ≡ config) }
-    ensures left { IfSome result.scripted IsLeft }
+    ensures left { IfSome result.scripted IsLeftOfRun }
     ensures stopped { IfSome result.scripted (λ s. EndsFor s.board.book.state.going result.status) }
     ensures shown { result.shown ≡ None }
     ensures known { IsPlayedStatus result.status }
@@ -204,7 +204,7 @@ fn serve_script<R: Wait, K: Sink>(
 
 /// What is left of a run, with what its front and its clock show.
 fn played(
-    served: Served<ScriptLink, ScriptFront, ScriptClock>,
+    served: ServedRun<ScriptLink, ScriptFront, ScriptClock>,
     store: MemStore,
     config: Config,
 ) -> Scripted
@@ -212,7 +212,7 @@ fn played(
     ensures played { IsOfScript served.front }
     ensures echoes { AreEchoes served.clock }
 {
-    let Served {
+    let ServedRun {
         board,
         front,
         clock,

@@ -1,7 +1,8 @@
 //! The run of a server over a front and a clock, whichever they are, with what is written where it opens.
 ghost use Rattle.std.specs.Prelude.{◌≡◌, true, false, [], IfErr, IfOk, IfSome, OnErr};
 ghost use Rattle.mpm_base.specs.Count.{NeverFalls};
-ghost use Rattle.mpm_base.specs.Front.{Binds, IsUnused};
+ghost use Rattle.mpm_base.specs.Front.{Binds};
+ghost use Rattle.mpm_run.specs.UnusedInside.{IsUnused};
 ghost use Rattle.conn_machine.specs.Made.{AreOfPasses};
 ghost use Rattle.board.specs.Board.{AreOfClients};
 ghost use Rattle.board.specs.Ranks.{AllTell};
@@ -10,7 +11,7 @@ ghost use Rattle.mpm_run.specs.FirstNumbers.{opened_by};
 ghost use Rattle.mpm_run.specs.FirstNumbersInside.{AreNumbers, opened_book};
 ghost use Rattle.mpm_run.specs.Links.{EndsLinks, TakesLinks};
 ghost use Rattle.mpm_run.specs.Listen.{HasClosedAll, IsClosedDown, IsRunFrom, NeverFolded};
-ghost use Rattle.mpm_run.specs.ListenInside.{ComesBack, Follows, HasStopped, IsInTime, IsNamed, LinksTell, waits_of};
+ghost use Rattle.mpm_run.specs.ListenInside.{ComesBack, Follows, HasStopped, IsInTime, IsKnownOfFront, LinksTell, waits_of};
 ghost use Rattle.mpm_run.specs.PatientInside.{IsPatientRun};
 ghost use Rattle.mpm_run.specs.Started.{IsStartedFirst};
 ghost use Rattle.mpm_run.specs.Times.{WasInformed};
@@ -29,7 +30,7 @@ use std::sync::Wait;
 
 /// What is left of the run of a server.
 #[derive(Drop)]
-pub struct Served<L: Link, F, C> {
+pub struct ServedRun<L: Link, F, C> {
     /// The table of connections, as the run left it.
     pub board: Board<L, Nothing>,
     /// Where connections, signals and time came from.
@@ -68,9 +69,9 @@ pub fn run_server<
     clock: C,
     out: &mut K,
     text: &[u8],
-) -> Result<Served<L, F, C>, OpenFault<F>>
+) -> Result<ServedRun<L, F, C>, OpenFault<F>>
     requires numbers { AreNumbers numbers }
-    requires named { IsNamed N.known L.seen (F.seen front).told }
+    requires named { IsKnownOfFront N.known L.seen (F.seen front).told }
     requires unused { IfSome (F.seen front).told IsUnused }
     requires unasked { IfSome (C.told clock) (λ calls. calls ≡ []) }
     ensures run { IfOk result (λ s. IsRunFrom numbers s.board) }
@@ -120,7 +121,7 @@ pub fn run_server<
         ready: _,
     } = listener;
     show_run(&board, numbers);
-    Ok(Served {
+    Ok(ServedRun {
         board: board.forget(),
         front,
         clock,

@@ -3,7 +3,7 @@ ghost use Rattle.std.specs.Prelude.{◌≡◌, ◌⊎◌, IfSome, IsSomeAnd, IsN
 ghost use Rattle.conn_machine.specs.declared.event.Why.TheVariants as why;
 ghost use Rattle.conn_machine.specs.declared.state.Going.TheVariants.{Halted};
 ghost use Rattle.script_front.specs.Editions.{editions_of};
-ghost use Rattle.mpm_run.specs.ExitStatuses.{EndsConfigRefused, EndsFor, EndsFull, EndsRefused, EndsTestUnwritten, EndsTested, EndsUnknown, EndsUnread, EndsUnwritten, EndsWell, HasEnd, HasPlayed, IsExitStatus, IsPatient, KeepsTime, seen_call};
+ghost use Rattle.mpm_run.specs.ExitStatuses.{EndsConfigRefused, EndsFor, EndsFull, EndsRefused, EndsTestUnwritten, EndsTested, EndsUnknown, EndsUnread, EndsUnwritten, EndsWell, HasEnd, HasPlayed, IsExitStatus, KeepsPatience, KeepsTime, seen_call};
 ghost use Rattle.mpm_run.specs.FirstNumbers as opening;
 ghost use Rattle.mpm_run.specs.Links.{KeepsLinks};
 ghost use Rattle.mpm_run.specs.Listen.{NeverFolded};
@@ -60,7 +60,7 @@ pub fn run<R: Threads + Wait + Sync, D: Store, K: Sink>(
     ensures time { IfSome result.scripted (λ s. KeepsTime s.board s.front s.clock) }
 
     // Time passed only where nothing was left to be done.
-    ensures patient { IfSome result.scripted (λ s. IsPatient s.board s.front) }
+    ensures patient { IfSome result.scripted (λ s. KeepsPatience s.board s.front) }
 
     // Why it stopped: where nothing more could come the whole script was played, whatever the exit status.
     ensures ended { IfSome result.scripted (λ s. s.board.book.state.going ≡ Halted why.FrontEnded → HasEnd s.board s.front) }

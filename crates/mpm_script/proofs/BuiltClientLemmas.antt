@@ -7,7 +7,7 @@ use Rattle.std.proofs.lemmas.Grind.{common_steps}
 use Rattle.std.proofs.lemmas.Slice.Eq.{bytes_eq-Decides}
 use Rattle.mpm_script.specs.BuiltLines.{IsBuilt, IsBuiltSite}
 use Rattle.mpm_script.specs.BuiltClientsInside.{AreCourses, AreFollowed, AreOpen, IsCourse, ends, is_course_named, spot_of, with_spot}
-use Rattle.mpm_script.specs.BuiltProgressInside.{IsOpen}
+use Rattle.mpm_script.specs.BuiltProgressInside.{IsOpenSpot}
 use Rattle.mpm_script.specs.Clients.{sent_from_line}
 use Rattle.mpm_script.specs.declared.built_clients.Course.{Course}
 use Rattle.mpm_script.specs.declared.built_requests.Spot.{Spot}
@@ -84,14 +84,14 @@ names_set [] i at course is = refl
 names_set (first ∷ courses) zero at course is = ap (λ (k : Course). k.name ∷ map (λ (k : Course). k.name) courses) is
 names_set (first ∷ courses) (suc i) at course is = ap (λ ns. first.name ∷ ns) (names_set courses i at course is)
 
-open_set : (courses : List Course) (i : ℕ) (at : Option Spot) (course : Course) → AreOpen courses → IfSome at IsOpen
+open_set : (courses : List Course) (i : ℕ) (at : Option Spot) (course : Course) → AreOpen courses → IfSome at IsOpenSpot
     → AreOpen (set courses i (record course { spot = at }))
 open_set [] i at course opened is_open = tt
 open_set (first ∷ courses) zero at course opened is_open = (is_open, opened.1)
 open_set (first ∷ courses) (suc i) at course opened is_open = (opened.0, open_set courses i at course opened.1 is_open)
 
 pub courses_set : (names : List (List ℕ)) (courses : List Course) (i : ℕ) (at : Option Spot) (course : Course) → AreCourses names courses
-    → course ≡ get_or courses i course → IfSome at IsOpen → AreCourses names (set courses i (record course { spot = at }))
+    → course ≡ get_or courses i course → IfSome at IsOpenSpot → AreCourses names (set courses i (record course { spot = at }))
 courses_set names courses i at course are is is_open = record {
   named = are.named ∙ sym (names_set courses i at course is);
   opened = open_set courses i at course are.opened is_open;

@@ -9,7 +9,7 @@ use Rattle.std.proofs.lemmas.Slice.Eq.{bytes_eq-Decides}
 use Rattle.mpm_script.specs.BuiltLines.{IsPipelined, IsBuilt, IsBuiltAct, AreBuilt}
 use Rattle.mpm_script.specs.Clients.{sent_from, sent_from_line, sent_by}
 use Rattle.mpm_script.specs.BuiltProgressInside.{Leads, Breaks}
-use Rattle.mpm_script.specs.BuiltClientsInside.{is_end, ends, has_ended, IsDone, IsAt, IsCourse}
+use Rattle.mpm_script.specs.BuiltClientsInside.{is_end, ends, has_ended, IsEndedClient, IsAt, IsCourse}
 use Rattle.mpm_script.specs.declared.built_requests.Spot.{Spot}
 use Rattle.mpm_base.specs.declared.script_line.ClientAct.{ClientAct}
 use Rattle.mpm_base.specs.declared.script_line.ClientAct.TheVariants as act
@@ -90,7 +90,7 @@ ended_more name lines line =
 -- ## Where a client is with a further line
 
 -- one that has ended stays so
-done_more : (name : List ℕ) (lines : List ScriptLine) (line : ScriptLine) → IsDone name lines → IsDone name (lines ++ line ∷ [])
+done_more : (name : List ℕ) (lines : List ScriptLine) (line : ScriptLine) → IsEndedClient name lines → IsEndedClient name (lines ++ line ∷ [])
 done_more name lines line done = record {
   ended = ended_more name lines line ∙ ap (λ ended. ended || ends name line) done.ended;
   pipelined = subst IsPipelined (sym (sent_ended name lines (line ∷ []) done.ended)) done.pipelined;
@@ -126,7 +126,7 @@ at_breaks name lines line spot at breaks h =
 
 -- its end ends it
 at_end : (name : List ℕ) (lines : List ScriptLine) (line : ScriptLine) (spot : Spot) → ends name line ≡ true → IsAt name lines spot
-    → IsDone name (lines ++ line ∷ [])
+    → IsEndedClient name (lines ++ line ∷ [])
 at_end name lines line spot ended at = record {
   ended = ended_more name lines line ∙ ap (λ before. before || ends name line) at.going_on ∙ ended;
   pipelined = subst IsPipelined
@@ -154,8 +154,8 @@ ends_named : (name : List ℕ) (act : ClientAct) → ends name (line.Client name
 ends_named name act = ap (λ same. cond same (is_end act) false) (named name)
 
 -- one that has ended
-pub done_act : (name : List ℕ) (lines : List ScriptLine) (act : ClientAct) → IsDone name lines
-    → IsBuiltAct lines name act × IsDone name (lines ++ line.Client name act ∷ [])
+pub done_act : (name : List ℕ) (lines : List ScriptLine) (act : ClientAct) → IsEndedClient name lines
+    → IsBuiltAct lines name act × IsEndedClient name (lines ++ line.Client name act ∷ [])
 done_act name lines (act.Send bytes) done =
     let more = done_more name lines (line.Client name (act.Send bytes)) done in
     (more.pipelined, more)
@@ -182,7 +182,7 @@ send_breaks name lines bytes spot at breaks =
 
 -- one that ends
 pub end_acts : (name : List ℕ) (lines : List ScriptLine) (spot : Spot) → IsAt name lines spot
-    → IsDone name (lines ++ line.Client name act.End ∷ [])
+    → IsEndedClient name (lines ++ line.Client name act.End ∷ [])
 end_acts name lines spot at = at_end name lines (line.Client name act.End) spot (ends_named name act.End) at
 
 -- all else that happens to its link is no matter of what it sends

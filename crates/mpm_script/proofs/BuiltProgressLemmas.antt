@@ -8,7 +8,7 @@ use Rattle.std.proofs.lemmas.List.{append-nil, drop_all}
 use Rattle.std.proofs.lemmas.List.Elements.{All-cons, All-nil}
 use Rattle.mpm_script.specs.BuiltLines.{IsPipelined}
 use Rattle.mpm_base.specs.RootRequest.{is_host_byte, IsHost, before_host, after_host, request_of, IsStarted}
-use Rattle.mpm_script.specs.BuiltProgressInside.{IsSpot, is_whole, Completes, Advances, StaysWithin, GoesPast, IsOpen, BytesMayFollow, Leads, Breaks}
+use Rattle.mpm_script.specs.BuiltProgressInside.{IsSpot, is_whole_spot, Completes, Advances, StaysWithin, GoesPast, IsOpenSpot, BytesMayFollow, Leads, Breaks}
 use Rattle.mpm_script.specs.declared.built_requests.Spot.{Spot}
 use Rattle.mpm_script.specs.declared.built_requests.Spot.TheVariants as spot
 
@@ -52,7 +52,7 @@ begins_from bytes (host ∷ hosts) rest are started e =
 pub at_begin : (bytes : List ℕ) → BytesMayFollow (spot.BeforeHost 0) bytes ↔ IsPipelined bytes
 at_begin bytes = (begins_on bytes, λ p. begins_from bytes p.hosts p.rest p.are_hosts p.started p.whole)
 
-pub open_begin : IsOpen (spot.BeforeHost 0)
+pub open_begin : IsOpenSpot (spot.BeforeHost 0)
 open_begin = record { is_spot = omega arith; open_spot = refl }
 
 -- ## A further byte
@@ -62,7 +62,7 @@ some_left : (n : ℕ) → nat_le 4 n ≡ false → 0 < length (drop n after_host
 some_left n begun = grind (arith, nat_tests, length-drop n after_host)
 
 -- a request that isn't whole lacks a byte at least
-lacks_bytes : (spot : Spot) → IsSpot spot → is_whole spot ≡ false → ¬ (Completes spot [])
+lacks_bytes : (spot : Spot) → IsSpot spot → is_whole_spot spot ≡ false → ¬ (Completes spot [])
 lacks_bytes (spot.BeforeHost n) is begun h =
     absurd (omega (arith, ap length h.2, length-append (drop n before_host) (h.0 ++ after_host), length-append h.0 after_host))
 lacks_bytes (spot.InHost n) is begun h = absurd (omega (arith, ap length h.4, length-append h.0 after_host))
@@ -115,14 +115,14 @@ follows_none spot b bytes open_spot none (inr p) = past p.end p.completes p.whol
 
 -- ## Where a request is whole
 
-completes_whole : (spot : Spot) → is_whole spot ≡ true → (bytes : List ℕ) → Completes spot bytes ↔ (bytes ≡ [])
+completes_whole : (spot : Spot) → is_whole_spot spot ≡ true → (bytes : List ℕ) → Completes spot bytes ↔ (bytes ≡ [])
 completes_whole (spot.BeforeHost n) whole bytes = absurd (false≢true whole)
 completes_whole (spot.InHost n) whole bytes = absurd (false≢true whole)
 completes_whole (spot.BehindHost n) whole bytes =
     let none = drop_all n after_host (grind (arith, nat_tests)) in
     (λ h. h ∙ none, λ h. h ∙ sym none)
 
-pub at_whole : (spot : Spot) (bytes : List ℕ) → is_whole spot ≡ true
+pub at_whole : (spot : Spot) (bytes : List ℕ) → is_whole_spot spot ≡ true
     → BytesMayFollow spot bytes ↔ IsPipelined bytes
 at_whole spot bytes whole = (on, back)
   where
@@ -146,13 +146,13 @@ at_whole spot bytes whole = (on, back)
 -- ## How far a client came
 
 -- bytes may end at each place
-pub may_end : (at : Spot) → IsOpen at → BytesMayFollow at []
+pub may_end : (at : Spot) → IsOpenSpot at → BytesMayFollow at []
 may_end at is = inl (end_at at is.is_spot is.open_spot)
   where
     short : IsHost (97 ∷ [])
     short = record { some = omega arith; fits = omega arith; bytes = All-cons (λ b. is_host_byte b ≡ true) 97 [] refl (All-nil (λ b. is_host_byte b ≡ true)) }
 
-    end_at : (spot : Spot) → IsSpot spot → is_whole spot ≡ false → StaysWithin spot []
+    end_at : (spot : Spot) → IsSpot spot → is_whole_spot spot ≡ false → StaysWithin spot []
     end_at (spot.BeforeHost n) is open_spot = record {
       more = drop n before_host ++ ((97 ∷ []) ++ after_host);
       some = omega (arith, length-append (drop n before_host) ((97 ∷ []) ++ after_host));
@@ -176,7 +176,7 @@ may_end at is = inl (end_at at is.is_spot is.open_spot)
 
 -- ## Some bytes, and further ones
 
-pub leads_nowhere : (spot : Spot) → IsOpen spot → Leads spot [] spot
+pub leads_nowhere : (spot : Spot) → IsOpenSpot spot → Leads spot [] spot
 leads_nowhere spot is = record { is_open = is; follows = λ more. (λ h. h, λ h. h) }
 
 pub leads_more : (first middle last : Spot) (bytes more all : List ℕ) → all ≡ bytes ++ more → Leads first bytes middle
@@ -202,22 +202,22 @@ breaks_more first middle bytes more behind all e one breaks = λ further h.
 
 -- ## One byte
 
-closed_spot : (spot : Spot) → IsOpen spot → ¬ (Completes spot [])
+closed_spot : (spot : Spot) → IsOpenSpot spot → ¬ (Completes spot [])
 closed_spot spot is = lacks_bytes spot is.is_spot is.open_spot
 
-pub leads_byte : (spot : Spot) (b : ℕ) (next : Spot) → IsOpen spot → IsSpot next → is_whole next ≡ false → Advances spot b next
+pub leads_byte : (spot : Spot) (b : ℕ) (next : Spot) → IsOpenSpot spot → IsSpot next → is_whole_spot next ≡ false → Advances spot b next
     → Leads spot (b ∷ []) next
 leads_byte spot b next is is_next open_next advances = record {
   is_open = record { is_spot = is_next; open_spot = open_next };
   follows = λ more. follows_byte spot next b more (closed_spot spot is) advances;
 }
 
-pub breaks_byte : (spot : Spot) (b : ℕ) → IsOpen spot → ((more : List ℕ) → ¬ (Completes spot (b ∷ more))) → Breaks spot (b ∷ [])
+pub breaks_byte : (spot : Spot) (b : ℕ) → IsOpenSpot spot → ((more : List ℕ) → ¬ (Completes spot (b ∷ more))) → Breaks spot (b ∷ [])
 breaks_byte spot b is none = λ more. follows_none spot b more (closed_spot spot is) none
 
 -- behind the last byte of a request the next one begins
-pub leads_last : (spot : Spot) (b : ℕ) (next start : Spot) → IsOpen spot → is_whole next ≡ true → Advances spot b next
-    → IsOpen start → ((more : List ℕ) → BytesMayFollow start more ↔ IsPipelined more) → Leads spot (b ∷ []) start
+pub leads_last : (spot : Spot) (b : ℕ) (next start : Spot) → IsOpenSpot spot → is_whole_spot next ≡ true → Advances spot b next
+    → IsOpenSpot start → ((more : List ℕ) → BytesMayFollow start more ↔ IsPipelined more) → Leads spot (b ∷ []) start
 leads_last spot b next start is whole advances is_start from = record {
   is_open = is_start;
   follows = λ more.

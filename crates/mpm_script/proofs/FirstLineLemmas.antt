@@ -3,14 +3,14 @@ use Rattle.std.proofs.Common.{◌≡◌, ℕ, ◌+◌, ◌<◌, true, false, Lis
 use Rattle.std.specs.List.{AllPass}
 use Rattle.std.proofs.lemmas.Bool.{eqb-true, not-false, false≢true}
 use Rattle.std.proofs.lemmas.List.{append-nil, get_or-append-add, length-append}
-use Rattle.mpm_base.specs.StopsInside.{Stops}
+use Rattle.mpm_script.specs.LineWordsInside.{EndsRun}
 use Rattle.mpm_script.specs.Script.{is_line_byte, Begins}
 use Rattle.mpm_script.proofs.CutLemmas.{one_cut}
 
 -- the first byte that is none of a line is a line feed
-pub line_end : (bytes : List ℕ) (b : ℕ) (rest : List ℕ) → bytes ≡ b ∷ rest → Stops is_line_byte bytes → b ≡ 10
+pub line_end : (bytes : List ℕ) (b : ℕ) (rest : List ℕ) → bytes ≡ b ∷ rest → EndsRun is_line_byte bytes → b ≡ 10
 line_end bytes b rest e stops =
-    let fails : is_line_byte b ≡ false = subst (Stops is_line_byte) e stops in
+    let fails : is_line_byte b ≡ false = subst (EndsRun is_line_byte) e stops in
     eqb-true b 10 (not-false (b == 10) fails)
 
 -- bytes that have none begin with no line

@@ -4,10 +4,9 @@ use Rattle.std.specs.Prelude.{codes}
 use Rattle.mpm_base.specs.Digits.{decimal}
 use Rattle.std.proofs.lemmas.Bool.{false≢true}
 use Rattle.std.proofs.lemmas.List.{append_cancel_left}
-use Rattle.mpm_base.specs.StopsInside.{Stops}
 use Rattle.mpm_script.specs.Escapes.{Spells}
 use Rattle.mpm_script.specs.ScriptLine.{is_name_byte, is_file_byte, IsNumber, act_word, IsBehindName, IsSiteLine, command_word, IsLine}
-use Rattle.mpm_script.specs.LineWordsInside.{IsNamed, IsFiled, IsSpelledBehind}
+use Rattle.mpm_script.specs.LineWordsInside.{EndsRun, IsNamed, IsFiled, IsSpelledBehind}
 use Rattle.mpm_base.specs.declared.script_line.LinkCall.{LinkCall}
 use Rattle.mpm_base.specs.declared.script_line.LinkCall.TheVariants as call
 use Rattle.mpm_base.specs.declared.script_line.CommandWord.{CommandWord}
@@ -76,14 +75,14 @@ all_no_digits digits n e number =
 -- ---- what happens to a link
 
 -- what stands behind a name goes on with no byte of a name
-behind_stops : (act : ClientAct) (behind : List ℕ) → IsBehindName act behind → Stops is_name_byte behind
-behind_stops (act.Send bytes) behind h = subst (Stops is_name_byte) (sym h.1) refl
-behind_stops act.End behind h = subst (Stops is_name_byte) (sym h) tt
-behind_stops act.Drop behind h = subst (Stops is_name_byte) (sym h) tt
-behind_stops (act.Room None) behind h = subst (Stops is_name_byte) (sym h) refl
-behind_stops (act.Room (Some n)) behind h = subst (Stops is_name_byte) (sym h.1) refl
-behind_stops (act.Fail call.Read n) behind h = subst (Stops is_name_byte) (sym h.1) refl
-behind_stops (act.Fail call.Write n) behind h = subst (Stops is_name_byte) (sym h.1) refl
+behind_stops : (act : ClientAct) (behind : List ℕ) → IsBehindName act behind → EndsRun is_name_byte behind
+behind_stops (act.Send bytes) behind h = subst (EndsRun is_name_byte) (sym h.1) refl
+behind_stops act.End behind h = subst (EndsRun is_name_byte) (sym h) tt
+behind_stops act.Drop behind h = subst (EndsRun is_name_byte) (sym h) tt
+behind_stops (act.Room None) behind h = subst (EndsRun is_name_byte) (sym h) refl
+behind_stops (act.Room (Some n)) behind h = subst (EndsRun is_name_byte) (sym h.1) refl
+behind_stops (act.Fail call.Read n) behind h = subst (EndsRun is_name_byte) (sym h.1) refl
+behind_stops (act.Fail call.Write n) behind h = subst (EndsRun is_name_byte) (sym h.1) refl
 
 -- such a line, by its word and name
 pub client_named : (text name : List ℕ) (act : ClientAct) (h : IsLine text (line.Client name act)) → IsNamed (act_word act) text name h.0

@@ -15,41 +15,41 @@ use Rattle.std.proofs.lemmas.List.Folds.{position_or_len_push}
 use Rattle.std.proofs.lemmas.List.Quantifiers.{position-Some}
 use Rattle.std.proofs.lemmas.List.Sums.{prefix_len-le-length}
 use Rattle.std.proofs.lemmas.Slice.Eq.{bytes_eq-Decides}
-use Rattle.mpm_script.specs.NamePlaces.{IsNamedAt, place_of}
+use Rattle.mpm_script.specs.NamePlaces.{IsNamedAt, line_place}
 use Rattle.mpm_script.specs.NamePlacesInside.{FindsPlaces}
 
 -- a name has a place exactly if it is among the names
-pub has_place : (name : List ℕ) (names : List (List ℕ)) → is_some (place_of name names) ≡ list_any (λ other. bytes_eq other name) names
+pub has_place : (name : List ℕ) (names : List (List ℕ)) → is_some (line_place name names) ≡ list_any (λ other. bytes_eq other name) names
 has_place name [] = refl
 has_place name (other ∷ names) = grind (arith, nat_tests, has_place name names)
 
 -- what stands at the place of a name
-pub place_named : (name : List ℕ) (names : List (List ℕ)) (i : ℕ) → place_of name names ≡ Some i → IsNamedAt name i names
+pub place_named : (name : List ℕ) (names : List (List ℕ)) (i : ℕ) → line_place name names ≡ Some i → IsNamedAt name i names
 place_named name names i at =
     let found = position-Some (λ other. bytes_eq other name) names i [] at in
     record { within = found.0; same = nat_list_eq_equiv.symm name (get_or names i []) ∙ found.1 }
 
 -- where a name has no place none is that one
-tail-missing : (name other : List ℕ) (names : List (List ℕ)) → place_of name (other ∷ names) ≡ None → bytes_eq other name ≡ false × (place_of name names ≡ None)
+tail-missing : (name other : List ℕ) (names : List (List ℕ)) → line_place name (other ∷ names) ≡ None → bytes_eq other name ≡ false × (line_place name names ≡ None)
 tail-missing name other names none = (grind (arith, nat_tests), grind (arith, nat_tests))
 
-pub place_missing : (name : List ℕ) (names : List (List ℕ)) → place_of name names ≡ None → AllByRecursion (λ other. bytes_eq name other ≡ false) names
+pub place_missing : (name : List ℕ) (names : List (List ℕ)) → line_place name names ≡ None → AllByRecursion (λ other. bytes_eq name other ≡ false) names
 place_missing name [] none = tt
 place_missing name (other ∷ names) none =
     let both = tail-missing name other names none in (nat_list_eq_equiv.symm name other ∙ both.0, place_missing name names both.1)
 
 -- the same of what was found
-pub named_if : (name : List ℕ) (names : List (List ℕ)) (found : Option ℕ) → found ≡ place_of name names → IfSome found (λ i. IsNamedAt name i names)
+pub named_if : (name : List ℕ) (names : List (List ℕ)) (found : Option ℕ) → found ≡ line_place name names → IfSome found (λ i. IsNamedAt name i names)
 named_if name names None is = tt
 named_if name names (Some i) is = place_named name names i (sym is)
 
-pub missing_if : (name : List ℕ) (names : List (List ℕ)) (found : Option ℕ) → found ≡ place_of name names
+pub missing_if : (name : List ℕ) (names : List (List ℕ)) (found : Option ℕ) → found ≡ line_place name names
     → IfNone found (AllByRecursion (λ other. bytes_eq name other ≡ false) names)
 missing_if name names None is = place_missing name names (sym is)
 missing_if name names (Some i) is = tt
 
 -- the place of a name among those of some items
-pub place-map : {X : Type 0} (name_of : X → List ℕ) (name : List ℕ) (xs : List X) → place_of name (map name_of xs) ≡ position (λ x. bytes_eq (name_of x) name) xs
+pub place-map : {X : Type 0} (name_of : X → List ℕ) (name : List ℕ) (xs : List X) → line_place name (map name_of xs) ≡ position (λ x. bytes_eq (name_of x) name) xs
 place-map name_of name [] = refl
 place-map name_of name (x ∷ xs) = grind (arith, nat_tests, common_steps, place-map name_of name xs)
 
@@ -71,24 +71,24 @@ others-kept eq test old new h = h
 
 -- a name that is new has the last place, and each other its own
 finds-last : {S : Type 0} (old new : HashMap (Vec ℕ) ℕ S) (names : List (List ℕ)) (name : List ℕ)
-    → FindsPlaces old names → place_of name names ≡ None
+    → FindsPlaces old names → line_place name names ≡ None
     → hash.UpdatesBy (λ (x y : Vec ℕ). bytes_eq x.items y.items) (λ (key : Vec ℕ). bytes_eq name key.items) old new (Some (length names))
     → FindsPlaces new (names ++ name ∷ [])
-finds-last old new names name finds none updates other = go (bytes_eq name other) refl (place_of other names) refl
+finds-last old new names name finds none updates other = go (bytes_eq name other) refl (line_place other names) refl
   where
-    go : (same : Bool) → bytes_eq name other ≡ same → (found : Option ℕ) → place_of other names ≡ found
-        → hash.get_by (λ key. bytes_eq other key.items) new ≡ place_of other (names ++ name ∷ [])
+    go : (same : Bool) → bytes_eq name other ≡ same → (found : Option ℕ) → line_place other names ≡ found
+        → hash.get_by (λ key. bytes_eq other key.items) new ≡ line_place other (names ++ name ∷ [])
     go true is found at =
         let one : name ≡ other = (bytes_eq-Decides name other).0 is in
-        subst (λ n. hash.get_by (λ key. bytes_eq n key.items) new ≡ place_of n (names ++ name ∷ [])) one
+        subst (λ n. hash.get_by (λ key. bytes_eq n key.items) new ≡ line_place n (names ++ name ∷ [])) one
         (updates.1 ∙ sym (position-new (λ n. bytes_eq n name) names name none ∙ cond-true (bytes_eq name name) (Some (length names)) None ((bytes_eq-Decides name name).1 refl)))
     go false is found at =
-        let kept : hash.get_by (λ key. bytes_eq other key.items) new ≡ place_of other names =
+        let kept : hash.get_by (λ key. bytes_eq other key.items) new ≡ line_place other names =
         others-kept _ _ _ _ updates.3 (λ key. bytes_eq other key.items) (λ x y. nat_list_eq_equiv.congr other x.items y.items) (λ key. apart name other key.items is)
         ∙ finds other in
         kept ∙ stays found at is
       where
-        stays : (found : Option ℕ) → place_of other names ≡ found → bytes_eq name other ≡ false → place_of other names ≡ place_of other (names ++ name ∷ [])
+        stays : (found : Option ℕ) → line_place other names ≡ found → bytes_eq name other ≡ false → line_place other names ≡ line_place other (names ++ name ∷ [])
         stays None at is = at ∙ sym (position-new (λ n. bytes_eq n other) names name at ∙ cond-false (bytes_eq name other) (Some (length names)) None is)
         stays (Some i) at is = at ∙ sym (position-kept (λ n. bytes_eq n other) names name i at)
 
@@ -101,18 +101,18 @@ pub finds-new : {S : Type 0} (old new : HashMap (Vec ℕ) ℕ S) (names : List (
     → hash.UpdatesBy (λ (x y : Vec ℕ). bytes_eq x.items y.items) (λ (k : Vec ℕ). bytes_eq key.items k.items) old new (Some n)
     → FindsPlaces new (names ++ name ∷ [])
 finds-new old new names name key n is size finds missing updates =
-    finds-last old new names name finds (none-of (place_of name names) (ap is_some (sym (finds name)) ∙ sym missing))
+    finds-last old new names name finds (none-of (line_place name names) (ap is_some (sym (finds name)) ∙ sym missing))
     (subst (λ m. hash.UpdatesBy (λ (x y : Vec ℕ). bytes_eq x.items y.items) (λ (k : Vec ℕ). bytes_eq name k.items) old new (Some m)) size
     (subst (λ text. hash.UpdatesBy (λ (x y : Vec ℕ). bytes_eq x.items y.items) (λ (k : Vec ℕ). bytes_eq text k.items) old new (Some n)) is updates))
 
 -- a further name that is there has its first place, and so has each other
 pub finds-old : {S : Type 0} (places : HashMap (Vec ℕ) ℕ S) (names : List (List ℕ)) (name : List ℕ)
     → FindsPlaces places names → true ≡ is_some (hash.get_by (λ key. bytes_eq name key.items) places) → FindsPlaces places (names ++ name ∷ [])
-finds-old places names name finds some other = finds other ∙ go (place_of other names) refl (bytes_eq name other) refl
+finds-old places names name finds some other = finds other ∙ go (line_place other names) refl (bytes_eq name other) refl
   where
-    go : (found : Option ℕ) → place_of other names ≡ found → (same : Bool) → bytes_eq name other ≡ same → place_of other names ≡ place_of other (names ++ name ∷ [])
+    go : (found : Option ℕ) → line_place other names ≡ found → (same : Bool) → bytes_eq name other ≡ same → line_place other names ≡ line_place other (names ++ name ∷ [])
     go (Some i) at same is = at ∙ sym (position-kept (λ n. bytes_eq n other) names name i at)
     go None at false is = at ∙ sym (position-new (λ n. bytes_eq n other) names name at ∙ cond-false (bytes_eq name other) (Some (length names)) None is)
     go None at true is =
-        let none : place_of name names ≡ None = subst (λ n. place_of n names ≡ None) (sym ((bytes_eq-Decides name other).0 is)) at in
+        let none : line_place name names ≡ None = subst (λ n. line_place n names ≡ None) (sym ((bytes_eq-Decides name other).0 is)) at in
         absurd (let no : true ≡ false = some ∙ ap is_some (finds name ∙ none) in cc no)

@@ -2,7 +2,7 @@
 use Rattle.std.specs.Prelude.{◌≡◌, ℕ, Bool, true, false, List, [], ◌∷◌, ◌++◌, Option, None, Some, IfSome, bytes_eq, map, if◌then◌else◌, ◌↔◌}
 use Rattle.std.specs.List.{AllByRecursion, list_any}
 use Rattle.mpm_script.specs.BuiltLines.{IsPipelined}
-use Rattle.mpm_script.specs.BuiltProgressInside.{IsOpen, BytesMayFollow}
+use Rattle.mpm_script.specs.BuiltProgressInside.{IsOpenSpot, BytesMayFollow}
 use Rattle.mpm_script.specs.Clients.{sent_by}
 use Rattle.mpm_script.specs.declared.built_clients.Course.{Course}
 use Rattle.mpm_script.specs.declared.built_requests.Spot.{Spot}
@@ -33,19 +33,19 @@ abbrev pub has_ended : List ℕ → List ScriptLine → Bool
 has_ended name lines = list_any (ends name) lines
 
 -- the client of that name has ended with these lines, and sent requests of the known form
-pub record IsDone (name : List ℕ) (lines : List ScriptLine) : Type 0 where
+pub record IsEndedClient (name : List ℕ) (lines : List ScriptLine) : Type 0 where
   pub ended : has_ended name lines ≡ true
   pub pipelined : IsPipelined (sent_by name lines)
 
 -- it has not, and what it sent with them brought it to that place
 pub record IsAt (name : List ℕ) (lines : List ScriptLine) (spot : Spot) : Type 0 where
   pub going_on : has_ended name lines ≡ false
-  pub is_open : IsOpen spot
+  pub is_open : IsOpenSpot spot
   pub follows : (more : List ℕ) → BytesMayFollow spot more ↔ IsPipelined (sent_by name lines ++ more)
 
 -- where the client of that name is with these lines: at a place, or done
 abbrev pub IsCourse : List ℕ → List ScriptLine → Option Spot → Type 0
-IsCourse name lines None = IsDone name lines
+IsCourse name lines None = IsEndedClient name lines
 IsCourse name lines (Some spot) = IsAt name lines spot
 
 -- it is that of the client of that name
@@ -69,7 +69,7 @@ AreFollowed lines courses = (name : List ℕ) → IsCourse name lines (spot_of n
 
 -- each client that has not ended is at a place of a request that isn't whole
 abbrev pub AreOpen : List Course → Type 0
-AreOpen courses = AllByRecursion (λ course. IfSome course.spot IsOpen) courses
+AreOpen courses = AllByRecursion (λ course. IfSome course.spot IsOpenSpot) courses
 
 -- the names are those of the clients, in order, and each client that has not ended is at a place of a request that isn't whole
 pub record AreCourses (names : List (List ℕ)) (courses : List Course) : Type 0 where

@@ -13,10 +13,10 @@ IsSpot (spot.InHost n) = n ≤ 255
 IsSpot (spot.BehindHost n) = n ≤ 4
 
 -- the end of a request
-abbrev pub is_whole : Spot → Bool
-is_whole (spot.BeforeHost n) = false
-is_whole (spot.InHost n) = false
-is_whole (spot.BehindHost n) = nat_le 4 n
+abbrev pub is_whole_spot : Spot → Bool
+is_whole_spot (spot.BeforeHost n) = false
+is_whole_spot (spot.InHost n) = false
+is_whole_spot (spot.BehindHost n) = nat_le 4 n
 
 -- these bytes make the request whole that has come to that place
 abbrev pub Completes : Spot → List ℕ → Type 0
@@ -44,9 +44,9 @@ pub record GoesPast (spot : Spot) (bytes : List ℕ) : Type 0 where
   pub pipelined : IsPipelined rest
 
 -- the place is one of a request that isn't whole
-pub record IsOpen (spot : Spot) : Type 0 where
+pub record IsOpenSpot (spot : Spot) : Type 0 where
   pub is_spot : IsSpot spot
-  pub open_spot : is_whole spot ≡ false
+  pub open_spot : is_whole_spot spot ≡ false
 
 -- with these bytes behind those so far there are requests, and then a proper front of one
 abbrev pub BytesMayFollow : Spot → List ℕ → Type 0
@@ -54,7 +54,7 @@ BytesMayFollow spot bytes = StaysWithin spot bytes ⊎ GoesPast spot bytes
 
 -- the bytes take the client from one place to the other: what may follow them is what may follow then
 pub record Leads (spot : Spot) (bytes : List ℕ) (next : Spot) : Type 0 where
-  pub is_open : IsOpen next
+  pub is_open : IsOpenSpot next
   pub follows : (more : List ℕ) → BytesMayFollow spot (bytes ++ more) ↔ BytesMayFollow next more
 
 -- the bytes may not follow, whatever comes behind them

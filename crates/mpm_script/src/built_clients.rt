@@ -4,7 +4,7 @@
 ghost use Rattle.std.specs.Prelude.{◌≡◌, ℕ, true, false, List, Option, None, Some, IfOk, IfSome, IfNone, OnOk, [], ◌∷◌, ◌++◌};
 ghost use Rattle.mpm_script.specs.BuiltLines.{IsBuiltAct};
 ghost use Rattle.mpm_script.specs.BuiltClientsInside.{AreFollowed, IsCourse, spot_of, with_spot};
-ghost use Rattle.mpm_script.specs.BuiltProgressInside.{IsOpen};
+ghost use Rattle.mpm_script.specs.BuiltProgressInside.{IsOpenSpot};
 ghost use Rattle.mpm_base.specs.declared.script_line.ScriptLine.{ScriptLine as Line};
 ghost use Rattle.mpm_base.specs.declared.script_line.ScriptLine.TheVariants.{Client};
 
@@ -78,7 +78,7 @@ impl Courses {
     /// Where the client of that name is.
     fn spot(&self, name: &[u8]) -> Option<Spot>
         ensures is { result ≡ spot_of name.now self.now }
-        ensures opened { IfSome result IsOpen }
+        ensures opened { IfSome result IsOpenSpot }
     {
         match self.places.place(name) {
             Some(place) => self.items[place].spot,
@@ -88,7 +88,7 @@ impl Courses {
 
     /// The client of that name is there now. Where memory lacks nothing changes.
     fn put(&mut self, alloc: Global, name: &[u8], spot: Option<Spot>) -> Result<(), NoMemory>
-        requires { IfSome spot IsOpen }
+        requires { IfSome spot IsOpenSpot }
         ensures { OnOk result (self.new ≡ with_spot name.now spot self.old) }
     {
         if let Some(place) = self.places.place(name) {
@@ -101,7 +101,7 @@ impl Courses {
 
     /// The client of that name, of which no line told, is there now. Where memory lacks nothing changes.
     fn begin(&mut self, alloc: Global, name: &[u8], spot: Option<Spot>) -> Result<(), NoMemory>
-        requires { IfSome spot IsOpen }
+        requires { IfSome spot IsOpenSpot }
         ensures { OnOk result (self.new ≡ self.old ++ record { name = name.now; spot = spot } ∷ []) }
     {
         let text = Octets::of(alloc, name)?;
@@ -116,8 +116,8 @@ impl Courses {
 
 /// Where a client is after the act, which is built; None where it isn't.
 fn after_act(spot: Option<Spot>, act: &ClientAct) -> Option<Option<Spot>>
-    requires { IfSome spot IsOpen }
-    ensures opened { IfSome result (λ next. IfSome next IsOpen) }
+    requires { IfSome spot IsOpenSpot }
+    ensures opened { IfSome result (λ next. IfSome next IsOpenSpot) }
     ensures some { IfSome result (λ next. (name : List ℕ) (before : List Line) → IsCourse name before spot
         → IsBuiltAct before name act.now × IsCourse name (before ++ Client name act.now ∷ []) next) }
     ensures none { IfNone result ((name : List ℕ) (before : List Line) → IsCourse name before spot → ¬ IsBuiltAct before name act.now) }

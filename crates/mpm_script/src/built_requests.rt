@@ -4,7 +4,7 @@
 //! `specs/BuiltProgressInside.antt`.
 ghost use Rattle.std.specs.Prelude.{◌≡◌, ℕ, List, [], ◌∷◌, true, false, ◌≤◌, ◌↔◌, IsTrue, IfSome, IfNone};
 ghost use Rattle.mpm_script.specs.BuiltLines.{IsPipelined};
-ghost use Rattle.mpm_script.specs.BuiltProgressInside.{IsSpot, is_whole, IsOpen, Completes, Advances, BytesMayFollow, Leads, Breaks};
+ghost use Rattle.mpm_script.specs.BuiltProgressInside.{IsSpot, is_whole_spot, IsOpenSpot, Completes, Advances, BytesMayFollow, Leads, Breaks};
 ghost use Rattle.mpm_script.specs.declared.built_requests.Spot.TheVariants.{BeforeHost, InHost};
 
 use mpm_base::{AFTER_HOST, BEFORE_HOST, LONGEST_HOST, is_host_byte};
@@ -30,7 +30,7 @@ pub fn is_pipelined(bytes: &[u8]) -> bool
 /// Where nothing has come yet.
 pub(crate) fn first_spot() -> Spot
     ensures is { result ≡ BeforeHost 0 }
-    ensures opened { IsOpen result }
+    ensures opened { IsOpenSpot result }
     ensures follows { (bytes : List ℕ) → BytesMayFollow result bytes ↔ IsPipelined bytes }
 {
     Spot::BeforeHost(0)
@@ -38,7 +38,7 @@ pub(crate) fn first_spot() -> Spot
 
 /// Where the client is with these bytes too, where they may follow.
 pub(crate) fn after_bytes(spot: Spot, bytes: &[u8]) -> Option<Spot>
-    requires { IsOpen spot }
+    requires { IsOpenSpot spot }
     ensures some { IfSome result (Leads spot bytes.now) }
     ensures none { IfNone result (Breaks spot bytes.now) }
 {
@@ -50,20 +50,20 @@ pub(crate) fn after_bytes(spot: Spot, bytes: &[u8]) -> Option<Spot>
 }
 
 fn after_byte(spot: Spot, byte: u8) -> Option<Spot>
-    requires { IsOpen spot }
+    requires { IsOpenSpot spot }
     ensures some { IfSome result (Leads spot (byte ∷ [])) }
     ensures none { IfNone result (Breaks spot (byte ∷ [])) }
 {
     let next = next_spot(spot, byte)?;
-    if is_whole(next) {
+    if is_whole_spot(next) {
         Some(first_spot())
     } else {
         Some(next)
     }
 }
 
-fn is_whole(spot: Spot) -> bool
-    ensures { result ≡ is_whole spot }
+fn is_whole_spot(spot: Spot) -> bool
+    ensures { result ≡ is_whole_spot spot }
 {
     match spot {
         Spot::BehindHost(count) => count >= AFTER_HOST.len(),
@@ -74,7 +74,7 @@ fn is_whole(spot: Spot) -> bool
 // The place behind the byte, where a request can go on with it.
 fn next_spot(spot: Spot, byte: u8) -> Option<Spot>
     requires spot { IsSpot spot }
-    requires opened { is_whole spot ≡ false }
+    requires opened { is_whole_spot spot ≡ false }
     ensures spot { IfSome result IsSpot }
     ensures some { IfSome result (Advances spot byte) }
     ensures none { IfNone result ((bytes : List ℕ) → ¬ Completes spot (byte ∷ bytes)) }

@@ -1,7 +1,7 @@
 //! Names in order, each found by a map.
 ghost use Rattle.std.specs.Prelude.{◌≡◌, ◌++◌, ◌∷◌, false, [], length, bytes_eq, IfSome, IfNone, OnOk, OnErr};
 ghost use Rattle.std.specs.List.{AllByRecursion};
-ghost use Rattle.mpm_script.specs.NamePlaces.{IsNamedAt, place_of};
+ghost use Rattle.mpm_script.specs.NamePlaces.{IsNamedAt, line_place};
 
 use mpm_base::{NoMemory, Octets};
 use std::alloc::Global;
@@ -48,7 +48,7 @@ impl NamePlaces {
 
     /// The place of the first name that is this one, from 0.
     pub fn place(&self, name: &[u8]) -> Option<usize>
-        ensures is { result ≡ place_of name.now self.now }
+        ensures is { result ≡ line_place name.now self.now }
 
         // So that name stands there, and where there is no place none of the names is this one.
         ensures named { IfSome result (λ place. IsNamedAt name.now place self.now) }
@@ -59,7 +59,7 @@ impl NamePlaces {
 
     /// The place that the map has.
     fn found(&self, name: &[u8]) -> Option<usize>
-        ensures { result ≡ place_of name.now self.now }
+        ensures { result ≡ line_place name.now self.now }
     {
         self.places.get(name).copied()
     }

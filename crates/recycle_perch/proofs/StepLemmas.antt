@@ -7,8 +7,9 @@ use prog.Atomic.{either}
 use Rattle.atomic_table.proofs.Lists.{at_set}
 use Rattle.atomic_table.specs.Marked.{Comes, Keeps}
 use Rattle.table_rule.specs.declared.trail.Step.{Step}
-use Rattle.recycle_perch.specs.StepsInside.{AddsStep, Gives, Takes}
-use Rattle.recycle_perch.specs.Words.{IsRestNumber, IsRestWord, LeaveRests, deed}
+use Rattle.recycle_perch.specs.StepsInside.{AddsStep, LaysDown, Takes}
+use Rattle.recycle_perch.specs.Words.{deed}
+use Rattle.recycle_perch.specs.WordsInside.{IsRestNumber, IsRestWord, LeaveRests}
 use Rattle.table_rule.specs.Trails.{AreNumbered, AreOfMakers, GoesOn, steps_by}
 
 -- ## What is taken of trails
@@ -106,7 +107,7 @@ left_rests found (inl none) = subst (λ n. IsRestNumber (either (n == 0) 2 n)) (
 left_rests found (inr one) = subst (λ n. IsRestNumber (either (n == 0) 2 n)) (sym one) (inr refl)
 
 -- a step that lays a carrier down
-pub gives : TrailLaws → (mark : ℕ) (view : List Step) → Keeps IsRestWord mark view (λ n. either (n == 0) 2 n) (Gives 0 2 view)
+pub gives : TrailLaws → (mark : ℕ) (view : List Step) → Keeps IsRestWord mark view (λ n. either (n == 0) 2 n) (LaysDown 0 2 view)
 gives trails mark view found views rule at small =
     one_step trails found (either (found == 0) 2 found) mark view views rule at
     (left_rests found (last_rests 0 rule.trail found (inl refl) rule.rests rule.goes_on))

@@ -2,3 +2,4 @@ pub mod Looking
 pub mod Resting
 pub mod StepsInside
 pub mod Words
+pub mod WordsInside

@@ -1,22 +1,22 @@
 -- What the steps of one caller found, place by place.
 use Rattle.std.specs.Prelude.{◌≡◌, ℕ, zero, suc, ◌<◌, ◌==◌, Bool, true, List, [], ◌∷◌, ◌++◌, map, length, take, slice_get, slice_index, Some, Vec, vec_capacity, if◌then◌else◌}
 use Rattle.recycle_perch.specs.declared.looks.Looks.{Looks}
-use Rattle.recycle_perch.specs.declared.place.Place.{Place}
+use Rattle.recycle_perch.specs.declared.place.RestPlace.{RestPlace}
 use Rattle.recycle_perch.specs.Words.{deeds, laid_none, laid_one, took_none, took_one}
 
 -- ## The places, and looks at them
 
 -- the names of the words of the places
-abbrev pub words_of : {K : Type 0} → List (Place K) → List ℕ
-words_of places = map (λ place. place.perch.name) places
+abbrev pub word_names_of : {K : Type 0} → List (RestPlace K) → List ℕ
+word_names_of places = map (λ place. place.perch.name) places
 
 -- the numbers of the carriers that the places are for
-abbrev pub numbers_of : {K : Type 0} → List (Place K) → List ℕ
-numbers_of places = map (λ place. place.number) places
+abbrev pub carriers_of : {K : Type 0} → List (RestPlace K) → List ℕ
+carriers_of places = map (λ place. place.number) places
 
 -- there is one place more behind all others, for the carrier of that number
-abbrev pub HasPlaceMore : {K : Type 0} → ℕ → List (Place K) → List (Place K) → Type 0
-HasPlaceMore {K} carrier before after = (place : Place K) × (after ≡ before ++ place ∷ []) × (place.number ≡ carrier)
+abbrev pub HasPlaceMore : {K : Type 0} → ℕ → List (RestPlace K) → List (RestPlace K) → Type 0
+HasPlaceMore {K} carrier before after = (place : RestPlace K) × (after ≡ before ++ place ∷ []) × (place.number ≡ carrier)
 
 -- what the steps at each place did
 abbrev pub steps_of : Looks → List (List (ℕ × ℕ))
@@ -32,12 +32,12 @@ abbrev pub AllLookAt : List ℕ → ℕ → List Looks → Type 0
 AllLookAt names most all = (i : ℕ) (looks : Looks) → slice_get all i ≡ Some looks → LookAt names most looks
 
 -- the looks are at these places
-abbrev pub AreOf : {K Z : Type 0} → Vec (Place K) Z → Looks → Type 0
-AreOf places looks = LookAt (words_of places.items) (vec_capacity places) looks
+abbrev pub AreOf : {K Z : Type 0} → Vec (RestPlace K) Z → Looks → Type 0
+AreOf places looks = LookAt (word_names_of places.items) (vec_capacity places) looks
 
 -- each of them is at these places
-abbrev pub AllAreOf : {K Z : Type 0} → Vec (Place K) Z → List Looks → Type 0
-AllAreOf places all = AllLookAt (words_of places.items) (vec_capacity places) all
+abbrev pub AllAreOf : {K Z : Type 0} → Vec (RestPlace K) Z → List Looks → Type 0
+AllAreOf places all = AllLookAt (word_names_of places.items) (vec_capacity places) all
 
 -- ## The steps of one call
 

@@ -2,7 +2,8 @@
 use Rattle.std.specs.Prelude.{◌≡◌, ◌==◌, ℕ, List, [], ◌∷◌, ◌++◌}
 use prog.Atomic.{either}
 use Rattle.table_rule.specs.declared.trail.Step.{Step}
-use Rattle.recycle_perch.specs.Words.{IsRestNumber, deeds}
+use Rattle.recycle_perch.specs.Words.{deeds}
+use Rattle.recycle_perch.specs.WordsInside.{IsRestNumber}
 
 -- a step is put behind those before it, which found this number and left that one
 abbrev pub AddsStep : ℕ → ℕ → List Step → List Step → Type 0
@@ -13,5 +14,5 @@ abbrev pub Takes : ℕ → ℕ → List Step → ℕ → List Step → Type 0
 Takes expected new before found after = AddsStep found new before after
 
 -- a step writes the number where it found the one that is expected
-abbrev pub Gives : ℕ → ℕ → List Step → ℕ → List Step → Type 0
-Gives expected new before found after = AddsStep found (either (found == expected) new found) before after
+abbrev pub LaysDown : ℕ → ℕ → List Step → ℕ → List Step → Type 0
+LaysDown expected new before found after = AddsStep found (either (found == expected) new found) before after

@@ -2,7 +2,7 @@
 ghost use Rattle.std.specs.Prelude.{◌<◌, [], ◌∷◌, ◌++◌, IfOk, vec_len, vec_capacity};
 ghost use Rattle.recycle_perch.specs.Looking.{LookAt};
 
-use crate::word::{RestRule, TakeStep};
+use crate::word::{PickUpStep, RestRule};
 use atomic_table::{Mark, RuledPerch};
 use mpm_base::NoMemory;
 use std::alloc::Global;
@@ -34,7 +34,7 @@ impl Looks {
     {
         trails_go_on_by_one_step();
         makers_have_their_own_steps();
-        let (_, mark, _) = perch.swap_new_mark::<TakeStep>(0);
+        let (_, mark, _) = perch.swap_new_mark::<PickUpStep>(0);
         self.marks.push_reserved(mark);
     }
 }

@@ -1,11 +1,11 @@
 //! A row of places.
 ghost use Rattle.std.specs.Prelude.{◌≡◌, ◌≤◌, ◌<◌, ◌==◌, [], ◌∷◌, ◌++◌, All, IfOk, IfSome, IfErr, OnOk, OnErr, MatchOption, MatchResult, slice_index, vec_len, vec_capacity, if◌then◌else◌};
-ghost use Rattle.recycle_perch.specs.Looking.{AllAreOf, AllLookAt, AreOf, HasPlaceMore, WasLaidDown, WasTaken, found_none, found_taken, numbers_of, steps_of, with_step_at, words_of};
+ghost use Rattle.recycle_perch.specs.Looking.{AllAreOf, AllLookAt, AreOf, HasPlaceMore, WasLaidDown, WasTaken, found_none, found_taken, carriers_of, steps_of, with_step_at, word_names_of};
 ghost use Rattle.recycle_perch.specs.Resting.{IsFreeCarrier, IsWokenCarrier};
 ghost use Rattle.recycle_perch.specs.Words.{laid_none, laid_one, took_none, took_one};
 
 use crate::looks::Looks;
-use crate::place::Place;
+use crate::place::RestPlace;
 use board_lock::{Carrier, Shared, number};
 use conn_machine::Kept;
 use mpm_base::NoMemory;
@@ -15,7 +15,7 @@ use std::alloc::Global;
 #[derive(Drop)]
 pub struct Perch<'a, K: Kept> {
     pub shared: &'a Shared<K>,
-    places: Vec<Place<K>>,
+    places: Vec<RestPlace<K>>,
     ghost same: { All (λ place. place.perch.table_id ≡ shared.now.table.shared.table_id) places.items },
 }
 
@@ -74,17 +74,17 @@ impl<'a, K: Kept> Perch<'a, K> {
         if self.places.len() == self.places.capacity() {
             return Err(carrier);
         }
-        let (place, woken) = Place::make(self.shared, carrier);
+        let (place, woken) = RestPlace::make(self.shared, carrier);
         self.show(all, &place);
         self.places.push_reserved(place);
         Ok(woken)
     }
 
     /// All looks come to one place more.
-    fn show(&self, all: &mut Vec<Looks>, place: &Place<K>)
+    fn show(&self, all: &mut Vec<Looks>, place: &RestPlace<K>)
         requires room { vec_len self.now.places < vec_capacity self.now.places }
         requires looks { AllAreOf self.now.places all.old.items }
-        ensures looks { AllLookAt (words_of self.now.places.items ++ place.now.perch.name ∷ []) (vec_capacity self.now.places) all.new.items }
+        ensures looks { AllLookAt (word_names_of self.now.places.items ++ place.now.perch.name ∷ []) (vec_capacity self.now.places) all.new.items }
         ensures count { vec_len all.new ≡ vec_len all.old }
     {
         for i in 0..all.len() {
@@ -97,7 +97,7 @@ impl<'a, K: Kept> Perch<'a, K> {
     pub fn take(&self, looks: &mut Looks) -> Option<Carrier<K>>
         requires looks { AreOf self.now.places looks.old }
         ensures looks { AreOf self.now.places looks.new }
-        ensures steps { MatchOption result (steps_of looks.new ≡ found_none (numbers_of self.now.places.items) (steps_of looks.old)) (λ carrier. WasTaken carrier.seat.me.0.who.number (numbers_of self.now.places.items) (steps_of looks.old) (steps_of looks.new)) }
+        ensures steps { MatchOption result (steps_of looks.new ≡ found_none (carriers_of self.now.places.items) (steps_of looks.old)) (λ carrier. WasTaken carrier.seat.me.0.who.number (carriers_of self.now.places.items) (steps_of looks.old) (steps_of looks.new)) }
         ensures own { IfSome result (λ carrier. carrier.seat.table_id ≡ self.now.shared.now.table.shared.table_id) }
         ensures free { IfSome result (λ carrier. IsFreeCarrier carrier.seat.me) }
         ensures woken { IfSome result (λ carrier. IsWokenCarrier carrier.seat.me) }
@@ -119,7 +119,7 @@ impl<'a, K: Kept> Perch<'a, K> {
         ensures own { IfSome result (λ carrier. carrier.seat.table_id ≡ self.now.shared.now.table.shared.table_id) }
         ensures free { IfSome result (λ carrier. IsFreeCarrier carrier.seat.me) }
         ensures woken { IfSome result (λ carrier. IsWokenCarrier carrier.seat.me) }
-        ensures number { IfSome result (λ carrier. slice_index (numbers_of self.now.places.items) i ≡ carrier.seat.me.0.who.number) }
+        ensures number { IfSome result (λ carrier. slice_index (carriers_of self.now.places.items) i ≡ carrier.seat.me.0.who.number) }
     {
         let place = &self.places[i];
         let mark = &mut looks.marks[i];
@@ -133,7 +133,7 @@ impl<'a, K: Kept> Perch<'a, K> {
         requires free { IsFreeCarrier carrier.seat.me }
         requires looks { AreOf self.now.places looks.old }
         ensures looks { AreOf self.now.places looks.new }
-        ensures steps { MatchResult result (λ _. WasLaidDown carrier.seat.me.0.who.number (numbers_of self.now.places.items) (steps_of looks.old) (steps_of looks.new)) (λ _. steps_of looks.new ≡ found_taken carrier.seat.me.0.who.number (numbers_of self.now.places.items) (steps_of looks.old)) }
+        ensures steps { MatchResult result (λ _. WasLaidDown carrier.seat.me.0.who.number (carriers_of self.now.places.items) (steps_of looks.old) (steps_of looks.new)) (λ _. steps_of looks.new ≡ found_taken carrier.seat.me.0.who.number (carriers_of self.now.places.items) (steps_of looks.old)) }
         ensures own { IfErr result (λ back. back.seat.table_id ≡ self.now.shared.now.table.shared.table_id) }
         ensures free { IfErr result (λ back. IsFreeCarrier back.seat.me) }
         ensures number { IfErr result (λ back. back.seat.me.0.who.number ≡ carrier.seat.me.0.who.number) }
@@ -155,7 +155,7 @@ impl<'a, K: Kept> Perch<'a, K> {
         requires looks { AreOf self.now.places looks.old }
         requires place { i < vec_len self.now.places }
         ensures looks { AreOf self.now.places looks.new }
-        ensures step { MatchResult result (λ _. (slice_index (numbers_of self.now.places.items) i ≡ carrier.seat.me.0.who.number) × (steps_of looks.new ≡ with_step_at i laid_one (steps_of looks.old))) (λ _. steps_of looks.new ≡ (if slice_index (numbers_of self.now.places.items) i == carrier.seat.me.0.who.number then with_step_at i laid_none (steps_of looks.old) else steps_of looks.old)) }
+        ensures step { MatchResult result (λ _. (slice_index (carriers_of self.now.places.items) i ≡ carrier.seat.me.0.who.number) × (steps_of looks.new ≡ with_step_at i laid_one (steps_of looks.old))) (λ _. steps_of looks.new ≡ (if slice_index (carriers_of self.now.places.items) i == carrier.seat.me.0.who.number then with_step_at i laid_none (steps_of looks.old) else steps_of looks.old)) }
         ensures own { IfErr result (λ back. back.seat.table_id ≡ self.now.shared.now.table.shared.table_id) }
         ensures free { IfErr result (λ back. IsFreeCarrier back.seat.me) }
         ensures number { IfErr result (λ back. back.seat.me.0.who.number ≡ carrier.seat.me.0.who.number) }

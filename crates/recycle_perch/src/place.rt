@@ -4,7 +4,7 @@ ghost use Rattle.recycle_perch.specs.Resting.{IsFreeCarrier, IsWokenCarrier};
 ghost use Rattle.recycle_perch.specs.Words.{deeds, laid_none, laid_one, took_none, took_one};
 ghost use Rattle.table_rule.specs.Views.{resting_view};
 
-use crate::word::{GiveStep, RestRule, TakeStep};
+use crate::word::{LayDownStep, PickUpStep, RestRule};
 use atomic_table::{Mark, RuledPerch, Seat};
 use board_lock::{Carrier, Shared, number};
 use conn_machine::Kept;
@@ -14,7 +14,7 @@ use table_rule::{RestStep, Step, View, WakeStep, laws};
 
 /// A place for the carrier of one number.
 #[derive(Drop)]
-pub struct Place<K> {
+pub struct RestPlace<K> {
     pub perch: RuledPerch<Option<K>, View, LinkedList<Step>, RestRule>,
     pub number: u32,
     ghost view: { perch.view ≡ resting_view number },
@@ -49,9 +49,9 @@ fn wake_up<K: Kept>(shared: &Shared<K>, mut seat: Seat<Option<K>, View>, number:
     Carrier::of(seat, number)
 }
 
-impl<K: Kept> Place<K> {
+impl<K: Kept> RestPlace<K> {
     /// A place for this carrier. None rests there yet, and the carrier comes back.
-    pub fn make(shared: &Shared<K>, carrier: Carrier<K>) -> (Place<K>, Carrier<K>)
+    pub fn make(shared: &Shared<K>, carrier: Carrier<K>) -> (RestPlace<K>, Carrier<K>)
         requires own { carrier.seat.table_id ≡ shared.now.table.shared.table_id }
         requires free { IsFreeCarrier carrier.seat.me }
         ensures place { (result.0.perch.table_id ≡ shared.now.table.shared.table_id) × (result.0.number ≡ carrier.seat.me.0.who.number) }
@@ -63,7 +63,7 @@ impl<K: Kept> Place<K> {
         let number = number(&carrier);
         let seat = lay_down(shared, carrier);
         let (perch, _) = RuledPerch::new(&seat, 0);
-        (Place { perch, number }, wake_up(shared, seat, number))
+        (RestPlace { perch, number }, wake_up(shared, seat, number))
     }
 
     /// The carrier, where it rests here.
@@ -79,7 +79,7 @@ impl<K: Kept> Place<K> {
     {
         trails_go_on_by_one_step();
         makers_have_their_own_steps();
-        let (_, seat) = self.perch.swap::<TakeStep>(mark, 0);
+        let (_, seat) = self.perch.swap::<PickUpStep>(mark, 0);
         match seat {
             Some(seat) => Some(wake_up(shared, seat, self.number)),
             None => None,
@@ -108,7 +108,7 @@ impl<K: Kept> Place<K> {
         let seat = lay_down(shared, carrier);
         trails_go_on_by_one_step();
         makers_have_their_own_steps();
-        match self.perch.give::<GiveStep>(mark, seat, 0, 2) {
+        match self.perch.give::<LayDownStep>(mark, seat, 0, 2) {
             Ok(()) => Ok(()),
             Err(seat) => Err(wake_up(shared, seat, self.number)),
         }

@@ -1,7 +1,7 @@
 //! The word of a place, and the steps on it.
 ghost use Rattle.std.specs.Prelude.{[]};
-ghost use Rattle.recycle_perch.specs.StepsInside.{Gives, Takes};
-ghost use Rattle.recycle_perch.specs.Words.{IsRestWord};
+ghost use Rattle.recycle_perch.specs.StepsInside.{LaysDown, Takes};
+ghost use Rattle.recycle_perch.specs.WordsInside.{IsRestWord};
 
 use atomic_table::{PerchPlay, PerchRule};
 use std::collections::LinkedList;
@@ -17,15 +17,15 @@ impl PerchRule<LinkedList<Step>> for RestRule {
 }
 
 /// A step that takes what rests there.
-pub struct TakeStep;
+pub struct PickUpStep;
 
-impl PerchPlay<LinkedList<Step>> for TakeStep {
+impl PerchPlay<LinkedList<Step>> for PickUpStep {
     ghost then = { Takes };
 }
 
 /// A step that lays a carrier down where none rests.
-pub struct GiveStep;
+pub struct LayDownStep;
 
-impl PerchPlay<LinkedList<Step>> for GiveStep {
-    ghost then = { Gives };
+impl PerchPlay<LinkedList<Step>> for LayDownStep {
+    ghost then = { LaysDown };
 }

@@ -5,7 +5,7 @@ use Rattle.std.proofs.lemmas.Grind.{flat_map-append}
 use Rattle.std.proofs.lemmas.List.{get_or-map, length-append, length-drop, length-map, length-take, take-append-drop}
 use Rattle.mpm_script.specs.Clients.{clients_of, made_by, names_of, sent_by}
 use Rattle.mpm_base.specs.Front.{next_coming}
-use Rattle.script_front.specs.PlayedFront.{ArePlayed, SeenClients, plan_of, plans_of}
+use Rattle.script_front.specs.PlayedPartsInside.{ArePlayed, SeenClients, plan_of, plans_of}
 use Rattle.script_front.specs.declared.client_plans.LinkPlan.{LinkPlan}
 use Rattle.script_front.specs.ScriptFront.{comings_of, lines_now}
 use Rattle.mpm_base.specs.declared.script_line.ScriptLine.{ScriptLine}

@@ -7,7 +7,7 @@ use Rattle.mpm_base.specs.declared.script_line.ClientAct.{ClientAct}
 use Rattle.mpm_base.specs.declared.script_line.ClientAct.TheVariants as act
 use Rattle.mpm_base.specs.declared.script_line.ScriptLine.{ScriptLine}
 use Rattle.mpm_base.specs.declared.script_line.ScriptLine.TheVariants as line
-use Rattle.script_front.specs.Signals.{Gives, Looks, SeenClient, after_act, client_after_line, client_after_lines, after_watch_of, done, full, given, gone, idle, new_client, without_signal, watched_client}
+use Rattle.script_front.specs.Signals.{Gives, LooksAt, SeenClient, after_act, client_after_line, client_after_lines, after_watch_of, done, full, given, gone, idle, new_client, without_signal, watched_client}
 
 -- ## Each client keeps its name
 
@@ -49,7 +49,7 @@ names-watch number [] = refl
 names-watch zero (client ∷ clients) = refl
 names-watch (suc number) (client ∷ clients) = ap (λ rest. client.name ∷ rest) (names-watch number clients)
 
-looks-name : {client found : SeenClient} → Looks client found → found.name ≡ client.name
+looks-name : {client found : SeenClient} → LooksAt client found → found.name ≡ client.name
 looks-name looks = ap (λ (client : SeenClient). client.name) looks.found_is
 
 pub names-gives : {room : ℕ} {clients clients' : List SeenClient} {ns : List (Option ConnName)} {slots : List ℕ} → Gives room clients ns clients' slots → names clients' ≡ names clients
@@ -137,7 +137,7 @@ gives-step clients now ns i ready added x x' n on l k is named one =
 
 -- its link isn't watched
 pub gives-unwatched : (clients now : List SeenClient) (ns : List (Option ConnName)) (i : ℕ) (ready : List ℕ) (x found : SeenClient)
-    → GivesOn clients now ns i ready → i < length now → i < length ns → x ≡ get_or now i x → get_or ns i None ≡ None → Looks x found
+    → GivesOn clients now ns i ready → i < length now → i < length ns → x ≡ get_or now i x → get_or ns i None ≡ None → LooksAt x found
     → GivesOn clients (set now i found) ns (i + 1) ready
 gives-unwatched clients now ns i ready x found on l k is none looks =
     let one : GivesOne (drop (i + 1) clients) (drop (i + 1) ns) ready x None found [] = λ later slots gives. idle looks (inl refl) (rw (append-nil ready) at gives) in
@@ -147,7 +147,7 @@ gives-unwatched clients now ns i ready x found on l k is none looks =
 -- its signal is given
 pub gives-given : (clients now : List SeenClient) (ns : List (Option ConnName)) (i : ℕ) (ready : List ℕ) (x found : SeenClient) (name : ConnName)
     → GivesOn clients now ns i ready → i < length now → i < length ns → x ≡ get_or now i x → get_or ns i None ≡ Some name → length ready < 256
-    → Looks x found → true ≡ (found.due && not found.closed) → GivesOn clients (set now i (without_signal found)) ns (i + 1) (ready ++ name.slot ∷ [])
+    → LooksAt x found → true ≡ (found.due && not found.closed) → GivesOn clients (set now i (without_signal found)) ns (i + 1) (ready ++ name.slot ∷ [])
 gives-given clients now ns i ready x found name on l k is named few looks signals =
     gives-step clients now ns i ready (name.slot ∷ []) x (without_signal found) (Some name) on l k is named (go found.due found.closed refl refl)
   where
@@ -164,7 +164,7 @@ silent x still = ap (λ due. let y : SeenClient = record x { due = due } in y) (
 -- it is watched and its signal isn't given: none is due, or its link was closed
 pub gives-none : (clients now : List SeenClient) (ns : List (Option ConnName)) (i : ℕ) (ready : List ℕ) (x found : SeenClient) (name : ConnName)
     → GivesOn clients now ns i ready → i < length now → i < length ns → x ≡ get_or now i x → get_or ns i None ≡ Some name → length ready < 256
-    → Looks x found → false ≡ (found.due && not found.closed) → GivesOn clients (set now i (without_signal found)) ns (i + 1) ready
+    → LooksAt x found → false ≡ (found.due && not found.closed) → GivesOn clients (set now i (without_signal found)) ns (i + 1) ready
 gives-none clients now ns i ready x found name on l k is named few looks silence =
     let step : GivesOn clients (set now i (without_signal found)) ns (i + 1) (ready ++ []) =
     gives-step clients now ns i ready [] x (without_signal found) (Some name) on l k is named (go found.due found.closed refl refl) in

@@ -4,7 +4,7 @@ use Rattle.std.specs.Prelude.{option_map, IfSome}
 use Rattle.std.proofs.lemmas.Bool.Decides.{nat_tests}
 use Rattle.mpm_script.specs.Clients.{names_of}
 use Rattle.mpm_base.specs.Count.{RisesExactlyWhere, RisesWhere}
-use Rattle.mpm_base.specs.Front.{FrontTold, Waiting, GivesOnlyAwake, HasAllTaken, IsAnswerOf, IsPatient, LetsTimePass, StandsStill, Waits, earlier, is_ended, wait_failed}
+use Rattle.mpm_base.specs.Front.{FrontTold, Backlog, GivesOnlyAwake, HasAllTaken, IsAnswerOf, IsPatient, LetsTimePass, StandsStill, Waits, earlier, is_ended, wait_failed}
 use Rattle.script_front.specs.PlayedFrontInside.{KeepsRest, arrivals_waiting, passed_between, with_wait}
 use Rattle.script_front.specs.ScriptFront.{IsOfScript, Moves, Plays, SeenFront, begins, comings_of, ends, front_seen, next_moment, lines_now, only_arrivals, over, passes, served, signals, stays, to_come}
 use Rattle.script_front.specs.declared.wait_end.WaitEnd.{WaitEnd}
@@ -79,7 +79,7 @@ plays-few (stays o s q n t m) = omega arith
 -- ## Whether it let time pass
 
 -- what the wait tells of that
-abbrev passed-of : SeenFront → ℕ → Option Waiting
+abbrev passed-of : SeenFront → ℕ → Option Backlog
 passed-of old moment = option_map only_arrivals (passed_between old.told.moment moment (arrivals_waiting old))
 
 -- the front stands where it stood

@@ -1,6 +1,6 @@
 pub mod Editions
-pub mod PlayedFront
 pub mod PlayedFrontInside
+pub mod PlayedPartsInside
 pub mod ScriptClock
 pub mod ScriptFront
 pub mod Signals

@@ -2,7 +2,7 @@
 use Rattle.std.specs.Prelude.{◌≡◌, ℕ, suc, ◌+◌, ◌<◌, ◌≤◌, Bool, true, false, max, nat_le, if◌then◌else◌, List, [], ◌∷◌, drop, take, length, map, Option, None, Some, option_map, ⊤}
 use Rattle.std.specs.List.{flat_map}
 use Rattle.mpm_script.specs.Clients.{clients_of, fails_of, is_dropped, name_at, names_of}
-use Rattle.mpm_base.specs.Front.{BoundTold, FrontSeen, FrontTold, HasAllTaken, WaitTold, Waiting, WatchTold, client_at, earlier, next_coming}
+use Rattle.mpm_base.specs.Front.{BoundTold, FrontSeen, FrontTold, HasAllTaken, WaitTold, Backlog, WatchTold, client_at, earlier, next_coming}
 use Rattle.mpm_base.specs.Link.{LinkTold}
 use Rattle.stand_ins.specs.ScriptLink.{SeenScriptLink, new_paced_link}
 use Rattle.script_front.specs.Signals.{SeenClient, Gives, client_after_lines, all_closed, new_client}
@@ -29,7 +29,7 @@ pub record SeenFront : Type 0 where
   pub ends : ℕ
 
 -- so many connections wait to be taken, and no command line
-abbrev pub only_arrivals : ℕ → Waiting
+abbrev pub only_arrivals : ℕ → Backlog
 only_arrivals count = record { arrivals = count; lines = 0 }
 
 -- a wait of it, from the slots that it gave and how it ended

@@ -63,7 +63,7 @@ abbrev pub without_signal : SeenClient → SeenClient
 without_signal client = record client { due = false }
 
 -- the front looked whether the link of the client was closed: once it was found so it stays so, and nothing else changes
-pub record Looks (client found : SeenClient) : Type 0 where
+pub record LooksAt (client found : SeenClient) : Type 0 where
   pub found_is : found ≡ record client { closed = found.closed }
   pub once : client.closed ≡ true → found.closed ≡ true
 
@@ -81,13 +81,13 @@ pub data Gives : ℕ → List SeenClient → List (Option ConnName) → List See
   done : {room : ℕ} → Gives room [] [] [] []
   -- its link isn't watched, or no signal is due for it
   idle : {room : ℕ} {client found : SeenClient} {clients clients' : List SeenClient} {name : Option ConnName} {names : List (Option ConnName)} {slots : List ℕ}
-      → Looks client found → (name ≡ None) ⊎ (found.due ≡ false) → Gives room clients names clients' slots
+      → LooksAt client found → (name ≡ None) ⊎ (found.due ≡ false) → Gives room clients names clients' slots
       → Gives room (client ∷ clients) (name ∷ names) (found ∷ clients') slots
   -- the signal that is due for it is given
   given : {room : ℕ} {client found : SeenClient} {clients clients' : List SeenClient} {name : ConnName} {names : List (Option ConnName)} {slots : List ℕ}
-      → Looks client found → found.due ≡ true → found.closed ≡ false → Gives room clients names clients' slots
+      → LooksAt client found → found.due ≡ true → found.closed ≡ false → Gives room clients names clients' slots
       → Gives (suc room) (client ∷ clients) (Some name ∷ names) (without_signal found ∷ clients') (name.slot ∷ slots)
   -- its link was closed, so the signal that is due for it isn't given, then or later
   gone : {room : ℕ} {client found : SeenClient} {clients clients' : List SeenClient} {name : ConnName} {names : List (Option ConnName)} {slots : List ℕ}
-      → Looks client found → found.due ≡ true → found.closed ≡ true → Gives (suc room) clients names clients' slots
+      → LooksAt client found → found.due ≡ true → found.closed ≡ true → Gives (suc room) clients names clients' slots
       → Gives (suc room) (client ∷ clients) (Some name ∷ names) (without_signal found ∷ clients') slots

@@ -1,7 +1,7 @@
 //! What the lines of a script say of each of its links.
 ghost use Rattle.std.specs.Prelude.{◌≡◌, [], ◌∷◌, IfOk, IfSome, IfNone};
 ghost use Rattle.mpm_script.specs.Clients.{drops, fails_in_line, fails_of, is_dropped, number_for};
-ghost use Rattle.script_front.specs.PlayedFront.{plan_of};
+ghost use Rattle.script_front.specs.PlayedPartsInside.{plan_of};
 
 use crate::client_texts::sent_by;
 use mpm_base::{ClientAct, LinkCall, NoMemory, Octets, ScriptLine};

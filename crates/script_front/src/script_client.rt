@@ -1,6 +1,6 @@
 //! A client of a script, as the front of the script knows it.
 ghost use Rattle.std.specs.Prelude.{◌≡◌, ◌&&◌, not, [], bytes_eq, length, map};
-ghost use Rattle.script_front.specs.Signals.{Gives, Looks, after_act, client_after_line, client_after_lines, all_closed, new_client, without_signal, watched_client};
+ghost use Rattle.script_front.specs.Signals.{Gives, LooksAt, after_act, client_after_line, client_after_lines, all_closed, new_client, without_signal, watched_client};
 
 use mpm_base::{ClientAct, ConnName, Octets, Ready, ScriptLine};
 use stand_ins::Wire;
@@ -58,7 +58,7 @@ impl ScriptClient {
 
     /// Looks whether its link was closed. Once it was found so it stays so.
     fn look(&mut self)
-        ensures { Looks self.old self.new }
+        ensures { LooksAt self.old self.new }
     {
         self.closed = self.closed || self.wire.closed();
     }

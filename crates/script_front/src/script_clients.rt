@@ -1,7 +1,7 @@
 //! The clients of a script, as its front knows them.
 ghost use Rattle.std.specs.Prelude.{◌≡◌, ◌<◌, ◌≤◌, false, None, Some, [], ◌∷◌, ◌++◌, length, take, map, slice_set, IfOk, IfSome, IfNone, OnOk, OnErr};
 ghost use Rattle.mpm_script.specs.Clients.{made_by, names_of};
-ghost use Rattle.script_front.specs.PlayedFront.{plans_of};
+ghost use Rattle.script_front.specs.PlayedPartsInside.{plans_of};
 ghost use Rattle.script_front.specs.ScriptFront.{no_name_yet};
 ghost use Rattle.script_front.specs.Signals.{Gives, client_after_lines, after_watch_of, all_closed, new_client};
 
@@ -32,7 +32,7 @@ pub(crate) struct ScriptClients {
 
 impl Model for ScriptClients {
     ghost use Rattle.std.specs.Prelude.{map};
-    ghost use Rattle.script_front.specs.PlayedFront.{SeenClients};
+    ghost use Rattle.script_front.specs.PlayedPartsInside.{SeenClients};
 
     ghost Value = { SeenClients };
 

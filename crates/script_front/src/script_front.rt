@@ -48,7 +48,7 @@ impl Model for ScriptFront {
     ghost Value = { SeenFront };
 
     ghost use Rattle.mpm_script.specs.Clients.{clients_of};
-    ghost use Rattle.script_front.specs.PlayedFront.{ArePlayed};
+    ghost use Rattle.script_front.specs.PlayedPartsInside.{ArePlayed};
 
     ghost view = { λ f. record {
       script = f.script;

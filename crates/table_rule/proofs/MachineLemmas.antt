@@ -13,7 +13,7 @@ use Rattle.conn_machine.specs.declared.event.Entry.{Entry}
 use Rattle.conn_machine.specs.declared.state.State.{State}
 use Rattle.conn_machine.specs.Lists.{update}
 use Rattle.conn_machine.specs.Rows.{is_live_as, is_with_a_pass, live_row, lives_and, row_where}
-use Rattle.conn_machine.specs.Children.{is_in_bounds}
+use Rattle.mpm_base.specs.Shape.{is_in_bounds}
 use Rattle.conn_machine.specs.States.{opening_state}
 use Rattle.conn_machine.specs.Table.{is_allowed, next}
 use Rattle.conn_machine.specs.declared.folded.Folded.{Folded}

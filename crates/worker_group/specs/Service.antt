@@ -146,13 +146,13 @@ answer_events name asks = map (event.Answer name) asks
 -- ## The service
 
 -- the connection is given up for a fault, for which a call of the board is refused that has this book
-abbrev pub IsRefusal : SeenBook → Exit → Type 0
-IsRefusal b way = (fault : BoardFault) × (way ≡ exit.GiveUp fault) × IsRefusedFor fault b
+abbrev pub IsGivenUpFor : SeenBook → Exit → Type 0
+IsGivenUpFor b way = (fault : BoardFault) × (way ≡ exit.GiveUp fault) × IsRefusedFor fault b
 
 -- the way by which a connection is left at this book that is to be left so: it is given up where its wait is refused, and of one that is
 -- to be given up a call was refused
 abbrev pub Leaves : SeenBook → Exit → Exit → Type 0
-Leaves b (exit.Park kind) way = (way ≡ exit.Park kind) ⊎ IsRefusal b way
+Leaves b (exit.Park kind) way = (way ≡ exit.Park kind) ⊎ IsGivenUpFor b way
 Leaves b (exit.Linger why) way = way ≡ exit.Linger why
 Leaves b (exit.Close why how) way = way ≡ exit.Close why how
 Leaves b (exit.GiveUp fault) way = (way ≡ exit.GiveUp fault) × IsRefusedFor fault b

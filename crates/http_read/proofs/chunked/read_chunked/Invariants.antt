@@ -1,6 +1,7 @@
 use Rattle.std.proofs.Common.{length, ◌-◌, ◌≡◌, ◌≤◌, drop}
 use Rattle.http_read.specs.ChunkStepsInside.{run}
-use Rattle.http_read.specs.BodyPlaces.{chunked_begun_len, IsSmallChunked}
+use Rattle.http_read.specs.BodyPlaces.{chunked_begun_len}
+use Rattle.http_read.specs.BodyPlacesInside.{IsSmallChunked}
 use Rattle.http_read.proofs.chunked.read_chunked.Given as goal
 
 abbrev pub invariant-loop-at : goal.invariant-loop-at

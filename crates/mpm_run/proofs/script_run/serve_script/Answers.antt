@@ -4,7 +4,7 @@ use Rattle.script_front.specs.Editions.{editions_of}
 use Rattle.script_front.specs.ScriptFront.{SeenFront, comings_of}
 use Rattle.mpm_run.specs.Configured.{warnings_of}
 use Rattle.mpm_run.specs.ExitStatuses.{EndsFull, EndsUnwritten, EndsWell, HasRun, board_report}
-use Rattle.mpm_run.specs.ExitStatusesInside.{IsLeft, WritesAll}
+use Rattle.mpm_run.specs.ExitStatusesInside.{IsLeftOfRun, WritesAll}
 use Rattle.mpm_run.specs.Listen.{IsRunFrom, NeverFolded}
 use Rattle.mpm_run.specs.Started.{IsStartedFirst}
 use Rattle.mpm_run.specs.Tells.{AllReceive}
@@ -50,7 +50,7 @@ returns-in-Ok-run_server-clause-left g c =
     let same = c.numbers_of-numbers.ensures.value in
     let of_script = c.played.ensures.played in
     let script : v.front.script ≡ c.args.script = cc (kept.follows.script ∙ ap (λ (f : SeenFront). Some f.script) c.in-Ok.ensures) in
-    left-if c.finish.result.scripted s IsLeft (c.finish.ensures.scripted ∙ ap (λ (x : Scripted). Some x) c.played.ensures.whole)
+    left-if c.finish.result.scripted s IsLeftOfRun (c.finish.ensures.scripted ∙ ap (λ (x : Scripted). Some x) c.played.ensures.whole)
     (record {
       unfolded = subst (λ (n : RunNumbers). NeverFolded n v.board.book) same kept.unfolded;
       site = c.requires.store ∙ ap editions_of (sym script);

@@ -1,7 +1,7 @@
 use Rattle.std.proofs.Common.{◌≡◌, ◌++◌, ◌∷◌, [], ℕ, List, Option, IfSome, refl, sym, subst}
-use Rattle.mpm_script.specs.BuiltClientsInside.{IsAt, IsCourse, IsDone}
+use Rattle.mpm_script.specs.BuiltClientsInside.{IsAt, IsCourse, IsEndedClient}
 use Rattle.mpm_script.specs.BuiltLines.{IsBuiltAct}
-use Rattle.mpm_script.specs.BuiltProgressInside.{Breaks, IsOpen, Leads}
+use Rattle.mpm_script.specs.BuiltProgressInside.{Breaks, IsOpenSpot, Leads}
 use Rattle.mpm_script.specs.declared.built_requests.Spot.{Spot}
 use Rattle.mpm_base.specs.declared.script_line.ClientAct.{ClientAct}
 use Rattle.mpm_base.specs.declared.script_line.ClientAct.TheVariants as act
@@ -30,7 +30,7 @@ returns-in-None-clause-none c = λ name before course built.
 
 pub returns-in-End-clause-some : goal.returns-in-End-clause-some
 returns-in-End-clause-some c = λ name before course.
-    subst (λ (a : ClientAct). IsBuiltAct before name a × IsDone name (before ++ Client name a ∷ [])) (sym c.in-End.is)
+    subst (λ (a : ClientAct). IsBuiltAct before name a × IsEndedClient name (before ++ Client name a ∷ [])) (sym c.in-End.is)
     (tt, end_acts name before c.in-Some.at (subst (IsCourse name before) c.in-Some.is course))
 
 -- all else that happens to its link leaves a client where it is
@@ -46,7 +46,7 @@ stays (act.Fail which number) at no_send no_end name before course =
 
 pub returns-in_default-act : goal.returns-in_default-act
 returns-in_default-act c = record {
-  opened = subst (λ (spot : Option Spot). IfSome spot IsOpen) c.in-Some.is c.requires;
+  opened = subst (λ (spot : Option Spot). IfSome spot IsOpenSpot) c.in-Some.is c.requires;
   some = λ name before course.
       stays c.args.act.now c.in-Some.at c.in_default-act.not-Send c.in_default-act.not-End name before (subst (IsCourse name before) c.in-Some.is course);
   none = tt;

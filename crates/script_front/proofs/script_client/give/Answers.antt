@@ -1,6 +1,6 @@
 use Rattle.std.proofs.Common.{◌<◌, length, subst, sym, ◌∙◌, arith}
 use Rattle.std.proofs.lemmas.Bool.Decides.{nat_tests}
-use Rattle.script_front.specs.Signals.{Looks, SeenClient}
+use Rattle.script_front.specs.Signals.{LooksAt, SeenClient}
 use Rattle.script_front.proofs.SignalLemmas.{gives-done, gives-full, gives-given, gives-none, gives-start, gives-unwatched}
 use Rattle.script_front.proofs.script_client.give.Goals as goal
 use Rattle.script_front.proofs.script_client.give.Goals.{in-Some+then-take_signal, in-Some+else-take_signal, in_default}
@@ -21,7 +21,7 @@ loop-place-preserved c =
     let few : length c.loop-place.ready < 256 = grind (arith, nat_tests) in
     let within : i < length now = omega (arith, c.loop-place-test.true, c.loop-place.auto.clients, c.requires.each) in
     let x = c.index-clients-place in
-    let looks = subst (λ (y : SeenClient). Looks y c.look.new.self) (sym x.is) c.look.ensures in
+    let looks = subst (λ (y : SeenClient). LooksAt y c.look.new.self) (sym x.is) c.look.ensures in
     elim c.match-watch.branch [
       | in-Some+then-take_signal w ↦
           rw (w.clients-is, w.ready-is, w.take_signal.ensures.state, w.add.ensures)

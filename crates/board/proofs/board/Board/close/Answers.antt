@@ -4,7 +4,8 @@ use Rattle.conn_machine.specs.Runs.{has_row}
 use Rattle.conn_state.specs.Answered.{SeenEnded}
 use Rattle.board.specs.Book.{book_with_entry, row_in}
 use Rattle.board.specs.Fits.{IsClosing}
-use Rattle.board.specs.Board.{SeenBoard, IsBoard}
+use Rattle.board.specs.Board.{SeenBoard}
+use Rattle.board.specs.BoardInside.{IsBoard}
 use Rattle.board.proofs.BoardLemmas.{may_inside, there_of}
 use Rattle.board.proofs.ClosedLemmas.{board_closed}
 use Rattle.board.proofs.EventLemmas.{close-there, close-room}

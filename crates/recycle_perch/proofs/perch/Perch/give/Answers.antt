@@ -1,6 +1,6 @@
 use Rattle.std.proofs.Common.{◌∙◌, arith}
 use Rattle.std.proofs.lemmas.List.{length-map}
-use Rattle.recycle_perch.specs.Looking.{numbers_of, steps_of}
+use Rattle.recycle_perch.specs.Looking.{carriers_of, steps_of}
 use Rattle.recycle_perch.proofs.LookLemmas.{taken_more}
 use Rattle.recycle_perch.proofs.perch.Perch.give.Goals as goal
 
@@ -11,7 +11,7 @@ loop-place-preserved g c =
       c.in-Err.ensures.own,
       c.in-Err.ensures.free,
       c.in-Err.ensures.number ∙ c.loop-place.invariant.3,
-      taken_more (numbers_of places.items) c.loop-place.place _ c.args.carrier.seat.me.0.who.number (steps_of c.args.looks.now) (steps_of c.loop-place.looks) _
+      taken_more (carriers_of places.items) c.loop-place.place _ c.args.carrier.seat.me.0.who.number (steps_of c.args.looks.now) (steps_of c.loop-place.looks) _
           (omega (arith, c.loop-place-test.true, c.len-place-end.ensures, places.ok.0, length-map places.items (λ place. place.number)))
           c.loop-place.invariant.3 c.loop-place.invariant.4 c.in-Err.ensures.step,
     )

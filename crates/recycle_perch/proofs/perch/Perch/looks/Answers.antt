@@ -1,6 +1,6 @@
 use Rattle.std.proofs.Common.{sym, subst, [], arith}
 use Rattle.std.specs.Prelude.{vec_capacity}
-use Rattle.recycle_perch.specs.Looking.{LookAt, words_of}
+use Rattle.recycle_perch.specs.Looking.{LookAt, word_names_of}
 use Rattle.recycle_perch.proofs.LookLemmas.{all_more}
 use Rattle.recycle_perch.proofs.perch.Perch.looks.Goals as goal
 
@@ -14,4 +14,4 @@ loop-preserved g c = (
 
 pub returns-clause-looks : goal.returns-clause-looks
 returns-clause-looks g c = λ i looks at.
-    subst (λ places. LookAt (words_of places) (vec_capacity c.args.self.now.places) looks) (sym c.requires) (c.loop.invariant.0 i looks at)
+    subst (λ places. LookAt (word_names_of places) (vec_capacity c.args.self.now.places) looks) (sym c.requires) (c.loop.invariant.0 i looks at)

@@ -1,6 +1,6 @@
 use Rattle.std.proofs.Common.{◌≡◌, ◌++◌, ◌∷◌, [], vec_len}
 use Rattle.std.specs.Prelude.{vec_capacity}
-use Rattle.recycle_perch.specs.Looking.{words_of}
+use Rattle.recycle_perch.specs.Looking.{word_names_of}
 use Rattle.recycle_perch.proofs.LookLemmas.{FirstLookAt, OthersLookAt}
 use Rattle.recycle_perch.proofs.perch.Perch.show.Given as goal
 
@@ -8,5 +8,5 @@ use Rattle.recycle_perch.proofs.perch.Perch.show.Given as goal
 abbrev pub invariant-loop-i : goal.invariant-loop-i
 invariant-loop-i g l =
     (vec_len l.all ≡ vec_len l.initial.all)
-    × FirstLookAt l.i (words_of l.self.places.items ++ l.place.perch.name ∷ []) (vec_capacity l.self.places) l.all.items
-    × OthersLookAt l.i (words_of l.self.places.items) (vec_capacity l.self.places) l.all.items
+    × FirstLookAt l.i (word_names_of l.self.places.items ++ l.place.perch.name ∷ []) (vec_capacity l.self.places) l.all.items
+    × OthersLookAt l.i (word_names_of l.self.places.items) (vec_capacity l.self.places) l.all.items

@@ -1,5 +1,5 @@
 use Rattle.std.proofs.Common.{[], ◌∷◌, ◌++◌, ap, ◌∙◌}
-use Rattle.script_front.specs.PlayedFront.{SeenClients, plan_of}
+use Rattle.script_front.specs.PlayedPartsInside.{SeenClients, plan_of}
 use Rattle.script_front.specs.declared.client_plans.LinkPlan.{LinkPlan}
 use Rattle.script_front.specs.ScriptFront.{no_name_yet}
 use Rattle.script_front.specs.Signals.{new_client}

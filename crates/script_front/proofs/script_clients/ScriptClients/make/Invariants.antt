@@ -1,6 +1,6 @@
 use Rattle.std.proofs.Common.{◌≡◌, take, map}
 use Rattle.mpm_script.specs.Clients.{names_of}
-use Rattle.script_front.specs.PlayedFront.{plan_of}
+use Rattle.script_front.specs.PlayedPartsInside.{plan_of}
 use Rattle.script_front.specs.ScriptFront.{no_name_yet}
 use Rattle.script_front.specs.Signals.{new_client}
 use Rattle.script_front.proofs.script_clients.ScriptClients.make.Given as goal

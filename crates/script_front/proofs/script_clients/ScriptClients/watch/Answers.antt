@@ -1,5 +1,5 @@
 use Rattle.std.proofs.Common.{◌<◌, ◌≤◌, length, ap, refl, ◌∙◌, arith}
-use Rattle.script_front.specs.PlayedFront.{SeenClients}
+use Rattle.script_front.specs.PlayedPartsInside.{SeenClients}
 use Rattle.script_front.specs.Signals.{after_watch_of}
 use Rattle.script_front.proofs.SignalLemmas.{watch-past, watch-set}
 use Rattle.script_front.proofs.script_clients.ScriptClients.watch.Goals as goal

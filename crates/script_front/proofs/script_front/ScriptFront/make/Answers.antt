@@ -1,7 +1,7 @@
 use Rattle.std.proofs.Common.{length, map, ap, sym, refl, ◌∙◌, arith}
 use Rattle.std.proofs.lemmas.List.{length-map}
 use Rattle.mpm_script.specs.Clients.{names_of, sent_by}
-use Rattle.script_front.specs.PlayedFront.{plans_of}
+use Rattle.script_front.specs.PlayedPartsInside.{plans_of}
 use Rattle.script_front.specs.ScriptFront.{no_name_yet}
 use Rattle.script_front.proofs.SignalLemmas.{names, names-new}
 use Rattle.script_front.proofs.script_front.ScriptFront.make.Goals as goal

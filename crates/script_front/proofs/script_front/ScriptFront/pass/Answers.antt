@@ -1,6 +1,6 @@
 use Rattle.std.proofs.Common.{◌≡◌, ◌+◌, ◌-◌, ◌≤◌, length, take, drop, ap, ◌∙◌, arith}
 use Rattle.mpm_script.specs.Clients.{names_of}
-use Rattle.script_front.specs.PlayedFront.{SeenClients}
+use Rattle.script_front.specs.PlayedPartsInside.{SeenClients}
 use Rattle.script_front.proofs.PlayedLemmas.{names-add, names-within, played-clients, played-lines}
 use Rattle.script_front.proofs.SignalLemmas.{names, names-lines}
 use Rattle.script_front.proofs.script_front.ScriptFront.pass.Goals as goal

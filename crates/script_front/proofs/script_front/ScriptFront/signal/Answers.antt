@@ -1,5 +1,5 @@
 use Rattle.std.proofs.Common.{length, ap}
-use Rattle.script_front.specs.PlayedFront.{SeenClients}
+use Rattle.script_front.specs.PlayedPartsInside.{SeenClients}
 use Rattle.script_front.proofs.PlayedLemmas.{played-clients}
 use Rattle.script_front.proofs.SignalLemmas.{names-gives}
 use Rattle.script_front.proofs.script_front.ScriptFront.signal.Goals as goal

@@ -1,5 +1,5 @@
 use Rattle.std.proofs.Common.{Some, length, ap, ◌∙◌, length-set}
-use Rattle.script_front.specs.PlayedFront.{SeenClients}
+use Rattle.script_front.specs.PlayedPartsInside.{SeenClients}
 use Rattle.script_front.proofs.PlayedLemmas.{played-clients}
 use Rattle.script_front.proofs.SignalLemmas.{names, names-watch}
 use Rattle.script_front.proofs.script_front.ScriptFrontFront.watch.Goals as goal

@@ -1,11 +1,11 @@
 //! The codes of responses and their reasons.
 ghost use Rattle.std.specs.Prelude.{◌≡◌};
-ghost use Rattle.http_core.specs.Status as spec;
+ghost use Rattle.http_core.specs.Code as spec;
 
 /// The code and its reason (RFC 9110, section 15).
-#[tactic(auto, unfolding(crate::specs::Status::status_text))]
-pub fn status_text(code: u16) -> &'static [u8]
-    ensures { result.now ≡ spec.status_text code }
+#[tactic(auto, unfolding(crate::specs::Code::code_text))]
+pub fn code_text(code: u16) -> &'static [u8]
+    ensures { result.now ≡ spec.code_text code }
 {
     match code {
         200 => b"200 OK",

@@ -2,8 +2,8 @@
 use Rattle.std.specs.Prelude.{ℕ, ◌==◌, ◌||◌, Bool, List, codes, if◌then◌else◌}
 
 -- a code and its reason; every other code is as 501
-unfoldable pub status_text : ℕ → List ℕ
-status_text code =
+unfoldable pub code_text : ℕ → List ℕ
+code_text code =
     if code == 200 then codes "200 OK"
     else (if code == 206 then codes "206 Partial Content"
     else (if code == 301 then codes "301 Moved Permanently"

@@ -32,7 +32,7 @@ pub record SeenClients : Type 0 where
   pub watched : List (Option ConnName)
 
 -- all lines have happened after it waited, and each connection was handed out or listening was stopped
-pub record IsTaken (lines : List ScriptLine) (count : ℕ) (waited : Bool) (taken : ℕ) (hushed : Bool) : Type 0 where
+pub record IsPlayedOut (lines : List ScriptLine) (count : ℕ) (waited : Bool) (taken : ℕ) (hushed : Bool) : Type 0 where
   pub begun : waited ≡ true
   pub all : count ≡ length lines
   pub each : (taken ≡ length (clients_of lines)) ⊎ (hushed ≡ true)
@@ -49,4 +49,4 @@ pub record ArePlayed (lines : List ScriptLine) (count : ℕ) (waited : Bool) (mo
   pub clients_are : map (λ client. client.name) cs.clients ≡ names_of lines
   pub names_are : length cs.watched ≡ length (clients_of lines)
   pub next : waited ≡ true → lines_now (drop count lines) ≡ 0
-  pub over : 0 < ended → IsTaken lines count waited taken hushed
+  pub over : 0 < ended → IsPlayedOut lines count waited taken hushed

@@ -1,10 +1,12 @@
-use Rattle.recycle_perch.proofs.StepLemmas.{gives}
-use Rattle.recycle_perch.proofs.place.Place.give.Goals as goal
+use Rattle.std.proofs.Common.{arith}
+use Rattle.recycle_perch.proofs.StepLemmas.{takes}
+use Rattle.recycle_perch.proofs.place.RestPlace.take.Goals as goal
 
-pub give-requires-clause-mark : goal.give-requires-clause-mark
-give-requires-clause-mark g c = (
+pub swap-seat-requires : goal.swap-seat-requires
+swap-seat-requires g c = (
+  omega arith,
   c.requires.mark,
-  gives (record {
+  takes (record {
     goes_on = c.trails_go_on_by_one_step.ensures.goes_on;
     numbered = c.trails_go_on_by_one_step.ensures.numbered;
     of_makers = c.trails_go_on_by_one_step.ensures.of_makers;
