@@ -17,8 +17,6 @@ mod item;
 mod known;
 pub mod laws;
 mod response;
-#[cfg(test)]
-mod tests;
 mod turn;
 
 pub use conn::Conn;

@@ -82,6 +82,3 @@ pub fn shape_of(config: &Config) -> Shape
 {
     shape_by(&config.now)
 }
-{
-    shape_by(&Numbers::initial())
-}

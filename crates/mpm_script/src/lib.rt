@@ -7,7 +7,7 @@
 //! finds each by a map. Which text is which line stands in `specs/ScriptLine.antt`, which lines are a script in
 //! `specs/Script.antt`, and what its clients send and which calls of their links fail in `specs/Clients.antt`.
 //!
-//! The files whose names begin with `built`, and `tests/built.rt`, say which lines are built: each but commands, those that
+//! The files whose names begin with `built` say which lines are built: each but commands, those that
 //! set or remove a file, and sends of other requests. They go when every line is (`specs/BuiltLines.antt`).
 #![tactic(auto)]
 
@@ -20,8 +20,6 @@ mod line_reader;
 mod line_words;
 mod name_places;
 mod script;
-#[cfg(test)]
-mod tests;
 
 pub use built_requests::is_pipelined;
 pub use line_reader::one_line;

@@ -3,7 +3,7 @@
 //! `ScriptFront` is a front over a script: its connections arrive, send, end, fail and are dropped as the lines say, and
 //! time goes from moment to moment while nobody is served. It meets the trait `Front` of `mpm_base`; what it shows of
 //! itself and the rules of its waits stand in `specs/ScriptFront.antt`, which signals are due in `specs/Signals.antt`, and
-//! what holds between its parts in `specs/PlayedFront.antt`. `ScriptClock` is the clock that goes with it. `script_store`
+//! what holds between its parts in `specs/PlayedPartsInside.antt`. `ScriptClock` is the clock that goes with it. `script_store`
 //! makes the store of a script, with all editions of its files; which these are stands in `specs/Editions.antt`.
 #![tactic(auto)]
 
@@ -15,8 +15,6 @@ mod script_client;
 mod script_clients;
 mod script_clock;
 mod script_front;
-#[cfg(test)]
-mod tests;
 mod wait_end;
 
 pub use editions::{editions_have_a_configuration, script_store};
