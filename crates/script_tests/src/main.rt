@@ -1,0 +1,59 @@
+//! Tests of `mpm_script` and `script_front`, by their public calls alone: scripts as they are written, how they are refused, and fronts
+//! that play scripts, call by call. The file `stdin` has what is asked, section by section, and `stdout` what must come of it.
+//!
+//! In the input a line that begins with `== ` begins a section: the word up to a colon says what its rows are, and the rest is its
+//! title. In a text `|` stands for a line feed, `^` and a letter for a control byte (`^M` for a carriage return, `^?` for byte 127),
+//! and a number and a text between backquotes for the text so many times.
+//!
+//! - `script`: scripts, of each of which the lines are shown, or why it is refused.
+//! - `requests`: bytes, of which is shown whether they are requests of the known form.
+//! - `front`: a front. Its first row is a script that is made by hand, each of whose lines ends with `|`; it need not be one that is
+//!   read. The others are calls. A link is named by its place among those that were taken and not turned away, from 0.
+//!   - `wait MOMENT WORD`: until the moment, which is `-` for none; the word is `quiet` where no connection is being served.
+//!   - `accept`, and `turn`, which turns the link away that was taken last; `watch LINK SLOT`; `all`, which takes each link that waits,
+//!     and watches it in a slot from 0 on.
+//!   - `read LINK ROOM`, with room for eight bytes at most; `write LINK TEXT`, `shut LINK`, `close LINK`, and `show LINK`.
+//!   - `bind`, `hush`, `command`.
+#![tactic(auto)]
+
+mod by_hand;
+mod fronts;
+mod links;
+mod scripts;
+mod texts;
+
+use std::alloc::Global;
+use std::io;
+use std::sync::Wait;
+
+fn main(rt: HostRuntime) -> io::Result<()> {
+    let input = io::read_to_string(rt.alloc(), rt.reader())?;
+    show_sections(&rt, rt.alloc(), input.as_str())
+}
+
+/// Shows what comes of each section of the input. What stands before the first one is none.
+fn show_sections<R: Print + Wait>(rt: &R, alloc: Global, input: &str) -> io::Result<()> {
+    let mut sections = input.split("\n== ");
+    let _ = sections.next();
+    for section in sections {
+        show_section(rt, alloc, section)?;
+    }
+    Ok(())
+}
+
+/// Shows the section's title, and what comes of its rows.
+fn show_section<R: Print + Wait>(rt: &R, alloc: Global, section: &str) -> io::Result<()> {
+    let (title, rows) = section.split_once('\n').unwrap_or((section, ""));
+    println!(rt; "== {title}")?;
+    let (kind, _) = title.split_once(':').unwrap_or((title, ""));
+    show_rows(rt, alloc, kind, rows)
+}
+
+/// Shows what comes of the rows of a section of that kind.
+fn show_rows<R: Print + Wait>(rt: &R, alloc: Global, kind: &str, rows: &str) -> io::Result<()> {
+    match kind {
+        "script" => scripts::show_scripts(rt, alloc, rows),
+        "requests" => scripts::show_requests(rt, alloc, rows),
+        _ => fronts::show_front(rt, alloc, rows),
+    }
+}
