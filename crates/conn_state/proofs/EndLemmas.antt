@@ -16,7 +16,7 @@ use Rattle.conn_state.specs.declared.turn.LastLinger.TheVariants as linger
 use Rattle.conn_state.specs.Items.{Item, SpellsNone}
 use Rattle.conn_state.specs.Replies.{IsFitting, AreReplies}
 use Rattle.conn_state.specs.Conn.{SeenConn, is_usable, is_half_closed, shuts_at, IsFrontOf, LinkFits, LingerFits, Streams, BrokeOff, TurnFits, IsUntouched, IsWaiting, IsConn}
-use Rattle.conn_state.specs.Answered.{SeenEnded, ShowsAtOnce, SentAll, SentLast, ShowsLingering, MayLinger, ShowsCause, IsLeft, IsShown, SentFor, HasAnswered, shuts_of, IsAnswered, LicensesCause, LicensesTail, IsEnded}
+use Rattle.conn_state.specs.Answered.{SeenEnded, ShowsAtOnce, SentAll, SentLast, ShowsLingering, MayLinger, ShowsCause, IsLeft, IsShown, SentFor, HasAnswered, shuts_of, IsAnswered, LicensesCause, LicensesTail, EndsAfter, IsEnded}
 use Rattle.conn_state.proofs.StreamLemmas.{Stays, interim-none, spells_none-empty}
 use Rattle.conn_state.proofs.ConnLemmas.{usable-streams, told-broken}
 
@@ -334,12 +334,42 @@ licensed-tail tail.Failed c counts' is left only =
 licensed-tail tail.Halted c counts' is left only = tt
 licensed-tail tail.NoMemory c counts' is left only = tt
 
+-- ## What the last turn was
+
+-- what it was that ends at once
+turned-at-once : (why : Cause) (c : SeenConn) → ShowsAtOnce why c → EndsAfter why c.turn
+turned-at-once cause.ClientDone c shown = shown
+turned-at-once cause.LinkFailed c shown = tt
+turned-at-once cause.Stopped c shown = tt
+turned-at-once cause.NoMemory c shown = tt
+turned-at-once other c shown = absurd shown
+
+-- what it was that lingered
+turned-lingering : (why : Cause) (c : SeenConn) → MayLinger why c → EndsAfter why c.turn
+turned-lingering cause.LastSent c may = may.usable
+turned-lingering cause.KeepAliveLate c may = may.usable
+turned-lingering cause.ReadLate c may = may.usable
+turned-lingering cause.WriteLate c may = may.usable
+turned-lingering cause.Retiring c may = may.usable
+turned-lingering other c may = absurd may.shows
+
+-- what it was, for the cause
+turned-so : (why : Cause) (how : Tail) (c : SeenConn) → ShowsCause why how c → EndsAfter why c.turn
+turned-so why tail.Direct c shows = turned-at-once why c shows
+turned-so why tail.Drained c shows = turned-lingering why c shows
+turned-so why tail.Sated c shows = turned-lingering why c shows
+turned-so why tail.Late c shows = turned-lingering why c shows
+turned-so why tail.Failed c shows = turned-lingering why c shows
+turned-so why tail.Halted c shows = turned-lingering why c shows
+turned-so why tail.NoMemory c shows = turned-lingering why c shows
+
 -- ## The connection that ended
 
 -- what the closed link of a connection that ended tells and counts
 pub ended-shown : Stays → (c seen : SeenConn) (e : SeenEnded) → IsConn c → c ≡ seen → IsShown e.cause e.tail seen
-    → e.told ≡ option_map after_close c.told → OnlyFaults false c.counts e.counts → e.notes ≡ c.notes → IsEnded e
-ended-shown stays c seen e is same shown closed only notes =
+    → e.told ≡ option_map after_close c.told → OnlyFaults false c.counts e.counts → e.notes ≡ c.notes → e.turn ≡ c.turn → e.linger ≡ c.linger
+    → IsEnded e
+ended-shown stays c seen e is same shown closed only notes turn linger =
     let shown' : IsShown e.cause e.tail c = subst (λ (x : SeenConn). IsShown e.cause e.tail x) (sym same) shown in
     let answered = told-closed e.cause e.tail c.notes c.linger c.dropped c.told shown'.left (leaves-so e.tail c is shown'.left) is.link
     (answered-shown stays e.cause e.tail c is shown'.shows shown'.left) in
@@ -348,6 +378,8 @@ ended-shown stays c seen e is same shown closed only notes =
         by_cause = licensed-cause e.cause e.tail c e.counts is shown'.shows only;
         by_tail = licensed-tail e.tail c e.counts is shown'.left only;
       };
+      turned = subst (EndsAfter e.cause) (sym turn) (turned-so e.cause e.tail c shown'.shows);
+      left = subst (IsLeft e.tail) (sym linger) shown'.left;
       answered = subst (λ ns. IfSome e.told (IsAnswered e.cause e.tail ns)) (sym notes)
           (subst (λ o. IfSome o (IsAnswered e.cause e.tail c.notes)) (sym closed) answered);
     }

@@ -8,6 +8,7 @@ use Rattle.mpm_base.specs.declared.conn.Cause.TheVariants as cause
 use Rattle.mpm_base.specs.declared.conn.Tail.{Tail}
 use Rattle.mpm_base.specs.declared.conn.Tail.TheVariants as tail
 use Rattle.mpm_base.specs.declared.note.Note.{Note}
+use Rattle.conn_state.specs.declared.turn.LastTurn.{LastTurn}
 use Rattle.conn_state.specs.declared.turn.LastTurn.TheVariants as turn
 use Rattle.conn_state.specs.declared.turn.LastLinger.{LastLinger}
 use Rattle.conn_state.specs.declared.turn.LastLinger.TheVariants as linger
@@ -15,7 +16,8 @@ use Rattle.conn_state.specs.Items.{Item, AreFirst, SpellsNone}
 use Rattle.conn_state.specs.Replies.{IsFitting, AreReplies, IsInterim}
 use Rattle.conn_state.specs.Conn.{SeenConn, IsFrontOf, is_usable, is_half_closed}
 
--- a connection that ended, and how
+-- a connection that ended, and how: what its closed link tells and counts, its name, child, generation and responses, why its service
+-- ended and how its link was left; and, for clauses alone, what its last turn answered, and how far it was on its way out
 pub record SeenEnded : Type 0 where
   pub told : Option LinkTold
   pub counts : LinkCounts
@@ -25,6 +27,8 @@ pub record SeenEnded : Type 0 where
   pub notes : List Note
   pub cause : Cause
   pub tail : Tail
+  pub turn : LastTurn
+  pub linger : LastLinger
 
 -- ## When a connection may be ended so
 
@@ -145,12 +149,23 @@ pub record IsLicensed (why : Cause) (how : Tail) (counts : LinkCounts) : Type 0 
   pub by_cause : LicensesCause why counts
   pub by_tail : LicensesTail how counts
 
+-- what the last turn of a connection answered that ends for the cause: where its client had done, that it sends no more; and where
+-- it lingered, nothing that failed
+abbrev pub EndsAfter : Cause → LastTurn → Type 0
+EndsAfter cause.ClientDone last = last ≡ turn.Gone
+EndsAfter cause.LinkFailed last = ⊤
+EndsAfter cause.Stopped last = ⊤
+EndsAfter cause.NoMemory last = ⊤
+EndsAfter other last = is_usable last ≡ true
+
 -- what holds of every connection that ended
 pub record IsEnded (e : SeenEnded) : Type 0 where
   pub licensed : IsLicensed e.cause e.tail e.counts
+  pub turned : EndsAfter e.cause e.turn
+  pub left : IsLeft e.tail e.linger
   pub answered : IfSome e.told (IsAnswered e.cause e.tail e.notes)
 
--- the connection ended so: its link was closed, and it has the notes that it had
+-- the connection ended so: its link was closed, and it has the notes, the last turn and the way out that it had
 pub record IsEndOf (c : SeenConn) (why : Cause) (how : Tail) (e : SeenEnded) : Type 0 where
   pub told : e.told ≡ option_map after_close c.told
   pub counts : OnlyFaults false c.counts e.counts
@@ -160,3 +175,5 @@ pub record IsEndOf (c : SeenConn) (why : Cause) (how : Tail) (e : SeenEnded) : T
   pub notes : e.notes ≡ c.notes
   pub cause : e.cause ≡ why
   pub tail : e.tail ≡ how
+  pub turn : e.turn ≡ c.turn
+  pub linger : e.linger ≡ c.linger

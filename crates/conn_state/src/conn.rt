@@ -24,6 +24,7 @@ use crate::turn::{LastLinger, LastTurn, LingerTurn, ReadTurn, WriteTurn};
 use mpm_base::{Cause, ConnName, Link, NoMemory, Note, Notes, Octets, Tail};
 use std::alloc::Global;
 use std::marker::{Model, PhantomData};
+use std::snapshot::Snapshot;
 
 /// A connection over a link. Where `N` knows what the clients send, the link is that of one of them.
 #[derive(Drop)]
@@ -271,9 +272,9 @@ impl<L: Link, N: Known> Conn<L, N> {
             notes,
             pending: _,
             rest: _,
-            turn: _,
+            turn,
             size: _,
-            linger: _,
+            linger,
             dropped: _,
             of: _,
         } = self;
@@ -286,6 +287,8 @@ impl<L: Link, N: Known> Conn<L, N> {
             cause,
             tail,
             link,
+            turn: Snapshot::of(&turn),
+            linger: Snapshot::of(&linger),
         }
     }
 }

@@ -1,6 +1,8 @@
 //! A connection that ended.
+use crate::turn::{LastLinger, LastTurn};
 use mpm_base::{Cause, ConnName, Link, Notes, Tail};
 use std::marker::Model;
+use std::snapshot::Snapshot;
 
 /// A connection that ended.
 #[derive(Drop)]
@@ -19,6 +21,9 @@ pub struct Ended<L: Link> {
     pub tail: Tail,
     /// Its link, which is closed.
     pub link: L,
+    // What its last turn answered, and how far it was on its way out, which only contracts see.
+    pub(crate) turn: Snapshot<LastTurn>,
+    pub(crate) linger: Snapshot<LastLinger>,
 }
 
 impl<L: Link> Model for Ended<L> {
@@ -35,5 +40,7 @@ impl<L: Link> Model for Ended<L> {
       notes = e.notes;
       cause = e.cause;
       tail = e.tail;
+      turn = e.turn.value;
+      linger = e.linger.value;
     } };
 }
