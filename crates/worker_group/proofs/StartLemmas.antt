@@ -11,16 +11,17 @@ use Rattle.conn_machine.specs.declared.event.Event.TheVariants as event
 use Rattle.conn_machine.specs.declared.state.State.{State}
 use Rattle.conn_machine.specs.Rows.{is_queued, is_working, live_row, lives_and}
 use Rattle.conn_machine.specs.States.{is_halted, is_signalled}
+use Rattle.conn_machine.specs.Runs.{after}
 use Rattle.conn_machine.specs.Table.{is_allowed, next, may_be_queued, queued_row, served_row}
 use Rattle.conn_state.specs.declared.turn.LastLinger.TheVariants as linger
 use Rattle.conn_state.specs.Conn.{SeenConn, is_usable}
 use Rattle.board.specs.Fits.{WaitsAs, IsSettledFrom, IsTakenUp}
 use Rattle.board.specs.Book.{SeenBook}
-use Rattle.board.specs.Board.{SeenBoard}
+use Rattle.board.specs.Board.{SeenBoard, conn_at}
 use Rattle.worker_group.specs.declared.service.Exit.{Exit}
 use Rattle.worker_group.specs.Acts.{Acts}
 use Rattle.worker_group.specs.InHandInside.{IsServed}
-use Rattle.worker_group.specs.Service.{ExitsAfter, HasServed, IsLeftBy, answer_events}
+use Rattle.worker_group.specs.Service.{ExitsAfter, HasServed, HasTurned, IsLeftBy, answer_events}
 use Rattle.worker_group.proofs.ActsLemmas.{acts_more}
 use Rattle.worker_group.proofs.ServeLemmas.{alive, test-at}
 use Rattle.worker_group.proofs.AnswerLemmas.{live_row-update}
@@ -107,11 +108,12 @@ served-started s s1 s2 c name may queued started named handed stays_open =
 
 -- a connection that was queued, started, answered and left was served
 pub has-served : (who : ℕ) (name : ConnName) (a : SeenBoard) (b c d : SeenBook) (e : SeenBoard) (taken served : SeenConn) (out : Exit)
-    → taken.name ≡ name
+    → taken.name ≡ name → conn_at a.conns name.slot ≡ Some taken
     → Acts who (event.Queue name ∷ []) (Some name) a.book b → Acts who (event.Start name ∷ []) (Some name) b c
     → served.name ≡ taken.name → (asks : List Ask) × Acts who (answer_events taken.name asks) (Some taken.name) c d
-    → ExitsAfter served.turn served out → IsLeftBy who out served d e → HasServed who name a e
-has-served who name a b c d e taken served out is_taken queued started kept answered exits left =
+    → after d.base d.history ≡ d.state → HasTurned served.turn taken.counts served.counts → ExitsAfter served.turn served out
+    → IsLeftBy who out served d e → HasServed who name a e
+has-served who name a b c d e taken served out is_taken waited queued started kept answered state turned exits left =
     let asked : Acts who (answer_events name answered.0) (Some name) c d =
     subst (λ (n : ConnName). Acts who (answer_events n answered.0) (Some n) c d) is_taken answered.1 in
     record {
@@ -120,8 +122,12 @@ has-served who name a b c d e taken served out is_taken queued started kept answ
       acts =
           acts_more who (event.Queue name ∷ []) (event.Start name ∷ answer_events name answered.0) (Some name) (Some name) a.book b d queued
           (acts_more who (event.Start name ∷ []) (answer_events name answered.0) (Some name) (Some name) b c d started asked);
+      state = state;
+      taken = taken;
+      waited = waited;
       served = served;
       named = kept ∙ is_taken;
+      turned = turned;
       out = out;
       exits = exits;
       left = left;

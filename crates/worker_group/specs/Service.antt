@@ -1,5 +1,7 @@
 -- What a worker does with one connection: which events it adds, and how it leaves the connection.
 use Rattle.std.specs.Prelude.{◌≡◌, ◌⊎◌, ◌==◌, ◌&&◌, not, ℕ, ◌≤◌, true, false, List, [], ◌∷◌, ◌++◌, length, map, if◌then◌else◌, None, Some, ⊤}
+use Rattle.mpm_base.specs.Count.{NeverFalls, Rises}
+use Rattle.mpm_base.specs.Link.{LinkCounts}
 use Rattle.mpm_base.specs.Notes.{says_last}
 use Rattle.mpm_base.specs.declared.conn.Ask.{Ask}
 use Rattle.mpm_base.specs.declared.conn.Kind.{Kind}
@@ -16,7 +18,7 @@ use Rattle.conn_machine.specs.declared.event.Why.TheVariants as why
 use Rattle.conn_machine.specs.declared.state.Going.{Going}
 use Rattle.conn_machine.specs.declared.state.Going.TheVariants.{Halted}
 use Rattle.conn_machine.specs.States.{is_halted}
-use Rattle.conn_machine.specs.Runs.{full_load, load}
+use Rattle.conn_machine.specs.Runs.{after, full_load, load}
 use Rattle.conn_state.specs.declared.turn.LastTurn.{LastTurn}
 use Rattle.conn_state.specs.declared.turn.LastTurn.TheVariants as turn
 use Rattle.conn_state.specs.declared.turn.LastLinger.{LastLinger}
@@ -64,6 +66,32 @@ ExitsAfter turn.Done c e = EndsOut cause.LastSent c.linger e × (says_last c.not
 ExitsAfter turn.NotReady c e = e ≡ exit.Park Writing
 ExitsAfter turn.LinkFailed c e = e ≡ exit.Close cause.LinkFailed Direct
 ExitsAfter turn.NoMemory c e = e ≡ exit.Close cause.NoMemory Direct
+
+-- ## Since it was taken up
+
+-- no count of a link fell
+pub record NoneFalls (old new : LinkCounts) : Type 0 where
+  pub faults : NeverFalls old.faults new.faults
+  pub late_reads : NeverFalls old.late_reads new.late_reads
+  pub late_writes : NeverFalls old.late_writes new.late_writes
+  pub ends : NeverFalls old.ends new.ends
+
+-- the link counted the turn, where it counts such turns
+abbrev pub CountsTurn : LastTurn → LinkCounts → LinkCounts → Type 0
+CountsTurn turn.New old new = ⊤
+CountsTurn (turn.Asked ask) old new = ⊤
+CountsTurn turn.Answered old new = ⊤
+CountsTurn turn.More old new = Rises old.late_reads new.late_reads
+CountsTurn turn.Gone old new = Rises old.ends new.ends
+CountsTurn turn.Done old new = ⊤
+CountsTurn turn.NotReady old new = Rises old.late_writes new.late_writes
+CountsTurn turn.LinkFailed old new = Rises old.faults new.faults
+CountsTurn turn.NoMemory old new = ⊤
+
+-- the last turn was made since the link counted so
+pub record HasTurned (last : LastTurn) (old new : LinkCounts) : Type 0 where
+  pub none_falls : NoneFalls old new
+  pub counted : CountsTurn last old new
 
 -- ## Where the connection is then
 
@@ -164,14 +192,50 @@ pub record IsLeftBy (who : ℕ) (out : Exit) (c : SeenConn) (old : SeenBook) (ne
   pub acts : Acts who (left_events way c.name) None old new.book
   pub stands : StandsThen way c new
 
--- the connection of that name was served: it was queued and started, and its responses were decided, which led to this book; then
--- it was left as its last turn asks
+-- the connection of that name, which waited, was served: it was queued and started, and its responses were decided, which led to this
+-- book, whose state is the one after its history; then it was left as its last turn asks, which was made since it was taken up
 pub record HasServed (who : ℕ) (name : ConnName) (old new : SeenBoard) : Type 0 where
   pub asks : List Ask
   pub book : SeenBook
   pub acts : Acts who (event.Queue name ∷ event.Start name ∷ answer_events name asks) (Some name) old.book book
+  pub state : after book.base book.history ≡ book.state
+  pub taken : SeenConn
+  pub waited : conn_at old.conns name.slot ≡ Some taken
   pub served : SeenConn
   pub named : served.name ≡ name
+  pub turned : HasTurned served.turn taken.counts served.counts
   pub out : Exit
   pub exits : ExitsAfter served.turn served out
   pub left : IsLeftBy who out served book new
+
+-- ## What an ended connection tells of its service
+
+-- the connection ends by this way
+abbrev pub IsEnding : Exit → Type 0
+IsEnding (exit.Park kind) = ⊥
+IsEnding (exit.Linger why) = ⊥
+IsEnding (exit.Close why how) = ⊤
+IsEnding (exit.GiveUp fault) = ⊤
+
+-- a call of the board was refused: for a stop, or a full history, which makes one, or for want of memory
+abbrev pub IsRefusedCause : Cause → Type 0
+IsRefusedCause why = (why ≡ cause.Stopped) ⊎ (why ≡ cause.NoMemory)
+
+-- for which cause a service ends a connection behind such a last turn, as far on its way out
+abbrev pub EndsFor : LastTurn → LastLinger → Cause → Type 0
+EndsFor turn.New last why = ⊥
+EndsFor (turn.Asked ask) last why = IsRefusedCause why
+EndsFor turn.Answered last why = ⊥
+EndsFor turn.More last why = IsRefusedCause why
+EndsFor turn.Gone last why = why ≡ cause.ClientDone
+EndsFor turn.Done last why = (last ≡ linger.ShutFailed) × (why ≡ cause.LinkFailed)
+EndsFor turn.NotReady last why = IsRefusedCause why
+EndsFor turn.LinkFailed last why = why ≡ cause.LinkFailed
+EndsFor turn.NoMemory last why = why ≡ cause.NoMemory
+
+-- the last of those that ended tells its cause by its last turn
+pub record EndsAsLast (ended : List SeenEnded) : Type 0 where
+  pub before : List SeenEnded
+  pub last : SeenEnded
+  pub ended_is : ended ≡ before ++ last ∷ []
+  pub ends_for : EndsFor last.turn last.linger last.cause

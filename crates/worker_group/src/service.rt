@@ -15,7 +15,7 @@ ghost use Rattle.board.specs.Fits.{FoundNoMore, IsSettled};
 ghost use Rattle.worker_group.specs.Acts.{Acts};
 ghost use Rattle.worker_group.specs.InHand.{IsClosable, IsInHand};
 ghost use Rattle.worker_group.specs.InHandInside.{IsServed, answers_left};
-ghost use Rattle.worker_group.specs.Service.{EndsOut, ExitsAfter, HasServed, IsGivenUp, IsLastEnded, IsLeftBy, IsLetLinger, IsThere, IsWayOut, LeavesRest, RefusalLasts, answer_events, given_up, left_events};
+ghost use Rattle.worker_group.specs.Service.{EndsOut, ExitsAfter, HasServed, HasTurned, IsGivenUp, IsLastEnded, IsLeftBy, IsLetLinger, IsThere, IsWayOut, LeavesRest, RefusalLasts, answer_events, given_up, left_events};
 ghost use Rattle.worker_group.specs.ServiceInside.{MayLeave};
 
 use board::{Board, BoardFault};
@@ -52,6 +52,7 @@ pub fn serve<L: Link, N: Known>(
     let mut conn = board.queue(who, name)?;
     let _ = board.start(who, name);
     let exit = converse(board, who, &mut conn);
+    board.show();
     leave(board, who, conn, exit);
     Ok(())
 }
@@ -65,6 +66,7 @@ fn converse<L: Link, N: Known>(board: &mut Board<L, N>, who: u32, conn: &mut Con
     ensures acts { (asks : List Ask) × Acts who (answer_events conn.old.name asks) (Some conn.old.name) board.old.book board.new.book }
     ensures may { MayLeave board.new.book conn.new result }
     ensures exits { ExitsAfter conn.new.turn conn.new result }
+    ensures turned { HasTurned conn.new.turn conn.old.counts conn.new.counts }
 {
     loop {
         if let Some(exit) = serve_turn(board, who, conn) {
@@ -87,6 +89,7 @@ fn serve_turn<L: Link, N: Known>(
     ensures acts { (asks : List Ask) × Acts who (answer_events conn.old.name asks) (Some conn.old.name) board.old.book board.new.book }
     ensures may { IfSome result (MayLeave board.new.book conn.new) }
     ensures exits { IfSome result (ExitsAfter conn.new.turn conn.new) }
+    ensures turned { HasTurned conn.new.turn conn.old.counts conn.new.counts }
     ensures served { IfNone result (IsServed board.new.book.state conn.new) }
     ensures fewer { IfNone result (answers_left board.new.book.state conn.new < answers_left board.old.book.state conn.old) }
 {
@@ -124,6 +127,7 @@ fn answer<L: Link, N: Known>(
     ensures acts { (asks : List Ask) × Acts who (answer_events conn.old.name asks) (Some conn.old.name) board.old.book board.new.book }
     ensures may { IfSome result (MayLeave board.new.book conn.new) }
     ensures exits { IfSome result (ExitsAfter conn.new.turn conn.new) }
+    ensures turned { HasTurned conn.new.turn conn.old.counts conn.new.counts }
     ensures served { IfNone result (IsServed board.new.book.state conn.new) }
     ensures fewer { IfNone result (answers_left board.new.book.state conn.new < answers_left board.old.book.state conn.old) }
 {

@@ -9,6 +9,7 @@ use Rattle.worker_group.specs.Service.{answer_events}
 use Rattle.worker_group.proofs.ActsLemmas.{acts_recorded, acts_same}
 use Rattle.worker_group.proofs.AnswerLemmas.{asked-open, may-answer, served-answered, closes-unanswered, fewer-answered}
 use Rattle.worker_group.proofs.ExitLemmas.{gives-up, ends-unanswered}
+use Rattle.worker_group.proofs.TurnedLemmas.{turned-answered, turned-refused, turned-unanswered}
 use Rattle.worker_group.proofs.service.answer.Goals as goal
 
 pub answer-requires-clause-allowed : goal.answer-requires-clause-allowed
@@ -62,3 +63,12 @@ pub returns-in-Err-answer-clause-may : goal.returns-in-Err-answer-clause-may
 returns-in-Err-answer-clause-may g c =
     closes-unanswered c.args.board.now.book.state c.answer.new.self.book.state c.args.conn.now _ c.name.result c.args.ask c.in-Ok.note c.show.ensures.sound
     c.requires.served c.name.ensures c.in-Ok.ensures.note (ap (λ (b : SeenBoard). b.book.state) c.in-Ok.ensures.ok.new_is) c.in-Err-answer.ensures.err
+
+pub returns-in-Ok-answer-clause-turned : goal.returns-in-Ok-answer-clause-turned
+returns-in-Ok-answer-clause-turned g c = turned-answered c.args.conn.now _ c.in-Ok.note c.in-Ok-answer.ensures.ok
+
+pub returns-in-Err-answer-clause-turned : goal.returns-in-Err-answer-clause-turned
+returns-in-Err-answer-clause-turned g c = turned-unanswered c.args.conn.now _ c.in-Err-answer.ensures.err
+
+pub returns-in-Err-clause-turned : goal.returns-in-Err-clause-turned
+returns-in-Err-clause-turned g c = turned-refused c.args.conn.now c.args.ask c.requires.asked

@@ -42,5 +42,6 @@ returns-clause-served g c =
     acts_recorded who (event.Start c.args.name) (Some c.args.name) c.queue.new.self c.start.new.self c.start.ensures.is c.start.ensures.entries
     c.start.ensures.row in
     has-served who c.args.name c.args.board.now c.queue.new.self.book c.start.new.self.book c.converse-exit.new.board.book
-    c.leave.new.board c.in_ok-conn.conn c.converse-exit.new.conn c.converse-exit.result c.in_ok-conn.ensures.name queued started
-    c.converse-exit.ensures.name c.converse-exit.ensures.acts c.converse-exit.ensures.exits c.leave.ensures.left
+    c.leave.new.board c.in_ok-conn.conn c.converse-exit.new.conn c.converse-exit.result c.in_ok-conn.ensures.name c.in_ok-conn.ensures.conn queued
+    started c.converse-exit.ensures.name c.converse-exit.ensures.acts c.show.ensures.state c.converse-exit.ensures.turned c.converse-exit.ensures.exits
+    c.leave.ensures.left

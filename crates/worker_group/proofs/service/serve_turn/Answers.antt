@@ -10,6 +10,7 @@ use Rattle.worker_group.proofs.LingerLemmas.{exits-out, last-lingers, last-shows
 use Rattle.worker_group.proofs.ServeLemmas.{in-hand, served-written, served-read, closes-failed_write, closes-done, closes-failed_read, closes-unread}
 use Rattle.worker_group.proofs.AnswerLemmas.{answers_none}
 use Rattle.worker_group.proofs.ExitLemmas.{exits-written, exits-read, keeps-alive}
+use Rattle.worker_group.proofs.TurnedLemmas.{turned-answer, turned-on, turned-shut, turned-written}
 use Rattle.worker_group.proofs.service.serve_turn.Goals as goal
 
 pub returns-in-LinkFailed-clause-may : goal.returns-in-LinkFailed-clause-may
@@ -100,3 +101,38 @@ returns-in-NoMemory-clause-acts g c =
 pub returns-in-NoMemory-clause-exits : goal.returns-in-NoMemory-clause-exits
 returns-in-NoMemory-clause-exits g c =
     exits-read c.write_turn.new.self c.read_turn.new.self read.NoMemory _ c.in-NoMemory.ensures.reads refl
+
+pub returns-in-NotReady-clause-turned : goal.returns-in-NotReady-clause-turned
+returns-in-NotReady-clause-turned g c = turned-written c.args.conn.now c.write_turn.new.self write.NotReady c.in-NotReady.ensures
+
+pub returns-in-LinkFailed-clause-turned : goal.returns-in-LinkFailed-clause-turned
+returns-in-LinkFailed-clause-turned g c = turned-written c.args.conn.now c.write_turn.new.self write.LinkFailed c.in-LinkFailed.ensures
+
+pub returns-then-last-clause-turned : goal.returns-then-last-clause-turned
+returns-then-last-clause-turned g c =
+    turned-shut c.args.conn.now c.write_turn.new.self c.half_close.new.conn _ c.in-Done.ensures c.half_close.ensures.shuts
+
+pub returns-in-More-clause-turned : goal.returns-in-More-clause-turned
+returns-in-More-clause-turned g c =
+    turned-on c.args.conn.now c.write_turn.new.self c.read_turn.new.self write.Done read.More c.in-Done.ensures c.in-More.ensures.reads
+
+pub returns-in-More-2-clause-turned : goal.returns-in-More-2-clause-turned
+returns-in-More-2-clause-turned g c =
+    turned-on c.args.conn.now c.write_turn.new.self c.read_turn.new.self write.Done read.More c.in-Done.ensures c.in-More-2.ensures.reads
+
+pub returns-in-Gone-clause-turned : goal.returns-in-Gone-clause-turned
+returns-in-Gone-clause-turned g c =
+    turned-on c.args.conn.now c.write_turn.new.self c.read_turn.new.self write.Done read.Gone c.in-Done.ensures c.in-Gone.ensures.reads
+
+pub returns-in-LinkFailed-read_turn-clause-turned : goal.returns-in-LinkFailed-read_turn-clause-turned
+returns-in-LinkFailed-read_turn-clause-turned g c =
+    turned-on c.args.conn.now c.write_turn.new.self c.read_turn.new.self write.Done read.LinkFailed c.in-Done.ensures c.in-LinkFailed-read_turn.ensures.reads
+
+pub returns-in-NoMemory-clause-turned : goal.returns-in-NoMemory-clause-turned
+returns-in-NoMemory-clause-turned g c =
+    turned-on c.args.conn.now c.write_turn.new.self c.read_turn.new.self write.Done read.NoMemory c.in-Done.ensures c.in-NoMemory.ensures.reads
+
+pub returns-in-Asked-clause-turned : goal.returns-in-Asked-clause-turned
+returns-in-Asked-clause-turned g c =
+    turned-answer c.args.conn.now c.write_turn.new.self c.read_turn.new.self c.answer.new.conn write.Done _ c.in-Done.ensures c.in-Asked.ensures.reads
+    c.answer.ensures.turned
