@@ -14,9 +14,10 @@ use Rattle.conn_machine.specs.declared.event.Entry.{Entry}
 use Rattle.conn_machine.specs.declared.folded.Folded.{Folded}
 use Rattle.conn_machine.specs.declared.state.State.{State}
 use Rattle.conn_machine.specs.Table.{is_allowed, next, reply}
-use Rattle.conn_machine.specs.Runs.{after, entries_of, is_of_pass, asks_page, load, full_load, may_make, row_from, IsHistory, IsNextOf}
+use Rattle.conn_machine.specs.Runs.{after, entries_of, is_of_pass, asks_page, load, full_load, may_make, first_row, row_from, IsHistory, IsNextOf}
 use Rattle.conn_machine.specs.Folds.{opening_record}
 use Rattle.conn_machine.specs.Made.{AreMade}
+use Rattle.conn_machine.specs.Passes.{EachHasItsOwn}
 use Rattle.conn_machine.specs.Sizes.{HasSizesOf, IsSized}
 use Rattle.conn_machine.specs.Sound.{IsSound}
 use Rattle.conn_machine.specs.Children.{no_child}
@@ -110,6 +111,7 @@ kept_more : (base : State) (f : Folded) (history : List Entry) (s : State) (ordi
 kept_more base f history s ordinals ordinals' pages room room' e before is_allowed numbers sound sized has_room stop goes = record {
   is_history = goes.is_history;
   made = goes.made;
+  own = before.own;
   state_is = goes.state ∙ ap (λ (t : State). next t e.event) before.state_is;
   opened = before.opened;
   sound = sound;
@@ -156,11 +158,13 @@ kept_sure base f history history' s s' ordinals ordinals' pages room room' e bef
 
 -- an empty history is kept, from a sound state that it leaves as it is
 pub kept_first : (slots children passes room : ℕ) (shape : Shape) → slots ≤ 8192 → children ≤ 32 → IsSound (opening_state slots children shape) → 1 ≤ room
+    → EachHasItsOwn (opening_state slots children shape) (first_row (opening_record passes))
     → IsKept (opening_state slots children shape) (opening_record passes) [] (opening_state slots children shape) (replicate passes 0) 0 room
-kept_first slots children passes room shape few_slots few_children sound space =
+kept_first slots children passes room shape few_slots few_children sound space own =
     record {
       is_history = record { run = tt; order = λ p. refl };
       made = tt;
+      own = own;
       state_is = refl;
       opened = sound;
       sound = sound;

@@ -3,8 +3,9 @@ use Rattle.std.specs.Prelude.{◌≡◌, ℕ, ◌+◌, ◌<◌, ◌≤◌, List,
 use Rattle.conn_machine.specs.declared.event.Entry.{Entry}
 use Rattle.conn_machine.specs.declared.folded.Folded.{Folded}
 use Rattle.conn_machine.specs.declared.state.State.{State}
-use Rattle.conn_machine.specs.Runs.{after, entries_of, asks_page, IsHistory}
+use Rattle.conn_machine.specs.Runs.{after, entries_of, asks_page, first_row, IsHistory}
 use Rattle.conn_machine.specs.Made.{AreMade}
+use Rattle.conn_machine.specs.Passes.{EachHasItsOwn}
 use Rattle.conn_machine.specs.Sizes.{IsSized}
 use Rattle.conn_machine.specs.Sound.{IsSound}
 use Rattle.board.specs.RoomInside.{owed_entries}
@@ -20,11 +21,12 @@ abbrev pub pages_of : List Entry → ℕ
 pages_of history = count_by (λ e. asks_page e.event) history
 
 -- the history is one of the machine, from its base to its state, behind what was folded, and the states are sound; each entry is
--- one that its pass may make; each pass's next number and the number of pages are known; there is room for what must follow; a stop because the
+-- one that its pass may make, and before it each pass had a connection of its own, or none; each pass's next number and the number of pages are known; there is room for what must follow; a stop because the
 -- history is full stands only where it is, and one for want of memory only where it isn't; and the first is told by the state
 pub record IsKept (base : State) (f : Folded) (history : List Entry) (state : State) (ordinals : List ℕ) (pages room : ℕ) : Type 0 where
   pub is_history : IsHistory base f history
   pub made : AreMade base f history
+  pub own : EachHasItsOwn base (first_row f)
   pub state_is : after base history ≡ state
   pub opened : IsSound base
   pub sound : IsSound state

@@ -3,9 +3,10 @@ ghost use Rattle.std.specs.Prelude.{◌≡◌, ◌<◌, ◌≤◌, true, false, 
 ghost use Rattle.mpm_base.specs.Shape.{is_in_bounds};
 ghost use Rattle.conn_machine.specs.States.{is_halted, opening_state};
 ghost use Rattle.conn_machine.specs.Table.{is_allowed, cell_at, reply, taken_reply};
-ghost use Rattle.conn_machine.specs.Runs.{IsInPassOrderFrom, Run, after, full_load, load, may_order};
+ghost use Rattle.conn_machine.specs.Runs.{IsInPassOrderFrom, Run, after, first_row, full_load, load, may_order};
 ghost use Rattle.conn_machine.specs.Folds.{opening_record};
 ghost use Rattle.conn_machine.specs.Made.{AreMade};
+ghost use Rattle.conn_machine.specs.Passes.{EachHasItsOwn};
 ghost use Rattle.conn_machine.specs.Sizes.{IsSized};
 ghost use Rattle.conn_machine.specs.Sound.{IsSound};
 ghost use Rattle.conn_machine.specs.declared.event.Event.TheVariants as event;
@@ -165,14 +166,16 @@ impl<L: Link, N: Known> Board<L, N> {
     }
 
     /// What holds of every board: its history is one of the machine, from its base to its state, which are sound, in the order of
-    /// its passes behind what was folded; each entry is one that its pass may make where it stands; a stop because the history is
-    /// full stands only where it is, and one for want of memory only where it isn't; and the connections agree with the history.
+    /// its passes behind what was folded; each entry is one that its pass may make where it stands, and before the first of them each
+    /// pass had a connection of its own, or none, and each one that somebody had was some pass's; a stop because the history is full
+    /// stands only where it is, and one for want of memory only where it isn't; and the connections agree with the history.
     /// Where `N` knows what the clients send, each link is that of one of them. Nothing is folded yet.
     pub fn show(&self)
         ensures unfolded { self.now.book.folded ≡ opening_record self.now.book.passes }
         ensures run { Run self.now.book.base self.now.book.history }
         ensures order { IsInPassOrderFrom self.now.book.folded self.now.book.history }
         ensures made { AreMade self.now.book.base self.now.book.folded self.now.book.history }
+        ensures own { EachHasItsOwn self.now.book.base (first_row self.now.book.folded) }
         ensures state { after self.now.book.base self.now.book.history ≡ self.now.book.state }
         ensures opened { IsSound self.now.book.base }
         ensures sound { IsSound self.now.book.state }

@@ -3,9 +3,10 @@ ghost use Rattle.std.specs.Prelude.{◌≡◌, ◌<◌, ◌≤◌, ◌^◌, true
 ghost use Rattle.mpm_base.specs.Shape.{is_in_bounds};
 ghost use Rattle.conn_machine.specs.States.{is_halted, opening_state};
 ghost use Rattle.conn_machine.specs.Table.{is_allowed, reply};
-ghost use Rattle.conn_machine.specs.Runs.{IsInPassOrderFrom, Run, after, asks_page, full_load, has_after, load, may_make};
+ghost use Rattle.conn_machine.specs.Runs.{IsInPassOrderFrom, Run, after, asks_page, first_row, full_load, has_after, load, may_make};
 ghost use Rattle.conn_machine.specs.Folds.{opening_record};
 ghost use Rattle.conn_machine.specs.Made.{AreMade};
+ghost use Rattle.conn_machine.specs.Passes.{EachHasItsOwn};
 ghost use Rattle.conn_machine.specs.Sizes.{IsSized};
 ghost use Rattle.conn_machine.specs.Sound.{IsSound};
 ghost use Rattle.board.specs.Book.{AddsOnly, StopsByLoad, TellsFullStop, book_with_entry, memory_stop, numbered_entry, row_in};
@@ -15,7 +16,7 @@ ghost use Rattle.board.specs.FaultsInside.{IsRecorded};
 ghost use Rattle.board.specs.RoomInside.{is_sure};
 
 use crate::faults::BoardFault;
-use conn_machine::laws::events_keep_states_sound;
+use conn_machine::laws::{each_pass_has_its_own_connection, events_keep_states_sound};
 use conn_machine::laws_of_runs::{
     histories_go_on_by_one_entry, passes_add_entries, records_open_with_nothing,
 };
@@ -72,6 +73,7 @@ impl Book {
         ensures passes { IfOk result (λ book. book.passes ≡ passes) }
     {
         events_keep_states_sound();
+        each_pass_has_its_own_connection();
         let state = State::opening(alloc, slots, children, shape)?;
         let Ok(ordinals) = vec![in alloc; 0u64; passes as usize] else {
             return Err(NoMemory);
@@ -104,13 +106,14 @@ impl Book {
     }
 
     /// The history is one of the machine, from its base to its state, in the order of its passes behind what was folded, which is
-    /// nothing yet; each entry is one that its pass may make; a stop because it is full stands only where it is, and one for want of
-    /// memory only where it isn't.
+    /// nothing yet; each entry is one that its pass may make, and before the first of them each pass had a connection of its own, or
+    /// none; a stop because it is full stands only where it is, and one for want of memory only where it isn't.
     pub fn show(&self)
         ensures unfolded { self.now.folded ≡ opening_record self.now.passes }
         ensures run { Run self.now.base self.now.history }
         ensures order { IsInPassOrderFrom self.now.folded self.now.history }
         ensures made { AreMade self.now.base self.now.folded self.now.history }
+        ensures own { EachHasItsOwn self.now.base (first_row self.now.folded) }
         ensures state { after self.now.base self.now.history ≡ self.now.state }
         ensures opened { IsSound self.now.base }
         ensures sound { IsSound self.now.state }

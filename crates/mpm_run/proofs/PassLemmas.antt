@@ -10,12 +10,10 @@ use Rattle.conn_machine.specs.declared.row.Place.TheVariants.{Vacant, Spent, Hel
 use Rattle.conn_machine.specs.declared.row.Row.{Row}
 use Rattle.conn_machine.specs.declared.folded.Folded.{Folded}
 use Rattle.conn_machine.specs.declared.state.State.{State}
-use Rattle.conn_machine.specs.Folds.{opening_record}
-use Rattle.conn_machine.specs.Made.{IsOpened}
-use Rattle.conn_machine.specs.Passes.{HasNoneInHand, OnlyServes, asking_count, EachHasItsOwn}
+use Rattle.conn_machine.specs.Passes.{HasNoneInHand, OnlyServes, asking_count}
 use Rattle.conn_machine.specs.Sizes.{HasSizesOf}
 use Rattle.conn_machine.specs.Rows.{is_live, is_parked, is_unused, is_with_a_pass}
-use Rattle.conn_machine.specs.Runs.{Adds, after, first_row}
+use Rattle.conn_machine.specs.Runs.{Adds, after}
 use Rattle.conn_machine.specs.States.{is_halted}
 use Rattle.board.specs.Book.{SeenBook}
 use Rattle.board.specs.Board.{SeenBoard}
@@ -143,11 +141,3 @@ due-none s name found none =
     let due = live.passes in
     let not_due = none name.slot live.row (found-at s.rows name live.row live.found) in
     absurd (cc (due, not_due))
-
--- ## A state in which a server opens
-
--- each pass has its own connection there, where nothing was folded: none has one
-pub owns-opened : ((s : State) (passes : ℕ) → IsOpened s → EachHasItsOwn s (first_row (opening_record passes))) → (b : SeenBook) → IsOpened b.base
-    → b.folded ≡ opening_record b.passes → EachHasItsOwn b.base (first_row b.folded)
-owns-opened law b opened unfolded =
-    subst (λ (f : Folded). EachHasItsOwn b.base (first_row f)) (sym unfolded) (law b.base b.passes opened)

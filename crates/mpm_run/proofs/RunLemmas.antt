@@ -16,8 +16,9 @@ use Rattle.conn_machine.specs.declared.state.State.{State}
 use Rattle.conn_machine.specs.Rows.{is_live}
 use Rattle.conn_machine.specs.Table.{next}
 use Rattle.conn_machine.specs.Folds.{opening_record}
-use Rattle.conn_machine.specs.Runs.{Run, after, IsInPassOrderFrom}
+use Rattle.conn_machine.specs.Runs.{Run, after, first_row, IsInPassOrderFrom}
 use Rattle.conn_machine.specs.Made.{AreMade, AreOfPasses}
+use Rattle.conn_machine.specs.Passes.{EachHasItsOwn}
 use Rattle.conn_machine.specs.Sound.{IsSound}
 use Rattle.conn_machine.specs.Events.{count_events, is_accept, is_close}
 use Rattle.conn_machine.specs.Laws.{StaysSound}
@@ -42,12 +43,14 @@ never-folded n b opened unfolded passes = record { opened = opened; folded = unf
 pub run-from : (n : RunNumbers) (b : SeenBoard) → AreOfPasses n.passes b.book.history
     → ((s : State) (history : List Entry) → IsSound s → Run s history → StaysSound s history)
     → Run b.book.base b.book.history → IsInPassOrderFrom b.book.folded b.book.history → AreMade b.book.base b.book.folded b.book.history
-    → after b.book.base b.book.history ≡ b.book.state → IsSound b.book.base → StopsByLoad b.book.history
+    → EachHasItsOwn b.book.base (first_row b.book.folded) → after b.book.base b.book.history ≡ b.book.state → IsSound b.book.base
+    → StopsByLoad b.book.history
     → TellsFullStop b.book.state.going b.book.history → Agrees b → IsRunFrom n b
-run-from n b few law run order made state sound stops full agrees = record {
+run-from n b few law run order made own state sound stops full agrees = record {
   run = run;
   order = order;
   made = made;
+  own = own;
   few = few;
   state = state;
   stays_sound = law b.book.base b.book.history sound run;

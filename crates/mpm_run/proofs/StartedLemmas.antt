@@ -1,18 +1,16 @@
 -- A server that has just opened.
-use Rattle.std.proofs.Common.{◌≡◌, inl, inr, ℕ, true, List, [], ◌∷◌, ◌++◌, drop, length, map, ◌≤◌, Option, None, Some, option_map, IfSome, refl, sym, ap, subst, ◌∙◌, arith}
+use Rattle.std.proofs.Common.{◌≡◌, inl, inr, ℕ, true, List, [], ◌∷◌, ◌++◌, map, Option, None, Some, option_map, IfSome, refl, sym, ap, subst, ◌∙◌, arith}
 use Rattle.mpm_base.specs.Clock.{asked_at}
 use Rattle.mpm_base.specs.Front.{Binds, BoundTold, FrontSeen, FrontTold, WaitTold, after_bind, moments_of}
 use Rattle.mpm_run.specs.UnusedInside.{IsUnused}
 use Rattle.mpm_base.specs.declared.addr.Addr.{Addr}
 use Rattle.conn_machine.specs.Made.{AreOfPasses, IsOpened}
-use Rattle.conn_machine.specs.declared.folded.Folded.{Folded}
 use Rattle.conn_machine.specs.declared.state.State.{State}
 use Rattle.board.specs.Book.{SeenBook}
-use Rattle.mpm_run.specs.FirstNumbers.{folded_by}
 use Rattle.mpm_run.specs.FirstNumbersInside.{AreNumbers, opened_book}
 use Rattle.mpm_run.specs.ListenInside.{Follows, HasStopped, IsAtStart, IsInStep, IsInTime, WatchesAll, bound_of, waits_of}
 use Rattle.mpm_run.specs.Times.{AreBehind, IsInformed, SignalsAre, TicksAre}
-use Rattle.mpm_run.specs.Watched.{AreClosedAtOnce, AreWatched, IsBoundOnce, IsHushed, IsOpenedAndHushed, accepted_names, link_watched, links_from}
+use Rattle.mpm_run.specs.Watched.{AreClosedAtOnce, AreWatched, IsBoundOnce, IsHushed, IsOpenedAndHushed, link_watched}
 use Rattle.mpm_run.specs.declared.run_numbers.RunNumbers.{RunNumbers}
 use Rattle.mpm_run.proofs.FrontLemmas.{rises-after}
 
@@ -148,6 +146,7 @@ watching-opened n (Some t) calls b opened idle =
     subst (λ (x : SeenBook). WatchesAll x t) (sym opened) (record {
       watches =
           record {
+            before = omega arith;
             watches = ap (map link_watched) idle.front.watches;
             failed = subst (AreClosedAtOnce []) (sym idle.front.watches) tt;
           };
@@ -155,16 +154,9 @@ watching-opened n (Some t) calls b opened idle =
     })
 
 -- and in the end each link that the table took
-pub are-watched : (n : RunNumbers) (told : Option FrontTold) (b : SeenBook) → b.folded ≡ folded_by n → IfSome told (WatchesAll b)
-    → IfSome told (AreWatched b)
-are-watched n None b folded all = tt
-are-watched n (Some t) b folded all = record {
-  before = subst (λ (f : Folded). f.accepted ≤ length t.watches) (sym folded) (omega arith);
-  watches =
-      subst (λ (f : Folded). map link_watched (drop f.accepted t.watches) ≡ links_from f.accepted (accepted_names b.history)) (sym folded)
-      all.watches.watches;
-  failed = subst (λ (f : Folded). AreClosedAtOnce b.history (drop f.accepted t.watches)) (sym folded) all.watches.failed;
-}
+pub are-watched : (told : Option FrontTold) (b : SeenBook) → IfSome told (WatchesAll b) → IfSome told (AreWatched b)
+are-watched None b all = tt
+are-watched (Some t) b all = all.watches
 
 -- ## Patience
 

@@ -1,8 +1,8 @@
 -- That each link that the table took is watched under the name of its connection, which is closed where that failed.
-use Rattle.std.proofs.Common.{◌≡◌, ◌≢◌, ◌==◌, ℕ, Bool, true, false, if◌then◌else◌, List, [], ◌∷◌, ◌++◌, length, map, Option, None, Some, option_map, is_none, Result, Ok, Err, IfErr, IfSome, OnOk, refl, sym, ap, subst, ◌∙◌, append-nil, append_assoc, eq-eqb, eqb-true}
+use Rattle.std.proofs.Common.{◌≡◌, ◌≢◌, ◌==◌, ◌≤◌, ℕ, drop, Bool, true, false, if◌then◌else◌, List, [], ◌∷◌, ◌++◌, length, map, Option, None, Some, option_map, is_none, Result, Ok, Err, IfErr, IfSome, OnOk, refl, sym, ap, subst, ◌∙◌, append-nil, append_assoc, length-append, eq-eqb, eqb-true, arith}
 use Rattle.std.proofs.lemmas.Bool.{and_parts}
 use Rattle.std.proofs.lemmas.Grind.{flat_map-append}
-use Rattle.std.proofs.lemmas.List.{map-append}
+use Rattle.std.proofs.lemmas.List.{drop-append-le, map-append}
 use Rattle.std.proofs.lemmas.List.Elements.{filter-append}
 use Rattle.std.specs.List.{flat_map}
 use Rattle.mpm_base.specs.Count.{next_count}
@@ -141,6 +141,7 @@ names-added who es has a b acts =
 
 -- the history went on, and no connection was taken
 pub record TakesNobody (a b : SeenBook) : Type 0 where
+  pub folded : b.folded ≡ a.folded
   pub more : List Entry
   pub history : b.history ≡ a.history ++ more
   pub none : accepted_names more ≡ []
@@ -156,6 +157,7 @@ nobody-named a b nobody =
 -- and so it is in two steps
 pub nobody-more : (a b c : SeenBook) → TakesNobody a b → TakesNobody b c → TakesNobody a c
 nobody-more a b c first second = record {
+  folded = second.folded ∙ first.folded;
   more = first.more ++ second.more;
   history = second.history ∙ ap (λ (es : List Entry). es ++ second.more) first.history ∙ append_assoc a.history first.more second.more;
   none =
@@ -166,6 +168,7 @@ nobody-more a b c first second = record {
 -- it is so where no event took one
 pub nobody-acts : (who : ℕ) (es : List Event) (has : Option ConnName) (a b : SeenBook) → Acts who es has a b → TakesNone es → TakesNobody a b
 nobody-acts who es has a b acts none = record {
+  folded = acts.folded;
   more = acts.entries.0;
   history = acts.entries.1;
   none = unnamed acts.entries.0 (subst TakesNone (sym (added-events who es has a b acts)) none);
@@ -195,6 +198,7 @@ serves-added p base f before (e ∷ added) other are =
 -- and where another pass than the listener added what it did
 pub nobody-served : (who : ℕ) (es : List Event) (has : Option ConnName) (a b : SeenBook) → who ≢ 0 → Acts who es has a b → TakesNobody a b
 nobody-served who es has a b other acts = record {
+  folded = acts.folded;
   more = acts.entries.0;
   history = acts.entries.1;
   none = unnamed acts.entries.0 (serves-added who a.base a.folded a.history acts.entries.0 other acts.entries.2);
@@ -277,6 +281,7 @@ closed-at-once law slot name a m b took left =
 
 -- a connection was taken, and the history went on; where its watch failed it was closed at once
 pub record TakesOne (name : ConnName) (watched : Bool) (a b : SeenBook) : Type 0 where
+  pub folded : b.folded ≡ a.folded
   pub more : List Entry
   pub history : b.history ≡ a.history ++ more
   pub names : accepted_names b.history ≡ accepted_names a.history ++ name ∷ []
@@ -285,6 +290,7 @@ pub record TakesOne (name : ConnName) (watched : Bool) (a b : SeenBook) : Type 0
 takes-left : LeavesItsRow → (name : ConnName) (watched : Bool) (a m b : SeenBook) → Acts 0 (event.Accept name.slot ∷ []) (Some name) a m → TakesNobody m b
     → (watched ≡ false → IsClosedAtOnce b.history name) → TakesOne name watched a b
 takes-left law name watched a m b took nobody closed = record {
+  folded = nobody.folded ∙ took.folded;
   more = took.entries.0 ++ nobody.more;
   history =
       nobody.history ∙ ap (λ (es : List Entry). es ++ nobody.more) took.entries.1 ∙ append_assoc a.history took.entries.0 nobody.more;
@@ -348,18 +354,33 @@ number-more : (number : ℕ) (names : List ConnName) (name : ConnName) → numbe
 number-more number [] name = refl
 number-more number (n ∷ names) name = number-more (next_count number) names name
 
+-- the front watches each link that was taken behind the first so many, and the table counted them
+record WatchesBehind (first : ℕ) (b : SeenBook) (t : FrontTold) : Type 0 where
+  pub before : first ≤ length t.watches
+  pub watches : map link_watched (drop first t.watches) ≡ links_from first (accepted_names b.history)
+  pub failed : AreClosedAtOnce b.history (drop first t.watches)
+  pub count : b.state.accepted ≡ number_after first (accepted_names b.history)
+
+-- which are those that were folded
+all-behind : (first : ℕ) (b : SeenBook) (t : FrontTold) → first ≡ b.folded.accepted → WatchesBehind first b t → WatchesAll b t
+all-behind first b t is behind =
+    let here : WatchesBehind b.folded.accepted b t = subst (λ (n : ℕ). WatchesBehind n b t) is behind in
+    record {
+      watches = record { before = here.before; watches = here.watches; failed = here.failed };
+      count = here.count;
+    }
+
 -- a book whose history went on, and took no connection
 watches-as : (a b : SeenBook) (t : FrontTold) → TakesNobody a b → b.state.accepted ≡ a.state.accepted → WatchesAll a t → WatchesAll b t
 watches-as a b t nobody accepted all =
     let names = nobody-named a b nobody in
-    record {
-      watches =
-          record {
-            watches = all.watches.watches ∙ ap (links_from 0) (sym names);
-            failed = all-closed-on a.history nobody.more b.history t.watches nobody.history all.watches.failed;
-          };
-      count = accepted ∙ all.count ∙ ap (number_after 0) (sym names);
-    }
+    let first = a.folded.accepted in
+    all-behind first b t (ap (λ (f : Folded). f.accepted) (sym nobody.folded)) (record {
+      before = all.watches.before;
+      watches = all.watches.watches ∙ ap (links_from first) (sym names);
+      failed = all-closed-on a.history nobody.more b.history (drop first t.watches) nobody.history all.watches.failed;
+      count = accepted ∙ all.count ∙ ap (number_after first) (sym names);
+    })
 
 pub watched-as : (told : Option FrontTold) (a b : SeenBook) → TakesNobody a b → b.state.accepted ≡ a.state.accepted → IfSome told (WatchesAll a)
     → IfSome told (WatchesAll b)
@@ -368,14 +389,17 @@ watched-as (Some t) a b nobody accepted all = watches-as a b t nobody accepted a
 
 -- a change of the front that leaves its watches
 watches-still : (t t' : FrontTold) (b : SeenBook) → t'.watches ≡ t.watches → WatchesAll b t → WatchesAll b t'
-watches-still t t' b same all = record {
-  watches =
-      record {
-        watches = ap (map link_watched) same ∙ all.watches.watches;
-        failed = subst (AreClosedAtOnce b.history) (sym same) all.watches.failed;
-      };
-  count = all.count;
-}
+watches-still t t' b same all =
+    let first = b.folded.accepted in
+    record {
+      watches =
+          record {
+            before = subst (λ (ws : List WatchTold). first ≤ length ws) (sym same) all.watches.before;
+            watches = ap (λ (ws : List WatchTold). map link_watched (drop first ws)) same ∙ all.watches.watches;
+            failed = subst (λ (ws : List WatchTold). AreClosedAtOnce b.history (drop first ws)) (sym same) all.watches.failed;
+          };
+      count = all.count;
+    }
 
 watched-mapped : (told told' : Option FrontTold) (change : FrontTold → FrontTold) (b : SeenBook) → ((t : FrontTold) → (change t).watches ≡ t.watches)
     → told' ≡ option_map change told → IfSome told (WatchesAll b) → IfSome told' (WatchesAll b)
@@ -416,20 +440,24 @@ watches-took : (w : WatchTold) (t : FrontTold) (a b : SeenBook) → w.rank ≡ a
     → b.state.accepted ≡ next_count a.state.accepted → WatchesAll a t → WatchesAll b (record t { watches = t.watches ++ w ∷ [] })
 watches-took w t a b rank one accepted all =
     let names = one.names in
-    record {
+    let first = a.folded.accepted in
+    let behind = drop first t.watches in
+    let more : drop first (t.watches ++ w ∷ []) ≡ behind ++ w ∷ [] = drop-append-le first t.watches (w ∷ []) all.watches.before in
+    all-behind first b (record t { watches = t.watches ++ w ∷ [] }) (ap (λ (f : Folded). f.accepted) (sym one.folded)) (record {
+      before = omega (arith, length-append t.watches (w ∷ []), all.watches.before);
       watches =
-          record {
-            watches =
-                map-append link_watched t.watches (w ∷ [])
-                ∙ ap (λ (n : ℕ). map link_watched t.watches ++ (n, w.name) ∷ []) (rank ∙ all.count)
-                ∙ ap (λ (xs : List (ℕ × ConnName)). xs ++ (number_after 0 (accepted_names a.history), w.name) ∷ []) all.watches.watches
-                ∙ sym (links-more 0 (accepted_names a.history) w.name)
-                ∙ ap (links_from 0) (sym names);
-            failed =
-                all-closed-more b.history t.watches w (all-closed-on a.history one.more b.history t.watches one.history all.watches.failed) one.failed;
-          };
-      count = accepted ∙ ap next_count all.count ∙ sym (number-more 0 (accepted_names a.history) w.name) ∙ ap (number_after 0) (sym names);
-    }
+          ap (map link_watched) more
+          ∙ map-append link_watched behind (w ∷ [])
+          ∙ ap (λ (n : ℕ). map link_watched behind ++ (n, w.name) ∷ []) (rank ∙ all.count)
+          ∙ ap (λ (xs : List (ℕ × ConnName)). xs ++ (number_after first (accepted_names a.history), w.name) ∷ []) all.watches.watches
+          ∙ sym (links-more first (accepted_names a.history) w.name)
+          ∙ ap (links_from first) (sym names);
+      failed =
+          subst (AreClosedAtOnce b.history) (sym more)
+          (all-closed-more b.history behind w (all-closed-on a.history one.more b.history behind one.history all.watches.failed) one.failed);
+      count =
+          accepted ∙ ap next_count all.count ∙ sym (number-more first (accepted_names a.history) w.name) ∙ ap (number_after first) (sym names);
+    })
 
 -- a connection was taken, and its link watched under its name
 pub watched-took : (name : ConnName) (answer : Bool) (link : Option LinkTold) (l : LinkTold) (told told' : Option FrontTold) (a b : SeenBook) → link ≡ Some l

@@ -9,7 +9,6 @@ use Rattle.mpm_base.specs.Count.{NeverFalls, Rises, next_count}
 use Rattle.mpm_base.specs.Link.{LinkTold, LinkSeen}
 use Rattle.mpm_base.specs.declared.conn.ConnName.{ConnName}
 use Rattle.conn_machine.specs.declared.row.Row.{Row}
-use Rattle.conn_machine.specs.declared.event.Entry.{Entry}
 use Rattle.conn_machine.specs.declared.event.Why.{Why}
 use Rattle.conn_machine.specs.declared.event.Why.TheVariants as why
 use Rattle.conn_machine.specs.declared.state.Going.{Going}
@@ -35,7 +34,7 @@ use Rattle.mpm_run.specs.Links.{HandsOutTaken, TakesLinks, TurnsOneAway}
 use Rattle.mpm_run.specs.Listen.{HasNoLive, IsClosedDown}
 use Rattle.mpm_run.specs.Patient.{IsAtRest}
 use Rattle.mpm_run.specs.Started.{BeginsWithStarts}
-use Rattle.mpm_run.specs.Watched.{AreClosedAtOnce, accepted_names, link_watched, links_from}
+use Rattle.mpm_run.specs.Watched.{AreWatched, accepted_names}
 
 -- the waits of a front, where it tells
 abbrev pub waits_of : Option FrontTold → Option (List WaitTold)
@@ -125,16 +124,10 @@ abbrev pub number_after : ℕ → List ConnName → ℕ
 number_after number [] = number
 number_after number (name ∷ names) = number_after (next_count number) names
 
--- the front watched each link that the table took once, in order, under the name of its connection; and where the watch failed the
--- connection was closed at once
-pub record WatchesEach (history : List Entry) (t : FrontTold) : Type 0 where
-  pub watches : map link_watched t.watches ≡ links_from 0 (accepted_names history)
-  pub failed : AreClosedAtOnce history t.watches
-
--- the front watches each link that the table took, and the table counted them
+-- the front watches each link that the table took, and the table counted them behind those whose entries were folded
 pub record WatchesAll (b : SeenBook) (t : FrontTold) : Type 0 where
-  pub watches : WatchesEach b.history t
-  pub count : b.state.accepted ≡ number_after 0 (accepted_names b.history)
+  pub watches : AreWatched b t
+  pub count : b.state.accepted ≡ number_after b.folded.accepted (accepted_names b.history)
 
 -- the same of a front that tells, whose links tell
 abbrev pub IsWatching : {L : Type 0} → (L → LinkSeen) → Option FrontTold → SeenBook → Type 0

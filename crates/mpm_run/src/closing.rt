@@ -3,7 +3,6 @@
 //!
 //! Each call says which connections it held, and how it left each (`specs/ClosingInside.antt`).
 ghost use Rattle.std.specs.Prelude.{◌≡◌, ◌<◌, [], ◌∷◌, None, Some, true, false, IfErr, OnErr, OnOk};
-ghost use Rattle.conn_machine.specs.Made.{IsOpened};
 ghost use Rattle.conn_machine.specs.Rows.{is_linger_kind, lives_and};
 ghost use Rattle.conn_machine.specs.States.{is_halted};
 ghost use Rattle.conn_machine.specs.Table.{is_allowed, next};
@@ -257,7 +256,6 @@ fn give_up_lingering<L: Link, N: Known>(
 /// Closes each connection that waits, once the server has stopped; none is live then where no pass had one. Takes no memory.
 pub(crate) fn close_all<L: Link, N: Known>(board: &mut Board<L, N>)
     requires passes { 0 < board.old.book.passes }
-    requires opened { IsOpened board.old.book.base }
     requires free { row_in 0 board.old.book ≡ None }
     requires halted { is_halted board.old.book.state.going ≡ true }
     ensures gone { LetsGo IsHaltedWay board.old.book board.new.book }

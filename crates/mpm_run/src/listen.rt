@@ -3,10 +3,10 @@
 //! Each part of a round says which events it adds under the listener's pass, in order (`specs/RoundInside.antt`). Of the
 //! state it says no more than where it stands in the end, and what the listener alone changes: the moment, and how many
 //! connections were taken.
-ghost use Rattle.std.specs.Prelude.{◌≡◌, ◌<◌, [], None, true, false, is_some, max, IfOk, IfErr, IfSome, OnErr, OnOk};
+ghost use Rattle.std.specs.Prelude.{◌≡◌, ◌<◌, None, true, false, is_some, max, IfOk, IfErr, IfSome, OnErr, OnOk};
 ghost use Rattle.mpm_base.specs.Count.{next_count};
 ghost use Rattle.mpm_base.specs.Front.{TellsOn, Waits};
-ghost use Rattle.conn_machine.specs.Made.{AreOfPasses, IsOpened};
+ghost use Rattle.conn_machine.specs.Made.{AreOfPasses};
 ghost use Rattle.conn_machine.specs.Runs.{after};
 ghost use Rattle.conn_machine.specs.Sound.{IsSound};
 ghost use Rattle.conn_machine.specs.States.{is_halted};
@@ -118,7 +118,6 @@ impl<L: Link + Send, F: Front<L = L>, C: Clock, N: Known> Listener<L, F, C, N> {
     /// waits is closed, and each child is let go of. How it ended is read off the board.
     pub fn listen<R: Wait>(&mut self, rt: &R)
         requires passes { 1 < self.old.board.book.passes }
-        requires opened { IsOpened self.old.board.book.base }
         requires free { NoneHas self.old.board.book }
         requires going { is_halted self.old.board.book.state.going ≡ false }
         requires step { IsInStep self.old.front.told self.old.board.book.state }
@@ -130,7 +129,7 @@ impl<L: Link + Send, F: Front<L = L>, C: Clock, N: Known> Listener<L, F, C, N> {
         ensures follows { Follows self.old.front self.new.front }
         ensures bound { bound_of self.new.front.told ≡ bound_of self.old.front.told }
         ensures hushed { IfSome self.new.front.told IsHushed }
-        ensures started { self.old.board.book.history ≡ [] → HasStarted self.old self.new }
+        ensures started { IsOpening self.old.board.book → HasStarted self.old self.new }
         ensures watched { IsWatching L.seen self.old.front.told self.old.board.book → IsWatching L.seen self.new.front.told self.new.board.book }
         ensures links { HandedOut L.seen self.new.front.told self.new.board.book.state }
         ensures time { IsInTime (waits_of self.old.front.told) self.old.calls → IsInTime (waits_of self.new.front.told) self.new.calls }
@@ -149,7 +148,6 @@ impl<L: Link + Send, F: Front<L = L>, C: Clock, N: Known> Listener<L, F, C, N> {
     /// is signalled. Err where the server has to stop before.
     fn take_turns<R: Wait>(&mut self, rt: &R) -> Result<End, BoardFault>
         requires passes { 1 < self.old.board.book.passes }
-        requires opened { IsOpened self.old.board.book.base }
         requires free { NoneHas self.old.board.book }
         requires going { is_halted self.old.board.book.state.going ≡ false }
         requires step { IsInStep self.old.front.told self.old.board.book.state }
@@ -161,7 +159,7 @@ impl<L: Link + Send, F: Front<L = L>, C: Clock, N: Known> Listener<L, F, C, N> {
         ensures up { IsUp self.new.board.book.state.going }
         ensures follows { Follows self.old.front self.new.front }
         ensures bound { bound_of self.new.front.told ≡ bound_of self.old.front.told }
-        ensures started { self.old.board.book.history ≡ [] → HasStarted self.old self.new }
+        ensures started { IsOpening self.old.board.book → HasStarted self.old self.new }
         ensures watched { IsWatching L.seen self.old.front.told self.old.board.book → IsWatching L.seen self.new.front.told self.new.board.book }
         ensures step { OnOk result (IsInStep self.new.front.told self.new.board.book.state) }
         ensures links { OnErr result (HandsOut L.seen self.new.front.told self.new.board.book.state) }

@@ -6,7 +6,6 @@ ghost use Rattle.mpm_base.specs.Count.{next_count};
 ghost use Rattle.mpm_base.specs.declared.conn.Cause.TheVariants as cause;
 ghost use Rattle.mpm_base.specs.declared.conn.Kind.TheVariants.{Reading};
 ghost use Rattle.mpm_base.specs.declared.conn.Tail.TheVariants.{Direct};
-ghost use Rattle.conn_machine.specs.Made.{IsOpened};
 ghost use Rattle.conn_machine.specs.Rows.{is_live};
 ghost use Rattle.conn_machine.specs.Runs.{after};
 ghost use Rattle.conn_machine.specs.Sound.{IsSound};
@@ -303,7 +302,6 @@ fn why_without_memory<L: Link, N: Known>(board: &Board<L, N>) -> Why
 
 /// Shows that no connection is live where no pass has one and none waits. Does nothing.
 pub fn show_none_live<L: Link, N: Known>(board: &Board<L, N>)
-    requires { IsOpened board.now.book.base }
     ensures { NoneHas board.now.book → NoneParked board.now.book.state → HasNoLive board.now.book.state }
 {
     each_pass_has_its_own_connection();

@@ -1,5 +1,4 @@
-use Rattle.std.proofs.Common.{ap, refl, sym, subst, ◌∙◌}
-use Rattle.conn_machine.specs.Made.{IsOpened}
+use Rattle.std.proofs.Common.{ap, refl, ◌∙◌}
 use Rattle.conn_machine.specs.States.{is_halted}
 use Rattle.mpm_run.specs.ClosingInside.{IsHaltedWay}
 use Rattle.mpm_run.proofs.ClosingLemmas.{lets-more, lets-none}
@@ -30,9 +29,6 @@ loop-name-preserved g c =
           c.passes_act_in_steps.ensures.rest c.args.board.now.book c.loop-name.board.book c.close_one.new.board.book c.loop-name.invariant.rest c.close_one.ensures.rest;
       going = c.close_one.ensures.going ∙ c.loop-name.invariant.going;
     }
-
-pub show_none_live-requires : goal.show_none_live-requires
-show_none_live-requires g c = subst IsOpened (sym c.loop-name.invariant.gone.acts.base) c.requires.opened
 
 pub returns-clause-none : goal.returns-clause-none
 returns-clause-none g c = c.in_default.ensures

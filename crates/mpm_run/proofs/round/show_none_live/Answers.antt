@@ -2,7 +2,7 @@ use Rattle.std.proofs.Common.{ℕ, subst}
 use Rattle.conn_machine.specs.Passes.{HasNoneInHand}
 use Rattle.conn_machine.specs.Runs.{after}
 use Rattle.board.specs.Book.{row_in}
-use Rattle.mpm_run.proofs.PassLemmas.{none-left, owns-opened}
+use Rattle.mpm_run.proofs.PassLemmas.{none-left}
 use Rattle.mpm_run.proofs.round.show_none_live.Goals as goal
 
 pub returns : goal.returns
@@ -11,6 +11,5 @@ returns g c none parked =
     none-left b.state
     (subst HasNoneInHand c.show.ensures.state
     (c.each_pass_has_its_own_connection.ensures.nobody (after b.base b.history) (λ (who : ℕ). row_in who b)
-    (c.each_pass_has_its_own_connection.ensures.made b.base b.folded b.history
-    (owns-opened c.each_pass_has_its_own_connection.ensures.opened b c.requires c.show.ensures.unfolded) c.show.ensures.made) none))
+    (c.each_pass_has_its_own_connection.ensures.made b.base b.folded b.history c.show.ensures.own c.show.ensures.made) none))
     parked

@@ -5,7 +5,7 @@ use Rattle.board.specs.Board.{SeenBoard}
 use Rattle.board.specs.Book.{SeenBook}
 use Rattle.mpm_run.specs.FirstNumbers.{opened_by}
 use Rattle.mpm_run.specs.Links.{TakesLinks}
-use Rattle.mpm_run.specs.ListenInside.{Follows, HasStopped, SeenListener, IsInTime, WatchesAll, asked_children, waits_of}
+use Rattle.mpm_run.specs.ListenInside.{Follows, HasStopped, IsOpening, SeenListener, IsInTime, WatchesAll, asked_children, waits_of}
 use Rattle.mpm_run.specs.PatientInside.{IsPatientRun}
 use Rattle.mpm_run.specs.Started.{BeginsWithStarts, IsStartedFirst}
 use Rattle.mpm_run.specs.Times.{WasInformed}
@@ -14,9 +14,6 @@ use Rattle.mpm_run.proofs.ChildrenLemmas.{started-first}
 use Rattle.mpm_run.proofs.FrontLemmas.{follows-bind, follows-trans, named-follows}
 use Rattle.mpm_run.proofs.StartedLemmas.{are-watched, few-opened, idle-bound, informed-opened, opened-hushed, opens, starts-opened, step-opened, stopped-before, time-opened, unwaited, watching-opened}
 use Rattle.mpm_run.proofs.server.run_server.Goals as goal
-
-pub listen-requires-clause-opened : goal.listen-requires-clause-opened
-listen-requires-clause-opened g c κs within = opens c.args.numbers c.in-Ok-open_board.board.book c.requires.numbers c.in-Ok-open_board.ensures.book
 
 pub listen-requires-clause-step : goal.listen-requires-clause-step
 listen-requires-clause-step g c κs within =
@@ -70,7 +67,7 @@ returns-clause-watched g c tells =
     c.listen.ensures.watched (λ holds. watching-opened c.args.numbers (g.F.Front.seen c.in-Ok.front).told _ c.in-Ok-open_board.board.book c.in-Ok-open_board.ensures.book idle) tells in
     let here = subst (λ (l : SeenListener). IfSome l.front.told (WatchesAll l.board.book)) (sym c.listener.view_is) all in
     subst (λ (b : SeenBoard). IfSome (g.F.Front.seen c.listener.inside.front).told (AreWatched b.book)) (sym c.forget.ensures.same)
-    (are-watched c.args.numbers _ c.listener.inside.board.book c.show_run.ensures.unfolded.folded here)
+    (are-watched _ c.listener.inside.board.book here)
 
 pub returns-clause-patient : goal.returns-clause-patient
 returns-clause-patient g c =
@@ -98,7 +95,12 @@ returns-clause-started g c =
     let idle =
     idle-bound c.args.numbers (g.F.Front.seen c.args.front) (g.F.Front.seen c.in-Ok.front) _ c.in-Ok.ensures.bound c.requires.unused c.requires.unasked in
     let base : c.in-Ok-open_board.board.book.base ≡ opened_by c.args.numbers = ap (λ (b : SeenBook). b.base) c.in-Ok-open_board.ensures.book in
-    let started = c.listen.ensures.started (ap (λ (b : SeenBook). b.history) c.in-Ok-open_board.ensures.book) in
+    let opening : IsOpening c.in-Ok-open_board.board.book =
+    record {
+      opened = opens c.args.numbers c.in-Ok-open_board.board.book c.requires.numbers c.in-Ok-open_board.ensures.book;
+      none = ap (λ (b : SeenBook). b.history) c.in-Ok-open_board.ensures.book;
+    } in
+    let started = c.listen.ensures.started opening in
     let here = subst (λ (s : State). (waits_of c.listen.new.self.front.told ≡ waits_of (g.F.Front.seen c.in-Ok.front).told)
     ⊎ BeginsWithStarts (asked_children s) c.listen.new.self.board.book.history) base started in
     subst (λ (b : SeenBoard). IfSome (g.F.Front.seen c.listener.inside.front).told (IsStartedFirst c.args.numbers b.book)) (sym c.forget.ensures.same)

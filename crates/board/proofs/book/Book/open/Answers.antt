@@ -1,5 +1,6 @@
-use Rattle.std.proofs.Common.{◌≡◌, ◌≤◌, ℕ, vec_capacity, replicate, rules}
+use Rattle.std.proofs.Common.{◌≡◌, ◌≤◌, ℕ, vec_capacity, replicate, refl, rules}
 use Rattle.std.proofs.lemmas.List.{length-replicate}
+use Rattle.conn_machine.specs.States.{opening_state}
 use Rattle.board.proofs.BookLemmas.{kept_first}
 use Rattle.board.proofs.book.Book.open.Goals as goal
 
@@ -10,4 +11,6 @@ invariant_of-result c =
     rw (c.of.ensures, c.in_ok-state.ensures, c.in-Ok-with_capacity.ensures.items, ordinals, length-replicate {A = ℕ} c.args.passes 0)
     (kept_first c.args.slots c.args.children c.args.passes (vec_capacity c.in-Ok-with_capacity.history) c.args.shape
     c.requires.slots c.requires.children
-    (c.events_keep_states_sound.ensures.opening c.args.slots c.args.children c.args.shape c.requires.shape) space)
+    (c.events_keep_states_sound.ensures.opening c.args.slots c.args.children c.args.shape c.requires.shape) space
+    (c.each_pass_has_its_own_connection.ensures.opened (opening_state c.args.slots c.args.children c.args.shape) c.args.passes
+    (record { slots = c.args.slots; children = c.args.children; shape = c.args.shape; bounds = c.requires.shape; state = refl })))

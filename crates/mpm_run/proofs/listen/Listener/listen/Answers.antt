@@ -78,9 +78,9 @@ returns-clause-few g c began =
     (few-acts c.passes_act_in_steps.ensures.acts passes 0 _ None c.self.inside.board.book c.halt.new.board.book some c.halt.ensures.acts (few began)))
 
 pub returns-clause-started : goal.returns-clause-started
-returns-clause-started g c none =
+returns-clause-started g c opening =
     let started = rw (← c.self.view_is) at c.take_turns-turns.ensures.started in
-    elim (started none) [
+    elim (started opening) [
       | inl same ↦ inl (waits-hushed _ _ c.hush.ensures ∙ same)
       | inr begins ↦
           inr (begins-down _ c.take_turns-turns.result c.self.inside.board.book c.halt.new.board.book c.close_all.new.board.book c.retire_all.new.board.book

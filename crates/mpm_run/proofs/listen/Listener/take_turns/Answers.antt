@@ -16,7 +16,7 @@ loop-init g c = record {
       between-started c.passes_act_in_steps.ensures.acts (LinksTell g.L.Link.seen) c.args.self.now c.start.new.self c.requires.passes c.requires.free c.requires.going c.requires.step c.requires.informed c.start.ensures.others
       c.start.ensures.starts c.start.ensures.going c.start.ensures.rest;
   going = ap is_halted c.start.ensures.going ∙ c.requires.going;
-  started = λ none. c.in_ok-first.ensures.first (record { opened = c.requires.opened; none = none });
+  started = c.in_ok-first.ensures.first;
   paced =
       λ start. pace-started c.in_ok-first.first c.args.self.now c.start.new.self start c.start.ensures.others c.start.ensures.starts c.start.ensures.rest.moment
       c.in_ok-first.ensures.until c.in_ok-first.ensures.quiet;
@@ -365,10 +365,10 @@ loop-preserved g c =
       between = between-served c.passes_act_in_steps.ensures.acts (LinksTell g.L.Link.seen) c.args.self.now c.take_in.new.self c.serve.new.self between served;
       going = c.in_ok-rest.ensures.going;
       started =
-          λ none. begins-more 1 c.serve.ensures.serves.events None (asked_children c.args.self.now.board.book.base) c.take_in.new.self.board.book c.serve.new.self.board.book
+          λ opening. begins-more 1 c.serve.ensures.serves.events None (asked_children c.args.self.now.board.book.base) c.take_in.new.self.board.book c.serve.new.self.board.book
           c.serve.ensures.serves.acts
           (begins-round (asked_children c.args.self.now.board.book.base) c.loop.rest c.take_pause-pause.result c.loop.self _ c.take_in.new.self
-          _ waited c.in_ok-take_in.ensures.round.acts (c.loop.invariant.started none));
+          _ waited c.in_ok-take_in.ensures.round.acts (c.loop.invariant.started opening));
       paced =
           λ start. pace-served c.histories_join.ensures.state c.in_ok-rest.rest c.take_in.new.self c.serve.new.self c.show-in-loop.ensures.after c.show-in-loop-2.ensures.after
           (abreast-round c.loop.rest c.take_pause-pause.result c.loop.self _ c.take_in.new.self (c.loop.invariant.paced start).abreast waited c.in_ok-take_in.ensures.moment
@@ -418,42 +418,42 @@ returns-in_err-rest-clause-patient g c start =
     c.in_ok-take_in.ensures.round c.take_in.ensures.front c.take_in.ensures.calls) served
 
 pub returns-in_err-first-clause-started : goal.returns-in_err-first-clause-started
-returns-in_err-first-clause-started g c none = inl (ap (λ (l : SeenListener). waits_of l.front.told) c.start.ensures.others)
+returns-in_err-first-clause-started g c opening = inl (ap (λ (l : SeenListener). waits_of l.front.told) c.start.ensures.others)
 
 pub returns-in-Ended-clause-started : goal.returns-in-Ended-clause-started
-returns-in-Ended-clause-started g c none =
+returns-in-Ended-clause-started g c opening =
     let waited =
     has-waited c.loop.rest c.take_pause-pause.result c.loop.self _ (g.F.Front.seen c.take_pause-pause.new.front) (g.C.Clock.told c.take_pause-pause.new.clock)
     c.take_pause-pause.new.ready c.moment-present.result c.self.view_is c.show.ensures.after c.show.ensures.sound c.moment-present.ensures
     c.take_pause-pause.ensures.waits c.take_pause-pause.ensures.asks in
-    inr (begins-waited _ c.loop.rest c.take_pause-pause.result c.loop.self _ waited (c.loop.invariant.started none))
+    inr (begins-waited _ c.loop.rest c.take_pause-pause.result c.loop.self _ waited (c.loop.invariant.started opening))
 
 pub returns-in-Failed-clause-started : goal.returns-in-Failed-clause-started
-returns-in-Failed-clause-started g c none =
+returns-in-Failed-clause-started g c opening =
     let waited =
     has-waited c.loop.rest c.take_pause-pause.result c.loop.self _ (g.F.Front.seen c.take_pause-pause.new.front) (g.C.Clock.told c.take_pause-pause.new.clock)
     c.take_pause-pause.new.ready c.moment-present.result c.self.view_is c.show.ensures.after c.show.ensures.sound c.moment-present.ensures
     c.take_pause-pause.ensures.waits c.take_pause-pause.ensures.asks in
-    inr (begins-waited _ c.loop.rest c.take_pause-pause.result c.loop.self _ waited (c.loop.invariant.started none))
+    inr (begins-waited _ c.loop.rest c.take_pause-pause.result c.loop.self _ waited (c.loop.invariant.started opening))
 
 pub returns-in_err-take_in-clause-started : goal.returns-in_err-take_in-clause-started
-returns-in_err-take_in-clause-started g c none =
+returns-in_err-take_in-clause-started g c opening =
     let waited =
     has-waited c.loop.rest c.take_pause-pause.result c.loop.self _ (g.F.Front.seen c.take_pause-pause.new.front) (g.C.Clock.told c.take_pause-pause.new.clock)
     c.take_pause-pause.new.ready c.moment-present.result c.self.view_is c.show.ensures.after c.show.ensures.sound c.moment-present.ensures
     c.take_pause-pause.ensures.waits c.take_pause-pause.ensures.asks in
     inr (begins-round _ c.loop.rest c.take_pause-pause.result c.loop.self _ c.take_in.new.self _ waited
-    c.in_err-take_in.ensures.broken.acts (c.loop.invariant.started none))
+    c.in_err-take_in.ensures.broken.acts (c.loop.invariant.started opening))
 
 pub returns-in_err-rest-clause-started : goal.returns-in_err-rest-clause-started
-returns-in_err-rest-clause-started g c none =
+returns-in_err-rest-clause-started g c opening =
     let waited =
     has-waited c.loop.rest c.take_pause-pause.result c.loop.self _ (g.F.Front.seen c.take_pause-pause.new.front) (g.C.Clock.told c.take_pause-pause.new.clock)
     c.take_pause-pause.new.ready c.moment-present.result c.self.view_is c.show.ensures.after c.show.ensures.sound c.moment-present.ensures
     c.take_pause-pause.ensures.waits c.take_pause-pause.ensures.asks in
     inr (begins-more 1 c.serve.ensures.serves.events None _ c.take_in.new.self.board.book c.serve.new.self.board.book c.serve.ensures.serves.acts
     (begins-round _ c.loop.rest c.take_pause-pause.result c.loop.self _ c.take_in.new.self _ waited
-    c.in_ok-take_in.ensures.round.acts (c.loop.invariant.started none)))
+    c.in_ok-take_in.ensures.round.acts (c.loop.invariant.started opening)))
 
 pub returns-in-Ended-clause-step : goal.returns-in-Ended-clause-step
 returns-in-Ended-clause-step g c =

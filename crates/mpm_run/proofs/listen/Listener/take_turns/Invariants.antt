@@ -1,6 +1,6 @@
-use Rattle.std.proofs.Common.{◌≡◌, [], false}
+use Rattle.std.proofs.Common.{◌≡◌, false}
 use Rattle.conn_machine.specs.States.{is_halted}
-use Rattle.mpm_run.specs.ListenInside.{IsAtStart, LinksTell, asked_children}
+use Rattle.mpm_run.specs.ListenInside.{IsAtStart, IsOpening, LinksTell, asked_children}
 use Rattle.mpm_run.specs.Started.{BeginsWithStarts}
 use Rattle.mpm_run.proofs.PaceLemmas.{KeepsPace}
 use Rattle.mpm_run.proofs.TurnLemmas.{IsBetween}
@@ -12,6 +12,6 @@ invariant-loop g l =
     record {
       between : IsBetween (LinksTell g.L.Link.seen) l.fn.self l.self;
       going : is_halted l.self.board.book.state.going ≡ false;
-      started : l.fn.self.board.book.history ≡ [] → BeginsWithStarts (asked_children l.fn.self.board.book.base) l.self.board.book.history;
+      started : IsOpening l.fn.self.board.book → BeginsWithStarts (asked_children l.fn.self.board.book.base) l.self.board.book.history;
       paced : IsAtStart l.fn.self.front.told l.fn.self.board.book → KeepsPace l.rest l.self;
     }
