@@ -7,14 +7,11 @@ ghost use Rattle.std.specs.Process.{exit_status};
 ghost use Rattle.std.specs.declared.io.ErrorKind.TheVariants as kind;
 
 use mpm_base::{NoMemory, Words};
-use mpm_run::Outcome;
+use mpm_run::{Outcome, no_memory};
 use std::alloc::Global;
 use std::env::Args;
 use std::io::{self, ErrorKind};
 use std::process::ExitCode;
-
-/// The status for want of memory.
-const NO_MEMORY: u8 = 6;
 
 /// The words behind the program's name. Where one isn't UTF-8 they are no words, which are none of the forms of a command.
 pub fn words_of(alloc: Global, told: io::Result<Args>) -> Result<Words, NoMemory>
@@ -51,6 +48,6 @@ pub fn exit_of(outcome: Result<Outcome, NoMemory>) -> ExitCode
 {
     match outcome {
         Ok(outcome) => ExitCode::from(outcome.status),
-        Err(NoMemory) => ExitCode::from(NO_MEMORY),
+        Err(NoMemory) => ExitCode::from(no_memory().status),
     }
 }

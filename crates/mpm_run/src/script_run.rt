@@ -30,7 +30,9 @@ use conn_state::Known;
 use mpm_base::{Link, NoMemory, Octets, Sink, Store, StoreFault};
 use mpm_config::Config;
 use mpm_script::{Script, ScriptFault, read_script};
-use script_front::{ScriptClock, ScriptFront, editions_have_a_configuration, script_store};
+use script_front::{
+    CONF_NAME, ScriptClock, ScriptFront, editions_have_a_configuration, script_store,
+};
 use stand_ins::{MemStore, ScriptLink};
 use std::alloc::Global;
 use std::marker::Brand;
@@ -38,9 +40,6 @@ use std::sync::Wait;
 
 /// The most bytes that a script may have.
 const MOST_SCRIPT: u64 = 67_108_864;
-
-/// The name of the configuration of a script.
-const CONFIG_NAME: &str = "httpd.conf";
 
 /// Plays the script of that name in the store, by the configuration that its lines write, and writes the warnings and the report, or why
 /// there is none.
@@ -151,7 +150,7 @@ fn script_config(
     ensures config { IsScriptConfig script.now result }
 {
     editions_have_a_configuration();
-    let answer = store.read(alloc, CONFIG_NAME, MOST_CONFIG);
+    let answer = store.read(alloc, CONF_NAME, MOST_CONFIG);
     config_from(alloc, answer)
 }
 

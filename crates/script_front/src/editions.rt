@@ -15,7 +15,8 @@ use mpm_script::Script;
 use stand_ins::{Calls, Files, MemStore};
 use std::alloc::Global;
 
-const CONF_NAME: &str = "httpd.conf";
+/// The name of the configuration among the files of a script.
+pub const CONF_NAME: &str = "httpd.conf";
 
 /// The store of the script. Its first edition has the effect of the lines of the site before all others, and is there from
 /// the start; each later one has that of all lines of the site before a `command graceful`, and comes with `renew`. No call

@@ -17,6 +17,6 @@ mod script_clock;
 mod script_front;
 mod wait_end;
 
-pub use editions::{editions_have_a_configuration, script_store};
+pub use editions::{CONF_NAME, editions_have_a_configuration, script_store};
 pub use script_clock::ScriptClock;
 pub use script_front::ScriptFront;
