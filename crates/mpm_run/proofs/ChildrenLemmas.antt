@@ -24,7 +24,7 @@ use Rattle.board.specs.Book.{SeenBook, entry_of}
 use Rattle.board.specs.Board.{SeenBoard}
 use Rattle.board.specs.Events.{with_recorded}
 use Rattle.board.specs.Finds.{startable}
-use Rattle.worker_group.specs.Acts.{Acts}
+use Rattle.worker_group.specs.Acts.{Acts, ActsInSteps}
 use Rattle.mpm_run.specs.declared.listen.End.{End}
 use Rattle.mpm_run.specs.declared.listen.Pause.{Pause}
 use Rattle.mpm_run.specs.declared.listen.Rest.{Rest}
@@ -32,8 +32,9 @@ use Rattle.mpm_run.specs.declared.run_numbers.RunNumbers.{RunNumbers}
 use Rattle.mpm_run.specs.ClosingInside.{IsHaltedWay, LetsGo}
 use Rattle.mpm_run.specs.FirstNumbers.{opened_by}
 use Rattle.mpm_run.specs.ListenInside.{IsOpening, SeenListener, asked_children, waits_of}
-use Rattle.mpm_run.specs.RoundInside.{RetiresSome, halt_events}
+use Rattle.mpm_run.specs.RoundInside.{BreaksOff, RetiresSome, halt_events}
 use Rattle.mpm_run.specs.Started.{BeginsWithStarts, IsStartedFirst, starts_of}
+use Rattle.mpm_run.proofs.BrokenLemmas.{ends-silently}
 use Rattle.mpm_run.proofs.ListenLemmas.{child-by, count-cons, is-startable}
 use Rattle.mpm_run.proofs.WaitLemmas.{HasWaited}
 
@@ -292,6 +293,14 @@ pub begins-round : (n : ℕ) (rest : Rest) (pause : Pause) (a w b : SeenListener
     → Acts 0 es None w.board.book b.board.book → BeginsWithStarts n a.board.book.history → BeginsWithStarts n b.board.book.history
 begins-round n rest pause a w b es waited acts begins =
     begins-more 0 es None n w.board.book b.board.book acts (begins-waited n rest pause a w waited begins)
+
+-- nor one that was broken off
+pub begins-broken : ActsInSteps → (n : ℕ) (fault : BoardFault) (to : ℕ) (slots : List ℕ) (rest : Rest) (pause : Pause) (a w b : SeenListener) → HasWaited rest pause a w
+    → BreaksOff fault to slots w.board.book b.board.book → BeginsWithStarts n a.board.book.history → BeginsWithStarts n b.board.book.history
+begins-broken steps n fault to slots rest pause a w b waited broken begins =
+    let ends = ends-silently steps fault broken.book b.board.book broken.acts.row broken.last in
+    begins-more 0 ends.events None n broken.book b.board.book ends.acts
+    (begins-more 0 _ None n w.board.book broken.book broken.acts (begins-waited n rest pause a w waited begins))
 
 -- nor does the end
 pub begins-down : (n : ℕ) (turns : Result End BoardFault) (a b c d : SeenBook) → Acts 0 (halt_events a turns) None a b → LetsGo IsHaltedWay b c

@@ -1,5 +1,5 @@
 -- How connections that wait are let go of, one behind the other, and the states that this makes.
-use Rattle.std.proofs.Common.{◌≡◌, ℕ, List, [], ◌∷◌, ◌++◌, map, Option, None, Some, refl, sym, ap, subst, ◌∙◌, append-nil, append_assoc}
+use Rattle.std.proofs.Common.{◌≡◌, ℕ, List, [], ◌∷◌, ◌++◌, map, Option, None, Some, refl, sym, ap, subst, ◌∙◌, append-nil}
 use Rattle.std.proofs.lemmas.Grind.{flat_map-append}
 use Rattle.std.specs.List.{flat_map}
 use Rattle.mpm_base.specs.declared.conn.ConnName.{ConnName}
@@ -14,12 +14,13 @@ use Rattle.conn_machine.specs.Table.{next}
 use Rattle.conn_state.specs.Conn.{SeenConn}
 use Rattle.board.specs.declared.faults.BoardFault.{BoardFault}
 use Rattle.board.specs.Book.{SeenBook, book_with_entry, row_in, AddsOnly}
+use Rattle.board.specs.Faults.{IsRefusedFor}
 use Rattle.board.specs.Board.{SeenBoard}
 use Rattle.board.specs.Events.{with_recorded}
 use Rattle.worker_group.specs.declared.service.Exit.{Exit}
 use Rattle.worker_group.specs.Acts.{Acts, ActsInSteps}
 use Rattle.worker_group.specs.Service.{LeavesRest, left_events}
-use Rattle.mpm_run.specs.ClosingInside.{AllLeftBy, DrainsUntil, IsDrainedWay, LetsGo, LetsOneGo, Departure, RefusedWait, departure_events, lingering_given_up, refused_events, state_by}
+use Rattle.mpm_run.specs.ClosingInside.{AllLeftBy, GivesUpDrained, LetsGo, LetsOneGo, Departure, departure_events, lingering_given_up, state_by}
 use Rattle.mpm_run.proofs.AddedLemmas.{added-events}
 use Rattle.mpm_run.proofs.RoundLemmas.{acts-spelled}
 
@@ -99,30 +100,14 @@ lets-more steps Way name a b c lets one =
       acts = acts-spelled _ _ a c (steps.more 0 _ _ None None a b c lets.acts one.acts) (letting-more lets.gone l);
     }
 
--- no further one could wait on
-pub drains-refused : (w : RefusedWait) (a b : SeenBook) → Acts 0 (refused_events w) None a b → DrainsUntil a b
-drains-refused w a b acts = record { gone = []; ways = tt; last = w; acts = acts }
-
--- one that was held could not
-pub refused-wait : ActsInSteps → (name named : ConnName) (why : Cause) (fault : BoardFault) (a b c : SeenBook) → Acts 0 (event.Hold name ∷ []) (Some name) a b
-    → named ≡ name → Acts 0 (lingering_given_up fault why named) None b c → DrainsUntil a c
-refused-wait steps name named why fault a b c held same given =
-    drains-refused (record { name = name; ending = why; refused = fault }) a c
-    (steps.more 0 (event.Hold name ∷ []) (lingering_given_up fault why name) (Some name) None a b c held
-    (acts-spelled _ (lingering_given_up fault why name) b c given (ap (lingering_given_up fault why) same)))
-
-ways-both : (Way : Exit → Type 0) (gone more : List Departure) → AllLeftBy Way gone → AllLeftBy Way more → AllLeftBy Way (gone ++ more)
-ways-both Way [] more all rest = rest
-ways-both Way (x ∷ gone) more all rest = (all.0, ways-both Way gone more all.1 rest)
-
--- some were drained, until one could not wait on
-pub drains-until : ActsInSteps → (a b c : SeenBook) → LetsGo IsDrainedWay a b → DrainsUntil b c → DrainsUntil a c
-drains-until steps a b c drains until = record {
-  gone = drains.gone ++ until.gone;
-  ways = ways-both IsDrainedWay drains.gone until.gone drains.ways until.ways;
-  last = until.last;
-  acts =
-      acts-spelled _ _ a c (steps.more 0 _ _ None None a b c drains.acts until.acts)
-      (sym (append_assoc (flat_map departure_events drains.gone) (flat_map departure_events until.gone) (refused_events until.last))
-      ∙ ap (λ (es : List Event). es ++ refused_events until.last) (sym (flat_map-append departure_events drains.gone until.gone)));
+-- one that was held could not wait on
+pub refused-wait : (name named : ConnName) (why : Cause) (fault : BoardFault) (a b c : SeenBook) → Acts 0 (event.Hold name ∷ []) (Some name) a b
+    → named ≡ name → IsRefusedFor fault b → Acts 0 (lingering_given_up fault why named) None b c → GivesUpDrained fault a c
+refused-wait name named why fault a b c held same refused given = record {
+  name = name;
+  ending = why;
+  book = b;
+  held = held;
+  why = refused;
+  acts = acts-spelled _ (lingering_given_up fault why name) b c given (ap (lingering_given_up fault why) same);
 }

@@ -2,6 +2,7 @@
 use Rattle.std.proofs.Common.{◌≡◌, ℕ, List, [], ◌∷◌, ◌++◌, map, None, refl, ap, ◌∙◌, append-nil, append_assoc}
 use Rattle.std.proofs.lemmas.Grind.{flat_map-append}
 use Rattle.std.specs.List.{flat_map}
+use Rattle.mpm_base.specs.declared.conn.Cause.{Cause}
 use Rattle.mpm_base.specs.declared.conn.ConnName.{ConnName}
 use Rattle.conn_machine.specs.declared.event.Event.{Event}
 use Rattle.conn_machine.specs.declared.event.Event.TheVariants as event
@@ -12,7 +13,7 @@ use Rattle.worker_group.specs.declared.service.Exit.{Exit}
 use Rattle.worker_group.specs.declared.service.Exit.TheVariants as exit
 use Rattle.worker_group.specs.Acts.{Acts, events_of}
 use Rattle.worker_group.specs.Service.{left_events}
-use Rattle.mpm_run.specs.ClosingInside.{Departure, RefusedWait, departure_events, lingering_given_up, refused_events}
+use Rattle.mpm_run.specs.ClosingInside.{Departure, departure_events, lingering_given_up}
 use Rattle.mpm_run.specs.RoundInside.{Departures, Round, Intake, gone_events, departures_events, round_events, stop_events, intake_events, time_events}
 use Rattle.mpm_run.specs.Times.{signals_in, signals_of, ticks_in, ticks_of}
 
@@ -66,23 +67,17 @@ pub silent-gone : (gone : List Departure) → AreSilent (gone_events gone)
 silent-gone [] = silent-none
 silent-gone (l ∷ gone) = silent-both (departure_events l) (gone_events gone) (silent-letting l) (silent-gone gone)
 
-silent-given_up : (w : RefusedWait) (fault : BoardFault) → AreSilent (event.Hold w.name ∷ lingering_given_up fault w.ending w.name)
-silent-given_up w fault.Halted = record { ticks = refl; signals = refl }
-silent-given_up w fault.Full = record { ticks = refl; signals = refl }
-silent-given_up w fault.NoMemory = record { ticks = refl; signals = refl }
+pub silent-held : (fault : BoardFault) (ending : Cause) (name : ConnName) → AreSilent (event.Hold name ∷ lingering_given_up fault ending name)
+silent-held fault.Halted ending name = record { ticks = refl; signals = refl }
+silent-held fault.Full ending name = record { ticks = refl; signals = refl }
+silent-held fault.NoMemory ending name = record { ticks = refl; signals = refl }
 
-silent-refused : (refused : List RefusedWait) → AreSilent (flat_map refused_events refused)
-silent-refused [] = silent-none
-silent-refused (w ∷ refused) = silent-both (refused_events w) (flat_map refused_events refused) (silent-given_up w w.refused) (silent-refused refused)
+silent-lettings : (l : Departures) → AreSilent (departures_events l)
+silent-lettings l =
+    silent-both (gone_events l.retiring ++ gone_events l.cut) (gone_events l.drained)
+    (silent-both (gone_events l.retiring) (gone_events l.cut) (silent-gone l.retiring) (silent-gone l.cut)) (silent-gone l.drained)
 
-silent-lettings : (l : Departures) (refused : List RefusedWait) → AreSilent (departures_events l refused)
-silent-lettings l refused =
-    silent-both (gone_events l.retiring ++ gone_events l.cut ++ gone_events l.drained) (flat_map refused_events refused)
-    (silent-both (gone_events l.retiring ++ gone_events l.cut) (gone_events l.drained)
-    (silent-both (gone_events l.retiring) (gone_events l.cut) (silent-gone l.retiring) (silent-gone l.cut)) (silent-gone l.drained))
-    (silent-refused refused)
-
-silent-taken : (t : Intake) → AreSilent (intake_events t)
+pub silent-taken : (t : Intake) → AreSilent (intake_events t)
 silent-taken t = record { ticks = (silent-left t.way t.name).ticks; signals = (silent-left t.way t.name).signals }
 
 silent-takes : (takes : List Intake) → AreSilent (flat_map intake_events takes)
@@ -117,21 +112,21 @@ in-first find es fs xs first none = in-both find es fs xs [] first none ∙ appe
 -- what a round did behind its signals neither ticks nor signals
 abbrev rest_of : Round → List Event
 rest_of r =
-    departures_events r.departures r.refused ++ map event.Retire r.retired ++ map event.StartChild r.starts ++ flat_map intake_events r.takes
+    departures_events r.departures ++ map event.Retire r.retired ++ map event.StartChild r.starts ++ flat_map intake_events r.takes
 
 silent-rest : (r : Round) → AreSilent (rest_of r)
 silent-rest r =
-    let retired = silent-both (departures_events r.departures r.refused) (map event.Retire r.retired) (silent-lettings r.departures r.refused) (silent-retires r.retired) in
+    let retired = silent-both (departures_events r.departures) (map event.Retire r.retired) (silent-lettings r.departures) (silent-retires r.retired) in
     let started =
-    silent-both (departures_events r.departures r.refused ++ map event.Retire r.retired) (map event.StartChild r.starts) retired (silent-starts r.starts) in
-    silent-both (departures_events r.departures r.refused ++ map event.Retire r.retired ++ map event.StartChild r.starts)
+    silent-both (departures_events r.departures ++ map event.Retire r.retired) (map event.StartChild r.starts) retired (silent-starts r.starts) in
+    silent-both (departures_events r.departures ++ map event.Retire r.retired ++ map event.StartChild r.starts)
     (flat_map intake_events r.takes) started (silent-takes r.takes)
 
 -- it stands behind them
 rest-behind : (r : Round) → round_events r ≡ (time_events r.early r.ticks r.late ++ map event.Ready r.signals) ++ rest_of r
 rest-behind r =
     let front = time_events r.early r.ticks r.late ++ map event.Ready r.signals in
-    let lets = departures_events r.departures r.refused in
+    let lets = departures_events r.departures in
     let retired = map event.Retire r.retired in
     let started = map event.StartChild r.starts in
     let taken = flat_map intake_events r.takes in

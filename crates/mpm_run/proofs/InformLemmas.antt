@@ -12,11 +12,13 @@ use Rattle.conn_machine.specs.declared.event.Event.{Event}
 use Rattle.conn_machine.specs.declared.folded.Folded.{Folded}
 use Rattle.conn_machine.specs.declared.state.State.{State}
 use Rattle.conn_state.specs.Conn.{IsFrontOf}
+use Rattle.board.specs.declared.faults.BoardFault.{BoardFault}
 use Rattle.board.specs.Book.{SeenBook}
-use Rattle.worker_group.specs.Acts.{Acts, events_of}
+use Rattle.worker_group.specs.Acts.{Acts, ActsInSteps, events_of}
 use Rattle.mpm_run.specs.ListenInside.{AsksFor}
 use Rattle.mpm_run.specs.RoundInside.{BreaksOff, GoesRound}
 use Rattle.mpm_run.specs.Times.{AreBehind, IsInformed, IsInformedSoFar, LacksOne, SignalsAre, SignalsBegin, TicksAre, TicksBegin, answers_of, given_slots, known_slots, latest, moment_for, rises, signals_in, signals_of, ticks_in, ticks_of, ticks_to}
+use Rattle.mpm_run.proofs.BrokenLemmas.{ends-silently}
 use Rattle.mpm_run.proofs.FrontLemmas.{WaitsMore}
 use Rattle.mpm_run.proofs.EventLemmas.{AreSilent, ticks-acts, signals-acts, ticks-kept, signals-kept, ticks-round, signals-round}
 
@@ -322,21 +324,23 @@ informed-round answer moment ready waits waits' calls calls' a b informed is ask
     }
 
 -- so does one that was broken off, so far
-pub informed-broken : (answer : Woke) (moment : ℕ) (ready : List ℕ) (waits waits' : Option (List WaitTold)) (calls calls' : Option (List (ℕ × ℕ)))
+pub informed-broken : ActsInSteps → (fault : BoardFault) (answer : Woke) (moment : ℕ) (ready : List ℕ) (waits waits' : Option (List WaitTold)) (calls calls' : Option (List (ℕ × ℕ)))
     (a b : SeenBook) → IsInformed waits calls a → WaitsMore ready answer waits waits' → AsksFor answer a.state.moment calls calls' moment
-    → BreaksOff (moment_for moment) ready a b → IsInformedSoFar waits' calls' b
-informed-broken answer moment ready waits waits' calls calls' a b informed is asks round =
-    let grows : GrowsBy round.round.ticks round.round.signals a b =
+    → BreaksOff fault (moment_for moment) ready a b → IsInformedSoFar waits' calls' b
+informed-broken steps fault answer moment ready waits waits' calls calls' a b informed is asks round =
+    let ends = ends-silently steps fault round.book b round.acts.row round.last in
+    let grows : GrowsBy round.round.ticks round.round.signals a round.book =
     record {
       base = round.acts.base;
       folded = round.acts.folded;
-      ticks_are = ticks-acts _ a b round.acts ∙ ap (λ (xs : List ℕ). ticks_of a.history ++ xs) (ticks-round round.round);
-      signals_are = signals-acts _ a b round.acts ∙ ap (λ (xs : List ℕ). signals_of a.history ++ xs) (signals-round round.round);
+      ticks_are = ticks-acts _ a round.book round.acts ∙ ap (λ (xs : List ℕ). ticks_of a.history ++ xs) (ticks-round round.round);
+      signals_are = signals-acts _ a round.book round.acts ∙ ap (λ (xs : List ℕ). signals_of a.history ++ xs) (signals-round round.round);
     } in
-    record {
-      ticks = clock-broken answer moment calls calls' _ _ a b asks grows round.ticks informed.ticks;
-      signals = front-broken answer ready _ _ waits waits' a b is grows round.signals informed.signals;
-    }
+    so_far-as waits' calls' round.book b (tells-silent ends.events round.book b ends.acts ends.silent)
+    (record {
+      ticks = clock-broken answer moment calls calls' _ _ a round.book asks grows round.ticks informed.ticks;
+      signals = front-broken answer ready _ _ waits waits' a round.book is grows round.signals informed.signals;
+    })
 
 -- a wait that gave no slot, after which nothing was done
 pub informed-idle : (answer : Woke) (ready : List ℕ) (waits waits' : Option (List WaitTold)) (calls : Option (List (ℕ × ℕ))) (b : SeenBook) → ready ≡ []

@@ -6,6 +6,7 @@ use Rattle.std.specs.List.{flat_map}
 use Rattle.mpm_base.specs.Front.{FrontSeen, FrontTold, GoesForward, HasNoneToTake, IsAnswerOf, IsPatient, LetsTimePass, TellsOn, WaitTold, Backlog, after_hush, earlier, hushed_front, next_coming}
 use Rattle.mpm_base.specs.declared.front.Woke.{Woke}
 use Rattle.mpm_base.specs.declared.front.Woke.TheVariants as woke
+use Rattle.mpm_base.specs.declared.conn.ConnName.{ConnName}
 use Rattle.script_front.specs.ScriptClock.{AreEchoes}
 use Rattle.conn_machine.specs.declared.event.Event.{Event}
 use Rattle.conn_machine.specs.declared.state.State.{State}
@@ -17,7 +18,7 @@ use Rattle.board.specs.declared.faults.BoardFault.{BoardFault}
 use Rattle.board.specs.Board.{SeenBoard}
 use Rattle.board.specs.Book.{SeenBook}
 use Rattle.board.specs.Finds.{acceptable, next_deadline_of}
-use Rattle.worker_group.specs.Acts.{Acts}
+use Rattle.worker_group.specs.Acts.{Acts, ActsInSteps}
 use Rattle.mpm_run.specs.declared.listen.End.{End}
 use Rattle.mpm_run.specs.declared.listen.Pause.{Pause}
 use Rattle.mpm_run.specs.declared.listen.Rest.{Rest}
@@ -25,10 +26,12 @@ use Rattle.mpm_run.specs.ClosingInside.{IsHaltedWay, LetsGo}
 use Rattle.mpm_run.specs.ListenInside.{IsAtStart, IsInStep, IsRestful, KeepsStep, NoneOverdue, OnlyTakes, SeenListener, TookAll}
 use Rattle.mpm_run.specs.Patient.{ArePatient, IsAtRest, PassesPatiently}
 use Rattle.mpm_run.specs.PatientInside.{IsPatientRun, IsSteady}
-use Rattle.mpm_run.specs.RoundInside.{BreaksOff, GoesRound, RetiresSome, Round, StartsSome, halt_events, round_events}
+use Rattle.mpm_run.specs.RoundInside.{AreServed, BreaksOff, GoesRound, RetiresSome, Round, StartsSome, halt_events, round_events}
 use Rattle.mpm_run.specs.Times.{moment_for, ticks_in, ticks_to}
+use Rattle.mpm_run.proofs.BrokenLemmas.{ends-silently}
 use Rattle.mpm_run.proofs.ClosingLemmas.{GoesOnFrom, acts-state}
 use Rattle.mpm_run.proofs.EventLemmas.{silent-gone, silent-retires, silent-starts, ticks-round}
+use Rattle.mpm_run.proofs.PassLemmas.{serves-acts}
 use Rattle.mpm_run.proofs.StopLemmas.{silent-halts}
 use Rattle.mpm_run.proofs.TurnLemmas.{HasServed}
 use Rattle.mpm_run.proofs.UnsignalledLemmas.{none-signalled}
@@ -266,14 +269,6 @@ patience rest pause a w b r paced waited step acts front soon takes calls steady
 here-front : (r : Round) (to : ℕ) (a : SeenBook) → r.ticks ≡ ticks_to a.state.moment to → ticks_to a.state.moment to ≡ r.ticks ++ []
 here-front r to a is = sym is ∙ sym (append-nil r.ticks)
 
--- a round was broken off
-pub pace-broken : (rest : Rest) (pause : Pause) (a w b : SeenListener) → KeepsPace rest a → HasWaited rest pause a w → IsInStep a.front.told a.board.book.state
-    → BreaksOff (moment_for pause.moment) w.ready w.board.book b.board.book → TellsOn OnlyTakes w.front.told b.front.told → b.calls ≡ w.calls → HasPatience b
-pace-broken rest pause a w b paced waited step broken takes calls =
-    let here : BreaksOff (moment_for pause.moment) w.ready a.board.book b.board.book =
-    subst (λ (v : SeenBoard). BreaksOff (moment_for pause.moment) w.ready v.book b.board.book) waited.board broken in
-    patience rest pause a w b here.round paced waited step here.acts here.ticks here.soon takes calls
-
 -- it came to its end
 pub pace-round : (rest : Rest) (pause : Pause) (a w b : SeenListener) → KeepsPace rest a → HasWaited rest pause a w → IsInStep a.front.told a.board.book.state
     → GoesRound (moment_for pause.moment) w.ready w.board.book b.board.book → TellsOn OnlyTakes w.front.told b.front.told → b.calls ≡ w.calls → HasPatience b
@@ -309,6 +304,18 @@ pub patience-silent : (who : ℕ) (es : List Event) (has : _) (told : Option Fro
     → flat_map ticks_in es ≡ [] → IsPatientRun told calls a → IsPatientRun told calls b
 patience-silent who es has told calls a b acts none patient steady =
     patient-silent steady.comings steady.front.waits who es has a b acts none (patient steady)
+
+-- a round was broken off
+pub pace-broken : ActsInSteps → (fault : BoardFault) (rest : Rest) (pause : Pause) (a w b : SeenListener) → KeepsPace rest a → HasWaited rest pause a w
+    → IsInStep a.front.told a.board.book.state → BreaksOff fault (moment_for pause.moment) w.ready w.board.book b.board.book
+    → TellsOn OnlyTakes w.front.told b.front.told → b.calls ≡ w.calls → HasPatience b
+pace-broken steps fault rest pause a w b paced waited step broken takes calls =
+    let here : BreaksOff fault (moment_for pause.moment) w.ready a.board.book b.board.book =
+    subst (λ (v : SeenBoard). BreaksOff fault (moment_for pause.moment) w.ready v.book b.board.book) waited.board broken in
+    let there : SeenListener = record b { board = record b.board { book = here.book } } in
+    let ends = ends-silently steps fault here.book b.board.book here.acts.row here.last in
+    patience-silent 0 ends.events None b.front.told b.calls here.book b.board.book ends.acts ends.silent.ticks
+    (patience rest pause a w there here.round paced waited step here.acts here.ticks here.soon takes calls)
 
 -- what another pass than the listener did
 pub patience-served : (who : ℕ) (es : List Event) (has : _) (told : Option FrontTold) (calls : Option (List (ℕ × ℕ))) (a b : SeenBook) → who ≢ 0
@@ -354,10 +361,11 @@ patience-started l m start is starts =
     (patience-start l.front.told l.calls l.board.book start))
 
 -- behind the service
-pub served-patience : (a b : SeenListener) → HasPatience a → HasServed a b → HasPatience b
-served-patience a b patient served =
+pub served-patience : ActsInSteps → (a b : SeenListener) → HasPatience a → HasServed a b → HasPatience b
+served-patience steps a b patient served =
+    let serves = serves-acts steps a.board b.board served.serves in
     subst HasPatience (sym served.others)
-    (patience-served 1 served.serves.events None a.front.told a.calls a.board.book b.board.book (λ (same : 1 ≡ 0). cc) served.serves.acts patient)
+    (patience-served 1 serves.events None a.front.told a.calls a.board.book b.board.book (λ (same : 1 ≡ 0). cc) serves.acts patient)
 
 served-rests : (rest : Rest) (a b : SeenListener) → TookAll a.front.told a.board.book.state → rest.until ≡ next_deadline_of a.board.book.state
     → IsAtRest a.board.book.state → b.board.book.state ≡ a.board.book.state → Rests rest (record a { board = b.board })
@@ -371,19 +379,20 @@ served-rests rest a b took until at_rest same = record {
 abbrev pub IsAfter : SeenListener → Type 0
 IsAfter l = after l.board.book.base l.board.book.history ≡ l.board.book.state
 
-pub pace-served : GoesOnFrom → (rest : Rest) (a b : SeenListener) → IsAfter a → IsAfter b → Abreast a → HasPatience a → TookAll a.front.told a.board.book.state
+pub pace-served : ActsInSteps → GoesOnFrom → (rest : Rest) (a b : SeenListener) → IsAfter a → IsAfter b → Abreast a → HasPatience a → TookAll a.front.told a.board.book.state
     → HasServed a b → rest.until ≡ next_deadline_of a.board.book.state → IsRestful rest.quiet a.board.book.state → KeepsPace rest b
-pace-served law rest a b here there abreast patient took served until restful =
+pace-served steps law rest a b here there abreast patient took served until restful =
+    let serves = serves-acts steps a.board b.board served.serves in
     subst (KeepsPace rest) (sym served.others)
     (record {
       abreast = λ steady. served.rest.moment ∙ abreast steady;
-      patient = patience-served 1 served.serves.events None a.front.told a.calls a.board.book b.board.book (λ (same : 1 ≡ 0). cc) served.serves.acts patient;
+      patient = patience-served 1 serves.events None a.front.told a.calls a.board.book b.board.book (λ (same : 1 ≡ 0). cc) serves.acts patient;
       rested =
           λ quiet.
           let at_rest = restful.0 quiet in
           served-rests rest a b took until at_rest
           (acts-state law 1 [] None a.board.book b.board.book here there
-          (subst (λ (es : List Event). Acts 1 es None a.board.book b.board.book) (served.serves.none at_rest.served) served.serves.acts));
+          (subst (λ (names : List ConnName). AreServed 1 names a.board b.board) (served.serves.none at_rest.served) served.serves.served));
     })
 
 -- ## The end

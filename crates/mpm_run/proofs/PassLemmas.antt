@@ -23,7 +23,7 @@ use Rattle.mpm_run.specs.Listen.{HasNoLive}
 use Rattle.board.specs.Finds.{FindsRow, is_due}
 use Rattle.mpm_run.specs.Patient.{NoneDue}
 use Rattle.mpm_run.specs.ListenInside.{NoneParked}
-use Rattle.mpm_run.specs.RoundInside.{ServesSome}
+use Rattle.mpm_run.specs.RoundInside.{AreServed, ServesSome}
 use Rattle.mpm_run.proofs.FoundLemmas.{found-at, lives}
 
 -- ## What the other passes leave
@@ -70,16 +70,53 @@ service-acts steps who name a b served =
     steps.more who (event.Queue name ∷ event.Start name ∷ answer_events name served.asks) (left_events served.left.way served.served.name) (Some name) None
     a.book served.book b.book served.acts served.left.acts
 
--- one more connection was served, where one was due
-pub serves-more : ActsInSteps → (name : ConnName) (a : SeenBook) (b c : SeenBoard) → (serves : ServesSome a b.book) → (NoneDue a.state → ⊥) → (served : HasServed 1 name b c)
-    → ServesSome a c.book
-serves-more steps name a b c serves due served =
-    let more : List Event = event.Queue name ∷ (event.Start name ∷ answer_events name served.asks) ++ left_events served.left.way served.served.name in
+-- what the service of several added
+pub record ActsSomehow (who : ℕ) (a b : SeenBook) : Type 0 where
+  pub events : List Event
+  pub acts : Acts who events None a b
+
+served-acts : ActsInSteps → (who : ℕ) (names : List ConnName) (a b : SeenBoard) → AreServed who names a b → ActsSomehow who a.book b.book
+served-acts steps who [] a b acts = record { events = []; acts = acts }
+served-acts steps who (name ∷ names) a b (m, served, others) =
+    let more = served-acts steps who names m b others in
     record {
-      events = serves.events ++ more;
-      none = λ none. absurd (due none);
-      acts = steps.more 1 serves.events more None None a b.book c.book serves.acts (service-acts steps 1 name b c served);
+      events = _;
+      acts = steps.more who _ more.events None None a.book m.book b.book (service-acts steps who name a m served) more.acts;
     }
+
+pub serves-acts : ActsInSteps → (a b : SeenBoard) → ServesSome a b → ActsSomehow 1 a.book b.book
+serves-acts steps a b serves = served-acts steps 1 serves.names a b serves.served
+
+-- one was served behind a pass that did nothing
+served-first : ActsInSteps → (who : ℕ) (name : ConnName) (a b c : SeenBoard) → Acts who [] None a.book b.book → HasServed who name b c → HasServed who name a c
+served-first steps who name a b c idle served =
+    record {
+      asks = served.asks;
+      book = served.book;
+      acts =
+          steps.more who [] (event.Queue name ∷ event.Start name ∷ answer_events name served.asks) None (Some name) a.book b.book served.book idle
+          served.acts;
+      served = served.served;
+      named = served.named;
+      out = served.out;
+      exits = served.exits;
+      left = served.left;
+    }
+
+-- one more was served behind others
+served-more : ActsInSteps → (who : ℕ) (names : List ConnName) (name : ConnName) (a b c : SeenBoard) → AreServed who names a b → HasServed who name b c
+    → AreServed who (names ++ name ∷ []) a c
+served-more steps who [] name a b c idle served =
+    (c, served-first steps who name a b c idle served, steps.none who None c.book served.left.acts.row)
+served-more steps who (n ∷ names) name a b c (m, first, others) served = (m, first, served-more steps who names name m b c others served)
+
+-- where one was due
+pub serves-more : ActsInSteps → (name : ConnName) (a b c : SeenBoard) → (serves : ServesSome a b) → (NoneDue a.book.state → ⊥) → HasServed 1 name b c → ServesSome a c
+serves-more steps name a b c serves due served = record {
+  names = serves.names ++ name ∷ [];
+  none = λ none. absurd (due none);
+  served = served-more steps 1 serves.names name a b c serves.served served;
+}
 
 -- ## Signals
 

@@ -1,5 +1,5 @@
 -- The parts of the listener's round, one behind the other.
-use Rattle.std.proofs.Common.{◌≡◌, inl, inr, ℕ, ◌<◌, ◌≤◌, Bool, Result, Ok, Err, IfErr, OnOk, OnErr, arith, true, false, ◌==◌, cond, nat_lt, List, [], ◌∷◌, ◌++◌, length, map, Option, None, Some, refl, sym, ap, subst, ◌∙◌, append-nil, append_assoc, eq-eqb, eqb-true}
+use Rattle.std.proofs.Common.{◌≡◌, inl, inr, ℕ, ◌<◌, ◌≤◌, Bool, Result, Ok, Err, IfErr, OnOk, OnErr, arith, true, false, ◌==◌, cond, nat_lt, List, [], ◌∷◌, ◌++◌, length, map, Option, None, Some, refl, sym, ap, subst, ◌∙◌, append-nil, eq-eqb, eqb-true}
 use Rattle.std.proofs.lemmas.Bool.{false≢true}
 use Rattle.std.proofs.lemmas.Bool.Decides.{nat_tests}
 use Rattle.std.proofs.lemmas.Grind.{flat_map-append}
@@ -15,14 +15,14 @@ use Rattle.conn_machine.specs.Runs.{entries_of, first_row, row_after}
 use Rattle.board.specs.declared.faults.BoardFault.{BoardFault}
 use Rattle.board.specs.declared.faults.BoardFault.TheVariants as fault
 use Rattle.board.specs.Book.{SeenBook, book_with_entry, row_in, AddsOnly}
+use Rattle.board.specs.Faults.{IsRefusedFor}
 use Rattle.board.specs.Board.{SeenBoard}
 use Rattle.board.specs.Events.{with_recorded}
-use Rattle.worker_group.specs.declared.service.Exit.TheVariants as exit
 use Rattle.worker_group.specs.Acts.{Acts, ActsInSteps}
 use Rattle.worker_group.specs.Service.{LeavesRest, RefusalLasts, left_events}
 use Rattle.mpm_run.specs.ListenInside.{MustStop}
-use Rattle.mpm_run.specs.ClosingInside.{DrainsUntil, IsDrainedWay, IsLateWay, IsRetiringWay, LetsGo, NoneEarly, RefusedWait, refused_events}
-use Rattle.mpm_run.specs.RoundInside.{AllLeft, BreaksOff, GivesUp, GoesRound, IsLeftAsWatched, LetsGoOfConns, LetsGoUntil, NoneHas, PassesTime, RetiresSome, Round, SignalsFirst, StartsSome, Intake, TakesSome, TakesUntil, gone_events, round_events, signal_events, intake_events, time_events}
+use Rattle.mpm_run.specs.ClosingInside.{DrainsUntil, IsDrainedWay, IsLateWay, IsRetiringWay, LetsGo, NoneEarly}
+use Rattle.mpm_run.specs.RoundInside.{AllLeft, BreaksOff, EndsRound, GoesRound, IsLeftAsWatched, LetsGoOfConns, LetsGoUntil, NoneHas, PassesTime, RetiresSome, Round, SignalsFirst, StartsSome, Intake, TakesSome, gone_events, round_events, signal_events, intake_events, time_events}
 use Rattle.mpm_run.specs.Times.{known_slots, ticks_to}
 
 -- ## No pass has a connection
@@ -78,9 +78,6 @@ retires-more steps k a b c retires one = record {
 pub takes-none : ActsInSteps → (b : SeenBook) → row_in 0 b ≡ None → TakesSome b b
 takes-none steps b row = record { takes = []; left = tt; acts = steps.none 0 None b row }
 
-pub until-none : ActsInSteps → (b : SeenBook) → row_in 0 b ≡ None → TakesUntil b b
-until-none steps b row = record { takes = []; acts = steps.none 0 None b row }
-
 left-more : (takes : List Intake) (t : Intake) → AllLeft takes → IsLeftAsWatched t.way → AllLeft (takes ++ t ∷ [])
 left-more [] t all one = (one, tt)
 left-more (x ∷ takes) t all one = (all.0, left-more takes t all.1 one)
@@ -99,29 +96,10 @@ takes-more steps t a b c takes left one = record {
       acts-spelled _ _ a c (steps.more 0 _ _ None None a b c takes.acts one) (taking-more takes.takes t);
 }
 
--- and then it was so until one was refused or given up
-pub takes-until : ActsInSteps → (a b c : SeenBook) → TakesSome a b → TakesUntil b c → TakesUntil a c
-takes-until steps a b c takes until = record {
-  takes = takes.takes ++ until.takes;
-  acts =
-      acts-spelled _ (flat_map intake_events (takes.takes ++ until.takes)) a c (steps.more 0 _ _ None None a b c takes.acts until.acts)
-      (sym (flat_map-append intake_events takes.takes until.takes));
-}
-
 -- a connection that was taken was left so
 pub takes-one : ActsInSteps → (name : ConnName) (way : _) (a b c : SeenBook) → Acts 0 (event.Accept name.slot ∷ []) (Some name) a b
     → Acts 0 (left_events way name) None b c → Acts 0 (intake_events (record { name = name; way = way })) None a c
 takes-one steps name way a b c taken left = steps.more 0 (event.Accept name.slot ∷ []) (left_events way name) (Some name) None a b c taken left
-
--- one that was taken was given up
-pub takes-given_up : ActsInSteps → (fault : BoardFault) (name : ConnName) (a b c : SeenBook) → Acts 0 (event.Accept name.slot ∷ []) (Some name) a b
-    → GivesUp fault name b c → TakesUntil a c
-takes-given_up steps fault name a b c taken given = record {
-  takes = record { name = name; way = exit.GiveUp fault } ∷ [];
-  acts =
-      acts-spelled _ _ a c (takes-one steps name (exit.GiveUp fault) a b c taken given)
-      (sym (append-nil (intake_events (record { name = name; way = exit.GiveUp fault }))));
-}
 
 -- ## A round
 
@@ -161,34 +139,21 @@ signals-all slots a b acts =
     record { first = known_slots (length a.base.rows) slots; front = ([], sym (append-nil (known_slots (length a.base.rows) slots))); acts = acts }
 
 -- connections that retire, that were late at once, and that linger were let go of
-pub lets-go-conns : ActsInSteps → (a b c d : SeenBook) → LetsGo IsRetiringWay a b → LetsGo IsLateWay b c → LetsGo IsDrainedWay c d → LetsGoOfConns [] a d
+pub lets-go-conns : ActsInSteps → (a b c d : SeenBook) → LetsGo IsRetiringWay a b → LetsGo IsLateWay b c → LetsGo IsDrainedWay c d → LetsGoOfConns a d
 lets-go-conns steps a b c d retiring cut drained = record {
   departures = record { retiring = retiring.gone; cut = cut.gone; drained = drained.gone };
   ways = record { retiring = retiring.ways; cut = cut.ways; drained = drained.ways };
-  acts =
-      acts-spelled _ _ a d
-      (steps.more 0 _ _ None None a c d (steps.more 0 _ _ None None a b c retiring.acts cut.acts) drained.acts)
-      (sym (append-nil (gone_events retiring.gone ++ gone_events cut.gone ++ gone_events drained.gone)));
+  acts = steps.more 0 _ _ None None a c d (steps.more 0 _ _ None None a b c retiring.acts cut.acts) drained.acts;
 }
 
 -- until one could not wait on
-pub lets-go-until : ActsInSteps → (a b c d : SeenBook) → LetsGo IsRetiringWay a b → LetsGo IsLateWay b c → DrainsUntil c d → LetsGoUntil a d
-lets-go-until steps a b c d retiring cut until = (
-  until.last,
-  record {
-    departures = record { retiring = retiring.gone; cut = cut.gone; drained = until.gone };
-    ways = record { retiring = retiring.ways; cut = cut.ways; drained = until.ways };
-    acts =
-        acts-spelled _ _ a d
-        (steps.more 0 _ _ None None a c d (steps.more 0 _ _ None None a b c retiring.acts cut.acts) until.acts)
-        (sym (append_assoc (gone_events retiring.gone ++ gone_events cut.gone) (gone_events until.gone) (refused_events until.last))
-        ∙ ap (λ (es : List Event). gone_events retiring.gone ++ gone_events cut.gone ++ gone_events until.gone ++ es)
-        (sym (append-nil (refused_events until.last))));
-  },
-)
+pub lets-go-until : ActsInSteps → (fault : BoardFault) (a b c d : SeenBook) → LetsGo IsRetiringWay a b → LetsGo IsLateWay b c → DrainsUntil fault c d
+    → LetsGoUntil fault a d
+lets-go-until steps fault a b c d retiring cut until =
+    record { book = until.book; lets = lets-go-conns steps a b c until.book retiring cut until.drains; last = until.last }
 
 -- nothing was let go of
-pub lets-go-none : ActsInSteps → (b : SeenBook) → row_in 0 b ≡ None → LetsGoOfConns [] b b
+pub lets-go-none : ActsInSteps → (b : SeenBook) → row_in 0 b ≡ None → LetsGoOfConns b b
 lets-go-none steps b row = record {
   departures = record { retiring = []; cut = []; drained = [] };
   ways = record { retiring = tt; cut = tt; drained = tt };
@@ -197,7 +162,7 @@ lets-go-none steps b row = record {
 
 -- the parts of a round
 pub goes-round : ActsInSteps → (to : ℕ) (slots : List ℕ) (a b c d e f h : SeenBook) → PassesTime to a b → Acts 0 (signal_events b slots) None b c
-    → LetsGoOfConns [] c d → RetiresSome d e → StartsSome e f → TakesSome f h → GoesRound to slots a h
+    → LetsGoOfConns c d → RetiresSome d e → StartsSome e f → TakesSome f h → GoesRound to slots a h
 goes-round steps to slots a b c d e f h time signals lets retires starts takes = record {
   round =
       record {
@@ -206,7 +171,6 @@ goes-round steps to slots a b c d e f h time signals lets retires starts takes =
         late = time.late;
         signals = known_slots (length b.base.rows) slots;
         departures = lets.departures;
-        refused = [];
         retired = retires.children;
         starts = starts.children;
         takes = takes.takes;
@@ -215,7 +179,6 @@ goes-round steps to slots a b c d e f h time signals lets retires starts takes =
   ticks = refl;
   signals = ap (λ (s : _). known_slots (length s.rows) slots) time.acts.base;
   ways = record { early = time.early_ways; late = time.late_ways; departures = lets.ways };
-  none_refused = refl;
   left = takes.left;
   acts =
       steps.more 0 _ _ None None a f h
@@ -225,9 +188,9 @@ goes-round steps to slots a b c d e f h time signals lets retires starts takes =
 }
 
 -- and of one that was broken off behind the time
-pub breaks-behind : ActsInSteps → (to : ℕ) (slots : List ℕ) (refused : List RefusedWait) (a b c d e f h : SeenBook) → PassesTime to a b → SignalsFirst slots b c
-    → LetsGoOfConns refused c d → RetiresSome d e → StartsSome e f → TakesUntil f h → BreaksOff to slots a h
-breaks-behind steps to slots refused a b c d e f h time signals lets retires starts takes = record {
+pub breaks-behind : ActsInSteps → (fault : BoardFault) (to : ℕ) (slots : List ℕ) (a b c d e f h x : SeenBook) → PassesTime to a b → SignalsFirst slots b c
+    → LetsGoOfConns c d → RetiresSome d e → StartsSome e f → TakesSome f h → EndsRound fault h x → BreaksOff fault to slots a x
+breaks-behind steps fault to slots a b c d e f h x time signals lets retires starts takes last = record {
   round =
       record {
         early = time.early;
@@ -235,7 +198,6 @@ breaks-behind steps to slots refused a b c d e f h time signals lets retires sta
         late = time.late;
         signals = signals.first;
         departures = lets.departures;
-        refused = refused;
         retired = retires.children;
         starts = starts.children;
         takes = takes.takes;
@@ -244,23 +206,29 @@ breaks-behind steps to slots refused a b c d e f h time signals lets retires sta
   ticks = ([], sym (append-nil (ticks_to a.state.moment to)));
   signals = (signals.front.0, ap (λ (s : _). known_slots (length s.rows) slots) (sym time.acts.base) ∙ signals.front.1);
   ways = record { early = time.early_ways; late = time.late_ways; departures = lets.ways };
+  left = takes.left;
+  book = h;
   acts =
       steps.more 0 _ _ None None a f h
       (steps.more 0 _ _ None None a e f
       (steps.more 0 _ _ None None a d e
       (steps.more 0 _ _ None None a c d (steps.more 0 _ _ None None a b c time.acts signals.acts) lets.acts) retires.acts) starts.acts) takes.acts;
+  last = last;
 }
 
+-- where a call was refused, and nothing was done then
+pub ends-idle : (fault : BoardFault) (b : SeenBook) → IsRefusedFor fault b → EndsRound fault b b
+ends-idle fault b why = inr (inl (record { why = why; same = refl }))
+
 -- or before time passed
-pub breaks-early : (to : ℕ) (slots : List ℕ) (a b : SeenBook) → LetsGo IsLateWay a b → BreaksOff to slots a b
-breaks-early to slots a b early =
+pub breaks-early : (fault : BoardFault) (to : ℕ) (slots : List ℕ) (a b : SeenBook) → LetsGo IsLateWay a b → IsRefusedFor fault b → BreaksOff fault to slots a b
+breaks-early fault to slots a b early why =
     let only : Round = record {
       early = early.gone;
       ticks = [];
       late = [];
       signals = [];
       departures = record { retiring = []; cut = []; drained = [] };
-      refused = [];
       retired = [];
       starts = [];
       takes = [];
@@ -271,7 +239,10 @@ breaks-early to slots a b early =
       ticks = (ticks_to a.state.moment to, refl);
       signals = (known_slots (length a.base.rows) slots, refl);
       ways = record { early = early.ways; late = tt; departures = record { retiring = tt; cut = tt; drained = tt } };
+      left = tt;
+      book = b;
       acts = acts-spelled _ (round_events only) a b early.acts (simp append-nil);
+      last = ends-idle fault b why;
     }
 
 -- ## What the listener alone changes
@@ -334,6 +305,11 @@ pub if-err : {T E : Type 0} (r : Result T E) (P Q : E → Type 0) → ((e : E) �
 if-err (Ok x) P Q weaker holds = tt
 if-err (Err e) P Q weaker holds = weaker e holds
 
+-- two of an error, as one
+pub if-err-both : {T E : Type 0} (r : Result T E) (P Q R : E → Type 0) → ((e : E) → P e → Q e → R e) → IfErr r P → IfErr r Q → IfErr r R
+if-err-both (Ok x) P Q R both first second = tt
+if-err-both (Err e) P Q R both first second = both e first second
+
 pub on-ok : {T E : Type 0} (r : Result T E) (P : Type 0) → P → OnOk r P
 on-ok (Ok x) P holds = holds
 on-ok (Err e) P holds = tt
@@ -341,10 +317,6 @@ on-ok (Err e) P holds = tt
 pub on-err : {T E : Type 0} (r : Result T E) (P : Type 0) → P → OnErr r P
 on-err (Ok x) P holds = tt
 on-err (Err e) P holds = holds
-
-pub err-on : {T E : Type 0} (r : Result T E) (P : E → Type 0) (Q : Type 0) → ((e : E) → P e → Q) → IfErr r P → OnErr r Q
-err-on (Ok x) P Q weaker holds = tt
-err-on (Err e) P Q weaker holds = weaker e holds
 
 -- what lasts of a refusal stops the server
 pub must-stop : (f : BoardFault) (b : SeenBook) → RefusalLasts f b → MustStop f b

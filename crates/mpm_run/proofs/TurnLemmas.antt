@@ -8,6 +8,7 @@ use Rattle.conn_machine.specs.declared.event.Entry.{Entry}
 use Rattle.conn_machine.specs.declared.event.Event.{Event}
 use Rattle.conn_machine.specs.Made.{AreOfPasses}
 use Rattle.conn_machine.specs.States.{is_halted}
+use Rattle.board.specs.declared.faults.BoardFault.{BoardFault}
 use Rattle.board.specs.Book.{SeenBook}
 use Rattle.board.specs.Board.{SeenBoard}
 use Rattle.worker_group.specs.Acts.{Acts, ActsInSteps}
@@ -18,9 +19,11 @@ use Rattle.mpm_run.specs.Listen.{HasNoLive}
 use Rattle.mpm_run.specs.ListenInside.{AsksFor, Follows, HasGivenAll, HasNothingToCome, IsInStep, IsInTime, OnlyTakes, SeenListener, WatchesAll, bound_of, waits_of}
 use Rattle.mpm_run.specs.RoundInside.{BreaksOff, GoesRound, NoneHas, ServesSome, StartsSome}
 use Rattle.mpm_run.specs.Times.{IsInformed, IsInformedSoFar, moment_for}
+use Rattle.mpm_run.proofs.BrokenLemmas.{ends-silently}
 use Rattle.mpm_run.proofs.EventLemmas.{silent-starts}
 use Rattle.mpm_run.proofs.FrontLemmas.{WaitsMore, all-taken, bound-kept, bound-wait, follows-same, follows-trans, follows-wait, rises-after, step-kept, step-wait, time-kept, time-wait, waits-after, waits-kept}
 use Rattle.mpm_run.proofs.InformLemmas.{informed-as, informed-broken, informed-idle, informed-round, informed-so_far, tells-same, tells-silent}
+use Rattle.mpm_run.proofs.PassLemmas.{serves-acts}
 use Rattle.mpm_run.proofs.RoundLemmas.{none-has}
 use Rattle.mpm_run.proofs.WatchLemmas.{nobody-served, nobody-started, watched-as, watched-wait}
 use Rattle.mpm_run.proofs.WaitLemmas.{HasWaited}
@@ -243,19 +246,22 @@ broken-between tells l m between = record {
 }
 
 -- in a round
-pub broken-round : ActsInSteps → (tells : Type 0) (rest : Rest) (pause : Pause) (first a w b : SeenListener) → IsBetween tells first a → HasWaited rest pause a w
-    → BreaksOff (moment_for pause.moment) w.ready w.board.book b.board.book → IsUp b.board.book.state.going → Follows w.front b.front
+pub broken-round : ActsInSteps → (fault : BoardFault) (tells : Type 0) (rest : Rest) (pause : Pause) (first a w b : SeenListener) → IsBetween tells first a → HasWaited rest pause a w
+    → BreaksOff fault (moment_for pause.moment) w.ready w.board.book b.board.book → IsUp b.board.book.state.going → Follows w.front b.front
     → TellsOn OnlyTakes w.front.told b.front.told → (Watching tells w → Watching tells b) → b.calls ≡ w.calls → HasBroken tells first b
-broken-round steps tells rest pause first a w b before waited round up follows takes watched calls =
-    let here : BreaksOff (moment_for pause.moment) w.ready a.board.book b.board.book =
-    subst (λ (v : SeenBook). BreaksOff (moment_for pause.moment) w.ready v b.board.book) (waited-book tells rest pause first a w waited) round in
+broken-round steps fault tells rest pause first a w b before waited round up follows takes watched calls =
+    let here : BreaksOff fault (moment_for pause.moment) w.ready a.board.book b.board.book =
+    subst (λ (v : SeenBook). BreaksOff fault (moment_for pause.moment) w.ready v b.board.book) (waited-book tells rest pause first a w waited) round in
+    let ends = ends-silently steps fault here.book b.board.book here.acts.row here.last in
+    let some : 0 < first.board.book.passes = omega (arith, before.some) in
     let waits = waits-kept w.front.told b.front.told takes in
     record {
       few =
-          λ began. few-acts steps first.board.book.passes 0 _ None a.board.book b.board.book (omega (arith, before.some)) here.acts (before.few began);
-      base = here.acts.base ∙ before.base;
-      passes = here.acts.passes ∙ before.passes;
-      free = none-has steps 0 _ a.board.book b.board.book before.free here.acts;
+          λ began. few-acts steps first.board.book.passes 0 ends.events None here.book b.board.book some ends.acts
+          (few-acts steps first.board.book.passes 0 _ None a.board.book here.book some here.acts (before.few began));
+      base = ends.acts.base ∙ here.acts.base ∙ before.base;
+      passes = ends.acts.passes ∙ here.acts.passes ∙ before.passes;
+      free = none-has steps 0 ends.events here.book b.board.book (none-has steps 0 _ a.board.book here.book before.free here.acts) ends.acts;
       up = up;
       follows = follows-trans _ _ _ (waited-follows tells rest pause first a w before waited) follows;
       bound = bound-kept w.front.told b.front.told takes ∙ waited-bound tells rest pause first a w before waited;
@@ -265,43 +271,46 @@ broken-round steps tells rest pause first a w b before waited round up follows t
           (time-kept (waits_of w.front.told) (waits_of b.front.told) w.calls waits (waited-time tells rest pause first a w before waited time));
       so_far =
           so_far-still (waits_of w.front.told) (waits_of b.front.told) w.calls b.calls b.board.book waits calls
-          (informed-broken pause.woke pause.moment w.ready (waits_of a.front.told) (waits_of w.front.told) a.calls w.calls a.board.book b.board.book
+          (informed-broken steps fault pause.woke pause.moment w.ready (waits_of a.front.told) (waits_of w.front.told) a.calls w.calls a.board.book b.board.book
           before.informed (waited-more tells rest pause first a w waited) waited.asks here);
     }
 
 -- the service by another pass
 pub record HasServed (a b : SeenListener) : Type 0 where
-  pub serves : ServesSome a.board.book b.board.book
+  pub serves : ServesSome a.board b.board
   pub rest : LeavesRest a.board.book b.board.book
   pub others : b ≡ record a { board = b.board }
 
 served-informed : ActsInSteps → (tells : Type 0) (first a b : SeenListener) → IsBetween tells first a → HasServed a b → IsInformed (waits_of a.front.told) a.calls b.board.book
 served-informed steps tells first a b before served =
+    let serves = serves-acts steps a.board b.board served.serves in
     informed-as (waits_of a.front.told) a.calls a.board.book b.board.book
-    (tells-same a.board.book b.board.book served.serves.acts.base served.serves.acts.folded
-    (ap (map (λ (e : Entry). e.event)) (steps.others 1 0 served.serves.events None a.board.book b.board.book served.serves.acts another))) served.rest.moment before.informed
+    (tells-same a.board.book b.board.book serves.acts.base serves.acts.folded
+    (ap (map (λ (e : Entry). e.event)) (steps.others 1 0 serves.events None a.board.book b.board.book serves.acts another))) served.rest.moment before.informed
 
-served-watched : (tells : Type 0) (first a b : SeenListener) → IsBetween tells first a → HasServed a b → Watching tells first → tells
+served-watched : ActsInSteps → (tells : Type 0) (first a b : SeenListener) → IsBetween tells first a → HasServed a b → Watching tells first → tells
     → IfSome a.front.told (WatchesAll b.board.book)
-served-watched tells first a b before served began holds =
-    watched-as a.front.told a.board.book b.board.book (nobody-served 1 served.serves.events None a.board.book b.board.book (λ (same : 1 ≡ 0). cc) served.serves.acts)
+served-watched steps tells first a b before served began holds =
+    let serves = serves-acts steps a.board b.board served.serves in
+    watched-as a.front.told a.board.book b.board.book (nobody-served 1 serves.events None a.board.book b.board.book (λ (same : 1 ≡ 0). cc) serves.acts)
     served.rest.accepted (before.watched began holds)
 
 -- after it
 pub between-served : ActsInSteps → (tells : Type 0) (first a b : SeenListener) → IsBetween tells first a → HasServed a b → IsBetween tells first b
 between-served steps tells first a b before served =
+    let serves = serves-acts steps a.board b.board served.serves in
     subst (IsBetween tells first) (sym served.others)
     (record {
       some = before.some;
-      few = λ began. few-acts steps first.board.book.passes 1 served.serves.events None a.board.book b.board.book before.some served.serves.acts (before.few began);
-      base = served.serves.acts.base ∙ before.base;
-      passes = served.serves.acts.passes ∙ before.passes;
-      free = none-has steps 1 served.serves.events a.board.book b.board.book before.free served.serves.acts;
+      few = λ began. few-acts steps first.board.book.passes 1 serves.events None a.board.book b.board.book before.some serves.acts (before.few began);
+      base = serves.acts.base ∙ before.base;
+      passes = serves.acts.passes ∙ before.passes;
+      free = none-has steps 1 serves.events a.board.book b.board.book before.free serves.acts;
       up = served.rest.up before.up;
       step = step-kept a.front.told a.board.book.state b.board.book.state served.rest.accepted before.step;
       follows = before.follows;
       bound = before.bound;
-      watched = served-watched tells first a b before served;
+      watched = served-watched steps tells first a b before served;
       time = before.time;
       informed = served-informed steps tells first a b before served;
     })
@@ -309,16 +318,17 @@ between-served steps tells first a b before served =
 -- where it was broken off
 pub broken-served : ActsInSteps → (tells : Type 0) (first a b : SeenListener) → IsBetween tells first a → HasServed a b → HasBroken tells first b
 broken-served steps tells first a b before served =
+    let serves = serves-acts steps a.board b.board served.serves in
     subst (HasBroken tells first) (sym served.others)
     (record {
-      few = λ began. few-acts steps first.board.book.passes 1 served.serves.events None a.board.book b.board.book before.some served.serves.acts (before.few began);
-      base = served.serves.acts.base ∙ before.base;
-      passes = served.serves.acts.passes ∙ before.passes;
-      free = none-has steps 1 served.serves.events a.board.book b.board.book before.free served.serves.acts;
+      few = λ began. few-acts steps first.board.book.passes 1 serves.events None a.board.book b.board.book before.some serves.acts (before.few began);
+      base = serves.acts.base ∙ before.base;
+      passes = serves.acts.passes ∙ before.passes;
+      free = none-has steps 1 serves.events a.board.book b.board.book before.free serves.acts;
       up = served.rest.up before.up;
       follows = before.follows;
       bound = before.bound;
-      watched = served-watched tells first a b before served;
+      watched = served-watched steps tells first a b before served;
       time = before.time;
       so_far = informed-so_far _ _ _ (served-informed steps tells first a b before served);
     })

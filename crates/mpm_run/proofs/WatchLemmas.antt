@@ -32,8 +32,8 @@ use Rattle.worker_group.specs.Acts.{Acts}
 use Rattle.mpm_run.specs.ListenInside.{WatchesAll, number_after}
 use Rattle.mpm_run.specs.declared.listen.End.{End}
 use Rattle.worker_group.specs.Service.{left_events}
-use Rattle.mpm_run.specs.ClosingInside.{IsHaltedWay, LetsGo, Departure, RefusedWait, departure_events, lingering_given_up, refused_events}
-use Rattle.mpm_run.specs.RoundInside.{GivesUp, LetsGoOfConns, Departures, PassesTime, RetiresSome, StartsSome, end_events, gone_events, halt_events, departures_events, signal_events, way_of}
+use Rattle.mpm_run.specs.ClosingInside.{IsHaltedWay, LetsGo, Departure, departure_events, lingering_given_up}
+use Rattle.mpm_run.specs.RoundInside.{GivesUp, LetsGoOfConns, LetsGoUntil, Departures, PassesTime, RetiresSome, StartsSome, end_events, gone_events, halt_events, departures_events, signal_events, way_of}
 use Rattle.mpm_run.specs.Times.{known_slots, ticks_to}
 use Rattle.mpm_run.specs.Watched.{AreClosedAtOnce, IsClosedAtOnce, accepted_names, link_watched, links_from, names_taken, names_given}
 use Rattle.mpm_run.proofs.AddedLemmas.{added-events, added-own, events_in}
@@ -92,22 +92,15 @@ none-gone : (gone : List Departure) → TakesNone (gone_events gone)
 none-gone [] = refl
 none-gone (l ∷ gone) = none-both (departure_events l) (gone_events gone) (none-left l.way l.name) (none-gone gone)
 
-none-given_up : (fault : BoardFault) (ending : Cause) (name : ConnName) → TakesNone (event.Hold name ∷ lingering_given_up fault ending name)
+none-given_up : (fault : BoardFault) (ending : Cause) (name : ConnName) → TakesNone (lingering_given_up fault ending name)
 none-given_up fault.Halted ending name = refl
 none-given_up fault.Full ending name = refl
 none-given_up fault.NoMemory ending name = refl
 
-none-refused : (refused : List RefusedWait) → TakesNone (flat_map refused_events refused)
-none-refused [] = refl
-none-refused (w ∷ refused) =
-    none-both (refused_events w) (flat_map refused_events refused) (none-given_up w.refused w.ending w.name) (none-refused refused)
-
-none-lettings : (l : Departures) (refused : List RefusedWait) → TakesNone (departures_events l refused)
-none-lettings l refused =
-    none-both (gone_events l.retiring ++ gone_events l.cut ++ gone_events l.drained) (flat_map refused_events refused)
-    (none-both (gone_events l.retiring ++ gone_events l.cut) (gone_events l.drained)
-    (none-both (gone_events l.retiring) (gone_events l.cut) (none-gone l.retiring) (none-gone l.cut)) (none-gone l.drained))
-    (none-refused refused)
+none-lettings : (l : Departures) → TakesNone (departures_events l)
+none-lettings l =
+    none-both (gone_events l.retiring ++ gone_events l.cut) (gone_events l.drained)
+    (none-both (gone_events l.retiring) (gone_events l.cut) (none-gone l.retiring) (none-gone l.cut)) (none-gone l.drained)
 
 -- ## Names
 
@@ -485,8 +478,16 @@ nobody-passed to a b passes =
     (none-ticks (ticks_to a.state.moment to))) (none-gone passes.late))
 
 -- nor do those that retire or linger, and the children behind them
-pub nobody-let_go : (refused : List RefusedWait) (a b : SeenBook) → LetsGoOfConns refused a b → TakesNobody a b
-nobody-let_go refused a b lets = nobody-acts 0 _ None a b lets.acts (none-lettings lets.departures refused)
+pub nobody-let_go : (a b : SeenBook) → LetsGoOfConns a b → TakesNobody a b
+nobody-let_go a b lets = nobody-acts 0 _ None a b lets.acts (none-lettings lets.departures)
+
+-- also where one could not wait any more
+pub nobody-let_go_until : (fault : BoardFault) (a b : SeenBook) → LetsGoUntil fault a b → TakesNobody a b
+nobody-let_go_until fault a b until =
+    let last = until.last in
+    nobody-more a until.book b (nobody-let_go a until.book until.lets)
+    (nobody-more until.book last.book b (nobody-acts 0 _ (Some last.name) until.book last.book last.held refl)
+    (nobody-acts 0 _ None last.book b last.acts (none-given_up fault last.ending last.name)))
 
 pub nobody-retired : (a b : SeenBook) → RetiresSome a b → TakesNobody a b
 nobody-retired a b retires = nobody-acts 0 _ None a b retires.acts (none-retires retires.children)
@@ -501,12 +502,12 @@ nobody-started a b starts = nobody-acts 0 _ None a b starts.acts (none-starts st
 
 -- nor does any part of a round before connections are taken
 pub nobody-before-takes : (a b c d e f : SeenBook) (to : ℕ) (slots : List ℕ) → PassesTime to a b → Acts 0 (signal_events b slots) None b c
-    → LetsGoOfConns [] c d → RetiresSome d e → StartsSome e f → TakesNobody a f
+    → LetsGoOfConns c d → RetiresSome d e → StartsSome e f → TakesNobody a f
 nobody-before-takes a b c d e f to slots passes signals lets retires starts =
     nobody-more a e f
     (nobody-more a d e
     (nobody-more a c d
-    (nobody-more a b c (nobody-passed to a b passes) (nobody-signalled slots b c signals)) (nobody-let_go [] c d lets)) (nobody-retired d e retires))
+    (nobody-more a b c (nobody-passed to a b passes) (nobody-signalled slots b c signals)) (nobody-let_go c d lets)) (nobody-retired d e retires))
     (nobody-started e f starts)
 
 -- ## The stop

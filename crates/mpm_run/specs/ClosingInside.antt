@@ -24,6 +24,7 @@ use Rattle.conn_state.specs.declared.turn.LingerTurn.TheVariants as left
 use Rattle.board.specs.declared.faults.BoardFault.{BoardFault}
 use Rattle.board.specs.declared.faults.BoardFault.TheVariants as fault
 use Rattle.board.specs.Book.{SeenBook}
+use Rattle.board.specs.Faults.{IsRefusedFor}
 use Rattle.board.specs.Fits.{Fits}
 use Rattle.worker_group.specs.declared.service.Exit.{Exit}
 use Rattle.worker_group.specs.declared.service.Exit.TheVariants as exit
@@ -160,22 +161,20 @@ lingering_given_up fault.Halted ending name = event.Close name ending tail.Halte
 lingering_given_up fault.Full ending name = event.Command (Stop why.Full) ∷ event.Close name ending tail.Halted ∷ []
 lingering_given_up fault.NoMemory ending name = event.Close name ending tail.NoMemory ∷ []
 
--- a connection that lingers for the cause, and whose further wait was refused for the fault
-pub record RefusedWait : Type 0 where
+-- a connection that lingers was held, which led to this book; its further wait was refused there for the fault, and it was given up
+pub record GivesUpDrained (fault : BoardFault) (old new : SeenBook) : Type 0 where
   pub name : ConnName
   pub ending : Cause
-  pub refused : BoardFault
+  pub book : SeenBook
+  pub held : Acts 0 (event.Hold name ∷ []) (Some name) old book
+  pub why : IsRefusedFor fault book
+  pub acts : Acts 0 (lingering_given_up fault ending name) None book new
 
--- the events by which it was held and given up
-abbrev pub refused_events : RefusedWait → List Event
-refused_events w = event.Hold w.name ∷ lingering_given_up w.refused w.ending w.name
-
--- connections that linger were left so, until one could not wait any more, and was given up
-pub record DrainsUntil (old new : SeenBook) : Type 0 where
-  pub gone : List Departure
-  pub ways : AllLeftBy IsDrainedWay gone
-  pub last : RefusedWait
-  pub acts : Acts 0 (flat_map departure_events gone ++ refused_events last) None old new
+-- connections that linger were left so, which led to this book; then one could not wait any more, and was given up for the fault
+pub record DrainsUntil (fault : BoardFault) (old new : SeenBook) : Type 0 where
+  pub book : SeenBook
+  pub drains : DrainsSome old book
+  pub last : GivesUpDrained fault book new
 
 -- how many slots are signalled
 abbrev pub signal_count : State → ℕ

@@ -1,5 +1,5 @@
 -- The events that the listener adds, by the parts of its round.
-use Rattle.std.specs.Prelude.{◌≡◌, ◌⊎◌, ℕ, Bool, true, false, List, [], ◌∷◌, ◌++◌, length, map, nat_le, if◌then◌else◌, Option, None, option_map, Result, Ok, Err, ⊤}
+use Rattle.std.specs.Prelude.{◌≡◌, ◌⊎◌, ℕ, Bool, true, false, List, [], ◌∷◌, ◌++◌, length, map, nat_le, if◌then◌else◌, Option, None, Some, option_map, Result, Ok, Err, ⊤}
 use Rattle.std.specs.List.{flat_map}
 use Rattle.mpm_base.specs.Front.{after_turning_away, after_watch}
 use Rattle.mpm_base.specs.Count.{next_count}
@@ -18,11 +18,13 @@ use Rattle.conn_state.specs.Conn.{IsFrontOf}
 use Rattle.board.specs.declared.faults.BoardFault.{BoardFault}
 use Rattle.board.specs.declared.faults.BoardFault.TheVariants as fault
 use Rattle.board.specs.Book.{SeenBook, row_in}
+use Rattle.board.specs.Board.{SeenBoard}
+use Rattle.board.specs.Faults.{IsRefusedFor}
 use Rattle.worker_group.specs.declared.service.Exit.{Exit}
 use Rattle.worker_group.specs.declared.service.Exit.TheVariants as exit
 use Rattle.worker_group.specs.Acts.{Acts}
-use Rattle.worker_group.specs.Service.{given_up, left_events}
-use Rattle.mpm_run.specs.ClosingInside.{AllLeftBy, IsDrainedWay, IsLateWay, IsRetiringWay, Departure, NoneEarly, RefusedWait, departure_events, refused_events}
+use Rattle.worker_group.specs.Service.{HasServed, given_up, left_events}
+use Rattle.mpm_run.specs.ClosingInside.{AllLeftBy, GivesUpDrained, IsDrainedWay, IsLateWay, IsRetiringWay, Departure, NoneEarly, departure_events}
 use Rattle.mpm_run.specs.ListenInside.{IsInStep, SeenListener, why_of}
 use Rattle.mpm_run.specs.Patient.{NoneDue}
 use Rattle.mpm_run.specs.declared.listen.End.{End}
@@ -101,18 +103,41 @@ pub record TakesSome (old new : SeenBook) : Type 0 where
   pub left : AllLeft takes
   pub acts : Acts 0 (flat_map intake_events takes) None old new
 
--- connections were taken, until one was refused or given up, and nothing else was done
-pub record TakesUntil (old new : SeenBook) : Type 0 where
-  pub takes : List Intake
-  pub acts : Acts 0 (flat_map intake_events takes) None old new
+-- a call was refused for the fault, and nothing was done
+pub record StandsStill (fault : BoardFault) (old new : SeenBook) : Type 0 where
+  pub why : IsRefusedFor fault old
+  pub same : new ≡ old
+
+-- a connection was taken, which led to this book; its first wait was refused there for the fault, and it was given up
+pub record GivesUpTaken (fault : BoardFault) (old new : SeenBook) : Type 0 where
+  pub name : ConnName
+  pub book : SeenBook
+  pub took : Acts 0 (event.Accept name.slot ∷ []) (Some name) old book
+  pub why : IsRefusedFor fault book
+  pub acts : GivesUp fault name book new
+
+-- a connection could not be taken for the fault, or was taken and given up for it
+abbrev pub FailsTaking : BoardFault → SeenBook → SeenBook → Type 0
+FailsTaking fault old new = StandsStill fault old new ⊎ GivesUpTaken fault old new
+
+-- connections were taken, each left as the front watches it, which led to this book; then one could not be for the fault
+pub record TakesUntil (fault : BoardFault) (old new : SeenBook) : Type 0 where
+  pub book : SeenBook
+  pub takes : TakesSome old book
+  pub last : FailsTaking fault book new
 
 -- ## Connections that are served
 
--- the pass that serves made these events and nothing else was done; where no connection was due it made none
-pub record ServesSome (old new : SeenBook) : Type 0 where
-  pub events : List Event
-  pub none : NoneDue old.state → events ≡ []
-  pub acts : Acts 1 events None old new
+-- the connections of these names were served by the pass, one behind the other, and nothing else was done
+abbrev pub AreServed : ℕ → List ConnName → SeenBoard → SeenBoard → Type 0
+AreServed who [] old new = Acts who [] None old.book new.book
+AreServed who (name ∷ names) old new = (b : SeenBoard) × HasServed who name old b × AreServed who names b new
+
+-- the pass that serves did so with these; where no connection was due with none
+pub record ServesSome (old new : SeenBoard) : Type 0 where
+  pub names : List ConnName
+  pub none : NoneDue old.book.state → names ≡ []
+  pub served : AreServed 1 names old new
 
 -- ## A round
 
@@ -124,15 +149,14 @@ pub record Departures : Type 0 where
   pub drained : List Departure
 
 -- what a round did: the late connections that it let go of before and after time passed, the moment to which it passed, the slots
--- that it signalled, the connections that it let go of then, the one whose further wait was refused, if any, the children that it
--- let go of, those that it started, and the connections that it took
+-- that it signalled, the connections that it let go of then, the children that it let go of, those that it started, and the
+-- connections that it took
 pub record Round : Type 0 where
   pub early : List Departure
   pub ticks : List ℕ
   pub late : List Departure
   pub signals : List ℕ
   pub departures : Departures
-  pub refused : List RefusedWait
   pub retired : List ℕ
   pub starts : List ℕ
   pub takes : List Intake
@@ -146,14 +170,13 @@ abbrev pub time_events : List Departure → List ℕ → List Departure → List
 time_events early ticks late = gone_events early ++ map event.Tick ticks ++ gone_events late
 
 -- the events by which connections are let go of that retire, or linger
-abbrev pub departures_events : Departures → List RefusedWait → List Event
-departures_events l refused =
-    gone_events l.retiring ++ gone_events l.cut ++ gone_events l.drained ++ flat_map refused_events refused
+abbrev pub departures_events : Departures → List Event
+departures_events l = gone_events l.retiring ++ gone_events l.cut ++ gone_events l.drained
 
 -- the events of a round, in order
 abbrev pub round_events : Round → List Event
 round_events r =
-    time_events r.early r.ticks r.late ++ map event.Ready r.signals ++ departures_events r.departures r.refused
+    time_events r.early r.ticks r.late ++ map event.Ready r.signals ++ departures_events r.departures
     ++ map event.Retire r.retired ++ map event.StartChild r.starts ++ flat_map intake_events r.takes
 
 -- each of the connections was left in a way that its part allows
@@ -177,15 +200,17 @@ pub record PassesTime (to : ℕ) (old new : SeenBook) : Type 0 where
   pub late_ways : AllLeftBy IsLateWay late
   pub acts : Acts 0 (time_events early (ticks_to old.state.moment to) late) None old new
 
--- connections that retire were let go of, and lingering ones drained; the further waits of these were refused
-pub record LetsGoOfConns (refused : List RefusedWait) (old new : SeenBook) : Type 0 where
+-- connections that retire were let go of, and lingering ones drained
+pub record LetsGoOfConns (old new : SeenBook) : Type 0 where
   pub departures : Departures
   pub ways : AreLetGo departures
-  pub acts : Acts 0 (departures_events departures refused) None old new
+  pub acts : Acts 0 (departures_events departures) None old new
 
--- the same, until the further wait of one was refused
-abbrev pub LetsGoUntil : SeenBook → SeenBook → Type 0
-LetsGoUntil old new = (refused : RefusedWait) × LetsGoOfConns (refused ∷ []) old new
+-- the same, which led to this book; then a lingering one could not wait any more, and was given up for the fault
+pub record LetsGoUntil (fault : BoardFault) (old new : SeenBook) : Type 0 where
+  pub book : SeenBook
+  pub lets : LetsGoOfConns old book
+  pub last : GivesUpDrained fault book new
 
 -- the events by which those of the slots that the table has are signalled, once and in order
 abbrev pub signal_events : SeenBook → List ℕ → List Event
@@ -205,18 +230,24 @@ pub record GoesRound (to : ℕ) (slots : List ℕ) (old new : SeenBook) : Type 0
   pub ticks : round.ticks ≡ ticks_to old.state.moment to
   pub signals : round.signals ≡ known_slots (length old.base.rows) slots
   pub ways : AreWays round
-  pub none_refused : round.refused ≡ []
   pub left : AllLeft round.takes
   pub acts : Acts 0 (round_events round) None old new
 
--- a round began with that, and was broken off
-pub record BreaksOff (to : ℕ) (slots : List ℕ) (old new : SeenBook) : Type 0 where
+-- a round was broken off by a call that was refused for the fault: nothing was done then, or the connection in hand was given up
+abbrev pub EndsRound : BoardFault → SeenBook → SeenBook → Type 0
+EndsRound fault old new = GivesUpDrained fault old new ⊎ FailsTaking fault old new
+
+-- a round began with that, which led to this book, and was broken off there for the fault
+pub record BreaksOff (fault : BoardFault) (to : ℕ) (slots : List ℕ) (old new : SeenBook) : Type 0 where
   pub round : Round
   pub soon : (round.ticks ≡ []) ⊎ NoneEarly old round.early
   pub ticks : IsFrontOf (ticks_to old.state.moment to) round.ticks
   pub signals : IsFrontOf (known_slots (length old.base.rows) slots) round.signals
   pub ways : AreWays round
-  pub acts : Acts 0 (round_events round) None old new
+  pub left : AllLeft round.takes
+  pub book : SeenBook
+  pub acts : Acts 0 (round_events round) None old book
+  pub last : EndsRound fault book new
 
 -- ## The end
 

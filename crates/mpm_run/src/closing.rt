@@ -2,7 +2,7 @@
 //! the server has stopped.
 //!
 //! Each call says which connections it held, and how it left each (`specs/ClosingInside.antt`).
-ghost use Rattle.std.specs.Prelude.{◌≡◌, ◌<◌, [], ◌∷◌, None, Some, true, false, IfErr, OnErr, OnOk};
+ghost use Rattle.std.specs.Prelude.{◌≡◌, ◌<◌, [], ◌∷◌, None, Some, true, false, IfErr, OnOk};
 ghost use Rattle.conn_machine.specs.Rows.{is_linger_kind, lives_and};
 ghost use Rattle.conn_machine.specs.States.{is_halted};
 ghost use Rattle.conn_machine.specs.Table.{is_allowed, next};
@@ -15,7 +15,7 @@ ghost use Rattle.board.specs.Book.{row_in};
 ghost use Rattle.worker_group.specs.Acts.{Acts};
 ghost use Rattle.worker_group.specs.InHand.{IsInHand};
 ghost use Rattle.worker_group.specs.Service.{LeavesRest, RefusalLasts};
-ghost use Rattle.mpm_run.specs.ClosingInside.{DrainsSome, DrainsUntil, IsDrainedWay, IsHaltedWay, IsLateWay, IsLingeringFor, IsRetiringWay, LetsGo, LetsGoLate, LetsLinger, LetsOneGo, cause_of_late, late_weight, lingering_given_up, parked_count, serving_count, signal_count, tail_of};
+ghost use Rattle.mpm_run.specs.ClosingInside.{DrainsSome, DrainsUntil, GivesUpDrained, IsDrainedWay, IsHaltedWay, IsLateWay, IsLingeringFor, IsRetiringWay, LetsGo, LetsGoLate, LetsLinger, LetsOneGo, cause_of_late, late_weight, lingering_given_up, parked_count, serving_count, signal_count, tail_of};
 ghost use Rattle.mpm_run.specs.Listen.{HasNoLive};
 ghost use Rattle.mpm_run.specs.Patient.{NoneToDrain, NoneToLetGo};
 ghost use Rattle.mpm_run.specs.ListenInside.{MustStop, NoneOverdue, NoneParked};
@@ -140,9 +140,8 @@ pub(crate) fn drain_all<L: Link, N: Known>(board: &mut Board<L, N>) -> Result<()
     requires free { row_in 0 board.old.book ≡ None }
     requires none_late { NoneOverdue board.old.book.state }
     ensures drains { OnOk result (DrainsSome board.old.book board.new.book) }
-    ensures until { OnErr result (DrainsUntil board.old.book board.new.book) }
+    ensures until { IfErr result (λ fault. DrainsUntil fault board.old.book board.new.book) }
     ensures none { OnOk result (NoneToDrain board.new.book.state) }
-    ensures none_late { OnOk result (NoneOverdue board.new.book.state) }
     ensures rest { LeavesRest board.old.book board.new.book }
     ensures err { IfErr result (λ fault. MustStop fault board.new.book) }
 {
@@ -160,7 +159,7 @@ fn drain<L: Link, N: Known>(board: &mut Board<L, N>, name: ConnName) -> Result<(
     requires none_late { NoneOverdue board.old.book.state }
     requires lingers { lives_and (has_to_be_drained board.old.book.state name.slot) board.old.book.state.rows name ≡ true }
     ensures drains { OnOk result (LetsOneGo IsDrainedWay name board.old.book board.new.book) }
-    ensures until { OnErr result (DrainsUntil board.old.book board.new.book) }
+    ensures until { IfErr result (λ fault. GivesUpDrained fault board.old.book board.new.book) }
     ensures fewer { OnOk result (signal_count board.new.book.state < signal_count board.old.book.state) }
     ensures none_late { OnOk result (NoneOverdue board.new.book.state) }
     ensures rest { LeavesRest board.old.book board.new.book }

@@ -16,7 +16,7 @@ ghost use Rattle.board.specs.Book.{row_in};
 ghost use Rattle.worker_group.specs.Service.{IsUp, LeavesRest};
 ghost use Rattle.mpm_run.specs.ListenInside.{AsksFor, Follows, HandedOut, HandsOut, HasStarted, HasStopped, IsArrival, IsAtStart, IsInStep, IsInTime, IsOpening, IsRestful, IsWatching, MustStop, OnlyTakes, TookAll, TurnsEnd, asked_children, bound_of, waits_of, why_of};
 ghost use Rattle.mpm_run.specs.PatientInside.{IsPatientRun};
-ghost use Rattle.mpm_run.specs.RoundInside.{BreaksOff, EndsTaking, GoesRound, IsTaking, NoneHas, ServesSome, StartsSome, TakesSome, TakesUntil};
+ghost use Rattle.mpm_run.specs.RoundInside.{BreaksOff, EndsTaking, FailsTaking, GoesRound, IsTaking, NoneHas, ServesSome, StartsSome, TakesSome, TakesUntil};
 ghost use Rattle.mpm_run.specs.Started.{BeginsWithStarts};
 ghost use Rattle.mpm_run.specs.Times.{IsInformed, IsInformedSoFar, WasInformed, moment_for};
 ghost use Rattle.mpm_run.specs.Watched.{IsHushed};
@@ -235,7 +235,7 @@ impl<L: Link + Send, F: Front<L = L>, C: Clock, N: Known> Listener<L, F, C, N> {
     fn serve(&mut self) -> Result<Rest, BoardFault>
         requires passes { 1 < self.old.board.book.passes }
         requires free { row_in 1 self.old.board.book ≡ None }
-        ensures serves { ServesSome self.old.board.book self.new.board.book }
+        ensures serves { ServesSome self.old.board self.new.board }
         ensures rest { LeavesRest self.old.board.book self.new.board.book }
         ensures going { OnOk result (is_halted self.new.board.book.state.going ≡ false) }
         ensures until { IfOk result (λ rest. rest.until ≡ next_deadline_of self.old.board.book.state) }
@@ -259,7 +259,7 @@ impl<L: Link + Send, F: Front<L = L>, C: Clock, N: Known> Listener<L, F, C, N> {
         requires up { IsUp self.old.board.book.state.going }
         requires step { IsInStep self.old.front.told self.old.board.book.state }
         ensures round { OnOk result (GoesRound (moment_for moment) self.old.ready self.old.board.book self.new.board.book) }
-        ensures broken { OnErr result (BreaksOff (moment_for moment) self.old.ready self.old.board.book self.new.board.book) }
+        ensures broken { IfErr result (λ fault. BreaksOff fault (moment_for moment) self.old.ready self.old.board.book self.new.board.book) }
         ensures up { IsUp self.new.board.book.state.going }
         ensures moment { OnOk result (self.new.board.book.state.moment ≡ max self.old.board.book.state.moment (moment_for moment)) }
         ensures step { OnOk result (IsInStep self.new.front.told self.new.board.book.state) }
@@ -287,7 +287,7 @@ impl<L: Link + Send, F: Front<L = L>, C: Clock, N: Known> Listener<L, F, C, N> {
         requires up { IsUp self.old.board.book.state.going }
         requires step { IsInStep self.old.front.told self.old.board.book.state }
         ensures takes { OnOk result (TakesSome self.old.board.book self.new.board.book) }
-        ensures until { OnErr result (TakesUntil self.old.board.book self.new.board.book) }
+        ensures until { IfErr result (λ fault. TakesUntil fault self.old.board.book self.new.board.book) }
         ensures up { IsUp self.new.board.book.state.going }
         ensures moment { self.new.board.book.state.moment ≡ self.old.board.book.state.moment }
         ensures step { OnOk result (IsInStep self.new.front.told self.new.board.book.state) }
@@ -324,7 +324,7 @@ impl<L: Link + Send, F: Front<L = L>, C: Clock, N: Known> Listener<L, F, C, N> {
         requires client { IsOfClient N.known (L.seen link).told }
         requires healthy { (L.seen link).counts.faults ≡ 0 }
         ensures takes { OnOk result (IsTaking (L.seen link).told self.old self.new) }
-        ensures until { OnErr result (TakesUntil self.old.board.book self.new.board.book) }
+        ensures until { IfErr result (λ fault. FailsTaking fault self.old.board.book self.new.board.book) }
         ensures up { IsUp self.new.board.book.state.going }
         ensures moment { self.new.board.book.state.moment ≡ self.old.board.book.state.moment }
         ensures taken { OnOk result (self.new.board.book.state.accepted ≡ next_count self.old.board.book.state.accepted) }

@@ -74,6 +74,7 @@ pub fn accept<L: Link, N: Known>(board: &mut Board<L, N>) -> Result<Taken, Board
     requires acceptable { is_some (acceptable board.old.book.state) ≡ true }
     ensures acts { IfOk result (λ taken. Acts 0 (event.Accept taken.name.slot ∷ []) (Some taken.name) board.old.book board.new.book) }
     ensures refused { OnErr result (board.new ≡ board.old) }
+    ensures why { IfErr result (λ fault. IsRefusedFor fault board.old.book) }
     ensures going { board.new.book.state.going ≡ board.old.book.state.going }
     ensures taken { OnOk result (board.new.book.state.accepted ≡ next_count board.old.book.state.accepted) }
     ensures held { IfOk result (λ taken. HasTaken board.new.book.state taken.name taken.child taken.generation board.old.book.state.accepted) }
@@ -139,6 +140,7 @@ pub fn pass_time<L: Link, N: Known>(
     requires up { IsUp board.old.book.state.going }
     ensures passes { OnOk result (PassesTime (moment_for moment) board.old.book board.new.book) }
     ensures refused { OnErr result (LetsGo IsLateWay board.old.book board.new.book) }
+    ensures why { IfErr result (λ fault. IsRefusedFor fault board.new.book) }
     ensures none { OnOk result (NoneOverdue board.new.book.state) }
     ensures up { IsUp board.new.book.state.going }
     ensures moment { OnOk result (board.new.book.state.moment ≡ max board.old.book.state.moment (moment_for moment)) }
@@ -165,6 +167,7 @@ pub fn signal_all<L: Link, N: Known>(
     requires free { row_in 0 board.old.book ≡ None }
     ensures signals { OnOk result (Acts 0 (signal_events board.old.book slots.now) None board.old.book board.new.book) }
     ensures first { OnErr result (SignalsFirst slots.now board.old.book board.new.book) }
+    ensures why { IfErr result (λ fault. IsRefusedFor fault board.new.book) }
     ensures rest { LeavesRest board.old.book board.new.book }
     ensures err { IfErr result (λ fault. MustStop fault board.new.book) }
 {
@@ -182,6 +185,7 @@ fn signal<L: Link, N: Known>(board: &mut Board<L, N>, slot: u32) -> Result<(), B
     ensures signals { OnOk result (Acts 0 (signal_events board.old.book (slot ∷ [])) None board.old.book board.new.book) }
     ensures rest { LeavesRest board.old.book board.new.book }
     ensures refused { OnErr result (board.new ≡ board.old) }
+    ensures why { IfErr result (λ fault. IsRefusedFor fault board.old.book) }
     ensures err { IfErr result (λ fault. MustStop fault board.new.book) }
 {
     histories_keep_sizes();
@@ -198,8 +202,8 @@ fn signal<L: Link, N: Known>(board: &mut Board<L, N>, slot: u32) -> Result<(), B
 pub fn let_go_of_conns<L: Link, N: Known>(board: &mut Board<L, N>) -> Result<(), BoardFault>
     requires passes { 0 < board.old.book.passes }
     requires free { row_in 0 board.old.book ≡ None }
-    ensures gone { OnOk result (LetsGoOfConns [] board.old.book board.new.book) }
-    ensures until { OnErr result (LetsGoUntil board.old.book board.new.book) }
+    ensures gone { OnOk result (LetsGoOfConns board.old.book board.new.book) }
+    ensures until { IfErr result (λ fault. LetsGoUntil fault board.old.book board.new.book) }
     ensures rest { LeavesRest board.old.book board.new.book }
     ensures err { IfErr result (λ fault. MustStop fault board.new.book) }
 {
@@ -214,6 +218,7 @@ pub fn start_children<L: Link, N: Known>(board: &mut Board<L, N>) -> Result<(), 
     requires passes { 0 < board.old.book.passes }
     requires free { row_in 0 board.old.book ≡ None }
     ensures starts { StartsSome board.old.book board.new.book }
+    ensures why { IfErr result (λ fault. IsRefusedFor fault board.new.book) }
     ensures started { OnOk result (startable board.new.book.state ≡ None) }
     ensures first { OnOk result (IsOpening board.old.book → BeginsWithStarts (asked_children board.old.book.base) board.new.book.history) }
     ensures going { board.new.book.state.going ≡ board.old.book.state.going }
@@ -234,7 +239,8 @@ pub fn start_children<L: Link, N: Known>(board: &mut Board<L, N>) -> Result<(), 
 pub fn serve_all<L: Link, N: Known>(board: &mut Board<L, N>) -> Result<(), BoardFault>
     requires passes { 1 < board.old.book.passes }
     requires free { row_in 1 board.old.book ≡ None }
-    ensures serves { ServesSome board.old.book board.new.book }
+    ensures serves { ServesSome board.old board.new }
+    ensures why { IfErr result (λ fault. IsRefusedFor fault board.new.book) }
     ensures served { OnOk result (NoneDue board.new.book.state) }
     ensures rest { LeavesRest board.old.book board.new.book }
     ensures err { IfErr result (λ fault. MustStop fault board.new.book) }

@@ -7,15 +7,16 @@ use Rattle.conn_machine.specs.declared.event.Event.TheVariants as event
 use Rattle.board.specs.declared.faults.BoardFault.{BoardFault}
 use Rattle.board.specs.Book.{SeenBook}
 use Rattle.board.specs.Board.{SeenBoard}
+use Rattle.board.specs.Faults.{IsRefusedFor}
 use Rattle.board.specs.Finds.{has_to_be_drained}
 use Rattle.worker_group.specs.declared.service.Exit.TheVariants as exit
 use Rattle.worker_group.specs.Acts.{Acts}
-use Rattle.mpm_run.specs.ClosingInside.{DrainsUntil, IsDrainedWay, lingering_given_up}
+use Rattle.mpm_run.specs.ClosingInside.{GivesUpDrained, IsDrainedWay, lingering_given_up}
 use Rattle.mpm_run.proofs.ClosingLemmas.{held-acts, let-go, refused-wait}
 use Rattle.mpm_run.proofs.HeldLemmas.{closes-turned, held-lingering, holding, lingers-by, lingers-turned, may-wait_on, waited-for, was-at}
 use Rattle.mpm_run.proofs.LeavingLemmas.{row-cause, to-drain}
 use Rattle.mpm_run.proofs.MeasureLemmas.{deadline-later, drained-closed, drained-parked, later-than, none-after_close, none-after_park}
-use Rattle.mpm_run.proofs.RoundLemmas.{err-on}
+use Rattle.mpm_run.proofs.RoundLemmas.{if-err-both}
 use Rattle.mpm_run.proofs.FoundLemmas.{lives}
 use Rattle.mpm_run.proofs.closing.drain.Goals as goal
 
@@ -126,14 +127,15 @@ returns-in-None-clause-drains g c =
 
 pub returns-in-None-clause-until : goal.returns-in-None-clause-until
 returns-in-None-clause-until g c =
-    err-on c.linger_on.result
+    if-err-both c.linger_on.result
+    (λ (fault : BoardFault). IsRefusedFor fault c.hold-conn.new.self.book)
     (λ (fault : BoardFault). Acts 0 (lingering_given_up fault c.in-Some-Some.cause c.linger_turn.new.self.name) None c.hold-conn.new.self.book c.linger_on.new.board.book)
-    (DrainsUntil c.args.board.now.book c.linger_on.new.board.book)
-    (λ fault given. refused-wait c.passes_act_in_steps.ensures.acts c.args.name c.linger_turn.new.self.name c.in-Some-Some.cause fault c.args.board.now.book c.hold-conn.new.self.book
+    (λ (fault : BoardFault). GivesUpDrained fault c.args.board.now.book c.linger_on.new.board.book)
+    (λ fault why given. refused-wait c.args.name c.linger_turn.new.self.name c.in-Some-Some.cause fault c.args.board.now.book c.hold-conn.new.self.book
     c.linger_on.new.board.book
     (held-acts c.passes_act_in_steps.ensures.acts c.args.name _ c.args.board.now c.hold-conn.new.self c.hold-conn.ensures.is c.hold-conn.ensures.entries c.hold-conn.ensures.row)
-    (c.linger_turn.ensures.name ∙ c.hold-conn.ensures.name) given)
-    c.linger_on.ensures.given_up
+    (c.linger_turn.ensures.name ∙ c.hold-conn.ensures.name) why given)
+    c.linger_on.ensures.why c.linger_on.ensures.given_up
 
 pub returns-in-None-clause-fewer : goal.returns-in-None-clause-fewer
 returns-in-None-clause-fewer g c =

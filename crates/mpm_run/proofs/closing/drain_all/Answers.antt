@@ -1,7 +1,7 @@
-use Rattle.std.proofs.Common.{refl}
-use Rattle.mpm_run.specs.ClosingInside.{IsDrainedWay}
-use Rattle.mpm_run.proofs.ClosingLemmas.{drains-until, lets-more, lets-none}
-use Rattle.mpm_run.proofs.RoundLemmas.{on-err, rest_same}
+use Rattle.std.proofs.Common.{refl, rules}
+use Rattle.mpm_run.specs.ClosingInside.{DrainsUntil, IsDrainedWay}
+use Rattle.mpm_run.proofs.ClosingLemmas.{lets-more, lets-none}
+use Rattle.mpm_run.proofs.RoundLemmas.{rest_same}
 use Rattle.mpm_run.proofs.closing.drain_all.Goals as goal
 
 pub loop-name-init : goal.loop-name-init
@@ -27,5 +27,6 @@ loop-name-preserved g c =
 
 pub returns-in_err-drain-clause-until : goal.returns-in_err-drain-clause-until
 returns-in_err-drain-clause-until g c =
-    on-err c.from_residual.result _
-    (drains-until c.passes_act_in_steps.ensures.acts c.args.board.now.book c.loop-name.board.book c.drain.new.board.book c.loop-name.invariant.gone c.in_err-drain.ensures.until)
+    let until : DrainsUntil c.in_err-drain.field-0.0 c.args.board.now.book c.drain.new.board.book =
+    record { book = c.loop-name.board.book; drains = c.loop-name.invariant.gone; last = c.in_err-drain.ensures.until } in
+    search (rules, until)

@@ -1,6 +1,8 @@
-use Rattle.std.proofs.lemmas.Result.{on_err_weaker, on_ok_weaker}
+use Rattle.std.proofs.lemmas.Result.{on_ok_weaker}
+use Rattle.board.specs.declared.faults.BoardFault.{BoardFault}
 use Rattle.mpm_run.specs.ClosingInside.{DrainsSome, DrainsUntil}
-use Rattle.mpm_run.proofs.RoundLemmas.{lets-go-conns, lets-go-until}
+use Rattle.mpm_run.specs.RoundInside.{LetsGoUntil}
+use Rattle.mpm_run.proofs.RoundLemmas.{if-err, lets-go-conns, lets-go-until}
 use Rattle.mpm_run.proofs.round.let_go_of_conns.Goals as goal
 
 pub returns-clause-gone : goal.returns-clause-gone
@@ -13,9 +15,9 @@ returns-clause-gone g c =
 
 pub returns-clause-until : goal.returns-clause-until
 returns-clause-until g c =
-    on_err_weaker c.drain_all.result
-    (λ (until : DrainsUntil c.let_go_late.new.board.book c.drain_all.new.board.book).
-    lets-go-until c.passes_act_in_steps.ensures.acts c.args.board.now.book c.let_go_retiring.new.board.book c.let_go_late.new.board.book c.drain_all.new.board.book
+    if-err c.drain_all.result (λ (f : BoardFault). DrainsUntil f c.let_go_late.new.board.book c.drain_all.new.board.book)
+    (λ (f : BoardFault). LetsGoUntil f c.args.board.now.book c.drain_all.new.board.book)
+    (λ f until. lets-go-until c.passes_act_in_steps.ensures.acts f c.args.board.now.book c.let_go_retiring.new.board.book c.let_go_late.new.board.book c.drain_all.new.board.book
     c.let_go_retiring.ensures.gone c.let_go_late.ensures.gone.lets until)
     c.drain_all.ensures.until
 

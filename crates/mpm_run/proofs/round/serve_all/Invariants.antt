@@ -9,7 +9,7 @@ use Rattle.mpm_run.proofs.round.serve_all.Given as goal
 abbrev pub invariant-loop-name : goal.invariant-loop-name
 invariant-loop-name g l =
     record {
-      serves : ServesSome l.fn.board.book l.board.book;
+      serves : ServesSome l.fn.board l.board;
       still : NoneDue l.fn.board.book.state → NoneDue l.board.book.state;
       state : after l.board.book.base l.board.book.history ≡ l.board.book.state;
     }

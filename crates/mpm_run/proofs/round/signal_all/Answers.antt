@@ -1,6 +1,7 @@
-use Rattle.std.proofs.Common.{◌≡◌, ◌+◌, take, drop, slice_index, [], ◌∷◌, ◌++◌, sym, ap, subst}
+use Rattle.std.proofs.Common.{◌≡◌, ◌+◌, take, drop, slice_index, [], ◌∷◌, ◌++◌, sym, ap, subst, rules}
 use Rattle.std.proofs.lemmas.List.{take_more, take-append-drop}
 use Rattle.board.specs.Board.{SeenBoard}
+use Rattle.board.specs.Faults.{IsRefusedFor}
 use Rattle.mpm_run.specs.RoundInside.{SignalsFirst, signal_events}
 use Rattle.mpm_run.proofs.RoundLemmas.{acts-spelled, on-err, signals-begun, signals-more}
 use Rattle.mpm_run.proofs.round.signal_all.Goals as goal
@@ -11,6 +12,12 @@ returns-in_err-signal-clause-first g c =
     (subst (λ (b : SeenBoard). SignalsFirst c.args.slots.now c.args.board.now.book b.book) (sym c.in_err-signal.ensures.refused)
     (signals-begun c.args.slots.now (take c.loop-slot.slot-index c.args.slots.now) (drop c.loop-slot.slot-index c.args.slots.now)
     c.args.board.now.book c.loop-slot.board.book (sym (take-append-drop c.loop-slot.slot-index c.args.slots.now)) c.loop-slot.invariant.acts))
+
+pub returns-in_err-signal-clause-why : goal.returns-in_err-signal-clause-why
+returns-in_err-signal-clause-why g c =
+    let why : IsRefusedFor c.in_err-signal.field-0.0 c.signal.new.board.book =
+    subst (λ (b : SeenBoard). IsRefusedFor c.in_err-signal.field-0.0 b.book) (sym c.in_err-signal.ensures.refused) c.in_err-signal.ensures.why in
+    search (rules, why)
 
 pub loop-slot-preserved : goal.loop-slot-preserved
 loop-slot-preserved g c =

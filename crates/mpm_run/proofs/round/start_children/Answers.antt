@@ -1,6 +1,7 @@
-use Rattle.std.proofs.Common.{None, ap, subst, sym, ◌∙◌, refl}
+use Rattle.std.proofs.Common.{None, ap, subst, sym, ◌∙◌, refl, rules}
 use Rattle.conn_machine.specs.declared.event.Event.TheVariants as event
 use Rattle.board.specs.Board.{SeenBoard}
+use Rattle.board.specs.Faults.{IsRefusedFor}
 use Rattle.worker_group.specs.Service.{LeavesRest}
 use Rattle.mpm_run.specs.RoundInside.{StartsSome}
 use Rattle.mpm_run.proofs.ChildrenLemmas.{all-started, opens-in-order, starts-next}
@@ -46,6 +47,12 @@ loop-child-preserved g c =
 pub returns-in_err-start_child-clause-starts : goal.returns-in_err-start_child-clause-starts
 returns-in_err-start_child-clause-starts g c =
     subst (λ (b : SeenBoard). StartsSome c.args.board.now.book b.book) (sym c.in_err-start_child.ensures.err) c.loop-child.invariant.starts
+
+pub returns-in_err-start_child-clause-why : goal.returns-in_err-start_child-clause-why
+returns-in_err-start_child-clause-why g c =
+    let why : IsRefusedFor c.in_err-start_child.field-0.0 c.start_child.new.self.book =
+    subst (λ (b : SeenBoard). IsRefusedFor c.in_err-start_child.field-0.0 b.book) (sym c.in_err-start_child.ensures.err) c.in_err-start_child.ensures.why in
+    search (rules, why)
 
 pub returns-in_err-start_child-clause-rest : goal.returns-in_err-start_child-clause-rest
 returns-in_err-start_child-clause-rest g c =

@@ -6,12 +6,13 @@ use Rattle.conn_state.specs.Conn.{SeenConn}
 use Rattle.conn_state.specs.Known.{IsOfClient}
 use Rattle.board.specs.declared.faults.BoardFault.{BoardFault}
 use Rattle.board.specs.Board.{SeenBoard}
+use Rattle.board.specs.Faults.{IsRefusedFor}
 use Rattle.worker_group.specs.Acts.{Acts}
 use Rattle.mpm_run.specs.ListenInside.{IsArrival, WatchesAll}
 use Rattle.worker_group.specs.Service.{left_events}
-use Rattle.mpm_run.specs.RoundInside.{GivesUp, TakesUntil, way_of}
+use Rattle.mpm_run.specs.RoundInside.{FailsTaking, GivesUp, way_of}
 use Rattle.mpm_run.proofs.FrontLemmas.{follows-turned, follows-watch, step-watch, takes-turned, takes-watch}
-use Rattle.mpm_run.proofs.RoundLemmas.{acts-spelled, err-on, on-err, on-ok, takes-given_up, takes-one, until-none}
+use Rattle.mpm_run.proofs.RoundLemmas.{acts-spelled, if-err-both, on-err, on-ok, takes-one}
 use Rattle.mpm_run.proofs.WatchLemmas.{takes-one-left, watched-took, watched-turned}
 use Rattle.mpm_run.proofs.listen.Listener.take.Goals as goal
 
@@ -34,8 +35,7 @@ settle-requires-clause-row g c = c.in-Ok.ensures.acts.row ∙ ap (λ (x : SeenCo
 pub returns-in-Err-clause-until : goal.returns-in-Err-clause-until
 returns-in-Err-clause-until g c =
     rw (← c.self.view_is)
-    (subst (λ (b : SeenBoard). TakesUntil c.self.inside.board.book b.book) (sym c.in-Err.ensures.refused)
-    (until-none c.passes_act_in_steps.ensures.acts c.self.inside.board.book (rw (← c.self.view_is) at c.requires.free)))
+    (inl (record { why = c.in-Err.ensures.why; same = ap (λ (b : SeenBoard). b.book) c.in-Err.ensures.refused }))
 
 pub returns-in-Err-clause-follows : goal.returns-in-Err-clause-follows
 returns-in-Err-clause-follows g c = rw (← c.self.view_is) (follows-turned _ _ _ c.turn_away.ensures)
@@ -70,12 +70,17 @@ returns-clause-takes g c =
 pub returns-clause-until : goal.returns-clause-until
 returns-clause-until g c =
     rw (← c.self.view_is)
-    (err-on c.settle.result (λ (f : BoardFault). GivesUp f c.new-conn.result.name c.accept.new.board.book c.settle.new.board.book)
-    (TakesUntil c.self.inside.board.book c.settle.new.board.book)
-    (λ f given.
-    takes-given_up c.passes_act_in_steps.ensures.acts f c.in-Ok.taken.name c.self.inside.board.book c.accept.new.board.book c.settle.new.board.book c.in-Ok.ensures.acts
-    (subst (λ (x : SeenConn). GivesUp f x.name c.accept.new.board.book c.settle.new.board.book) c.new-conn.ensures given))
-    c.settle.ensures.given_up)
+    (if-err-both c.settle.result (λ (f : BoardFault). IsRefusedFor f c.accept.new.board.book)
+    (λ (f : BoardFault). GivesUp f c.new-conn.result.name c.accept.new.board.book c.settle.new.board.book)
+    (λ (f : BoardFault). FailsTaking f c.self.inside.board.book c.settle.new.board.book)
+    (λ f why given. inr (record {
+      name = c.in-Ok.taken.name;
+      book = c.accept.new.board.book;
+      took = c.in-Ok.ensures.acts;
+      why = why;
+      acts = subst (λ (x : SeenConn). GivesUp f x.name c.accept.new.board.book c.settle.new.board.book) c.new-conn.ensures given;
+    }))
+    c.settle.ensures.why c.settle.ensures.given_up)
 
 pub returns-clause-step : goal.returns-clause-step
 returns-clause-step g c =

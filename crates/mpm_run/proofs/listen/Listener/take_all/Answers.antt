@@ -1,8 +1,8 @@
-use Rattle.std.proofs.Common.{ℕ, ◌<◌, refl, sym, subst, ◌∙◌}
-use Rattle.mpm_run.specs.RoundInside.{way_of}
+use Rattle.std.proofs.Common.{ℕ, ◌<◌, refl, sym, subst, ◌∙◌, rules}
+use Rattle.mpm_run.specs.RoundInside.{TakesUntil, way_of}
 use Rattle.mpm_run.proofs.FrontLemmas.{arrives-next, follows-accept, follows-same, follows-trans, handed-known, step-none, step-taken, takes-accept, takes-same, takes-trans}
 use Rattle.mpm_run.proofs.LinkLemmas.{hands-ended}
-use Rattle.mpm_run.proofs.RoundLemmas.{on-err, takes-more, takes-none, takes-until}
+use Rattle.mpm_run.proofs.RoundLemmas.{on-err, takes-more, takes-none}
 use Rattle.mpm_run.proofs.TakeLemmas.{took-none}
 use Rattle.mpm_run.proofs.WatchLemmas.{watched-accept}
 use Rattle.mpm_run.proofs.listen.Listener.take_all.Goals as goal
@@ -73,8 +73,9 @@ loop-preserved g c =
 pub returns-in_err-take-in-Some-accept-clause-until : goal.returns-in_err-take-in-Some-accept-clause-until
 returns-in_err-take-in-Some-accept-clause-until g c =
     let takes = rw (← c.self.view_is) at c.loop.invariant.takes in
-    on-err c.from_residual.result _
-    (takes-until c.passes_act_in_steps.ensures.acts c.args.self.now.board.book c.self.inside.board.book c.take.new.self.board.book takes c.in_err-take-in-Some-accept.ensures.until)
+    let until : TakesUntil c.in_err-take-in-Some-accept.field-0.0 c.args.self.now.board.book c.take.new.self.board.book =
+    record { book = c.self.inside.board.book; takes = takes; last = c.in_err-take-in-Some-accept.ensures.until } in
+    search (rules, until)
 
 pub returns-in_err-take-in-Some-accept-clause-moment : goal.returns-in_err-take-in-Some-accept-clause-moment
 returns-in_err-take-in-Some-accept-clause-moment g c =

@@ -1,13 +1,14 @@
-use Rattle.std.proofs.Common.{ℕ, ◌<◌, List, [], ◌∷◌, None, sym, subst, ◌∙◌}
-use Rattle.std.proofs.lemmas.Result.{on_err_weaker, on_ok_weaker}
+use Rattle.std.proofs.Common.{ℕ, ◌<◌, List, None, inl, inr, sym, subst, ◌∙◌, rules}
+use Rattle.std.proofs.lemmas.Result.{on_ok_weaker}
+use Rattle.board.specs.declared.faults.BoardFault.{BoardFault}
 use Rattle.worker_group.specs.Acts.{Acts}
 use Rattle.mpm_run.specs.ClosingInside.{IsLateWay}
-use Rattle.mpm_run.specs.RoundInside.{SignalsFirst, TakesSome, TakesUntil, signal_events}
+use Rattle.mpm_run.specs.RoundInside.{BreaksOff, SignalsFirst, TakesSome, TakesUntil, signal_events}
 use Rattle.mpm_run.specs.Times.{moment_for}
 use Rattle.mpm_run.proofs.FrontLemmas.{step-kept}
 use Rattle.mpm_run.proofs.LinkLemmas.{hands-step}
-use Rattle.mpm_run.proofs.RoundLemmas.{breaks-behind, breaks-early, goes-round, lets-go-none, on-err, on-ok, retires-none, signals-all, starts-none, until-none}
-use Rattle.mpm_run.proofs.WatchLemmas.{nobody-acts, nobody-gone, nobody-let_go, nobody-before-takes, nobody-more, nobody-passed, nobody-signalled, none-signals, watched-as}
+use Rattle.mpm_run.proofs.RoundLemmas.{breaks-behind, breaks-early, ends-idle, goes-round, if-err, lets-go-none, on-err, on-ok, retires-none, signals-all, starts-none, takes-none}
+use Rattle.mpm_run.proofs.WatchLemmas.{nobody-acts, nobody-gone, nobody-let_go_until, nobody-before-takes, nobody-more, nobody-passed, nobody-signalled, none-signals, watched-as}
 use Rattle.mpm_run.proofs.listen.Listener.take_in.Goals as goal
 
 pub pass_time-requires-clause-passes : goal.pass_time-requires-clause-passes
@@ -77,35 +78,36 @@ take_all-requires-clause-step g c κs within =
 
 pub returns-in_err-pass_time-clause-broken : goal.returns-in_err-pass_time-clause-broken
 returns-in_err-pass_time-clause-broken g c =
-    rw (← c.self.view_is)
-    (on-err c.from_residual.result _
-    (breaks-early (moment_for c.args.moment) c.self.inside.ready c.self.inside.board.book c.pass_time.new.board.book c.in_err-pass_time.ensures.refused))
+    let broken : BreaksOff c.in_err-pass_time.field-0.0 (moment_for c.args.moment) c.self.inside.ready c.self.inside.board.book c.pass_time.new.board.book =
+    breaks-early c.in_err-pass_time.field-0.0 (moment_for c.args.moment) c.self.inside.ready c.self.inside.board.book c.pass_time.new.board.book
+    c.in_err-pass_time.ensures.refused c.in_err-pass_time.ensures.why in
+    rw (← c.self.view_is) (search (rules, broken))
 
 pub returns-in_err-signal_all-clause-broken : goal.returns-in_err-signal_all-clause-broken
 returns-in_err-signal_all-clause-broken g c =
     let b = c.signal_all.new.board.book in
     let first =
     subst (λ (xs : List ℕ). SignalsFirst xs c.pass_time.new.board.book c.signal_all.new.board.book) c.slots.ensures.is c.in_err-signal_all.ensures.first in
-    rw (← c.self.view_is)
-    (on-err c.from_residual-in_err-signal_all.result _
-    (breaks-behind c.passes_act_in_steps.ensures.acts (moment_for c.args.moment) c.self.inside.ready [] c.self.inside.board.book c.pass_time.new.board.book b b b b b
+    let broken : BreaksOff c.in_err-signal_all.field-0.0 (moment_for c.args.moment) c.self.inside.ready c.self.inside.board.book b =
+    breaks-behind c.passes_act_in_steps.ensures.acts c.in_err-signal_all.field-0.0 (moment_for c.args.moment) c.self.inside.ready c.self.inside.board.book c.pass_time.new.board.book b b b b b b
     c.in_ok-pass_time.ensures.passes first (lets-go-none c.passes_act_in_steps.ensures.acts b first.acts.row) (retires-none c.passes_act_in_steps.ensures.acts b first.acts.row) (starts-none c.passes_act_in_steps.ensures.acts b first.acts.row)
-    (until-none c.passes_act_in_steps.ensures.acts b first.acts.row)))
+    (takes-none c.passes_act_in_steps.ensures.acts b first.acts.row) (ends-idle c.in_err-signal_all.field-0.0 b c.in_err-signal_all.ensures.why) in
+    rw (← c.self.view_is) (search (rules, broken))
 
 pub returns-in_err-let_go_of_conns-clause-broken : goal.returns-in_err-let_go_of_conns-clause-broken
 returns-in_err-let_go_of_conns-clause-broken g c =
-    let b = c.let_go_of_conns.new.board.book in
     let until = c.in_err-let_go_of_conns.ensures.until in
-    let row = until.1.acts.row in
+    let b = until.book in
+    let row = until.lets.acts.row in
     let signals =
     subst (λ (xs : List ℕ). Acts 0 (signal_events c.pass_time.new.board.book xs) None c.pass_time.new.board.book c.signal_all.new.board.book)
     c.slots.ensures.is c.in_ok-signal_all.ensures.signals in
-    rw (← c.self.view_is)
-    (on-err c.from_residual-in_err-let_go_of_conns.result _
-    (breaks-behind c.passes_act_in_steps.ensures.acts (moment_for c.args.moment) c.self.inside.ready (until.0 ∷ []) c.self.inside.board.book c.pass_time.new.board.book
-    c.signal_all.new.board.book b b b b c.in_ok-pass_time.ensures.passes
-    (signals-all c.self.inside.ready c.pass_time.new.board.book c.signal_all.new.board.book signals) until.1 (retires-none c.passes_act_in_steps.ensures.acts b row) (starts-none c.passes_act_in_steps.ensures.acts b row)
-    (until-none c.passes_act_in_steps.ensures.acts b row)))
+    let broken : BreaksOff c.in_err-let_go_of_conns.field-0.0 (moment_for c.args.moment) c.self.inside.ready c.self.inside.board.book c.let_go_of_conns.new.board.book =
+    breaks-behind c.passes_act_in_steps.ensures.acts c.in_err-let_go_of_conns.field-0.0 (moment_for c.args.moment) c.self.inside.ready c.self.inside.board.book c.pass_time.new.board.book
+    c.signal_all.new.board.book b b b b c.let_go_of_conns.new.board.book c.in_ok-pass_time.ensures.passes
+    (signals-all c.self.inside.ready c.pass_time.new.board.book c.signal_all.new.board.book signals) until.lets (retires-none c.passes_act_in_steps.ensures.acts b row) (starts-none c.passes_act_in_steps.ensures.acts b row)
+    (takes-none c.passes_act_in_steps.ensures.acts b row) (inl until.last) in
+    rw (← c.self.view_is) (search (rules, broken))
 
 pub returns-in_err-start_children-clause-broken : goal.returns-in_err-start_children-clause-broken
 returns-in_err-start_children-clause-broken g c =
@@ -113,12 +115,13 @@ returns-in_err-start_children-clause-broken g c =
     let signals =
     subst (λ (xs : List ℕ). Acts 0 (signal_events c.pass_time.new.board.book xs) None c.pass_time.new.board.book c.signal_all.new.board.book)
     c.slots.ensures.is c.in_ok-signal_all.ensures.signals in
-    rw (← c.self.view_is)
-    (on-err c.from_residual-in_err-start_children.result _
-    (breaks-behind c.passes_act_in_steps.ensures.acts (moment_for c.args.moment) c.self.inside.ready [] c.self.inside.board.book c.pass_time.new.board.book c.signal_all.new.board.book
-    c.let_go_of_conns.new.board.book c.retire_all.new.board.book b b c.in_ok-pass_time.ensures.passes
+    let broken : BreaksOff c.in_err-start_children.field-0.0 (moment_for c.args.moment) c.self.inside.ready c.self.inside.board.book b =
+    breaks-behind c.passes_act_in_steps.ensures.acts c.in_err-start_children.field-0.0 (moment_for c.args.moment) c.self.inside.ready c.self.inside.board.book c.pass_time.new.board.book c.signal_all.new.board.book
+    c.let_go_of_conns.new.board.book c.retire_all.new.board.book b b b c.in_ok-pass_time.ensures.passes
     (signals-all c.self.inside.ready c.pass_time.new.board.book c.signal_all.new.board.book signals) c.in_ok-let_go_of_conns.ensures.gone
-    c.retire_all.ensures.retires c.start_children.ensures.starts (until-none c.passes_act_in_steps.ensures.acts b c.start_children.ensures.starts.acts.row)))
+    c.retire_all.ensures.retires c.start_children.ensures.starts (takes-none c.passes_act_in_steps.ensures.acts b c.start_children.ensures.starts.acts.row)
+    (ends-idle c.in_err-start_children.field-0.0 b c.in_err-start_children.ensures.why) in
+    rw (← c.self.view_is) (search (rules, broken))
 
 pub returns-clause-round : goal.returns-clause-round
 returns-clause-round g c =
@@ -139,12 +142,13 @@ returns-clause-broken g c =
     subst (λ (xs : List ℕ). Acts 0 (signal_events c.pass_time.new.board.book xs) None c.pass_time.new.board.book c.signal_all.new.board.book)
     c.slots.ensures.is c.in_ok-signal_all.ensures.signals in
     rw (← c.self.view_is)
-    (on_err_weaker c.take_all.result
-    (λ (until : TakesUntil c.start_children.new.board.book c.take_all.new.self.board.book).
-    breaks-behind c.passes_act_in_steps.ensures.acts (moment_for c.args.moment) c.self.inside.ready [] c.self.inside.board.book c.pass_time.new.board.book c.signal_all.new.board.book
-    c.let_go_of_conns.new.board.book c.retire_all.new.board.book c.start_children.new.board.book c.take_all.new.self.board.book
+    (if-err c.take_all.result (λ (f : BoardFault). TakesUntil f c.start_children.new.board.book c.take_all.new.self.board.book)
+    (λ (f : BoardFault). BreaksOff f (moment_for c.args.moment) c.self.inside.ready c.self.inside.board.book c.take_all.new.self.board.book)
+    (λ f until.
+    breaks-behind c.passes_act_in_steps.ensures.acts f (moment_for c.args.moment) c.self.inside.ready c.self.inside.board.book c.pass_time.new.board.book c.signal_all.new.board.book
+    c.let_go_of_conns.new.board.book c.retire_all.new.board.book c.start_children.new.board.book until.book c.take_all.new.self.board.book
     c.in_ok-pass_time.ensures.passes (signals-all c.self.inside.ready c.pass_time.new.board.book c.signal_all.new.board.book signals)
-    c.in_ok-let_go_of_conns.ensures.gone c.retire_all.ensures.retires c.start_children.ensures.starts until)
+    c.in_ok-let_go_of_conns.ensures.gone c.retire_all.ensures.retires c.start_children.ensures.starts until.takes (inr until.last))
     c.take_all.ensures.until)
 
 pub returns-clause-moment : goal.returns-clause-moment
@@ -188,7 +192,7 @@ returns-in_err-let_go_of_conns-clause-watched g c =
     (nobody-more c.self.inside.board.book c.pass_time.new.board.book c.signal_all.new.board.book
     (nobody-passed _ c.self.inside.board.book c.pass_time.new.board.book c.in_ok-pass_time.ensures.passes)
     (nobody-signalled c.slots.result.now c.pass_time.new.board.book c.signal_all.new.board.book c.in_ok-signal_all.ensures.signals))
-    (nobody-let_go _ c.signal_all.new.board.book c.let_go_of_conns.new.board.book c.in_err-let_go_of_conns.ensures.until.1))
+    (nobody-let_go_until _ c.signal_all.new.board.book c.let_go_of_conns.new.board.book c.in_err-let_go_of_conns.ensures.until))
     (c.let_go_of_conns.ensures.rest.accepted ∙ c.signal_all.ensures.rest.accepted ∙ c.pass_time.ensures.taken) (before tells))
 
 pub returns-in_err-start_children-clause-watched : goal.returns-in_err-start_children-clause-watched

@@ -1,10 +1,11 @@
 use Rattle.std.proofs.Common.{None, inl, inr, ap, ◌∙◌}
 use Rattle.conn_machine.specs.States.{is_halted}
 use Rattle.mpm_run.specs.ListenInside.{LinksTell, SeenListener, asked_children, waits_of}
-use Rattle.mpm_run.proofs.ChildrenLemmas.{begins-more, begins-round, begins-waited}
+use Rattle.mpm_run.proofs.ChildrenLemmas.{begins-broken, begins-more, begins-round, begins-waited}
 use Rattle.mpm_run.proofs.FrontLemmas.{follows-wait, named-follows, takes-same}
 use Rattle.mpm_run.proofs.LinkLemmas.{hands-step}
 use Rattle.mpm_run.proofs.PaceLemmas.{abreast-round, pace-broken, pace-round, pace-served, pace-started, patience-started, patience-waited, served-patience}
+use Rattle.mpm_run.proofs.PassLemmas.{serves-acts}
 use Rattle.mpm_run.proofs.RoundLemmas.{on-err}
 use Rattle.mpm_run.proofs.TurnLemmas.{HasServed, IsBetween, between-ended, between-failed, between-round, between-served, between-started, broken-between, broken-round, broken-served}
 use Rattle.mpm_run.proofs.WaitLemmas.{has-waited}
@@ -169,7 +170,7 @@ returns-in_err-take_in-clause-free g c =
     has-waited c.loop.rest c.take_pause-pause.result c.loop.self _ (g.F.Front.seen c.take_pause-pause.new.front) (g.C.Clock.told c.take_pause-pause.new.clock)
     c.take_pause-pause.new.ready c.moment-present.result c.self.view_is c.show.ensures.after c.show.ensures.sound c.moment-present.ensures
     c.take_pause-pause.ensures.waits c.take_pause-pause.ensures.asks in
-    (broken-round c.passes_act_in_steps.ensures.acts (LinksTell g.L.Link.seen) c.loop.rest c.take_pause-pause.result c.args.self.now c.loop.self _ c.take_in.new.self c.loop.invariant.between waited
+    (broken-round c.passes_act_in_steps.ensures.acts _ (LinksTell g.L.Link.seen) c.loop.rest c.take_pause-pause.result c.args.self.now c.loop.self _ c.take_in.new.self c.loop.invariant.between waited
     c.in_err-take_in.ensures.broken c.take_in.ensures.up c.take_in.ensures.follows c.take_in.ensures.front c.take_in.ensures.watched c.take_in.ensures.calls).free
 
 pub returns-in_err-take_in-clause-follows : goal.returns-in_err-take_in-clause-follows
@@ -178,7 +179,7 @@ returns-in_err-take_in-clause-follows g c =
     has-waited c.loop.rest c.take_pause-pause.result c.loop.self _ (g.F.Front.seen c.take_pause-pause.new.front) (g.C.Clock.told c.take_pause-pause.new.clock)
     c.take_pause-pause.new.ready c.moment-present.result c.self.view_is c.show.ensures.after c.show.ensures.sound c.moment-present.ensures
     c.take_pause-pause.ensures.waits c.take_pause-pause.ensures.asks in
-    (broken-round c.passes_act_in_steps.ensures.acts (LinksTell g.L.Link.seen) c.loop.rest c.take_pause-pause.result c.args.self.now c.loop.self _ c.take_in.new.self c.loop.invariant.between waited
+    (broken-round c.passes_act_in_steps.ensures.acts _ (LinksTell g.L.Link.seen) c.loop.rest c.take_pause-pause.result c.args.self.now c.loop.self _ c.take_in.new.self c.loop.invariant.between waited
     c.in_err-take_in.ensures.broken c.take_in.ensures.up c.take_in.ensures.follows c.take_in.ensures.front c.take_in.ensures.watched c.take_in.ensures.calls).follows
 
 pub returns-in_err-take_in-clause-few : goal.returns-in_err-take_in-clause-few
@@ -187,7 +188,7 @@ returns-in_err-take_in-clause-few g c =
     has-waited c.loop.rest c.take_pause-pause.result c.loop.self _ (g.F.Front.seen c.take_pause-pause.new.front) (g.C.Clock.told c.take_pause-pause.new.clock)
     c.take_pause-pause.new.ready c.moment-present.result c.self.view_is c.show.ensures.after c.show.ensures.sound c.moment-present.ensures
     c.take_pause-pause.ensures.waits c.take_pause-pause.ensures.asks in
-    (broken-round c.passes_act_in_steps.ensures.acts (LinksTell g.L.Link.seen) c.loop.rest c.take_pause-pause.result c.args.self.now c.loop.self _ c.take_in.new.self c.loop.invariant.between waited
+    (broken-round c.passes_act_in_steps.ensures.acts _ (LinksTell g.L.Link.seen) c.loop.rest c.take_pause-pause.result c.args.self.now c.loop.self _ c.take_in.new.self c.loop.invariant.between waited
     c.in_err-take_in.ensures.broken c.take_in.ensures.up c.take_in.ensures.follows c.take_in.ensures.front c.take_in.ensures.watched c.take_in.ensures.calls).few
 
 pub returns-in_err-take_in-clause-watched : goal.returns-in_err-take_in-clause-watched
@@ -196,7 +197,7 @@ returns-in_err-take_in-clause-watched g c =
     has-waited c.loop.rest c.take_pause-pause.result c.loop.self _ (g.F.Front.seen c.take_pause-pause.new.front) (g.C.Clock.told c.take_pause-pause.new.clock)
     c.take_pause-pause.new.ready c.moment-present.result c.self.view_is c.show.ensures.after c.show.ensures.sound c.moment-present.ensures
     c.take_pause-pause.ensures.waits c.take_pause-pause.ensures.asks in
-    (broken-round c.passes_act_in_steps.ensures.acts (LinksTell g.L.Link.seen) c.loop.rest c.take_pause-pause.result c.args.self.now c.loop.self _ c.take_in.new.self c.loop.invariant.between waited
+    (broken-round c.passes_act_in_steps.ensures.acts _ (LinksTell g.L.Link.seen) c.loop.rest c.take_pause-pause.result c.args.self.now c.loop.self _ c.take_in.new.self c.loop.invariant.between waited
     c.in_err-take_in.ensures.broken c.take_in.ensures.up c.take_in.ensures.follows c.take_in.ensures.front c.take_in.ensures.watched c.take_in.ensures.calls).watched
 
 pub returns-in_err-take_in-clause-bound : goal.returns-in_err-take_in-clause-bound
@@ -205,7 +206,7 @@ returns-in_err-take_in-clause-bound g c =
     has-waited c.loop.rest c.take_pause-pause.result c.loop.self _ (g.F.Front.seen c.take_pause-pause.new.front) (g.C.Clock.told c.take_pause-pause.new.clock)
     c.take_pause-pause.new.ready c.moment-present.result c.self.view_is c.show.ensures.after c.show.ensures.sound c.moment-present.ensures
     c.take_pause-pause.ensures.waits c.take_pause-pause.ensures.asks in
-    (broken-round c.passes_act_in_steps.ensures.acts (LinksTell g.L.Link.seen) c.loop.rest c.take_pause-pause.result c.args.self.now c.loop.self _ c.take_in.new.self c.loop.invariant.between waited
+    (broken-round c.passes_act_in_steps.ensures.acts _ (LinksTell g.L.Link.seen) c.loop.rest c.take_pause-pause.result c.args.self.now c.loop.self _ c.take_in.new.self c.loop.invariant.between waited
     c.in_err-take_in.ensures.broken c.take_in.ensures.up c.take_in.ensures.follows c.take_in.ensures.front c.take_in.ensures.watched c.take_in.ensures.calls).bound
 
 pub returns-in_err-take_in-clause-time : goal.returns-in_err-take_in-clause-time
@@ -214,7 +215,7 @@ returns-in_err-take_in-clause-time g c =
     has-waited c.loop.rest c.take_pause-pause.result c.loop.self _ (g.F.Front.seen c.take_pause-pause.new.front) (g.C.Clock.told c.take_pause-pause.new.clock)
     c.take_pause-pause.new.ready c.moment-present.result c.self.view_is c.show.ensures.after c.show.ensures.sound c.moment-present.ensures
     c.take_pause-pause.ensures.waits c.take_pause-pause.ensures.asks in
-    (broken-round c.passes_act_in_steps.ensures.acts (LinksTell g.L.Link.seen) c.loop.rest c.take_pause-pause.result c.args.self.now c.loop.self _ c.take_in.new.self c.loop.invariant.between waited
+    (broken-round c.passes_act_in_steps.ensures.acts _ (LinksTell g.L.Link.seen) c.loop.rest c.take_pause-pause.result c.args.self.now c.loop.self _ c.take_in.new.self c.loop.invariant.between waited
     c.in_err-take_in.ensures.broken c.take_in.ensures.up c.take_in.ensures.follows c.take_in.ensures.front c.take_in.ensures.watched c.take_in.ensures.calls).time
 
 pub returns-in_err-take_in-clause-begun : goal.returns-in_err-take_in-clause-begun
@@ -224,7 +225,7 @@ returns-in_err-take_in-clause-begun g c =
     c.take_pause-pause.new.ready c.moment-present.result c.self.view_is c.show.ensures.after c.show.ensures.sound c.moment-present.ensures
     c.take_pause-pause.ensures.waits c.take_pause-pause.ensures.asks in
     on-err c.from_residual-in_err-take_in.result _
-    (broken-round c.passes_act_in_steps.ensures.acts (LinksTell g.L.Link.seen) c.loop.rest c.take_pause-pause.result c.args.self.now c.loop.self _ c.take_in.new.self c.loop.invariant.between waited
+    (broken-round c.passes_act_in_steps.ensures.acts _ (LinksTell g.L.Link.seen) c.loop.rest c.take_pause-pause.result c.args.self.now c.loop.self _ c.take_in.new.self c.loop.invariant.between waited
     c.in_err-take_in.ensures.broken c.take_in.ensures.up c.take_in.ensures.follows c.take_in.ensures.front c.take_in.ensures.watched c.take_in.ensures.calls).so_far
 
 pub serve-requires-clause-free : goal.serve-requires-clause-free
@@ -250,6 +251,34 @@ returns-in_err-rest-clause-free g c =
     let served : HasServed c.take_in.new.self c.serve.new.self =
     record { serves = c.serve.ensures.serves; rest = c.serve.ensures.rest; others = c.serve.ensures.others } in
     (broken-served c.passes_act_in_steps.ensures.acts (LinksTell g.L.Link.seen) c.args.self.now c.take_in.new.self c.serve.new.self between served).free
+
+pub returns-in_err-rest-clause-base : goal.returns-in_err-rest-clause-base
+returns-in_err-rest-clause-base g c =
+    let waited =
+    has-waited c.loop.rest c.take_pause-pause.result c.loop.self _ (g.F.Front.seen c.take_pause-pause.new.front) (g.C.Clock.told c.take_pause-pause.new.clock)
+    c.take_pause-pause.new.ready c.moment-present.result c.self.view_is c.show.ensures.after c.show.ensures.sound c.moment-present.ensures
+    c.take_pause-pause.ensures.waits c.take_pause-pause.ensures.asks in
+    let between : IsBetween (LinksTell g.L.Link.seen) c.args.self.now c.take_in.new.self =
+    between-round (LinksTell g.L.Link.seen) c.loop.rest c.take_pause-pause.result c.args.self.now c.loop.self _ c.passes_act_in_steps.ensures.acts c.take_in.new.self c.loop.invariant.between waited
+    c.in_ok-take_in.ensures.round c.in_ok-take_in.ensures.moment c.in_ok-take_in.ensures.step c.take_in.ensures.up c.take_in.ensures.follows
+    c.take_in.ensures.front c.take_in.ensures.watched c.take_in.ensures.calls in
+    let served : HasServed c.take_in.new.self c.serve.new.self =
+    record { serves = c.serve.ensures.serves; rest = c.serve.ensures.rest; others = c.serve.ensures.others } in
+    (broken-served c.passes_act_in_steps.ensures.acts (LinksTell g.L.Link.seen) c.args.self.now c.take_in.new.self c.serve.new.self between served).base
+
+pub returns-in_err-rest-clause-passes : goal.returns-in_err-rest-clause-passes
+returns-in_err-rest-clause-passes g c =
+    let waited =
+    has-waited c.loop.rest c.take_pause-pause.result c.loop.self _ (g.F.Front.seen c.take_pause-pause.new.front) (g.C.Clock.told c.take_pause-pause.new.clock)
+    c.take_pause-pause.new.ready c.moment-present.result c.self.view_is c.show.ensures.after c.show.ensures.sound c.moment-present.ensures
+    c.take_pause-pause.ensures.waits c.take_pause-pause.ensures.asks in
+    let between : IsBetween (LinksTell g.L.Link.seen) c.args.self.now c.take_in.new.self =
+    between-round (LinksTell g.L.Link.seen) c.loop.rest c.take_pause-pause.result c.args.self.now c.loop.self _ c.passes_act_in_steps.ensures.acts c.take_in.new.self c.loop.invariant.between waited
+    c.in_ok-take_in.ensures.round c.in_ok-take_in.ensures.moment c.in_ok-take_in.ensures.step c.take_in.ensures.up c.take_in.ensures.follows
+    c.take_in.ensures.front c.take_in.ensures.watched c.take_in.ensures.calls in
+    let served : HasServed c.take_in.new.self c.serve.new.self =
+    record { serves = c.serve.ensures.serves; rest = c.serve.ensures.rest; others = c.serve.ensures.others } in
+    (broken-served c.passes_act_in_steps.ensures.acts (LinksTell g.L.Link.seen) c.args.self.now c.take_in.new.self c.serve.new.self between served).passes
 
 pub returns-in_err-rest-clause-up : goal.returns-in_err-rest-clause-up
 returns-in_err-rest-clause-up g c =
@@ -361,16 +390,17 @@ loop-preserved g c =
     c.take_in.ensures.front c.take_in.ensures.watched c.take_in.ensures.calls in
     let served : HasServed c.take_in.new.self c.serve.new.self =
     record { serves = c.serve.ensures.serves; rest = c.serve.ensures.rest; others = c.serve.ensures.others } in
+    let serves = serves-acts c.passes_act_in_steps.ensures.acts c.take_in.new.self.board c.serve.new.self.board c.serve.ensures.serves in
     record {
       between = between-served c.passes_act_in_steps.ensures.acts (LinksTell g.L.Link.seen) c.args.self.now c.take_in.new.self c.serve.new.self between served;
       going = c.in_ok-rest.ensures.going;
       started =
-          λ opening. begins-more 1 c.serve.ensures.serves.events None (asked_children c.args.self.now.board.book.base) c.take_in.new.self.board.book c.serve.new.self.board.book
-          c.serve.ensures.serves.acts
+          λ opening. begins-more 1 serves.events None (asked_children c.args.self.now.board.book.base) c.take_in.new.self.board.book c.serve.new.self.board.book
+          serves.acts
           (begins-round (asked_children c.args.self.now.board.book.base) c.loop.rest c.take_pause-pause.result c.loop.self _ c.take_in.new.self
           _ waited c.in_ok-take_in.ensures.round.acts (c.loop.invariant.started opening));
       paced =
-          λ start. pace-served c.histories_join.ensures.state c.in_ok-rest.rest c.take_in.new.self c.serve.new.self c.show-in-loop.ensures.after c.show-in-loop-2.ensures.after
+          λ start. pace-served c.passes_act_in_steps.ensures.acts c.histories_join.ensures.state c.in_ok-rest.rest c.take_in.new.self c.serve.new.self c.show-in-loop.ensures.after c.show-in-loop-2.ensures.after
           (abreast-round c.loop.rest c.take_pause-pause.result c.loop.self _ c.take_in.new.self (c.loop.invariant.paced start).abreast waited c.in_ok-take_in.ensures.moment
           c.take_in.ensures.front c.take_in.ensures.calls)
           (pace-round c.loop.rest c.take_pause-pause.result c.loop.self _ c.take_in.new.self (c.loop.invariant.paced start) waited c.loop.invariant.between.step
@@ -402,7 +432,7 @@ returns-in_err-take_in-clause-patient g c start =
     has-waited c.loop.rest c.take_pause-pause.result c.loop.self _ (g.F.Front.seen c.take_pause-pause.new.front) (g.C.Clock.told c.take_pause-pause.new.clock)
     c.take_pause-pause.new.ready c.moment-present.result c.self.view_is c.show.ensures.after c.show.ensures.sound c.moment-present.ensures
     c.take_pause-pause.ensures.waits c.take_pause-pause.ensures.asks in
-    pace-broken c.loop.rest c.take_pause-pause.result c.loop.self _ c.take_in.new.self (c.loop.invariant.paced start) waited c.loop.invariant.between.step
+    pace-broken c.passes_act_in_steps.ensures.acts _ c.loop.rest c.take_pause-pause.result c.loop.self _ c.take_in.new.self (c.loop.invariant.paced start) waited c.loop.invariant.between.step
     c.in_err-take_in.ensures.broken c.take_in.ensures.front c.take_in.ensures.calls
 
 pub returns-in_err-rest-clause-patient : goal.returns-in_err-rest-clause-patient
@@ -413,7 +443,7 @@ returns-in_err-rest-clause-patient g c start =
     c.take_pause-pause.ensures.waits c.take_pause-pause.ensures.asks in
     let served : HasServed c.take_in.new.self c.serve.new.self =
     record { serves = c.serve.ensures.serves; rest = c.serve.ensures.rest; others = c.serve.ensures.others } in
-    served-patience c.take_in.new.self c.serve.new.self
+    served-patience c.passes_act_in_steps.ensures.acts c.take_in.new.self c.serve.new.self
     (pace-round c.loop.rest c.take_pause-pause.result c.loop.self _ c.take_in.new.self (c.loop.invariant.paced start) waited c.loop.invariant.between.step
     c.in_ok-take_in.ensures.round c.take_in.ensures.front c.take_in.ensures.calls) served
 
@@ -442,8 +472,8 @@ returns-in_err-take_in-clause-started g c opening =
     has-waited c.loop.rest c.take_pause-pause.result c.loop.self _ (g.F.Front.seen c.take_pause-pause.new.front) (g.C.Clock.told c.take_pause-pause.new.clock)
     c.take_pause-pause.new.ready c.moment-present.result c.self.view_is c.show.ensures.after c.show.ensures.sound c.moment-present.ensures
     c.take_pause-pause.ensures.waits c.take_pause-pause.ensures.asks in
-    inr (begins-round _ c.loop.rest c.take_pause-pause.result c.loop.self _ c.take_in.new.self _ waited
-    c.in_err-take_in.ensures.broken.acts (c.loop.invariant.started opening))
+    inr (begins-broken c.passes_act_in_steps.ensures.acts _ _ _ _ c.loop.rest c.take_pause-pause.result c.loop.self _ c.take_in.new.self waited
+    c.in_err-take_in.ensures.broken (c.loop.invariant.started opening))
 
 pub returns-in_err-rest-clause-started : goal.returns-in_err-rest-clause-started
 returns-in_err-rest-clause-started g c opening =
@@ -451,7 +481,8 @@ returns-in_err-rest-clause-started g c opening =
     has-waited c.loop.rest c.take_pause-pause.result c.loop.self _ (g.F.Front.seen c.take_pause-pause.new.front) (g.C.Clock.told c.take_pause-pause.new.clock)
     c.take_pause-pause.new.ready c.moment-present.result c.self.view_is c.show.ensures.after c.show.ensures.sound c.moment-present.ensures
     c.take_pause-pause.ensures.waits c.take_pause-pause.ensures.asks in
-    inr (begins-more 1 c.serve.ensures.serves.events None _ c.take_in.new.self.board.book c.serve.new.self.board.book c.serve.ensures.serves.acts
+    let serves = serves-acts c.passes_act_in_steps.ensures.acts c.take_in.new.self.board c.serve.new.self.board c.serve.ensures.serves in
+    inr (begins-more 1 serves.events None _ c.take_in.new.self.board.book c.serve.new.self.board.book serves.acts
     (begins-round _ c.loop.rest c.take_pause-pause.result c.loop.self _ c.take_in.new.self _ waited
     c.in_ok-take_in.ensures.round.acts (c.loop.invariant.started opening)))
 
