@@ -48,20 +48,11 @@ module _ {X : Type 0} (rule : RingRule X) (slots : List (Option X)) (before behi
       IsHead rule slots (place_at behind (length slots + number)) (rule.due p)
   ring_first i p at kind = head_least (suc (r.rank i)) i p (omega arith) at kind
 
--- what a slot behind the head of a ring holds is in that ring
-pub head_number : {X : Type 0} (rule : RingRule X) (slots : List (Option X)) (before behind : List ℕ) (number slot : ℕ) → IsRings rule slots before behind →
-    number < rule.rings → slot ≡ place_at behind (length slots + number) → slot < length slots →
-    (p : X) × (slice_get slots slot ≡ Some (Some p)) × (rule.number p ≡ number)
-head_number {X} rule slots before behind number slot r few is within = on (slice_get slots slot) refl
+-- what a slot of a ring holds has the number of that ring
+pub ring_holds : {X : Type 0} (rule : RingRule X) (slots : List (Option X)) (number slot : ℕ) → slot < length slots →
+    ring_at rule slots slot ≡ Some (length slots + number) → (p : X) × (slice_get slots slot ≡ Some (Some p)) × (rule.number p ≡ number)
+ring_holds {X} rule slots number slot within ring = on (slice_get slots slot) refl
   where
-    ring : ring_of rule slots slot (slice_get slots slot) ≡ Some (length slots + number)
-    ring =
-        let head : length slots + number < length slots + rule.rings = omega arith in
-        let past = slice_get_past slots (length slots + number) (omega arith) in
-        ap (λ i. ring_at rule slots i) is
-        ∙ ring_behind rule slots (place_at before) (place_at behind) r.rank r.linked (length slots + number) head
-        ∙ ap (λ o. ring_of rule slots (length slots + number) o) past
-
     on : (o : Option (Option X)) → slice_get slots slot ≡ o → (p : X) × (slice_get slots slot ≡ Some (Some p)) × (rule.number p ≡ number)
     on None e = absurd (none-some _ (sym e ∙ slice_get-get_or slots slot None within))
     on (Some None) e = absurd (none-some (length slots + number) (sym (ap (λ o. ring_of rule slots slot o) e) ∙ ring))
@@ -69,3 +60,15 @@ head_number {X} rule slots before behind number slot r few is within = on (slice
         let same : length slots + rule.number q ≡ length slots + number =
         same_Some (length slots + rule.number q) (length slots + number) (sym (ap (λ o. ring_of rule slots slot o) e) ∙ ring) in
         (q, e, omega (arith, same))
+
+-- what a slot behind the head of a ring holds is in that ring
+pub head_number : {X : Type 0} (rule : RingRule X) (slots : List (Option X)) (before behind : List ℕ) (number slot : ℕ) → IsRings rule slots before behind →
+    number < rule.rings → slot ≡ place_at behind (length slots + number) → slot < length slots →
+    (p : X) × (slice_get slots slot ≡ Some (Some p)) × (rule.number p ≡ number)
+head_number rule slots before behind number slot r few is within =
+    let head : length slots + number < length slots + rule.rings = omega arith in
+    let past = slice_get_past slots (length slots + number) (omega arith) in
+    ring_holds rule slots number slot within
+    (ap (λ i. ring_at rule slots i) is
+    ∙ ring_behind rule slots (place_at before) (place_at behind) r.rank r.linked (length slots + number) head
+    ∙ ap (λ o. ring_of rule slots (length slots + number) o) past)
