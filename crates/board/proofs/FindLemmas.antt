@@ -1,47 +1,43 @@
--- A walk over the rows, a child that may go, and the least of some moments.
-use Rattle.std.proofs.Common.{◌≡◌, ◌⊎◌, ℕ, ◌+◌, ◌<◌, ◌≤◌, Bool, false, not, ◌&&◌, List, [], ◌∷◌, ◌++◌, fold, length, min, get_or, Option, None, Some, inl, inr, slice_get, refl, sym, ap, ◌∙◌, subst, arith}
+-- A row that waits, a child that may go, and the least of some moments.
+use Rattle.std.proofs.Common.{◌≡◌, ◌↔◌, ℕ, ◌≤◌, Bool, true, false, not, ◌&&◌, List, [], ◌∷◌, ◌++◌, fold, min, nat_le, Option, None, Some, IfSome, IsNone, slice_get, refl, ap, ◌∙◌, arith}
 use Rattle.std.specs.List.{list_any, reduce}
 use Rattle.std.specs.Option.{option_map_or}
-use Rattle.std.proofs.lemmas.Bool.{cases_lt}
+use Rattle.std.proofs.lemmas.Bool.{and_parts, le-leb}
 use Rattle.std.proofs.lemmas.Grind.{fold-append}
-use Rattle.std.proofs.lemmas.Option.{slice_get_within, get_or_from_slice_get}
-use Rattle.conn_machine.specs.declared.row.Row.{Row}
+use Rattle.mpm_base.specs.Moment.{greatest_moment}
+use Rattle.mpm_base.specs.declared.conn.ConnName.{ConnName}
 use Rattle.conn_machine.specs.declared.child.Child.{Child}
 use Rattle.conn_machine.specs.declared.state.State.{State}
-use Rattle.conn_machine.specs.Rows.{is_live_in}
+use Rattle.conn_machine.specs.Rows.{is_live_in, is_parked}
 use Rattle.conn_machine.specs.Children.{is_stopping}
+use Rattle.conn_machine.specs.Sound.{HaveDeadlinesInRange}
+use Rattle.conn_machine.specs.States.{is_overdue}
 use Rattle.conn_machine.specs.Table.{may_retire}
+use Rattle.timeout_queues.specs.Waiting.{ParkedName, IsOverdue, overdue_at}
+use Rattle.board.specs.Finds.{FindsRow, is_waiting}
+use Rattle.board.specs.QueuesInside.{queues_of}
+use Rattle.board.proofs.BoardLemmas.{lives_as}
+use Rattle.board.proofs.QueueLemmas.{is_late-row, none_late}
 
--- ## A walk over the rows
+-- ## A row that waits
 
--- no row of a slot below n passes
-abbrev pub FailsBelow : (ℕ → Row → Bool) → List Row → ℕ → Type 0
-FailsBelow test rows n = (slot : ℕ) (r : Row) → slot < n → slice_get rows slot ≡ Some r → test slot r ≡ false
+-- what holds beside something true holds alone
+false_beside : (b : Bool) → (b && true) ≡ false → b ≡ false
+false_beside true none = none
+false_beside false none = refl
 
--- a row of a slot below n, or of n
-fails_at : (test : ℕ → Row → Bool) (rows : List Row) (n : ℕ) (x : Row) → FailsBelow test rows n → x ≡ get_or rows n x
-    → test n x ≡ false → (slot : ℕ) (r : Row) → (slot < n) ⊎ (n ≤ slot) → slot < n + 1 → slice_get rows slot ≡ Some r
-    → test slot r ≡ false
-fails_at test rows n x before read fails slot r (inl less) below at = before slot r less at
-fails_at test rows n x before read fails slot r (inr past) below at =
-    let e : slot ≡ n = omega arith in
-    let there : slice_get rows n ≡ Some r = subst (λ (i : ℕ). slice_get rows i ≡ Some r) e at in
-    let row : x ≡ r = read ∙ get_or_from_slice_get rows n r x there in
-    let here : test n r ≡ false = subst (λ (y : Row). test n y ≡ false) row fails in
-    subst (λ (i : ℕ). test i r ≡ false) (sym e) here
-
--- where the row of n fails too, one more does
-pub fails_more : (test : ℕ → Row → Bool) (rows : List Row) (n : ℕ) (x : Row) → FailsBelow test rows n → x ≡ get_or rows n x
-    → test n x ≡ false → FailsBelow test rows (n + 1)
-fails_more test rows n x before read fails slot r below at =
-    fails_at test rows n x before read fails slot r (cases_lt slot n) below at
-
--- where no row below their number passes, none does
-pub fails_all : (test : ℕ → Row → Bool) (rows rows' : List Row) (n : ℕ) → FailsBelow test rows n → length rows ≤ n → rows ≡ rows'
-    → (slot : ℕ) (r : Row) → slice_get rows' slot ≡ Some r → test slot r ≡ false
-fails_all test rows rows' n before all same slot r at =
-    let at' : slice_get rows slot ≡ Some r = subst (λ (xs : List Row). slice_get xs slot ≡ Some r) (sym same) at in
-    before slot r (omega (arith, slice_get_within rows slot r at')) at'
+-- what the queues answer for the greatest moment is a row that waits
+pub waiting-finds : (s : State) (queues : List (Option ParkedName)) (now : ℕ) (o : Option ConnName) → queues ≡ queues_of s.rows
+    → HaveDeadlinesInRange s.rows → greatest_moment ≤ now → (IsNone o ↔ (overdue_at now queues ≡ [])) → IfSome o (IsOverdue queues now)
+    → FindsRow is_waiting s o
+waiting-finds s queues now None queued range most none late = λ slot r at.
+    let due : nat_le r.deadline now ≡ true = le-leb r.deadline now (omega (arith, range slot r at, most)) in
+    let not_late : is_overdue now r ≡ false = none_late queues s.rows now queued (none.0 refl) slot r at in
+    false_beside (is_parked r.place) (rw due at not_late)
+waiting-finds s queues now (Some name) queued range most none late =
+    let lives = lives_as s.rows name (is_overdue now) (is_late-row queues s.rows now name queued late).late in
+    let waits : is_parked lives.row.place ≡ true = (and_parts (is_parked lives.row.place) (nat_le lives.row.deadline now) lives.passes).0 in
+    rw lives.found waits
 
 -- ## A child that may go
 

@@ -4,6 +4,7 @@ pub mod BookLemmas
 pub mod ClientLemmas
 pub mod ClosedLemmas
 pub mod EventLemmas
+pub mod FiledLemmas
 pub mod FindLemmas
 pub mod HandLemmas
 pub mod PassLemmas

@@ -7,6 +7,7 @@ pub mod EventsInside
 pub mod Faults
 pub mod FaultsInside
 pub mod Finds
+pub mod FiledInside
 pub mod Fits
 pub mod Ledger
 pub mod QueuesInside

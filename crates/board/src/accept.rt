@@ -1,13 +1,11 @@
 //! The slot that the next connection is taken into.
-ghost use Rattle.std.specs.Prelude.{◌≡◌, ◌≤◌, true, length, IfOk, IfErr, OnOk};
+ghost use Rattle.std.specs.Prelude.{◌≡◌, true, IfOk, IfErr, OnOk};
 ghost use Rattle.conn_machine.specs.Table.{is_allowed};
 ghost use Rattle.conn_machine.specs.declared.event.Event.TheVariants as event;
 ghost use Rattle.board.specs.Faults.{IsNotTakenFor, IsOpen};
-ghost use Rattle.board.specs.FaultsInside.{FindsVacant};
 
 use crate::book::Book;
 use crate::faults::AcceptFault;
-use conn_machine::State;
 use conn_machine::laws::connections_go_to_the_chosen_child;
 
 /// A vacant slot for the next connection, where one may be taken. Wants no memory.
@@ -28,21 +26,8 @@ pub(crate) fn slot_for_accept(book: &Book) -> Result<u32, AcceptFault>
     if state.pick_child().is_none() {
         return Err(AcceptFault::NoChild);
     }
-    match vacant_slot(state) {
+    match book.filed().vacant_slot() {
         Some(slot) => Ok(slot),
         None => Err(AcceptFault::NoSlot),
     }
-}
-
-/// A vacant slot, where there is one.
-fn vacant_slot(state: &State) -> Option<u32>
-    requires { length state.now.rows ≤ 8192 }
-    ensures { FindsVacant state.now result }
-{
-    let place = state
-        .rows
-        .as_slice()
-        .iter()
-        .position(|row| row.place.is_vacant())?;
-    Some(place as u32)
 }

@@ -16,11 +16,12 @@ ghost use Rattle.board.specs.FaultsInside.{IsRecorded};
 ghost use Rattle.board.specs.RoomInside.{is_sure};
 
 use crate::faults::BoardFault;
+use crate::filed::{FiledState, step};
 use conn_machine::laws::{each_pass_has_its_own_connection, events_keep_states_sound};
 use conn_machine::laws_of_runs::{
     histories_go_on_by_one_entry, passes_add_entries, records_open_with_nothing,
 };
-use conn_machine::{Entry, Event, Reply, State, step};
+use conn_machine::{Entry, Event, Reply, State};
 use mpm_base::{NoMemory, Shape};
 use std::alloc::Global;
 use std::marker::Model;
@@ -35,7 +36,7 @@ pub struct Book {
     alloc: Global,
     base: Snapshot<State>,
     history: Vec<Entry>,
-    state: State,
+    state: FiledState,
     ordinals: Vec<u64>,
     pages: u64,
 }
@@ -74,7 +75,7 @@ impl Book {
     {
         events_keep_states_sound();
         each_pass_has_its_own_connection();
-        let state = State::opening(alloc, slots, children, shape)?;
+        let state = FiledState::opening(alloc, slots, children, shape)?;
         let Ok(ordinals) = vec![in alloc; 0u64; passes as usize] else {
             return Err(NoMemory);
         };
@@ -83,7 +84,7 @@ impl Book {
         };
         Ok(Book {
             alloc,
-            base: Snapshot::of(&state),
+            base: Snapshot::of(state.state()),
             history,
             state,
             ordinals,
@@ -93,6 +94,13 @@ impl Book {
 
     /// The state after the history.
     pub fn state(&self) -> &State
+        ensures { result.now ≡ self.now.state }
+    {
+        self.state.state()
+    }
+
+    /// The same with the rings of its slots.
+    pub(crate) fn filed(&self) -> &FiledState
         ensures { result.now ≡ self.now.state }
     {
         &self.state
@@ -147,13 +155,14 @@ impl Book {
     {
         histories_go_on_by_one_entry();
         passes_add_entries();
-        if self.state.going.is_halted() {
+        if self.state().going.is_halted() {
             return Err(BoardFault::Halted);
         }
         if self.is_full() {
             return Err(BoardFault::Full);
         }
-        let room = 4 * self.state.rows.len() + self.state.children.len() + 2;
+        let state = self.state.state();
+        let room = 4 * state.rows.len() + state.children.len() + 2;
         if self.history.reserve(room).is_err() {
             return Err(BoardFault::NoMemory);
         }

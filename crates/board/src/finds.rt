@@ -1,16 +1,15 @@
 //! The board's tests of its state: none takes memory, and each is exact.
 ghost use Rattle.std.specs.Prelude.{◌≡◌, ℕ, ◌≤◌, ◌++◌, List, length, find, min, nat_le, IfSome};
-ghost use Rattle.std.specs.List.{list_any, range_with_len, reduce};
+ghost use Rattle.std.specs.List.{range_with_len, reduce};
 ghost use Rattle.conn_machine.specs.Children.{is_empty};
-ghost use Rattle.conn_machine.specs.Rows.{is_vacant, is_with_a_pass};
 ghost use Rattle.conn_machine.specs.Runs.{full_load, load};
 ghost use Rattle.conn_machine.specs.Table.{child_passes};
 ghost use Rattle.board.specs.Finds.{FindsRetirable, FindsRow, IsFirstDue, acceptable, cause_of, ending_moments, has_to_be_drained, is_due, is_late, is_let_go, is_quiet, is_waiting, next_deadline_of, startable, waits_for};
 
 use crate::board::Board;
-use conn_machine::{Going, Place, Row, State};
+use conn_machine::{Going, Place, State};
 use conn_state::Known;
-use mpm_base::{Cause, ConnName, Kind, Link, Moment};
+use mpm_base::{Cause, ConnName, GREATEST_MOMENT, Kind, Link, Moment};
 
 impl<L: Link, N: Known> Board<L, N> {
     /// The child that the next connection goes to, while the server takes connections and a slot is vacant.
@@ -37,8 +36,7 @@ impl<L: Link, N: Known> Board<L, N> {
         can_retire(self.book.state())
     }
 
-    /// A connection that waits and is late; of those that wait none has an earlier deadline. Goes over the slots of the queues
-    /// once, as `next_deadline` does.
+    /// A connection that waits and is late; of those that wait none has an earlier deadline.
     pub fn overdue(&self) -> Option<ConnName>
         ensures late { FindsRow (is_late self.now.book.state) self.now.book.state result }
         ensures first { IfSome result (IsFirstDue self.now.book.state) }
@@ -51,7 +49,7 @@ impl<L: Link, N: Known> Board<L, N> {
         ensures { FindsRow (is_due self.now.book.state) self.now.book.state result }
     {
         self.book.show();
-        signalled(self.book.state())
+        self.book.filed().signalled()
     }
 
     /// A connection that waits for a further request, for which nothing came, of a child that stops.
@@ -59,23 +57,22 @@ impl<L: Link, N: Known> Board<L, N> {
         ensures { FindsRow (is_let_go self.now.book.state) self.now.book.state result }
     {
         self.book.show();
-        retiring(self.book.state())
+        self.book.filed().retiring()
     }
 
     /// A connection that lingers, for which something may have come.
     pub fn signalled_linger(&self) -> Option<ConnName>
         ensures { FindsRow (has_to_be_drained self.now.book.state) self.now.book.state result }
     {
-        self.book.show();
-        signalled_linger(self.book.state())
+        self.book.filed().signalled_linger()
     }
 
-    /// A connection that waits.
+    /// A connection that waits; none that waits has an earlier deadline.
     pub fn parked(&self) -> Option<ConnName>
         ensures { FindsRow is_waiting self.now.book.state result }
     {
         self.book.show();
-        parked(self.book.state())
+        self.queues.overdue(GREATEST_MOMENT)
     }
 
     /// What the connection of that name waits for, where it lives and waits.
@@ -103,7 +100,7 @@ impl<L: Link, N: Known> Board<L, N> {
     pub fn quiet(&self) -> bool
         ensures { result ≡ is_quiet self.now.book.state }
     {
-        quiet(self.book.state())
+        !self.book.state().rows.has_in_hand()
     }
 
     /// Whether the history takes no more than what must follow it.
@@ -134,22 +131,11 @@ fn can_accept(state: &State) -> Option<u32>
     requires few_children { length state.now.children ≤ 32 }
     ensures { result ≡ acceptable state.now }
 {
-    if state.going.is_serving() && has_vacant(state) {
+    if state.going.is_serving() && state.rows.has_vacant() {
         state.pick_child()
     } else {
         None
     }
-}
-
-/// Whether a slot is vacant.
-fn has_vacant(state: &State) -> bool
-    ensures { result ≡ list_any (λ r. is_vacant r.place) state.now.rows }
-{
-    state
-        .rows
-        .as_slice()
-        .iter()
-        .any(|row| row.place.is_vacant())
 }
 
 /// The lowest child that is gone, while the server takes connections and fewer children run than should.
@@ -194,96 +180,6 @@ fn can_retire(state: &State) -> Option<u32>
     Some(number as u32)
 }
 
-/// A connection that waits for service, for which something may have come and a worker of its child is free.
-fn signalled(state: &State) -> Option<ConnName>
-    requires few_rows { length state.now.rows ≤ 8192 }
-    ensures { FindsRow (is_due state.now) state.now result }
-{
-    for (slot, row) in state.rows.as_slice().iter().enumerate() {
-        if is_row_due(state, slot as u32, row) {
-            return Some(ConnName {
-                slot: slot as u32,
-                life: row.life,
-            });
-        }
-    }
-    None
-}
-
-/// Whether something may have come for the row of that slot, which waits for service, and a worker of its child is free.
-fn is_row_due(state: &State, slot: u32, row: &Row) -> bool
-    requires few_rows { length state.now.rows ≤ 8192 }
-    ensures { result ≡ is_due state.now slot row.now }
-{
-    state.signals.get(slot) && state.may_be_queued(row)
-}
-
-/// A connection that waits for a further request, for which nothing came, of a child that stops.
-fn retiring(state: &State) -> Option<ConnName>
-    requires few_rows { length state.now.rows ≤ 8192 }
-    ensures { FindsRow (is_let_go state.now) state.now result }
-{
-    for (slot, row) in state.rows.as_slice().iter().enumerate() {
-        if is_row_let_go(state, slot as u32, row) {
-            return Some(ConnName {
-                slot: slot as u32,
-                life: row.life,
-            });
-        }
-    }
-    None
-}
-
-/// Whether the row of that slot waits for a further request, for which nothing came, and its child stops.
-fn is_row_let_go(state: &State, slot: u32, row: &Row) -> bool
-    ensures { result ≡ is_let_go state.now slot row.now }
-{
-    row.place.is_parked()
-        && row.is_from(Kind::KeepAlive)
-        && state.child_of(row).phase.is_stopping()
-        && !state.signals.get(slot)
-}
-
-/// A connection that lingers, for which something may have come.
-fn signalled_linger(state: &State) -> Option<ConnName>
-    requires few_rows { length state.now.rows ≤ 8192 }
-    ensures { FindsRow (has_to_be_drained state.now) state.now result }
-{
-    for (slot, row) in state.rows.as_slice().iter().enumerate() {
-        if has_row_to_be_drained(state, slot as u32, row) {
-            return Some(ConnName {
-                slot: slot as u32,
-                life: row.life,
-            });
-        }
-    }
-    None
-}
-
-/// Whether the row of that slot waits and lingers, and something may have come for it.
-fn has_row_to_be_drained(state: &State, slot: u32, row: &Row) -> bool
-    ensures { result ≡ has_to_be_drained state.now slot row.now }
-{
-    row.place.is_parked() && row.is_lingering() && state.signals.get(slot)
-}
-
-/// A connection that waits.
-fn parked(state: &State) -> Option<ConnName>
-    requires few_rows { length state.now.rows ≤ 8192 }
-    ensures { FindsRow is_waiting state.now result }
-{
-    let (slot, row) = state
-        .rows
-        .as_slice()
-        .iter()
-        .enumerate()
-        .find(|(_, row)| row.place.is_parked())?;
-    Some(ConnName {
-        slot: slot as u32,
-        life: row.life,
-    })
-}
-
 /// What the connection of that name waits for, where it lives and waits.
 fn kind(state: &State, name: ConnName) -> Option<Kind>
     ensures { result ≡ waits_for state.now name }
@@ -303,25 +199,4 @@ fn least_with_ending(least: Option<Moment>, going: Going) -> Option<Moment>
         Going::Ending(Some(until)) => Some(least.map_or(until, |other| until.min(other))),
         _ => least,
     }
-}
-
-/// Whether no connection is in hand: queued, served or held.
-fn quiet(state: &State) -> bool
-    ensures { result ≡ is_quiet state.now }
-{
-    !has_row_in_hand(state)
-}
-
-/// Whether a connection is in hand.
-fn has_row_in_hand(state: &State) -> bool
-    ensures { result ≡ list_any (λ r. is_with_a_pass r.place) state.now.rows }
-{
-    state.rows.as_slice().iter().any(|row| is_row_in_hand(row))
-}
-
-/// Whether a pass has the row: the listener holds it, or a worker has it, or will.
-fn is_row_in_hand(row: &Row) -> bool
-    ensures { result ≡ is_with_a_pass row.now.place }
-{
-    row.place.is_held() || row.place.is_queued() || row.place.is_working()
 }

@@ -6,13 +6,15 @@
 //! `specs/Board.antt`, and holds of every board. How a connection fits its row, and how far it is on its way out, stands in
 //! `specs/Fits.antt`, what is kept of the history in `specs/Book.antt` and `specs/RoomInside.antt`, why a call is refused in
 //! `specs/Faults.antt`, and what the tests look for in `specs/Finds.antt`. The rows that wait stand in timeout queues besides,
-//! of which no contract tells (`specs/QueuesInside.antt`).
+//! and the slots in rings by what is to be done with their rows, so no call goes over the rows. No contract tells of either
+//! (`specs/QueuesInside.antt`, `specs/FiledInside.antt`).
 #![tactic(auto)]
 
 mod accept;
 mod board;
 mod book;
 mod faults;
+mod filed;
 mod finds;
 pub mod laws;
 mod waits;

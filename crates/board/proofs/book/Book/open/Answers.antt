@@ -8,7 +8,7 @@ pub invariant_of-result : goal.invariant_of-result
 invariant_of-result c =
     let space : 1 ≤ vec_capacity c.in-Ok-with_capacity.history = search rules in
     let ordinals : c.in-Ok.ordinals.items ≡ replicate c.args.passes 0 = search rules in
-    rw (c.of.ensures, c.in_ok-state.ensures, c.in-Ok-with_capacity.ensures.items, ordinals, length-replicate {A = ℕ} c.args.passes 0)
+    rw (c.of.ensures, c.state-2.ensures, c.in_ok-state.ensures, c.in-Ok-with_capacity.ensures.items, ordinals, length-replicate {A = ℕ} c.args.passes 0)
     (kept_first c.args.slots c.args.children c.args.passes (vec_capacity c.in-Ok-with_capacity.history) c.args.shape
     c.requires.slots c.requires.children
     (c.events_keep_states_sound.ensures.opening c.args.slots c.args.children c.args.shape c.requires.shape) space

@@ -1,5 +1,6 @@
 use Rattle.std.proofs.Common.{◌≡◌, List, ◌+◌, ◌*◌, ◌<◌, ◌≤◌, true, false, length, vec_capacity, if◌then◌else◌, subst, sym, refl, ◌∙◌, ap, rules}
 use Rattle.conn_machine.specs.States.{is_halted}
+use Rattle.conn_machine.specs.declared.state.State.{State}
 use Rattle.conn_machine.specs.Table.{is_allowed, reply}
 use Rattle.conn_machine.specs.declared.event.Entry.{Entry}
 use Rattle.conn_machine.specs.Folds.{opening_record}
@@ -13,14 +14,14 @@ use Rattle.board.proofs.book.Book.record.Goals as goal
 pub step-requires-clause-allowed : goal.step-requires-clause-allowed
 step-requires-clause-allowed c =
     let going : is_halted c.args.self.now.state.going ≡ false =
-    ap (λ (v : SeenBook). is_halted v.state.going) (sym c.self.view_is) ∙ sym c.is_halted.ensures ∙ c.if-is_halted.false in
+    ap (λ (s : State). is_halted s.going) (sym c.state.ensures) ∙ sym c.is_halted.ensures ∙ c.if-is_halted.false in
     subst (λ (v : SeenBook). is_allowed v.state c.args.event ≡ true) (sym c.self.view_is) (c.requires.allowed going)
 
 pub invariant_of-self-2 : goal.invariant_of-self-2
 invariant_of-self-2 c =
     let inside = c.self.inside in
     let going : is_halted c.args.self.now.state.going ≡ false =
-    ap (λ (v : SeenBook). is_halted v.state.going) (sym c.self.view_is) ∙ sym c.is_halted.ensures ∙ c.if-is_halted.false in
+    ap (λ (s : State). is_halted s.going) (sym c.state.ensures) ∙ sym c.is_halted.ensures ∙ c.if-is_halted.false in
     let may = subst (λ (v : SeenBook). is_allowed v.state c.args.event ≡ true) (sym c.self.view_is) (c.requires.allowed going) in
     let space : length inside.history.items + (4 * length inside.state.rows + length inside.state.children + 2) ≤ vec_capacity c.append.new.history =
     search rules in
@@ -31,8 +32,7 @@ invariant_of-self-2 c =
     let e = numbered_entry c.args.who c.args.event c.in-Ok.reply folded history in
     let role = role_inside c.args.who _ c.args.self.now c.args.event c.self.view_is c.requires.role in
     let goes_on = c.histories_go_on_by_one_entry.ensures in
-    let free = open_if c.args.self.now inside.state c.is_halted.result c.is_full.result
-    (ap (λ (v : SeenBook). v.state) c.self.view_is) c.is_halted.ensures c.is_full.ensures c.if-is_halted.false c.if-is_full.false in
+    let free = open_if c.args.self.now c.state.result.now c.is_halted.result c.is_full.result c.state.ensures c.is_halted.ensures c.is_full.ensures c.if-is_halted.false c.if-is_full.false in
     let light : load history < full_load = subst (λ (v : SeenBook). load v.history < full_load) (sym c.self.view_is) free.light in
     rw c.append.ensures.passes
     (kept_with_room base folded history c.append.new.history.items inside.state c.step.new.state inside.ordinals.items
@@ -48,8 +48,7 @@ pub returns-clause-ok : goal.returns-clause-ok
 returns-clause-ok c =
     let inside = c.self.inside in
     record {
-      was_open = open_if c.args.self.now inside.state c.is_halted.result c.is_full.result
-          (ap (λ (v : SeenBook). v.state) c.self.view_is) c.is_halted.ensures c.is_full.ensures c.if-is_halted.false c.if-is_full.false;
+      was_open = open_if c.args.self.now c.state.result.now c.is_halted.result c.is_full.result c.state.ensures c.is_halted.ensures c.is_full.ensures c.if-is_halted.false c.if-is_full.false;
       new_is = recorded_is c.args.self.now inside.base.value inside.history.items c.append.new.history.items inside.state c.step.new.state _ _ c.args.who
           c.args.event c.in-Ok.reply c.self.view_is (rw c.reserve.ensures.items at c.append.ensures.history) c.in-Ok.ensures.state
           c.in-Ok.ensures.reply c.append.ensures.passes;
@@ -63,7 +62,7 @@ pub returns-clause-entries : goal.returns-clause-entries
 returns-clause-entries c =
     let inside = c.self.inside in
     let b = c.args.self.now in
-    let going : is_halted b.state.going ≡ false = ap (λ (v : SeenBook). is_halted v.state.going) (sym c.self.view_is) ∙ sym c.is_halted.ensures ∙ c.if-is_halted.false in
+    let going : is_halted b.state.going ≡ false = ap (λ (s : State). is_halted s.going) (sym c.state.ensures) ∙ sym c.is_halted.ensures ∙ c.if-is_halted.false in
     let state_is = subst (λ (v : SeenBook). after v.base v.history ≡ v.state) c.self.view_is c.self.invariant.state_is in
     adds_recorded c.args.who c.args.event b _
     (recorded_is b inside.base.value inside.history.items c.append.new.history.items inside.state c.step.new.state _ _ c.args.who

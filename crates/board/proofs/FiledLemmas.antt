@@ -1,0 +1,505 @@
+-- The rings in which slots stand: what an event changes of them, and what stands in each.
+use Rattle.std.proofs.Common.{◌≡◌, ◌≢◌, ◌==◌, inl, inr, ℕ, zero, suc, ◌+◌, ◌<◌, ◌≤◌, Bool, true, false, not, ◌&&◌, nat_lt, List, [], ◌∷◌, length, Option, None, Some, IfNone, IfSome, slice_get, get_or, replicate, refl, sym, ap, subst, ◌∙◌, eqb-true, eq-eqb, get_or-set_other, arith}
+use Rattle.std.proofs.Math.ListN.{set, length-set}
+use Rattle.std.proofs.lemmas.Bool.{and_from, and_parts, cases_lt, lt-ltb, ltb-true, not-true, not_from_false}
+use Rattle.std.proofs.lemmas.List.{get_or_past, length-replicate}
+use Rattle.std.proofs.lemmas.Option.{none-some, same_Some, slice_get_within, slice_get-get_or}
+use Rattle.mpm_base.specs.declared.conn.ConnName.{ConnName}
+use Rattle.mpm_base.specs.declared.conn.Kind.TheVariants.{KeepAlive}
+use Rattle.mpm_base.specs.declared.shape.Shape.{Shape}
+use Rattle.conn_machine.specs.declared.child.Child.{Child}
+use Rattle.conn_machine.specs.declared.event.Commanded.TheVariants.{Graceful, Refused, GracefulStop, Stop}
+use Rattle.conn_machine.specs.declared.event.Event.{Event}
+use Rattle.conn_machine.specs.declared.event.Event.TheVariants as event
+use Rattle.conn_machine.specs.declared.row.Place.{Place}
+use Rattle.conn_machine.specs.declared.row.Place.TheVariants.{Parked}
+use Rattle.conn_machine.specs.declared.row.Row.{Row}
+use Rattle.conn_machine.specs.declared.state.State.{State}
+use Rattle.conn_machine.specs.Children.{child_at, is_stopping, no_child}
+use Rattle.conn_machine.specs.Lists.{update}
+use Rattle.conn_machine.specs.Rows.{carried_count, is_from, is_lingering, is_live, is_live_as, is_parked, is_vacant, lives_and}
+use Rattle.conn_machine.specs.States.{child_of, is_signalled, opening_state, unused_row}
+use Rattle.conn_machine.specs.Table.{is_vacant_at, may_be_queued, next, taken_row, parked_row, held_row, queued_row, served_row, answered_row, lingering_row, closed_row}
+use Rattle.timeout_queues.specs.Filed.{StandsIn}
+use Rattle.board.specs.FaultsInside.{FindsVacant}
+use Rattle.board.specs.FiledInside.{AreAllVacant, AreFiled, FindsInChild, FindsInRing, refiled, refiled_by, ring_of_child, ring_of_row, slot_of_event}
+use Rattle.board.specs.Finds.{FindsRow, has_to_be_drained, is_due, is_let_go}
+use Rattle.board.specs.RowsInside.{RowsChangeAlone}
+
+-- ## One item
+
+-- an item that was set
+get-set_same : {X : Type 0} (xs : List X) (i : ℕ) (x : X) → i < length xs → slice_get (set xs i x) i ≡ Some x
+get-set_same [] i x below = absurd (omega arith)
+get-set_same (y ∷ xs) zero x below = refl
+get-set_same (y ∷ xs) (suc i) x below = get-set_same xs i x (omega arith)
+
+-- any other item stays
+get-set_other : {X : Type 0} (xs : List X) (i j : ℕ) (x : X) → j ≢ i → slice_get (set xs i x) j ≡ slice_get xs j
+get-set_other [] i j x differs = refl
+get-set_other (y ∷ xs) zero zero x differs = absurd (differs refl)
+get-set_other (y ∷ xs) zero (suc j) x differs = refl
+get-set_other (y ∷ xs) (suc i) zero x differs = refl
+get-set_other (y ∷ xs) (suc i) (suc j) x differs = get-set_other xs i j x (λ same. differs (ap suc same))
+
+-- ## What an event changes
+
+-- a slot that isn't the one that may have changed has the same row and signal
+pub record StaysBut (touched : Option ℕ) (s s' : State) : Type 0 where
+  pub rows : (j : ℕ) → touched ≢ Some j → slice_get s'.rows j ≡ slice_get s.rows j
+  pub signals : (j : ℕ) → touched ≢ Some j → is_signalled s' j ≡ is_signalled s j
+
+-- where one row changed, the others are the same
+rows_but : RowsChangeAlone → (rows : List Row) (slot : ℕ) (change : Row → Row) (j : ℕ) → Some slot ≢ Some j
+    → slice_get (update rows slot change) j ≡ slice_get rows j
+rows_but law rows slot change j differs = law.others rows slot j change (λ same. differs (ap Some (sym same)))
+
+-- where one signal changed, the others are the same
+signals_but : (signals : List Bool) (slot : ℕ) (b : Bool) (j : ℕ) → Some slot ≢ Some j
+    → get_or (set signals slot b) j false ≡ get_or signals j false
+signals_but signals slot b j differs = get_or-set_other signals slot j b false (λ same. differs (ap Some (sym same)))
+
+-- an event changes the row and the signal of its slot alone
+stays_but : RowsChangeAlone → (s : State) (e : Event) → StaysBut (slot_of_event e) s (next s e)
+stays_but law s (event.Accept slot) = record {
+  rows = rows_but law s.rows slot (taken_row s);
+  signals = signals_but s.signals slot false;
+}
+stays_but law s (event.Park name kind) = record { rows = rows_but law s.rows name.slot (parked_row s kind); signals = λ j differs. refl }
+stays_but law s (event.Hold name) = record {
+  rows = rows_but law s.rows name.slot held_row;
+  signals = signals_but s.signals name.slot _;
+}
+stays_but law s (event.Queue name) = record {
+  rows = rows_but law s.rows name.slot queued_row;
+  signals = signals_but s.signals name.slot false;
+}
+stays_but law s (event.Start name) = record { rows = rows_but law s.rows name.slot (served_row s); signals = λ j differs. refl }
+stays_but law s (event.Answer name ask) = record { rows = rows_but law s.rows name.slot (answered_row s ask); signals = λ j differs. refl }
+stays_but law s (event.Linger name why) = record {
+  rows = rows_but law s.rows name.slot (lingering_row s why);
+  signals = signals_but s.signals name.slot true;
+}
+stays_but law s (event.Close name why how) = record {
+  rows = rows_but law s.rows name.slot closed_row;
+  signals = signals_but s.signals name.slot false;
+}
+stays_but law s (event.Ready slot) = record { rows = λ j differs. refl; signals = signals_but s.signals slot true }
+stays_but law s (event.Tick m) = record { rows = λ j differs. refl; signals = λ j differs. refl }
+stays_but law s (event.StartChild k) = record { rows = λ j differs. refl; signals = λ j differs. refl }
+stays_but law s (event.Command (Graceful shape)) = record { rows = λ j differs. refl; signals = λ j differs. refl }
+stays_but law s (event.Command (Refused reason)) = record { rows = λ j differs. refl; signals = λ j differs. refl }
+stays_but law s (event.Command (GracefulStop until)) = record { rows = λ j differs. refl; signals = λ j differs. refl }
+stays_but law s (event.Command (Stop why)) = record { rows = λ j differs. refl; signals = λ j differs. refl }
+stays_but law s (event.Retire k) = record { rows = λ j differs. refl; signals = λ j differs. refl }
+
+-- a slot that stays still stands in the ring of its row
+filed_still : (touched : Option ℕ) (s s' : State) (rings : List (Option ℕ)) (j : ℕ) (r : Row) → AreFiled s rings → StaysBut touched s s'
+    → touched ≢ Some j → slice_get s'.rows j ≡ Some r → slice_get rings j ≡ Some (ring_of_row (is_signalled s' j) r)
+filed_still touched s s' rings j r are stays differs at =
+    subst (λ (b : Bool). slice_get rings j ≡ Some (ring_of_row b r)) (sym (stays.signals j differs))
+    (are.filed j r (sym (stays.rows j differs) ∙ at))
+
+-- a slot whose row is this stands in its ring, once it was put there, and another one stays
+filed_by : (s s' : State) (rings : List (Option ℕ)) (slot : ℕ) (x : Row) (j : ℕ) (r : Row) (same : Bool) → AreFiled s rings
+    → slot < length rings → StaysBut (Some slot) s s' → slice_get s'.rows slot ≡ Some x → (j == slot) ≡ same → slice_get s'.rows j ≡ Some r
+    → slice_get (set rings slot (ring_of_row (is_signalled s' slot) x)) j ≡ Some (ring_of_row (is_signalled s' j) r)
+filed_by s s' rings slot x j r true are below stays here is_same at =
+    let e : j ≡ slot = eqb-true j slot is_same in
+    let there : slice_get s'.rows slot ≡ Some r = subst (λ (k : ℕ). slice_get s'.rows k ≡ Some r) e at in
+    let row : x ≡ r = same_Some x r (sym here ∙ there) in
+    subst (λ (k : ℕ). slice_get (set rings slot (ring_of_row (is_signalled s' slot) x)) k ≡ Some (ring_of_row (is_signalled s' k) r)) (sym e)
+    (get-set_same rings slot (ring_of_row (is_signalled s' slot) x) below
+    ∙ ap (λ (y : Row). Some (ring_of_row (is_signalled s' slot) y)) row)
+filed_by s s' rings slot x j r false are below stays here other at =
+    let differs : j ≢ slot = (λ (e : j ≡ slot). let eq : (j == slot) ≡ true = eq-eqb j slot e in cc) in
+    get-set_other rings slot j (ring_of_row (is_signalled s' slot) x) differs
+    ∙ filed_still (Some slot) s s' rings j r are stays (λ e. differs (sym (same_Some slot j e))) at
+
+-- the same, where there may be no such row
+filed_if : (s s' : State) (rings : List (Option ℕ)) (slot : ℕ) (o : Option Row) → AreFiled s rings → length s'.rows ≡ length s.rows
+    → StaysBut (Some slot) s s' → slice_get s'.rows slot ≡ o → AreFiled s' (refiled_by s' slot rings o)
+filed_if s s' rings slot None are sizes stays here = record {
+  slots = are.slots ∙ sym sizes;
+  filed = λ j r at.
+      filed_still (Some slot) s s' rings j r are stays
+      (λ e. none-some r (sym here ∙ ap (λ (k : ℕ). slice_get s'.rows k) (same_Some slot j e) ∙ at)) at;
+}
+filed_if s s' rings slot (Some x) are sizes stays here =
+    let below : slot < length rings = omega (arith, slice_get_within s'.rows slot x here, are.slots, sizes) in
+    record {
+      slots = length-set rings slot (ring_of_row (is_signalled s' slot) x) ∙ are.slots ∙ sym sizes;
+      filed = λ j r at. filed_by s s' rings slot x j r (j == slot) are below stays here refl at;
+    }
+
+-- each slot stands in the ring of its row, once the one that may have changed was filed again
+filed_again : (touched : Option ℕ) (s s' : State) (rings : List (Option ℕ)) → AreFiled s rings → length s'.rows ≡ length s.rows
+    → StaysBut touched s s' → AreFiled s' (refiled s' rings touched)
+filed_again None s s' rings are sizes stays = record {
+  slots = are.slots ∙ sym sizes;
+  filed = λ j r at. filed_still None s s' rings j r are stays (λ e. none-some j e) at;
+}
+filed_again (Some slot) s s' rings are sizes stays =
+    filed_if s s' rings slot (slice_get s'.rows slot) are sizes stays refl
+
+-- so it does after an event, once that of its slot was
+pub filed_on : RowsChangeAlone → (s s' : State) (e : Event) (rings rings' : List (Option ℕ)) (touched : Option ℕ) → AreFiled s rings → s' ≡ next s e
+    → length s'.rows ≡ length s.rows → touched ≡ slot_of_event e → rings' ≡ refiled s' rings touched → AreFiled s' rings'
+filed_on law s s' e rings rings' touched are state_is sizes slot_is rings_is =
+    let stays : StaysBut (slot_of_event e) s s' = subst (StaysBut (slot_of_event e) s) (sym state_is) (stays_but law s e) in
+    subst (AreFiled s') (sym rings_is)
+    (filed_again touched s s' rings are sizes (subst (λ (o : Option ℕ). StaysBut o s s') (sym slot_is) stays))
+
+-- ## The opening state
+
+-- each item of a list of one item is that item
+one_of_same : {X : Type 0} (n i : ℕ) (x y : X) → slice_get (replicate n x) i ≡ Some y → x ≡ y
+one_of_same zero i x y at = absurd (cc)
+one_of_same (suc n) zero x y at = cc
+one_of_same (suc n) (suc i) x y at = one_of_same n i x y at
+
+-- at first each slot is vacant
+pub filed_first : (slots children : ℕ) (shape : Shape) (rings : List (Option ℕ)) → AreAllVacant slots rings → AreFiled (opening_state slots children shape) rings
+filed_first slots children shape rings are = record {
+  slots = are.few ∙ sym (length-replicate slots unused_row);
+  filed = λ j r at.
+      let same : unused_row ≡ r = one_of_same slots j unused_row r at in
+      let below : j < slots = omega (arith, slice_get_within (replicate slots unused_row) j r at, length-replicate slots unused_row) in
+      are.each j below
+      ∙ ap (λ (x : Row). Some (ring_of_row (is_signalled (opening_state slots children shape) j) x)) same;
+}
+
+-- the slots from n on stand in the ring of the vacant ones
+pub record AreVacantFrom (slots n : ℕ) (rings : List (Option ℕ)) : Type 0 where
+  pub few : length rings ≡ slots
+  pub each : (slot : ℕ) → n ≤ slot → slot < slots → slice_get rings slot ≡ Some (Some 65)
+
+-- one more, once it was put there
+vacant_by : (slots n : ℕ) (rings : List (Option ℕ)) (j : ℕ) (same : Bool) → AreVacantFrom slots (n + 1) rings → n < slots → (j == n) ≡ same
+    → n ≤ j → j < slots → slice_get (set rings n (Some 65)) j ≡ Some (Some 65)
+vacant_by slots n rings j true are below is_same above within =
+    let e : j ≡ n = eqb-true j n is_same in
+    subst (λ (k : ℕ). slice_get (set rings n (Some 65)) k ≡ Some (Some 65)) (sym e)
+    (get-set_same rings n (Some 65) (omega (arith, are.few)))
+vacant_by slots n rings j false are below other above within =
+    let differs : j ≢ n = (λ (e : j ≡ n). let eq : (j == n) ≡ true = eq-eqb j n e in cc) in
+    get-set_other rings n j (Some 65) differs ∙ are.each j (omega (arith, differs)) within
+
+-- so they do, once one more was put there
+pub vacant_more : (slots n : ℕ) (rings rings' : List (Option ℕ)) → AreVacantFrom slots (n + 1) rings → n < slots → rings' ≡ set rings n (Some 65)
+    → AreVacantFrom slots n rings'
+vacant_more slots n rings rings' are below is =
+    subst (AreVacantFrom slots n) (sym is)
+    (record {
+      few = length-set rings n (Some 65) ∙ are.few;
+      each = λ j above within. vacant_by slots n rings j (j == n) are below refl above within;
+    })
+
+-- ## What stands in a ring
+
+-- what isn't true is false
+not_so : (b : Bool) → (b ≡ true → ⊥) → b ≡ false
+not_so true never = absurd (never refl)
+not_so false never = refl
+
+-- a place where a connection waits isn't vacant
+parked-taken : (p : Place) → is_parked p ≡ true → is_vacant p ≡ false
+parked-taken (Parked kind) parked = refl
+parked-taken p parked = absurd (cc)
+
+-- and has a connection
+parked-live : (r : Row) (p : Place) → r.place ≡ p → is_parked p ≡ true → is_live r ≡ true
+parked-live r (Parked kind) at parked = rw at refl
+parked-live r p at parked = absurd (cc)
+
+-- the ring of a row that waits for service, and is signalled
+ring-for_service : (r : Row) (k : ℕ) → k < 32 → is_parked r.place ≡ true → is_lingering r ≡ false → r.child ≡ k → ring_of_row true r ≡ Some (0 + k)
+ring-for_service r k few parked stays own =
+    let taken = parked-taken r.place parked in
+    let below : nat_lt r.child 32 ≡ true = lt-ltb r.child 32 (omega (arith, few, own)) in
+    rw (taken, parked, stays, below) (ap (λ (n : ℕ). Some (0 + n)) own)
+
+-- the ring of a row that waits for a further request, and isn't signalled
+ring-for_more : (r : Row) (k : ℕ) → k < 32 → is_parked r.place ≡ true → is_from KeepAlive r ≡ true → r.child ≡ k → ring_of_row false r ≡ Some (32 + k)
+ring-for_more r k few parked from own =
+    let taken = parked-taken r.place parked in
+    let below : nat_lt r.child 32 ≡ true = lt-ltb r.child 32 (omega (arith, few, own)) in
+    rw (taken, parked, from, below) (ap (λ (n : ℕ). Some (32 + n)) own)
+
+-- the ring of a lingering row that is signalled
+ring-to_drain : (r : Row) → is_parked r.place ≡ true → is_lingering r ≡ true → ring_of_row true r ≡ Some 64
+ring-to_drain r parked lingers =
+    let taken = parked-taken r.place parked in
+    rw (taken, parked, lingers) refl
+
+-- the ring of a child, where it is this
+child_ring : (first k ring : ℕ) (below : Bool) → nat_lt k 32 ≡ below → ring_of_child first k ≡ Some ring → (k < 32) × (ring ≡ first + k)
+child_ring first k ring true is at =
+    let e : Some (first + k) ≡ Some ring = rw is at at in
+    (ltb-true k 32 is, sym (same_Some (first + k) ring e))
+child_ring first k ring false is at =
+    let e : None ≡ Some ring = rw is at at in
+    absurd (none-some ring e)
+
+-- what is known of a row by its ring: it is vacant, or waits
+pub record IsOfRing (b : Bool) (r : Row) (ring : ℕ) : Type 0 where
+  pub vacant : ring ≡ 65 → is_vacant r.place ≡ true
+  pub parked : ring < 65 → is_parked r.place ≡ true
+  pub signalled : (ring < 32 → b ≡ true) × (ring ≡ 64 → b ≡ true)
+  pub unsignalled : 32 ≤ ring → ring < 64 → b ≡ false
+  pub stays : ring < 32 → is_lingering r ≡ false
+  pub lingers : ring ≡ 64 → is_lingering r ≡ true
+  pub from : 32 ≤ ring → ring < 64 → is_from KeepAlive r ≡ true
+  pub own : ring < 32 → r.child ≡ ring
+  pub own_more : 32 ≤ ring → ring < 64 → r.child + 32 ≡ ring
+
+-- so it is, whatever of it holds
+of_ring_by : (b : Bool) (r : Row) (ring : ℕ) (v p l f : Bool) → is_vacant r.place ≡ v → is_parked r.place ≡ p → is_lingering r ≡ l
+    → is_from KeepAlive r ≡ f → ring_of_row b r ≡ Some ring → IsOfRing b r ring
+of_ring_by b r ring true p l f is_v is_p is_l is_f at =
+    let e : Some 65 ≡ Some ring = rw is_v at at in
+    let is : 65 ≡ ring = same_Some 65 ring e in
+    record {
+      vacant = λ at. is_v;
+      parked = λ low. absurd (omega (arith, is, low));
+      signalled = (λ low. absurd (omega (arith, is, low)), λ other. absurd (omega (arith, is, other)));
+      unsignalled = λ low high. absurd (omega (arith, is, high));
+      stays = λ low. absurd (omega (arith, is, low));
+      lingers = λ other. absurd (omega (arith, is, other));
+      from = λ low high. absurd (omega (arith, is, high));
+      own = λ low. absurd (omega (arith, is, low));
+      own_more = λ low high. absurd (omega (arith, is, high));
+    }
+of_ring_by b r ring false false l f is_v is_p is_l is_f at =
+    let e : None ≡ Some ring = rw is_p at (rw is_v at at) in
+    absurd (none-some ring e)
+of_ring_by true r ring false true true f is_v is_p is_l is_f at =
+    let e : Some 64 ≡ Some ring = rw is_l at (rw is_p at (rw is_v at at)) in
+    let is : 64 ≡ ring = same_Some 64 ring e in
+    record {
+      vacant = λ other. absurd (omega (arith, is, other));
+      parked = λ low. is_p;
+      signalled = (λ low. refl, λ same. refl);
+      unsignalled = λ low high. absurd (omega (arith, is, high));
+      stays = λ low. absurd (omega (arith, is, low));
+      lingers = λ same. is_l;
+      from = λ low high. absurd (omega (arith, is, high));
+      own = λ low. absurd (omega (arith, is, low));
+      own_more = λ low high. absurd (omega (arith, is, high));
+    }
+of_ring_by true r ring false true false f is_v is_p is_l is_f at =
+    let e : ring_of_child 0 r.child ≡ Some ring = rw is_l at (rw is_p at (rw is_v at at)) in
+    let child = child_ring 0 r.child ring (nat_lt r.child 32) refl e in
+    let few : r.child < 32 = child.0 in
+    let is : ring ≡ 0 + r.child = child.1 in
+    record {
+      vacant = λ other. absurd (omega (arith, few, is, other));
+      parked = λ low. is_p;
+      signalled = (λ low. refl, λ same. refl);
+      unsignalled = λ low high. absurd (omega (arith, few, is, low));
+      stays = λ low. is_l;
+      lingers = λ other. absurd (omega (arith, few, is, other));
+      from = λ low high. absurd (omega (arith, few, is, low));
+      own = λ low. omega (arith, is);
+      own_more = λ low high. absurd (omega (arith, few, is, low));
+    }
+of_ring_by false r ring false true l true is_v is_p is_l is_f at =
+    let e : ring_of_child 32 r.child ≡ Some ring = rw is_f at (rw is_p at (rw is_v at at)) in
+    let child = child_ring 32 r.child ring (nat_lt r.child 32) refl e in
+    let few : r.child < 32 = child.0 in
+    let is : ring ≡ 32 + r.child = child.1 in
+    record {
+      vacant = λ other. absurd (omega (arith, few, is, other));
+      parked = λ low. is_p;
+      signalled = (λ low. absurd (omega (arith, is, low)), λ other. absurd (omega (arith, few, is, other)));
+      unsignalled = λ low high. refl;
+      stays = λ low. absurd (omega (arith, is, low));
+      lingers = λ other. absurd (omega (arith, few, is, other));
+      from = λ low high. is_f;
+      own = λ low. absurd (omega (arith, is, low));
+      own_more = λ low high. omega (arith, is);
+    }
+of_ring_by false r ring false true l false is_v is_p is_l is_f at =
+    let e : None ≡ Some ring = rw is_f at (rw is_p at (rw is_v at at)) in
+    absurd (none-some ring e)
+
+-- what is known of a row by its ring
+of_ring : (b : Bool) (r : Row) (ring : ℕ) → ring_of_row b r ≡ Some ring → IsOfRing b r ring
+of_ring b r ring at =
+    of_ring_by b r ring (is_vacant r.place) (is_parked r.place) (is_lingering r) (is_from KeepAlive r) refl refl refl refl at
+
+-- ## A slot that is found
+
+-- a slot that stands in a ring has a row of that ring
+pub row_standing : (s : State) (rings : List (Option ℕ)) (ring slot : ℕ) → AreFiled s rings → StandsIn rings ring slot
+    → (r : Row) × (slice_get s.rows slot ≡ Some r) × (ring_of_row (is_signalled s slot) r ≡ Some ring)
+row_standing s rings ring slot are stands =
+    let below : slot < length s.rows = omega (arith, slice_get_within rings slot (Some ring) stands, are.slots) in
+    let r : Row = get_or s.rows slot unused_row in
+    let at : slice_get s.rows slot ≡ Some r = slice_get-get_or s.rows slot unused_row below in
+    (r, at, same_Some _ _ (sym (are.filed slot r at) ∙ stands))
+
+-- where no slot stands in a ring, no row is of it
+pub none_of_ring : (s : State) (rings : List (Option ℕ)) (ring : ℕ) → AreFiled s rings → ((slot : ℕ) → StandsIn rings ring slot → ⊥)
+    → FindsInRing s ring None
+none_of_ring s rings ring are none slot r at is = none slot (are.filed slot r at ∙ ap Some is)
+
+-- a slot that is vacant
+pub vacant_found : (s : State) (rings : List (Option ℕ)) (slot : ℕ) → AreFiled s rings → StandsIn rings 65 slot → is_vacant_at s slot ≡ true
+vacant_found s rings slot are stands =
+    let row = row_standing s rings 65 slot are stands in
+    rw (row.1) ((of_ring (is_signalled s slot) row.0 65 row.2).vacant refl)
+
+-- no slot is vacant, by its row
+vacant_none_by : (s : State) (slot : ℕ) (o : Option Row) → slice_get s.rows slot ≡ o
+    → ((r : Row) → slice_get s.rows slot ≡ Some r → ring_of_row (is_signalled s slot) r ≡ Some 65 → ⊥) → is_vacant_at s slot ≡ false
+vacant_none_by s slot None at none = rw at refl
+vacant_none_by s slot (Some r) at none = rw at (not_so (is_vacant r.place) (λ vacant. none r at (rw vacant refl)))
+
+-- no slot is vacant, where none stands in the ring of those that are
+pub vacant_none : (s : State) (rings : List (Option ℕ)) → AreFiled s rings → ((slot : ℕ) → StandsIn rings 65 slot → ⊥)
+    → (slot : ℕ) → is_vacant_at s slot ≡ false
+vacant_none s rings are none slot =
+    vacant_none_by s slot (slice_get s.rows slot) refl (λ r at is. none slot (are.filed slot r at ∙ ap Some is))
+
+-- what is found of the slots that are vacant
+pub vacant_finds : (s : State) (rings : List (Option ℕ)) (o : Option ℕ) → AreFiled s rings → IfSome o (StandsIn rings 65)
+    → IfNone o ((slot : ℕ) → StandsIn rings 65 slot → ⊥) → FindsVacant s o
+vacant_finds s rings None are stands none = vacant_none s rings are none
+vacant_finds s rings (Some slot) are stands none = vacant_found s rings slot are stands
+
+-- ## A connection that is found
+
+-- a row that waits is the live one of its name
+pub waiting_lives : (rows : List Row) (name : ConnName) (r : Row) (test : Row → Bool) → slice_get rows name.slot ≡ Some r → r.life ≡ name.life
+    → is_parked r.place ≡ true → test r ≡ true → lives_and test rows name ≡ true
+waiting_lives rows name r test at life parked passes =
+    let live = parked-live r r.place refl parked in
+    let named : is_live_as name r ≡ true = rw (live, eq-eqb r.life name.life life) refl in
+    rw at (rw named passes)
+
+-- what a row is that is due
+pub record IsDueRow (s : State) (slot : ℕ) (r : Row) : Type 0 where
+  pub signalled : is_signalled s slot ≡ true
+  pub parked : is_parked r.place ≡ true
+  pub stays : is_lingering r ≡ false
+  pub free : nat_lt (carried_count s.rows r.child) (child_of s r).shape.threads ≡ true
+
+-- a row that is due is so
+due_row : (s : State) (slot : ℕ) (r : Row) → is_due s slot r ≡ true → IsDueRow s slot r
+due_row s slot r due =
+    let both = and_parts (is_signalled s slot) (may_be_queued s r) due in
+    let parts = and_parts (is_parked r.place && not (is_lingering r)) (nat_lt (carried_count s.rows r.child) (child_of s r).shape.threads) both.1 in
+    let waits = and_parts (is_parked r.place) (not (is_lingering r)) parts.0 in
+    record { signalled = both.0; parked = waits.0; stays = not-true (is_lingering r) waits.1; free = parts.1 }
+
+-- what a row is that is let go of
+pub record IsRowLetGo (s : State) (slot : ℕ) (r : Row) : Type 0 where
+  pub parked : is_parked r.place ≡ true
+  pub from : is_from KeepAlive r ≡ true
+  pub stops : is_stopping (child_of s r).phase ≡ true
+  pub unsignalled : is_signalled s slot ≡ false
+
+-- a row that is let go of is so
+row_let_go : (s : State) (slot : ℕ) (r : Row) → is_let_go s slot r ≡ true → IsRowLetGo s slot r
+row_let_go s slot r go =
+    let all = and_parts (is_parked r.place && is_from KeepAlive r && is_stopping (child_of s r).phase) (not (is_signalled s slot)) go in
+    let stops = and_parts (is_parked r.place && is_from KeepAlive r) (is_stopping (child_of s r).phase) all.0 in
+    let waits = and_parts (is_parked r.place) (is_from KeepAlive r) stops.0 in
+    record { parked = waits.0; from = waits.1; stops = stops.1; unsignalled = not-true (is_signalled s slot) all.1 }
+
+-- where a worker of the child is free, the row that is found of those for service is due
+pub due_found : (s : State) (k : ℕ) (o : Option ConnName) → k < 32 → carried_count s.rows k < (child_at s.children k).shape.threads
+    → FindsInRing s (0 + k) o → FindsInChild (is_due s) k s o
+due_found s k None few free none = λ slot r at own.
+    not_so (is_due s slot r) (λ due.
+    let row = due_row s slot r due in
+    none slot r at (ap (λ (b : Bool). ring_of_row b r) row.signalled ∙ ring-for_service r k few row.parked row.stays own))
+due_found s k (Some name) few free is =
+    let of = of_ring (is_signalled s name.slot) is.row (0 + k) is.ring_is in
+    let low : 0 + k < 32 = omega (arith, few) in
+    let parked = of.parked (omega (arith, few)) in
+    let own : is.row.child ≡ k = of.own low ∙ omega arith in
+    let free' : nat_lt (carried_count s.rows is.row.child) (child_of s is.row).shape.threads ≡ true =
+    subst (λ (j : ℕ). nat_lt (carried_count s.rows j) (child_at s.children j).shape.threads ≡ true) (sym own)
+    (lt-ltb (carried_count s.rows k) (child_at s.children k).shape.threads free) in
+    waiting_lives s.rows name is.row (is_due s name.slot) is.found is.life parked
+    (and_from (is_signalled s name.slot) (may_be_queued s is.row) (of.signalled.0 low)
+    (and_from (is_parked is.row.place && not (is_lingering is.row)) (nat_lt (carried_count s.rows is.row.child) (child_of s is.row).shape.threads)
+    (and_from (is_parked is.row.place) (not (is_lingering is.row)) parked (not_from_false (is_lingering is.row) (of.stays low))) free'))
+
+-- where the child stops, the row that is found of those for a further request is let go of
+pub go_found : (s : State) (k : ℕ) (o : Option ConnName) → k < 32 → is_stopping (child_at s.children k).phase ≡ true
+    → FindsInRing s (32 + k) o → FindsInChild (is_let_go s) k s o
+go_found s k None few stops none = λ slot r at own.
+    not_so (is_let_go s slot r) (λ go.
+    let row = row_let_go s slot r go in
+    none slot r at (ap (λ (b : Bool). ring_of_row b r) row.unsignalled ∙ ring-for_more r k few row.parked row.from own))
+go_found s k (Some name) few stops is =
+    let of = of_ring (is_signalled s name.slot) is.row (32 + k) is.ring_is in
+    let low : 32 ≤ 32 + k = omega arith in
+    let high : 32 + k < 64 = omega (arith, few) in
+    let parked = of.parked (omega (arith, few)) in
+    let own : is.row.child ≡ k = omega (arith, of.own_more low high) in
+    let stops' : is_stopping (child_of s is.row).phase ≡ true =
+    subst (λ (j : ℕ). is_stopping (child_at s.children j).phase ≡ true) (sym own) stops in
+    waiting_lives s.rows name is.row (is_let_go s name.slot) is.found is.life parked
+    (and_from (is_parked is.row.place && is_from KeepAlive is.row && is_stopping (child_of s is.row).phase) (not (is_signalled s name.slot))
+    (and_from (is_parked is.row.place && is_from KeepAlive is.row) (is_stopping (child_of s is.row).phase)
+    (and_from (is_parked is.row.place) (is_from KeepAlive is.row) parked (of.from low high)) stops')
+    (not_from_false (is_signalled s name.slot) (of.unsignalled low high)))
+
+-- the row that is found of those that linger has to be drained
+pub drain_found : (s : State) (o : Option ConnName) → FindsInRing s 64 o → FindsRow (has_to_be_drained s) s o
+drain_found s None none = λ slot r at.
+    not_so (has_to_be_drained s slot r) (λ drained.
+    let all = and_parts (is_parked r.place && is_lingering r) (is_signalled s slot) drained in
+    let waits = and_parts (is_parked r.place) (is_lingering r) all.0 in
+    none slot r at (ap (λ (b : Bool). ring_of_row b r) all.1 ∙ ring-to_drain r waits.0 waits.1))
+drain_found s (Some name) is =
+    let of = of_ring (is_signalled s name.slot) is.row 64 is.ring_is in
+    let parked = of.parked (omega arith) in
+    waiting_lives s.rows name is.row (has_to_be_drained s name.slot) is.found is.life parked
+    (and_from (is_parked is.row.place && is_lingering is.row) (is_signalled s name.slot)
+    (and_from (is_parked is.row.place) (is_lingering is.row) parked (of.lingers refl)) (of.signalled.1 refl))
+
+-- ## A walk over the children
+
+-- no row of a child below n passes
+abbrev pub FailsInChildren : (ℕ → Row → Bool) → State → ℕ → Type 0
+FailsInChildren test s n = (slot : ℕ) (r : Row) → slice_get s.rows slot ≡ Some r → r.child < n → test slot r ≡ false
+
+-- where no row of the child n passes either, one child more has none
+pub fails_in_more : (test : ℕ → Row → Bool) (s : State) (n : ℕ) → FailsInChildren test s n → FindsInChild test n s None → FailsInChildren test s (n + 1)
+fails_in_more test s n before none slot r at below = elim (cases_lt r.child n) [
+  | inl less ↦ before slot r at less
+  | inr past ↦ none slot r at (omega (arith, past, below))
+]
+
+-- a number that no child has stands for a child that was never started
+beyond : (s : State) (r : Row) → length s.children ≤ r.child → child_of s r ≡ no_child
+beyond s r past = get_or_past s.children r.child no_child past
+
+-- so no row of it is due
+pub due_beyond : (s : State) (slot : ℕ) (r : Row) → length s.children ≤ r.child → is_due s slot r ≡ false
+due_beyond s slot r past =
+    not_so (is_due s slot r) (λ due.
+    let free : nat_lt (carried_count s.rows r.child) no_child.shape.threads ≡ true =
+    subst (λ (c : Child). nat_lt (carried_count s.rows r.child) c.shape.threads ≡ true) (beyond s r past) (due_row s slot r due).free in
+    absurd (omega (arith, ltb-true (carried_count s.rows r.child) no_child.shape.threads free)))
+
+-- and none is let go of
+pub go_beyond : (s : State) (slot : ℕ) (r : Row) → length s.children ≤ r.child → is_let_go s slot r ≡ false
+go_beyond s slot r past =
+    not_so (is_let_go s slot r) (λ go.
+    let stops : is_stopping no_child.phase ≡ true =
+    subst (λ (c : Child). is_stopping c.phase ≡ true) (beyond s r past) (row_let_go s slot r go).stops in
+    cc)
+
+-- where no row of any child passes, nor one of a number beyond them, none does
+pub fails_in_all : (test : ℕ → Row → Bool) (s : State) (n : ℕ) → FailsInChildren test s n → length s.children ≤ n
+    → ((slot : ℕ) (r : Row) → length s.children ≤ r.child → test slot r ≡ false) → FindsRow test s None
+fails_in_all test s n before all past slot r at = elim (cases_lt r.child n) [
+  | inl less ↦ before slot r at less
+  | inr over ↦ past slot r (omega (arith, all, over))
+]

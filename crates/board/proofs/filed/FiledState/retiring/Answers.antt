@@ -1,0 +1,17 @@
+use Rattle.std.proofs.Common.{◌≡◌, ◌≤◌, length, ap, ◌∙◌, arith}
+use Rattle.conn_machine.specs.declared.state.State.{State}
+use Rattle.board.specs.Finds.{is_let_go}
+use Rattle.board.proofs.FiledLemmas.{fails_in_more, fails_in_all, go_beyond}
+use Rattle.board.proofs.filed.FiledState.retiring.Goals as goal
+
+pub loop-child-preserved : goal.loop-child-preserved
+loop-child-preserved c =
+    fails_in_more (is_let_go c.args.self.now) c.args.self.now c.loop-child.child c.loop-child.invariant c.in_default.ensures
+
+pub returns : goal.returns
+returns c =
+    let s = c.args.self.now in
+    let count : c.len-child-end.result ≡ length s.children =
+    c.len-child-end.ensures ∙ ap (λ (t : State). length t.children) c.self.view_is in
+    let all : length s.children ≤ c.loop-child.child = omega (arith, count, c.loop-child-test.false) in
+    fails_in_all (is_let_go s) s c.loop-child.child c.loop-child.invariant all (go_beyond s)
