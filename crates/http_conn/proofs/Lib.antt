@@ -1,8 +1,10 @@
 pub mod ApartLemmas
+pub mod BoundLemmas
 pub mod CodeLemmas
 pub mod ItemLemmas
 pub mod LinkLemmas
 pub mod OutgoingLemmas
+pub mod ReaderLemmas
 pub mod RestLemmas
 pub mod SentLemmas
 pub mod StepLemmas

@@ -1,5 +1,7 @@
 pub mod Items
 pub mod Outgoing
+pub mod Reader
+pub mod ReaderInside
 pub mod Replies
 pub mod Rest
 pub mod Steps

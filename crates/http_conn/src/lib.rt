@@ -12,12 +12,14 @@
 
 pub mod laws;
 mod outgoing;
+mod reader;
 mod received;
 mod stage;
 mod steps;
 mod turn;
 
 pub use outgoing::{FileRange, Outgoing, WritesPairs, send};
+pub use reader::{RequestAnswer, RequestReader};
 pub use received::Received;
 pub use stage::Stage;
 pub use steps::{Step, read_on};
