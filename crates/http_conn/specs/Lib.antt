@@ -1,3 +1,4 @@
+pub mod Follows
 pub mod Items
 pub mod Outgoing
 pub mod Reader

@@ -10,7 +10,7 @@ use Rattle.http_conn.specs.declared.reader.RequestAnswer.{RequestAnswer}
 use Rattle.http_conn.specs.declared.reader.RequestAnswer.TheVariants as answer
 use Rattle.http_conn.specs.Items.{Item, BeginsItem}
 use Rattle.http_conn.specs.Replies.{Expects}
-use Rattle.http_conn.specs.Rest.{StandsAs, is_awaited}
+use Rattle.http_conn.specs.Rest.{StandsAs, is_awaited, is_in_head}
 use Rattle.http_conn.specs.Steps.{WaitsIn, IsShortIn}
 
 -- what is seen of a reader: its limits, the bytes that it keeps, and how far the next request was read
@@ -42,6 +42,13 @@ pub record AwaitsMore (r : SeenReader) (rest : List ℕ) : Type 0 where
 -- an item stands at the front of the bytes, or a head whose client waits to be told to send the body and wasn't found so far
 abbrev pub IsAnswerable : SeenReader → List ℕ → Type 0
 IsAnswerable r rest = ((item : Item) × (size : ℕ) × BeginsItem r.limits rest item size) ⊎ (Expects r.limits rest × (is_awaited r.stage ≡ false))
+
+-- the reader goes on behind a whole request: the bytes that it keeps are the rest, and none of them was read
+pub record LeavesRequest (old new : SeenReader) : Type 0 where
+  pub same_limits : new.limits ≡ old.limits
+  pub same_unread : new.unread ≡ old.unread
+  pub in_head : is_in_head new.stage ≡ true
+  pub stands : StandsFor new new.unread
 
 -- ## What a turn of reading answers
 

@@ -1,13 +1,17 @@
 //! Laws of the items of a connection's bytes and of the replies to them. Each is the contract of a function that does nothing.
-ghost use Rattle.std.specs.Prelude.{◌≡◌, ℕ, ◌<◌, true, false, List, [], ◌∷◌, ◌++◌, drop, length};
+ghost use Rattle.std.specs.Prelude.{◌≡◌, ℕ, ◌<◌, Bool, true, false, List, [], ◌∷◌, ◌++◌, drop, length, Some};
+ghost use Rattle.std.proofs.Common.{inl, inr};
 ghost use Rattle.mpm_base.specs.Notes.{says_last};
 ghost use Rattle.mpm_base.specs.declared.note.Note.{Note};
 ghost use Rattle.http_read.specs.declared.request.Limits.{Limits};
+ghost use Rattle.http_read.specs.RequestParts.{RequestParts};
 ghost use Rattle.http_read.specs.Requests.{ReadRefusal, BeginsRefusal, WaitsForRequest};
 ghost use Rattle.file_table.specs.Site.{SeenSite};
 ghost use Rattle.http_core.specs.Code.{refuses_head};
 ghost use Rattle.http_conn.specs.Items.{Item, BeginsItem, AreFirst};
-ghost use Rattle.http_conn.specs.Replies.{AreReplies, Expects, IsFitting, IsNoteFor, IsResponse, first_part, item_ask};
+ghost use Rattle.http_conn.specs.Replies.{AreReplies, Expects, IsFitting, IsInterim, IsNoteFor, IsResponse, MayFollow, first_part, item_ask};
+ghost use Rattle.http_conn.specs.Reader.{item_kept};
+ghost use Rattle.http_conn.specs.Follows.{follows};
 ghost use Rattle.http_conn.specs.Rest.{StandsAs, is_awaited};
 ghost use Rattle.http_conn.specs.Steps.{IsReadable, WaitsIn};
 ghost use Rattle.http_conn.specs.declared.stage.Stage.{Stage};
@@ -103,3 +107,24 @@ pub fn waiting_clients_are_found()
 {
     one_answer();
 }
+
+/// What follows the replies, by how far the next request was read, is what may follow them; it is what is due where more has to
+/// come; and where the next item was read it is what is sent before the response to that.
+pub fn follows_what_was_read()
+    ensures may { (limits : Limits) (notes : List Note) (unread : List ℕ) (stage : Stage) (rest : List ℕ) → StandsAs limits unread stage rest
+        → MayFollow limits notes rest (follows notes stage) }
+    ensures due { (limits : Limits) (notes : List Note) (unread : List ℕ) (stage : Stage) (rest : List ℕ) → StandsAs limits unread stage rest
+        → WaitsIn limits unread stage rest → IsInterim limits notes rest (follows notes stage) }
+    ensures first { (notes : List Note) (stage : Stage) (item : Item) → item_kept stage ≡ Some item → says_last notes ≡ false
+        → follows notes stage ≡ first_part item }
+{
+    waiting_clients_are_found();
+}
+
+/// The item that was read stands at the front of the bytes; where it is a request, what is kept is left behind it.
+pub fn kept_items_begin()
+    ensures whole { (limits : Limits) (unread : List ℕ) (request : RequestParts) (rest : List ℕ) → StandsAs limits unread (Stage.Whole request) rest
+        → (size : ℕ) × BeginsItem limits rest (inl request) size × (unread ≡ drop size rest) }
+    ensures refused { (limits : Limits) (unread : List ℕ) (code : ℕ) (expected : Bool) (rest : List ℕ) → StandsAs limits unread (Stage.Refused code expected) rest
+        → BeginsItem limits rest (inr (record { code = code; expected = expected })) 0 }
+{}

@@ -2,10 +2,12 @@
 //! it is to take the place of `conn_state`.
 //!
 //! `read_on` reads the next request by the bytes that are there (`specs/Steps.antt`), and keeps those of a head, but of a
-//! body only a line that isn't whole. Which bytes that stands for is a relation (`specs/Rest.antt`).
+//! body only a line that isn't whole. Which bytes that stands for is a relation (`specs/Rest.antt`). `RequestReader` does so over
+//! a link, and takes bytes of it only while more has to come (`specs/Reader.antt`).
 //!
 //! The items of the bytes that a connection received stand in `specs/Items.antt`: whole requests, and at most one refusal. The
-//! replies to them, and what is sent before a reply, stand in `specs/Replies.antt`; the laws of both are in `laws`. `Outgoing`
+//! replies to them, and what is sent before a reply, stand in `specs/Replies.antt`, and what follows them by how far the next
+//! request was read in `specs/Follows.antt`; the laws of these are in `laws`. `Outgoing`
 //! is what a connection has yet to send: the rest of a head, and behind it a range of a file, whose bytes stay in the site
 //! (`specs/Outgoing.antt`). `send` offers both to the link by one call, and says what it sent and left (`specs/Writing.antt`).
 #![tactic(auto)]

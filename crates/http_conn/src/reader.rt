@@ -1,7 +1,8 @@
 //! The reading side of a connection.
-ghost use Rattle.std.specs.Prelude.{◌≡◌, ◌<◌, ◌≤◌, ℕ, List, [], ◌++◌, OnOk, OnErr};
+ghost use Rattle.std.specs.Prelude.{◌≡◌, ◌==◌, ◌&&◌, ◌<◌, ◌≤◌, ℕ, true, List, [], ◌++◌, length, OnOk, OnErr};
+ghost use Rattle.http_conn.specs.Rest.{is_in_head, is_whole};
 ghost use Rattle.http_conn.specs.Steps.{Steps, IsShortIn};
-ghost use Rattle.http_conn.specs.Reader.{StandsFor, IsAnswerable, ReadsNext};
+ghost use Rattle.http_conn.specs.Reader.{StandsFor, IsAnswerable, LeavesRequest, ReadsNext};
 ghost use Rattle.http_conn.specs.ReaderInside.{TakesPiece};
 
 use crate::laws::{
@@ -71,6 +72,34 @@ impl RequestReader {
             unread: Received::make(alloc),
             stage: Stage::Head(HeadReader::new(limits)),
         }
+    }
+
+    /// How far the next request was read.
+    pub fn stage(&self) -> &Stage
+        ensures { result.now ≡ self.now.stage }
+    {
+        &self.stage
+    }
+
+    /// Whether no byte of a request is kept.
+    pub fn is_empty(&self) -> bool
+        ensures { result ≡ (is_in_head self.now.stage && (length self.now.unread == 0)) }
+    {
+        match &self.stage {
+            Stage::Head(_) => self.unread.is_empty(),
+            _ => false,
+        }
+    }
+
+    /// Goes on behind the next request, which is whole. A reader that has no byte then holds no memory.
+    pub fn leave_request(&mut self)
+        requires { is_whole self.old.stage ≡ true }
+        ensures { LeavesRequest self.old self.new }
+    {
+        if self.unread.is_empty() {
+            self.unread = Received::make(self.alloc);
+        }
+        self.stage = Stage::Head(HeadReader::new(self.limits));
     }
 
     /// Reads on by the bytes that are there.
