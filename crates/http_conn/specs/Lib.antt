@@ -4,6 +4,7 @@ pub mod Outgoing
 pub mod Reader
 pub mod ReaderInside
 pub mod Replies
+pub mod ResponsesInside
 pub mod Rest
 pub mod Steps
 pub mod StepsInside
