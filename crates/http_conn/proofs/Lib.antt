@@ -1,6 +1,7 @@
 pub mod ApartLemmas
 pub mod BoundLemmas
 pub mod CodeLemmas
+pub mod ConnLemmas
 pub mod FollowLemmas
 pub mod ItemLemmas
 pub mod LinkLemmas

@@ -1,3 +1,5 @@
+pub mod Conn
+pub mod ConnInside
 pub mod Follows
 pub mod Items
 pub mod Outgoing
@@ -8,5 +10,6 @@ pub mod ResponsesInside
 pub mod Rest
 pub mod Steps
 pub mod StepsInside
+pub mod Turns
 pub mod Writing
 pub mod WritingInside

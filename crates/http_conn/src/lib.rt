@@ -12,6 +12,8 @@
 //! (`specs/Outgoing.antt`). `send` offers both to the link by one call, and says what it sent and left (`specs/Writing.antt`).
 #![tactic(auto)]
 
+mod conn;
+mod exchange;
 pub mod laws;
 mod outgoing;
 mod reader;
@@ -21,10 +23,12 @@ mod stage;
 mod steps;
 mod turn;
 
+pub use conn::Conn;
+pub use exchange::{ReadAnswer, read_item};
 pub use outgoing::{FileRange, Outgoing, WritesPairs, send};
 pub use reader::{RequestAnswer, RequestReader};
 pub use received::Received;
 pub use responses::{refuse, respond, tell_to_send};
 pub use stage::Stage;
 pub use steps::{Step, read_on};
-pub use turn::WriteTurn;
+pub use turn::{LastTurn, ReadTurn, WriteTurn};

@@ -2,7 +2,7 @@
 ghost use Rattle.std.specs.Prelude.{◌≡◌, ◌==◌, ◌&&◌, ◌<◌, ◌≤◌, ℕ, true, List, [], ◌++◌, length, OnOk, OnErr};
 ghost use Rattle.http_conn.specs.Rest.{is_in_head, is_whole};
 ghost use Rattle.http_conn.specs.Steps.{Steps, IsShortIn};
-ghost use Rattle.http_conn.specs.Reader.{StandsFor, IsAnswerable, LeavesRequest, ReadsNext};
+ghost use Rattle.http_conn.specs.Reader.{StandsFor, IsAnswerable, IsReading, LeavesRequest, ReadsNext};
 ghost use Rattle.http_conn.specs.ReaderInside.{TakesPiece};
 
 use crate::laws::{
@@ -64,6 +64,7 @@ impl RequestReader {
     pub fn new(alloc: Global, limits: Limits) -> RequestReader
         ensures limits { result.limits ≡ limits }
         ensures unread { result.unread ≡ [] }
+        ensures in_head { is_in_head result.stage ≡ true }
         ensures stands { StandsFor result [] }
     {
         RequestReader {
@@ -72,6 +73,13 @@ impl RequestReader {
             unread: Received::make(alloc),
             stage: Stage::Head(HeadReader::new(limits)),
         }
+    }
+
+    /// Shows that what is kept stands for some bytes. Does nothing.
+    pub fn show(&self)
+        ensures { IsReading self.now }
+    {
+        let _ = &self.limits;
     }
 
     /// How far the next request was read.

@@ -1,4 +1,25 @@
 //! What the turns of a connection answer.
+ghost use Rattle.std.specs.Prelude.{◌≡◌};
+ghost use Rattle.http_conn.specs.Turns.{after_reading, after_writing};
+
+use mpm_base::Ask;
+
+/// What a turn of reading found.
+#[derive(Clone, Copy, Debug, PartialEq, Eq)]
+pub enum ReadTurn {
+    /// The next request is whole, or refused: what it asks of the table.
+    Asked(Ask),
+    /// The head of the next request was accepted, and what tells its client to send the body is pending.
+    Interim,
+    /// The link has nothing more at this moment, and no request is whole.
+    More,
+    /// The client sends no more, and no request is whole.
+    Gone,
+    /// A call of the link failed.
+    LinkFailed,
+    /// Memory was wanted and not found.
+    NoMemory,
+}
 
 /// What a turn of writing did.
 #[derive(Clone, Copy, Debug, PartialEq, Eq)]
@@ -9,4 +30,58 @@ pub enum WriteTurn {
     NotReady,
     /// A call of the link failed.
     LinkFailed,
+}
+
+/// What the last turn of a connection answered.
+#[derive(Clone, Copy, Debug, PartialEq, Eq)]
+pub enum LastTurn {
+    /// There was none.
+    New,
+    /// A turn of reading found what a request asks, which waits for its response.
+    Asked(Ask),
+    /// A turn of reading found a client that waits to be told to send the body; what tells it is pending.
+    Interim,
+    /// The response was taken, and is pending.
+    Answered,
+    /// A turn of reading found no whole request.
+    More,
+    /// A turn of reading found that the client sends no more.
+    Gone,
+    /// A turn of writing sent all that was pending.
+    Done,
+    /// A turn of writing found no room.
+    NotReady,
+    /// A call of the link failed.
+    LinkFailed,
+    /// Memory was wanted and not found.
+    NoMemory,
+}
+
+impl ReadTurn {
+    /// The last turn, where a turn of reading answered so.
+    pub(crate) fn leaves(self) -> LastTurn
+        ensures { result ≡ after_reading self }
+    {
+        match self {
+            ReadTurn::Asked(ask) => LastTurn::Asked(ask),
+            ReadTurn::Interim => LastTurn::Interim,
+            ReadTurn::More => LastTurn::More,
+            ReadTurn::Gone => LastTurn::Gone,
+            ReadTurn::LinkFailed => LastTurn::LinkFailed,
+            ReadTurn::NoMemory => LastTurn::NoMemory,
+        }
+    }
+}
+
+impl WriteTurn {
+    /// The last turn, where a turn of writing answered so.
+    pub(crate) fn leaves(self) -> LastTurn
+        ensures { result ≡ after_writing self }
+    {
+        match self {
+            WriteTurn::Done => LastTurn::Done,
+            WriteTurn::NotReady => LastTurn::NotReady,
+            WriteTurn::LinkFailed => LastTurn::LinkFailed,
+        }
+    }
 }

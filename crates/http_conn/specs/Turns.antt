@@ -1,0 +1,141 @@
+-- What each turn of a connection leaves of it.
+use Rattle.std.specs.Prelude.{◌≡◌, ℕ, Bool, true, false, List, [], ◌∷◌, ◌++◌, take, drop, length, option_map, IfSome, ⊤}
+use Rattle.mpm_base.specs.Count.{RisesWhere, RisesExactlyWhere}
+use Rattle.mpm_base.specs.Link.{with_received}
+use Rattle.mpm_base.specs.declared.note.Note.{Note}
+use Rattle.http_core.specs.Code.{continue_text}
+use Rattle.http_conn.specs.declared.turn.LastTurn.{LastTurn}
+use Rattle.http_conn.specs.declared.turn.LastTurn.TheVariants as turn
+use Rattle.http_conn.specs.declared.turn.ReadTurn.{ReadTurn}
+use Rattle.http_conn.specs.declared.turn.ReadTurn.TheVariants as read
+use Rattle.http_conn.specs.declared.turn.WriteTurn.{WriteTurn}
+use Rattle.http_conn.specs.declared.turn.WriteTurn.TheVariants as write
+use Rattle.http_conn.specs.Items.{Item, BeginsItem}
+use Rattle.http_conn.specs.Replies.{IsAskedIn, IsNoteFor, IsResponse}
+use Rattle.http_conn.specs.Rest.{is_awaited}
+use Rattle.http_conn.specs.Reader.{SeenReader, StandsFor, AwaitsMore}
+use Rattle.http_conn.specs.Writing.{is_not_ready, is_write_failure, WriteLeaves, with_sent}
+use Rattle.http_conn.specs.Conn.{SeenConn}
+
+-- ## Reading
+
+-- the connection after a turn of reading that answered so
+abbrev pub after_reading : ReadTurn → LastTurn
+after_reading (read.Asked ask) = turn.Asked ask
+after_reading read.Interim = turn.Interim
+after_reading read.More = turn.More
+after_reading read.Gone = turn.Gone
+after_reading read.LinkFailed = turn.LinkFailed
+after_reading read.NoMemory = turn.NoMemory
+
+-- the client is to be told to send the body
+abbrev pub is_interim : ReadTurn → Bool
+is_interim read.Interim = true
+is_interim other = false
+
+-- the turn found that more has to come
+abbrev pub is_more : ReadTurn → Bool
+is_more read.More = true
+is_more other = false
+
+-- the turn found that the client sends no more
+abbrev pub is_gone : ReadTurn → Bool
+is_gone read.Gone = true
+is_gone other = false
+
+-- a read of the turn failed
+abbrev pub is_read_failure : ReadTurn → Bool
+is_read_failure read.LinkFailed = true
+is_read_failure other = false
+
+-- what is pending after a turn of reading: what tells the client to send the body, where it is to be told
+abbrev pub pending_after : ReadTurn → List ℕ → List ℕ
+pending_after read.Interim pending = continue_text
+pending_after other pending = pending
+
+-- what is kept stands for all that came, unless memory lacked
+abbrev pub KeepsRead : ReadTurn → SeenReader → List ℕ → Type 0
+KeepsRead read.NoMemory r rest = ⊤
+KeepsRead other r rest = StandsFor r rest
+
+-- what a turn of reading found in the bytes that came: the next item, an accepted head whose client waits, or that more has to come
+abbrev pub ReadFinds : ReadTurn → SeenConn → List ℕ → Type 0
+ReadFinds (read.Asked ask) c rest = IsAskedIn c.site c.reader.limits rest ask
+ReadFinds read.Interim c rest = is_awaited c.reader.stage ≡ true
+ReadFinds read.More c rest = AwaitsMore c.reader rest
+ReadFinds read.Gone c rest = AwaitsMore c.reader rest
+ReadFinds read.LinkFailed c rest = AwaitsMore c.reader rest
+ReadFinds read.NoMemory c rest = ⊤
+
+-- a turn of reading takes what the link gives
+pub record ReadsOn (old new : SeenConn) (answer : ReadTurn) : Type 0 where
+  pub name : new.name ≡ old.name
+  pub child : new.child ≡ old.child
+  pub generation : new.generation ≡ old.generation
+  pub site : new.site ≡ old.site
+  pub limits : new.reader.limits ≡ old.reader.limits
+  pub notes : new.notes ≡ old.notes
+  pub pending : new.pending ≡ pending_after answer old.pending
+  pub turn : new.turn ≡ after_reading answer
+  pub got : List ℕ
+  pub told : new.told ≡ option_map (with_received (length got)) old.told
+  pub gives : IfSome old.told (λ t. got ≡ take (length got) t.coming)
+  pub stands : (rest : List ℕ) → StandsFor old.reader rest → KeepsRead answer new.reader (rest ++ got)
+  pub finds : (rest : List ℕ) → StandsFor old.reader rest → ReadFinds answer new (rest ++ got)
+  pub faults : RisesWhere (is_read_failure answer) old.counts.faults new.counts.faults
+  pub late_reads : RisesExactlyWhere (is_more answer) old.counts.late_reads new.counts.late_reads
+  pub ends : RisesExactlyWhere (is_gone answer) old.counts.ends new.counts.ends
+  pub late_writes : new.counts.late_writes ≡ old.counts.late_writes
+
+-- the link was asked for nothing
+pub record AsksNothing (old new : SeenConn) : Type 0 where
+  pub told : new.told ≡ old.told
+  pub counts : new.counts ≡ old.counts
+
+-- ## Answering
+
+-- the note is one of a response to what the last turn asked
+abbrev pub IsNoteOf : LastTurn → Note → Type 0
+IsNoteOf (turn.Asked ask) note = IsNoteFor ask note
+IsNoteOf other note = ⊥
+
+-- the item stands at the front of the bytes, and the reader goes on behind it
+pub record LeavesItem (item : Item) (old new : SeenReader) (rest : List ℕ) : Type 0 where
+  pub size : ℕ
+  pub begins : BeginsItem old.limits rest item size
+  pub stands : StandsFor new (drop size rest)
+
+-- the next item of the bytes has a response, which is to be sent
+pub record TakesNote (note : Note) (old new : SeenConn) : Type 0 where
+  pub item : Item
+  pub response : List ℕ
+  pub leaves : (rest : List ℕ) → StandsFor old.reader rest → LeavesItem item old.reader new.reader rest
+  pub is_response : IsResponse old.site item note response
+  pub limits : new.reader.limits ≡ old.reader.limits
+  pub new_is : new ≡ record old { notes = old.notes ++ note ∷ []; pending = response; reader = new.reader; turn = turn.Answered }
+
+-- ## Writing
+
+-- the connection after a turn of writing that answered so
+abbrev pub after_writing : WriteTurn → LastTurn
+after_writing write.Done = turn.Done
+after_writing write.NotReady = turn.NotReady
+after_writing write.LinkFailed = turn.LinkFailed
+
+-- a turn of writing sends a front of what is pending
+pub record WritesOn (old new : SeenConn) (answer : WriteTurn) : Type 0 where
+  pub name : new.name ≡ old.name
+  pub child : new.child ≡ old.child
+  pub generation : new.generation ≡ old.generation
+  pub site : new.site ≡ old.site
+  pub notes : new.notes ≡ old.notes
+  pub reader : new.reader ≡ old.reader
+  pub turn : new.turn ≡ after_writing answer
+  pub sent : List ℕ
+  pub front : old.pending ≡ sent ++ new.pending
+  pub told : new.told ≡ option_map (with_sent sent) old.told
+  pub leaves : WriteLeaves answer new.pending
+  pub faults : RisesWhere (is_write_failure answer) old.counts.faults new.counts.faults
+  pub late_writes : RisesExactlyWhere (is_not_ready answer) old.counts.late_writes new.counts.late_writes
+  pub late_reads : new.counts.late_reads ≡ old.counts.late_reads
+  pub ends : new.counts.ends ≡ old.counts.ends
