@@ -105,7 +105,7 @@ rises-some : (old new : ℕ) → Rises old new → 0 < new
 rises-some old new rises = grind (arith, rises.0, rises.1)
 
 -- the reply stream of a connection that is usable
-usable-streams : (c : SeenConn) (rest : List ℕ) → IfSome c.told (StreamsWhile (is_usable c.turn) c rest) → is_usable c.turn ≡ true → IfSome c.told (Streams c rest)
+pub usable-streams : (c : SeenConn) (rest : List ℕ) → IfSome c.told (StreamsWhile (is_usable c.turn) c rest) → is_usable c.turn ≡ true → IfSome c.told (Streams c rest)
 usable-streams c rest streams usable = subst (λ b. IfSome c.told (StreamsWhile b c rest)) usable streams
 
 -- ## A turn of reading
@@ -357,7 +357,7 @@ stream-sent c link' pending' sent rest turn' t s front = record {
 }
 
 -- it breaks off then
-sent-breaks : FollowsMay → (c : SeenConn) (rest : List ℕ) (t : LinkTold) → StandsFor c.reader rest → Streams c rest t → BrokeOff c t
+pub sent-breaks : FollowsMay → (c : SeenConn) (rest : List ℕ) (t : LinkTold) → StandsFor c.reader rest → Streams c rest t → BrokeOff c t
 sent-breaks may c rest t stands s = record {
   items = s.items;
   left = rest;

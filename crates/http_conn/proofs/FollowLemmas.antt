@@ -66,7 +66,7 @@ open-tells true false goes_on = refl
 open-tells false last goes_on = refl
 
 -- one item is there
-some-is : (item other : Item) → Some item ≡ Some other → item ≡ other
+pub some-is : (item other : Item) → Some item ≡ Some other → item ≡ other
 some-is item other e = cc
 
 -- what is sent before the response to an item that was read

@@ -18,9 +18,11 @@ use Rattle.http_conn.specs.Replies.{Expects}
 use Rattle.http_conn.specs.Rest.{StandsAs, is_awaited, is_in_head, is_in_body, is_whole, is_refused}
 use Rattle.http_conn.specs.Steps.{Steps, PassesHead, StaysInPart, WaitsIn, is_told}
 use Rattle.http_conn.specs.Reader.{SeenReader, StandsFor, AwaitsMore, IsAnswerable, item_kept, finds_waiting, finds_more, finds_end, finds_failure, AnswerFinds, KeepsAll, ReadsNext}
+use Rattle.http_conn.specs.Turns.{LeavesItem}
 use Rattle.http_conn.specs.ReaderInside.{HasCome, HasComeSome, EndsTurn}
 use Rattle.http_conn.proofs.ApartLemmas.{waits-for_request}
 use Rattle.http_conn.proofs.BoundLemmas.{waits-few}
+use Rattle.http_conn.proofs.FollowLemmas.{some-is}
 use Rattle.http_conn.proofs.ItemLemmas.{KeepsHeads, KeepsSpelled, KeepsRefused, refused-more}
 use Rattle.http_conn.proofs.LinkLemmas.{rises-after, told-received_none, gives-none, told-joined, gives-joined, gives-taken}
 use Rattle.http_conn.proofs.RestLemmas.{expects-more}
@@ -359,3 +361,17 @@ pub counts-piece : (n got more : ℕ) (s s' s2 : Stage) → n ≤ got + behind_h
 counts-piece n got more s s' s2 each stays same some =
     let before : behind_head s2 ≡ behind_head s = ap behind_head same ∙ ap (λ b. if b then 0 else 1) stays.same_head in
     omega (arith, each, before, some)
+
+-- ## Behind an item
+
+-- behind a refusal all is kept
+pub leave-kept : (r : SeenReader) (s : Stage) → r.stage ≡ s → is_whole s ≡ false → (item : Item) (rest : List ℕ) → item_kept r.stage ≡ Some item → StandsFor r rest
+    → LeavesItem item r r rest
+leave-kept r (stage.Head reader) is none item rest kept h = absurd (let e : None ≡ Some item = sym (ap item_kept is) ∙ kept in cc)
+leave-kept r (stage.Body request reader) is none item rest kept h = absurd (let e : None ≡ Some item = sym (ap item_kept is) ∙ kept in cc)
+leave-kept r (stage.Whole request) is none item rest kept h = absurd (false≢true (sym none))
+leave-kept r (stage.Refused code expected) is none item rest kept h =
+    let same : inr (record { code = code; expected = expected }) ≡ item =
+    some-is (inr (record { code = code; expected = expected })) item (sym (ap item_kept is) ∙ kept) in
+    subst (λ i. LeavesItem i r r rest) same
+    (record { size = 0; begins = (subst (λ s. StandsAs r.limits r.unread s rest) is h, refl); stands = h })

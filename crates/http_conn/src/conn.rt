@@ -1,21 +1,32 @@
 //! One connection over its link.
-ghost use Rattle.std.specs.Prelude.{◌≡◌, ◌==◌, ◌&&◌, ◌<◌, true, false, not, [], length, IfSome};
+ghost use Rattle.std.specs.Prelude.{◌≡◌, ◌==◌, ◌&&◌, ◌<◌, true, false, not, Bool, [], ◌∷◌, ◌++◌, length, Some, None, IfSome, IfOk, OnOk, OnErr};
+ghost use Rattle.std.proofs.Common.{inl, inr};
+ghost use Rattle.mpm_base.specs.Moment.{IsSecond};
 ghost use Rattle.mpm_base.specs.Notes.{says_last};
+ghost use Rattle.http_read.specs.RequestParts.{RequestParts};
+ghost use Rattle.http_core.specs.Ask.{IsServedOf, plan_for};
+ghost use Rattle.http_core.specs.Code.{refuses_head};
+ghost use Rattle.http_conn.specs.Replies.{IsResponse};
+ghost use Rattle.http_conn.specs.Outgoing.{IsUnsentOf, pending_bytes};
 ghost use Rattle.http_conn.specs.declared.turn.LastTurn.TheVariants as turn;
 ghost use Rattle.http_conn.specs.Rest.{is_in_head};
 ghost use Rattle.http_conn.specs.Reader.{StandsFor};
 ghost use Rattle.http_conn.specs.Conn.{IsConn, IsFresh, is_usable};
-ghost use Rattle.http_conn.specs.Turns.{ReadsOn, WritesOn};
+ghost use Rattle.http_conn.specs.Turns.{IsNoteOf, ReadsOn, TakesNote, WritesOn};
 
 use crate::exchange::{ReadAnswer, read_item};
-use crate::laws::{answered_items_stay, follows_what_was_read, kept_bytes_go_on};
+use crate::laws::{
+    answered_items_go_on, answered_items_stay, follows_what_was_read, kept_bytes_go_on,
+    refusals_have_their_codes, replies_go_on, responses_have_bytes,
+};
 use crate::outgoing::{Outgoing, WritesPairs, send};
 use crate::reader::RequestReader;
+use crate::responses::{refuse, respond};
 use crate::turn::{LastTurn, ReadTurn, WriteTurn};
 use file_table::Site;
 use http_core::Plan;
 use http_read::Limits;
-use mpm_base::{ConnName, Notes, Octets};
+use mpm_base::{ConnName, NoMemory, Note, Notes, Octets};
 use std::alloc::Global;
 use std::marker::Model;
 use std::sync::Arc;
@@ -181,6 +192,33 @@ impl<L: WritesPairs> Conn<L> {
         turn
     }
 
+    /// Takes the note of the response to what the last turn asked. The response becomes pending. Where memory lacks nothing
+    /// but the turn changes, and the connection can only be ended.
+    pub fn answer(&mut self, note: Note) -> Result<(), NoMemory>
+        requires asked { IsNoteOf self.old.turn note }
+        requires date { IsSecond note.date }
+        ensures ok { OnOk result (TakesNote note self.old self.new) }
+        ensures err { OnErr result (self.new ≡ record self.old { turn = turn.NoMemory }) }
+    {
+        answered_items_go_on();
+        replies_go_on();
+        responses_have_bytes();
+        follows_what_was_read();
+        refusals_have_their_codes();
+        match take_note(self.alloc, &self.site, &self.plan, &mut self.notes, note) {
+            Ok(unsent) => {
+                self.unsent = unsent;
+                self.reader.leave_item();
+                self.turn = LastTurn::Answered;
+                Ok(())
+            }
+            Err(NoMemory) => {
+                self.turn = LastTurn::NoMemory;
+                Err(NoMemory)
+            }
+        }
+    }
+
     /// Sends what is pending, until the link has no room. Takes no memory.
     pub fn write_turn(&mut self) -> WriteTurn
         requires usable { is_usable self.old.turn ≡ true }
@@ -190,5 +228,39 @@ impl<L: WritesPairs> Conn<L> {
         let turn = send(&mut self.link, &self.site, &mut self.unsent);
         self.turn = turn.leaves();
         turn
+    }
+}
+
+/// Makes the response of the note, by the plan of a request or to a refusal, and puts the note behind the others. Where memory
+/// lacks nothing changes.
+fn take_note(
+    alloc: Global,
+    site: &Site,
+    plan: &Option<Plan>,
+    notes: &mut Notes,
+    note: Note,
+) -> Result<Outgoing, NoMemory>
+    requires date { IsSecond note.date }
+    requires served { IfSome plan.now (λ p. IsServedOf site.now p.served) }
+    requires code { plan.now ≡ None → refuses_head note.code ≡ true }
+    ensures ok { OnOk result (notes.new ≡ notes.old ++ note ∷ []) }
+    ensures planned { IfOk result (λ unsent. (request : RequestParts) → plan.now ≡ Some (plan_for site.now request)
+        → IsResponse site.now (inl request) note (pending_bytes site.now unsent)) }
+    ensures refused { IfOk result (λ unsent. plan.now ≡ None → (expected : Bool)
+        → IsResponse site.now (inr (record { code = note.code; expected = expected })) note (pending_bytes site.now unsent)) }
+    ensures of { IfOk result (IsUnsentOf site.now) }
+    ensures err { OnErr result (notes.new ≡ notes.old) }
+{
+    match plan {
+        Some(plan) => {
+            let unsent = respond(alloc, site, plan, &note)?;
+            notes.push(note)?;
+            Ok(unsent)
+        }
+        None => {
+            let unsent = refuse(alloc, &note)?;
+            notes.push(note)?;
+            Ok(unsent)
+        }
     }
 }

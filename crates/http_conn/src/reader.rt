@@ -1,8 +1,10 @@
 //! The reading side of a connection.
-ghost use Rattle.std.specs.Prelude.{◌≡◌, ◌==◌, ◌&&◌, ◌<◌, ◌≤◌, ℕ, true, List, [], ◌++◌, length, OnOk, OnErr};
-ghost use Rattle.http_conn.specs.Rest.{is_in_head, is_whole};
+ghost use Rattle.std.specs.Prelude.{◌≡◌, ◌==◌, ◌&&◌, ◌<◌, ◌≤◌, ℕ, true, List, [], ◌++◌, length, false, Some, OnOk, OnErr};
+ghost use Rattle.http_conn.specs.Rest.{is_awaited, is_in_head, is_whole};
 ghost use Rattle.http_conn.specs.Steps.{Steps, IsShortIn};
-ghost use Rattle.http_conn.specs.Reader.{StandsFor, IsAnswerable, IsReading, LeavesRequest, ReadsNext};
+ghost use Rattle.http_conn.specs.Items.{Item};
+ghost use Rattle.http_conn.specs.Turns.{LeavesItem};
+ghost use Rattle.http_conn.specs.Reader.{item_kept, StandsFor, IsAnswerable, IsReading, LeavesRequest, ReadsNext};
 ghost use Rattle.http_conn.specs.ReaderInside.{TakesPiece};
 
 use crate::laws::{
@@ -50,7 +52,9 @@ pub struct RequestReader {
 }
 
 impl Model for RequestReader {
-    ghost use Rattle.http_conn.specs.Reader.{SeenReader, IsReading};
+    ghost use Rattle.http_conn.specs.Items.{Item};
+    ghost use Rattle.http_conn.specs.Turns.{LeavesItem};
+    ghost use Rattle.http_conn.specs.Reader.{item_kept, SeenReader, IsReading};
 
     ghost Value = { SeenReader };
 
@@ -108,6 +112,21 @@ impl RequestReader {
             self.unread = Received::make(self.alloc);
         }
         self.stage = Stage::Head(HeadReader::new(self.limits));
+    }
+
+    /// Goes on behind the next item. Behind a refusal nothing is read, so it is kept.
+    pub fn leave_item(&mut self)
+        ensures limits { self.new.limits ≡ self.old.limits }
+        ensures leaves { (item : Item) (rest : List ℕ) → item_kept self.old.stage ≡ Some item → StandsFor self.old rest
+            → LeavesItem item self.old self.new rest }
+        ensures untold { (is_awaited self.new.stage ≡ true) → is_whole self.old.stage ≡ false }
+    {
+        match &self.stage {
+            Stage::Whole(_) => self.leave_request(),
+            Stage::Head(_) => (),
+            Stage::Body(_, _) => (),
+            Stage::Refused(_, _) => (),
+        }
     }
 
     /// Reads on by the bytes that are there.
