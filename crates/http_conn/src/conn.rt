@@ -1,5 +1,5 @@
 //! One connection over its link.
-ghost use Rattle.std.specs.Prelude.{◌≡◌, ◌==◌, ◌&&◌, ◌<◌, true, false, not, Bool, [], ◌∷◌, ◌++◌, length, Some, None, IfSome, IfOk, OnOk, OnErr};
+ghost use Rattle.std.specs.Prelude.{◌≡◌, ℕ, List, ◌==◌, ◌&&◌, ◌<◌, true, false, not, Bool, [], ◌∷◌, ◌++◌, length, Some, None, IfSome, IfOk, OnOk, OnErr};
 ghost use Rattle.std.proofs.Common.{inl, inr};
 ghost use Rattle.mpm_base.specs.Moment.{IsSecond};
 ghost use Rattle.mpm_base.specs.Notes.{says_last};
@@ -10,9 +10,9 @@ ghost use Rattle.http_conn.specs.Replies.{IsResponse};
 ghost use Rattle.http_conn.specs.Outgoing.{IsUnsentOf, pending_bytes};
 ghost use Rattle.http_conn.specs.declared.turn.LastTurn.TheVariants as turn;
 ghost use Rattle.http_conn.specs.Rest.{is_in_head};
-ghost use Rattle.http_conn.specs.Reader.{StandsFor};
+ghost use Rattle.http_conn.specs.Reader.{IsAnswerable, StandsFor};
 ghost use Rattle.http_conn.specs.Conn.{IsConn, IsFresh, is_usable};
-ghost use Rattle.http_conn.specs.Turns.{IsNoteOf, ReadsOn, TakesNote, WritesOn};
+ghost use Rattle.http_conn.specs.Turns.{AsksNothing, IsNoteOf, ReadsOn, TakesNote, WritesOn};
 
 use crate::exchange::{ReadAnswer, read_item};
 use crate::laws::{
@@ -170,12 +170,14 @@ impl<L: WritesPairs> Conn<L> {
         self.notes.says_last()
     }
 
-    /// Reads until a request is whole or refused, its client is to be told to send the body, or the link gives no more.
+    /// Reads until a request is whole or refused, its client is to be told to send the body, or the link gives no more. The link is
+    /// asked only while there is none of these.
     pub fn read_turn(&mut self) -> ReadTurn
         requires usable { is_usable self.old.turn ≡ true }
         requires sent { self.old.pending ≡ [] }
         requires open { says_last self.old.notes ≡ false }
-        ensures { ReadsOn self.old self.new result }
+        ensures reads { ReadsOn self.old self.new result }
+        ensures still { (rest : List ℕ) → StandsFor self.old.reader rest → IsAnswerable self.old.reader rest → AsksNothing self.old self.new }
     {
         answered_items_stay();
         kept_bytes_go_on();

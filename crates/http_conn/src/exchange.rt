@@ -1,6 +1,6 @@
 //! What a turn of reading of a connection does.
-ghost use Rattle.std.specs.Prelude.{◌≡◌, true, None, is_some};
-ghost use Rattle.http_conn.specs.Reader.{item_kept};
+ghost use Rattle.std.specs.Prelude.{◌≡◌, ℕ, true, List, None, is_some};
+ghost use Rattle.http_conn.specs.Reader.{IsAnswerable, StandsFor, item_kept};
 ghost use Rattle.http_conn.specs.ConnInside.{AsksItem, TakesIn};
 
 use crate::outgoing::Outgoing;
@@ -64,7 +64,8 @@ pub fn read_item<L: Link>(
     reader: &mut RequestReader,
     unsent: &mut Outgoing,
 ) -> ReadAnswer
-    ensures { TakesIn (L.seen link.old) (L.seen link.new) site.now reader.old reader.new unsent.old unsent.new result.turn result.plan }
+    ensures takes { TakesIn (L.seen link.old) (L.seen link.new) site.now reader.old reader.new unsent.old unsent.new result.turn result.plan }
+    ensures still { (rest : List ℕ) → StandsFor reader.old rest → IsAnswerable reader.old rest → L.seen link.new ≡ L.seen link.old }
 {
     reader.show();
     let given = reader.read_turn(link);

@@ -1,4 +1,7 @@
-use Rattle.std.proofs.Common.{refl, subst}
+use Rattle.std.proofs.Common.{refl, sym, ap, subst, ◌∙◌}
+use Rattle.mpm_base.specs.Link.{LinkSeen}
+use Rattle.http_conn.specs.Reader.{IsAnswerable, StandsFor}
+use Rattle.http_conn.specs.Conn.{SeenConn}
 use Rattle.http_conn.specs.Outgoing.{pending_bytes}
 use Rattle.http_conn.specs.ConnInside.{TakesIn}
 use Rattle.http_conn.proofs.ConnLemmas.{held-read, reads-on}
@@ -8,16 +11,16 @@ pub invariant_of-self : goal.invariant_of-self
 invariant_of-self g c =
     let reading = c.read_item-turn in
     let takes = subst (λ st. TakesIn (g.L.Link.seen c.self.inside.link) (g.L.Link.seen reading.new.link) st c.self.inside.reader reading.new.reader
-    c.self.inside.unsent reading.new.unsent reading.result.turn reading.result.plan) c.deref.ensures reading.ensures in
+    c.self.inside.unsent reading.new.unsent reading.result.turn reading.result.plan) c.deref.ensures reading.ensures.takes in
     held-read c.answered_items_stay.ensures c.kept_bytes_go_on.ensures c.follows_what_was_read.ensures.may _ c.args.self.now c.self.inside.plan reading.result.plan
     c.self.inside.unsent reading.new.unsent (g.L.Link.seen reading.new.link) reading.new.reader reading.result.turn c.leaves-self-inside.result
     c.self.invariant c.self.view_is refl c.requires.usable c.requires.sent c.requires.«open» takes c.leaves-self-inside.ensures
 
-pub returns : goal.returns
-returns g c =
+pub returns-clause-reads : goal.returns-clause-reads
+returns-clause-reads g c =
     let reading = c.read_item-turn in
     let takes = subst (λ st. TakesIn (g.L.Link.seen c.self.inside.link) (g.L.Link.seen reading.new.link) st c.self.inside.reader reading.new.reader
-    c.self.inside.unsent reading.new.unsent reading.result.turn reading.result.plan) c.deref.ensures reading.ensures in
+    c.self.inside.unsent reading.new.unsent reading.result.turn reading.result.plan) c.deref.ensures reading.ensures.takes in
     reads-on (record {
       told = (g.L.Link.seen c.self.inside.link).told;
       counts = (g.L.Link.seen c.self.inside.link).counts;
@@ -31,3 +34,12 @@ returns g c =
       turn = c.self.inside.turn;
     }) c.args.self.now reading.result.plan c.self.inside.unsent reading.new.unsent (g.L.Link.seen reading.new.link) reading.new.reader reading.result.turn
     c.leaves-self-inside.result c.self.view_is refl takes c.leaves-self-inside.ensures
+
+pub returns-clause-still : goal.returns-clause-still
+returns-clause-still g c rest h a =
+    let old = sym c.self.view_is in
+    let same = c.read_item-turn.ensures.still rest (subst (λ (x : SeenConn). StandsFor x.reader rest) old h) (subst (λ (x : SeenConn). IsAnswerable x.reader rest) old a) in
+    record {
+      told = ap (λ (l : LinkSeen). l.told) same ∙ ap (λ (x : SeenConn). x.told) c.self.view_is;
+      counts = ap (λ (l : LinkSeen). l.counts) same ∙ ap (λ (x : SeenConn). x.counts) c.self.view_is;
+    }
