@@ -1,5 +1,8 @@
-//! One connection over its link, for whole HTTP: requests with their bodies, and the responses that are decided. In the making;
-//! it is to take the place of `conn_state`.
+//! One connection over its link, for whole HTTP: requests with their bodies, and the responses that are decided. In the making:
+//! half-close, linger and end are to come. It is to take the place of `conn_state`.
+//!
+//! `Conn` is a connection. What it keeps at every turn stands in `specs/Conn.antt`: what was sent and what is pending are the
+//! replies to the first items that were received, and what follows them. What each turn does stands in `specs/Turns.antt`.
 //!
 //! `read_on` reads the next request by the bytes that are there (`specs/Steps.antt`), and keeps those of a head, but of a
 //! body only a line that isn't whole. Which bytes that stands for is a relation (`specs/Rest.antt`). `RequestReader` does so over
