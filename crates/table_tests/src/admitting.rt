@@ -1,60 +1,59 @@
-//! The rule at its limit, and the choice on a tie.
+//! The rule of admission, and its choice.
+use crate::texts::{small_of, words};
 use admission::{ChildCount, admits, pick};
+use std::alloc::{AllocError, Global};
+use std::io;
 
-/// A child of 10 workers at a factor of 2, which runs and has 5 open connections.
-fn child(child: u32, idle: u32) -> ChildCount {
+/// Shows whether a child takes a further connection: of each row its workers, its factor, its idle workers and its open connections.
+pub fn show_admits(rt: &impl Print, rows: &str) -> io::Result<()> {
+    for row in rows.lines() {
+        println!(rt; "{row} => {}", has_room(row))?;
+    }
+    Ok(())
+}
+
+/// Whether the child of these words takes a further connection. It has no clause, so that what `admits` says isn't carried along.
+fn has_room(text: &str) -> bool {
+    let child = child_of(text);
+    admits(child.t, child.factor, child.idle, child.count)
+}
+
+/// Shows which child takes a connection, of those of each row.
+pub fn show_picks(rt: &impl Print, alloc: Global, rows: &str) -> io::Result<()> {
+    for row in rows.lines() {
+        let picked = pick_of(alloc, row)?;
+        println!(rt; "{row} => {picked:?}")?;
+    }
+    Ok(())
+}
+
+/// The child that takes a connection, of those that the row writes behind its title, with `, ` between them. It has no clause, so that
+/// what `pick` says isn't carried along.
+fn pick_of(alloc: Global, row: &str) -> Result<Option<u32>, AllocError> {
+    let (_, text) = row.split_once(": ").unwrap_or(("", row));
+    let mut children = Vec::new(alloc);
+    if !text.is_empty() {
+        for child in text.split(", ") {
+            children.push(child_of(child))?;
+        }
+    }
+    Ok(pick(children.as_slice()))
+}
+
+/// The child of these words: its workers, its factor, its idle workers and its open connections, then its number, and `stops` where
+/// it doesn't run.
+fn child_of(text: &str) -> ChildCount {
+    let (t, rest) = words(text);
+    let (factor, rest) = words(rest);
+    let (idle, rest) = words(rest);
+    let (count, rest) = words(rest);
+    let (child, rest) = words(rest);
     ChildCount {
-        child,
-        running: true,
-        t: 10,
-        factor: 200,
-        idle,
-        count: 5,
+        child: small_of(child),
+        running: rest != "stops",
+        t: small_of(t),
+        factor: small_of(factor),
+        idle: small_of(idle),
+        count: small_of(count),
     }
-}
-
-#[test]
-fn admits_while_connections_stay_below_the_limit(rt: HostRuntime) {
-    let cases = [
-        (10, 200, 4, 17, true),
-        (10, 200, 4, 18, false),
-        (25, 150, 3, 29, true),
-        (25, 150, 3, 30, false),
-        (u32::MAX, u32::MAX, u32::MAX, u32::MAX, true),
-        (0, u32::MAX, 0, u32::MAX, false),
-    ];
-    for (t, factor, idle, count, want) in cases {
-        assert_eq!(rt;
-            admits(t, factor, idle, count),
-            want,
-            "at {t}, {factor}, {idle}, {count}"
-        );
-    }
-}
-
-#[test]
-fn picks_the_lowest_number_on_a_tie_and_only_candidates(rt: HostRuntime) {
-    let stopping = ChildCount {
-        running: false,
-        ..child(0, 9)
-    };
-    let full = ChildCount {
-        count: 28,
-        ..child(0, 9)
-    };
-    assert_eq!(rt; pick(&[]), None, "no children");
-    assert_eq!(rt; pick(&[child(0, 3), child(1, 3)]), Some(0), "a tie");
-    assert_eq!(rt;
-        pick(&[child(1, 3), child(0, 3)]),
-        Some(0),
-        "a tie, in the other order"
-    );
-    assert_eq!(rt; pick(&[child(0, 3), child(1, 4)]), Some(1), "most idle");
-    assert_eq!(rt;
-        pick(&[stopping, child(1, 3)]),
-        Some(1),
-        "one that doesn't run"
-    );
-    assert_eq!(rt; pick(&[full, child(1, 3)]), Some(1), "one that is full");
-    assert_eq!(rt; pick(&[stopping, full]), None, "no candidates");
 }

@@ -1,9 +1,11 @@
 //! Timeout queues as a plain list by slot, over which each look goes: what the rings are compared with.
+use crate::calls::{Answer, Call};
 use mpm_base::{ConnName, Moment, NoMemory};
 use std::alloc::Global;
 
+/// Of each slot what is parked in it.
 #[derive(Drop)]
-pub(crate) struct PlainQueues {
+pub struct PlainQueues {
     slots: Vec<Option<Entry>>,
 }
 
@@ -20,7 +22,8 @@ struct Due {
 }
 
 impl PlainQueues {
-    pub(crate) fn make(alloc: Global, n: u32) -> Result<PlainQueues, NoMemory> {
+    /// So many slots, in which no name is parked.
+    pub fn make(alloc: Global, n: u32) -> Result<PlainQueues, NoMemory> {
         let mut slots = Vec::new(alloc);
         for _ in 0..n {
             if slots.push(None).is_err() {
@@ -30,20 +33,31 @@ impl PlainQueues {
         Ok(PlainQueues { slots })
     }
 
-    pub(crate) fn is_free(&self, slot: u32) -> bool {
-        matches!(self.slots.get(slot as usize), Some(None))
+    /// What the list answers to the call.
+    pub fn answer_to(&mut self, call: Call) -> Answer {
+        match call {
+            Call::Park(name, _, deadline) => Answer::Found(self.park(name, deadline)),
+            Call::Unpark(name) => Answer::Found(self.unpark(name)),
+            Call::Overdue(now) => Answer::Name(self.overdue(now)),
+            Call::Next => Answer::Deadline(self.first().map(|due| due.deadline)),
+        }
     }
 
-    pub(crate) fn park(&mut self, name: ConnName, deadline: Moment) {
-        if let Some(kept) = self.slots.get_mut(name.slot as usize) {
+    fn park(&mut self, name: ConnName, deadline: Moment) -> bool {
+        let Some(kept) = self.slots.get_mut(name.slot as usize) else {
+            return false;
+        };
+        let is_free = kept.is_none();
+        if is_free {
             *kept = Some(Entry {
                 life: name.life,
                 deadline,
             });
         }
+        is_free
     }
 
-    pub(crate) fn unpark(&mut self, name: ConnName) -> bool {
+    fn unpark(&mut self, name: ConnName) -> bool {
         let Some(kept) = self.slots.get_mut(name.slot as usize) else {
             return false;
         };
@@ -56,17 +70,10 @@ impl PlainQueues {
         }
     }
 
-    pub(crate) fn overdue(&self, now: Moment) -> Option<ConnName> {
+    fn overdue(&self, now: Moment) -> Option<ConnName> {
         match self.first() {
             Some(first) if first.deadline <= now => Some(first.name),
             _ => None,
-        }
-    }
-
-    pub(crate) fn next_deadline(&self) -> Option<Moment> {
-        match self.first() {
-            Some(first) => Some(first.deadline),
-            None => None,
         }
     }
 

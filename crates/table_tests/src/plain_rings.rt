@@ -3,8 +3,9 @@
 use mpm_base::NoMemory;
 use std::alloc::Global;
 
+/// The slots that stand in a ring.
 #[derive(Drop)]
-pub(crate) struct PlainRings {
+pub struct PlainRings {
     filed: Vec<Filed>,
 }
 
@@ -15,13 +16,15 @@ struct Filed {
 }
 
 impl PlainRings {
-    pub(crate) fn make(alloc: Global) -> PlainRings {
+    /// No slot stands in a ring.
+    pub fn make(alloc: Global) -> PlainRings {
         PlainRings {
             filed: Vec::new(alloc),
         }
     }
 
-    pub(crate) fn file(&mut self, slot: u32, ring: Option<u32>) -> Result<(), NoMemory> {
+    /// Puts the slot at the end of the ring, or into none. Where it stands there already it keeps its place.
+    pub fn file(&mut self, slot: u32, ring: Option<u32>) -> Result<(), NoMemory> {
         if self.ring_of(slot) == ring {
             return Ok(());
         }
@@ -35,7 +38,8 @@ impl PlainRings {
         }
     }
 
-    pub(crate) fn first(&self, ring: u32) -> Option<u32> {
+    /// The slot that stands first in the ring.
+    pub fn first(&self, ring: u32) -> Option<u32> {
         for filed in self.filed.iter() {
             if filed.ring == ring {
                 return Some(filed.slot);
@@ -44,7 +48,8 @@ impl PlainRings {
         None
     }
 
-    pub(crate) fn ring_of(&self, slot: u32) -> Option<u32> {
+    /// The ring in which the slot stands.
+    pub fn ring_of(&self, slot: u32) -> Option<u32> {
         for filed in self.filed.iter() {
             if filed.slot == slot {
                 return Some(filed.ring);

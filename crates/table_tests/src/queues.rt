@@ -1,64 +1,79 @@
-//! Queues of those that wait, by example.
-ghost use Rattle.std.specs.Prelude.{◌≡◌};
+//! Queues of those that wait, by example, and that they answer as a plain list does.
+ghost use Rattle.std.specs.Prelude.{◌≤◌};
 
-use mpm_base::{ConnName, Kind, Moment};
-use std::test::Fail;
+use crate::calls::{Answer, Call, call_from, call_of};
+use crate::numbers::Numbers;
+use crate::plain_queues::PlainQueues;
+use crate::texts::{grown, number_of, small_of, words};
+use std::alloc::Global;
+use std::io;
 use timeout_queues::Queues;
 
-#[derive(Clone, Copy)]
-enum Call {
-    Overdue(Moment),
-    Unpark(ConnName),
-    Next,
-}
-
-#[derive(Clone, Copy, Debug, PartialEq)]
-enum Answer {
-    Name(Option<ConnName>),
-    Found(bool),
-    Deadline(Option<Moment>),
-}
-
-fn name(slot: u32, life: u32) -> ConnName
-    ensures { result ≡ record { slot = slot; life = life } }
-{
-    ConnName { slot, life }
-}
-
+/// What the queues answer to the call.
 fn answer_to(queues: &mut Queues, call: Call) -> Answer {
     match call {
-        Call::Overdue(now) => Answer::Name(queues.overdue(now)),
+        Call::Park(name, kind, deadline) => {
+            let is_free = queues.is_free(name.slot);
+            if is_free {
+                queues.park(name, kind, deadline);
+            }
+            Answer::Found(is_free)
+        }
         Call::Unpark(name) => Answer::Found(queues.unpark(name)),
+        Call::Overdue(now) => Answer::Name(queues.overdue(now)),
         Call::Next => Answer::Deadline(queues.next_deadline()),
     }
 }
 
-#[test]
-fn the_least_deadline_comes_first(rt: HostRuntime) -> Result<(), Fail> {
-    let mut queues = Queues::make(rt.alloc(), 4)?;
-    assert_eq!(rt; queues.next_deadline(), None);
-    queues.park(name(0, 0), Kind::KeepAlive, 5_000);
-    queues.park(name(1, 0), Kind::KeepAlive, 4_000);
-    queues.park(name(2, 0), Kind::Reading, 4_001);
-    let rows = [
-        (Call::Next, Answer::Deadline(Some(4_000))),
-        (Call::Overdue(3_999), Answer::Name(None)),
-        (Call::Overdue(4_000), Answer::Name(Some(name(1, 0)))),
-        (Call::Unpark(name(1, 1)), Answer::Found(false)),
-        (Call::Unpark(name(1, 0)), Answer::Found(true)),
-        (Call::Unpark(name(1, 0)), Answer::Found(false)),
-        (Call::Next, Answer::Deadline(Some(4_001))),
-        (Call::Overdue(4_000), Answer::Name(None)),
-        (Call::Overdue(5_000), Answer::Name(Some(name(2, 0)))),
-        (Call::Unpark(name(4, 0)), Answer::Found(false)),
-        (Call::Unpark(name(2, 0)), Answer::Found(true)),
-        (Call::Overdue(5_000), Answer::Name(Some(name(0, 0)))),
-        (Call::Unpark(name(0, 0)), Answer::Found(true)),
-        (Call::Overdue(Moment::MAX), Answer::Name(None)),
-        (Call::Next, Answer::Deadline(None)),
-    ];
-    for (call, want) in rows {
-        assert_eq!(rt; answer_to(&mut queues, call), want);
+/// So many slots as the text says, at least one and at most 8,192, as both keep them.
+fn slots_of(text: &str) -> u32
+    ensures some { 1 ≤ result }
+    ensures few { result ≤ 8192 }
+{
+    small_of(text).clamp(1, 8192)
+}
+
+/// Shows what queues of so many slots answer to each call, where one comes behind the other.
+pub fn show_queues(rt: &impl Print, alloc: Global, slots: &str, rows: &str) -> io::Result<()> {
+    let mut queues = grown(Queues::make(alloc, slots_of(slots)))?;
+    for row in rows.lines() {
+        match call_of(row) {
+            Some(call) => println!(rt; "{row} => {:?}", answer_to(&mut queues, call))?,
+            None => println!(rt; "{row} is no call")?,
+        }
     }
     Ok(())
+}
+
+/// Shows whether queues of so many slots answer as a plain list does, for the seed and the number of calls of each row.
+pub fn show_same_queues(rt: &impl Print, alloc: Global, slots: &str, rows: &str) -> io::Result<()> {
+    let slots = slots_of(slots);
+    for row in rows.lines() {
+        print!(rt; "{row} => ")?;
+        let mut rings = grown(Queues::make(alloc, slots))?;
+        let mut plain = grown(PlainQueues::make(alloc, slots))?;
+        show_first_other(rt, &mut rings, &mut plain, slots, row)?;
+    }
+    Ok(())
+}
+
+/// Shows the first call that the two answer in two ways, or that there is none.
+fn show_first_other(
+    rt: &impl Print,
+    rings: &mut Queues,
+    plain: &mut PlainQueues,
+    slots: u32,
+    row: &str,
+) -> io::Result<()> {
+    let (seed, calls) = words(row);
+    let mut numbers = Numbers::from(number_of(seed));
+    for place in 0..number_of(calls) {
+        let call = call_from(numbers.next(), slots);
+        let found = answer_to(rings, call);
+        let want = plain.answer_to(call);
+        if found != want {
+            return println!(rt; "call {place}, {call:?}: {found:?}, and plainly {want:?}");
+        }
+    }
+    println!(rt; "equal")
 }

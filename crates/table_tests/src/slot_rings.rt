@@ -1,72 +1,133 @@
-//! Slots in rings, by example: that they answer as a plain list does, and so in the order in which they were put there.
-ghost use Rattle.std.specs.Prelude.{◌≡◌, ◌<◌, length, IfOk, IfSome};
+//! Slots in rings, by example, and that they answer as a plain list does, and so in the order in which they were put there.
+ghost use Rattle.std.specs.Prelude.{◌≡◌, ◌<◌, length};
 
+use crate::numbers::Numbers;
 use crate::plain_rings::PlainRings;
+use crate::texts::{grown, number_of, small_of, words};
 use mpm_base::NoMemory;
 use std::alloc::Global;
-use std::test::Fail;
+use std::io;
 use timeout_queues::SlotRings;
 
-// Rings of slots that are given the same calls.
+/// Rings of slots, and how many slots there are.
 #[derive(Drop)]
-struct Both {
+struct CountedRings {
     rings: SlotRings,
-    plain: PlainRings,
+    slots: u32,
+    ghost counted: { length rings ≡ slots },
 }
 
-const SLOTS: u32 = 16;
+impl CountedRings {
+    /// So many slots, at most 8,192, none of which stands in a ring.
+    fn make(alloc: Global, slots: u32) -> Result<CountedRings, NoMemory> {
+        let slots = slots.min(8192);
+        let rings = SlotRings::make(alloc, slots)?;
+        Ok(CountedRings { rings, slots })
+    }
 
-fn make_both(alloc: Global) -> Result<Both, NoMemory>
-    ensures { IfOk result (λ both. length both.rings ≡ 16) }
-{
-    Ok(Both {
-        rings: SlotRings::make(alloc, SLOTS)?,
-        plain: PlainRings::make(alloc),
-    })
+    /// Puts the slot into the ring, or into none, where both are there. Says whether they are.
+    fn file(&mut self, slot: u32, ring: Option<u32>) -> bool {
+        if slot >= self.slots {
+            return false;
+        }
+        match ring {
+            None => self.rings.file(slot, None),
+            Some(ring) if ring < 128 => self.rings.file(slot, Some(ring)),
+            Some(_) => return false,
+        }
+        true
+    }
+
+    /// The slot that stands first in the ring, where there is such a ring.
+    fn first(&self, ring: u32) -> Option<u32> {
+        if ring < 128 {
+            self.rings.first(ring)
+        } else {
+            None
+        }
+    }
+
+    /// The ring in which the slot stands.
+    fn ring_of(&self, slot: u32) -> Option<u32> {
+        self.rings.ring_of(slot)
+    }
 }
 
-// The ring that a number asks for, or none; the last ring is one of them.
-fn ring_for(number: u64) -> Option<u32>
-    ensures { IfSome result (λ ring. ring < 128) }
+/// Shows what rings of so many slots answer to each call, where one comes behind the other: `file SLOT RING`, with no ring where it is
+/// to stand in none, `first RING` and `ring of SLOT`.
+pub fn show_slot_rings(rt: &impl Print, alloc: Global, slots: &str, rows: &str) -> io::Result<()> {
+    let mut rings = grown(CountedRings::make(alloc, small_of(slots)))?;
+    for row in rows.lines() {
+        let (word, rest) = words(row);
+        let (slot, ring) = words(rest);
+        match word {
+            "file" => {
+                let filed = rings.file(small_of(slot), ring.parse::<u32>().ok());
+                println!(rt; "{row} => {filed}")?;
+            }
+            "first" => println!(rt; "{row} => {:?}", rings.first(small_of(rest)))?,
+            _ => println!(rt; "{row} => {:?}", rings.ring_of(small_of(ring)))?,
+        }
+    }
+    Ok(())
+}
+
+/// Shows whether rings of so many slots answer as a plain list does, for the seed and the number of calls of each row. Each call puts
+/// a slot into one of five rings, the last of all among them, or into none.
+pub fn show_same_rings(rt: &impl Print, alloc: Global, slots: &str, rows: &str) -> io::Result<()> {
+    let slots = small_of(slots).max(1);
+    for row in rows.lines() {
+        print!(rt; "{row} => ")?;
+        let mut rings = grown(CountedRings::make(alloc, slots))?;
+        let mut plain = PlainRings::make(alloc);
+        show_first_other(rt, &mut rings, &mut plain, slots, row)?;
+    }
+    Ok(())
+}
+
+/// Shows the first call behind which the two answer in two ways, or that there is none.
+fn show_first_other(
+    rt: &impl Print,
+    rings: &mut CountedRings,
+    plain: &mut PlainRings,
+    slots: u32,
+    row: &str,
+) -> io::Result<()>
+    requires { 0 < slots }
 {
-    match number % 5 {
+    let (seed, calls) = words(row);
+    let mut numbers = Numbers::from(number_of(seed));
+    for place in 0..number_of(calls) {
+        let number = numbers.next();
+        let slot = (number % u64::from(slots)) as u32;
+        let ring = ring_from(number / 8192);
+        rings.file(slot, ring);
+        grown(plain.file(slot, ring))?;
+        if let Some(other) = first_other(rings, plain, slot) {
+            return println!(rt; "call {place}, {slot} into {ring:?}: {other}");
+        }
+    }
+    println!(rt; "equal")
+}
+
+/// The ring that a number asks for, or none; the last ring is one of them.
+fn ring_from(number: u64) -> Option<u32> {
+    match number % 6 {
         0 => None,
-        4 => Some(127),
+        5 => Some(127),
         ring => Some(ring as u32),
     }
 }
 
-// Puts a slot into a ring of both, and says whether both then answer the same of each ring and of the slot.
-fn answer_the_same(both: &mut Both, number: u64) -> Result<bool, NoMemory>
-    requires { length both.old.rings ≡ 16 }
-    ensures { length both.new.rings ≡ 16 }
-{
-    let slot = (number % 16) as u32;
-    let ring = ring_for(number / 16);
-    both.rings.file(slot, ring);
-    both.plain.file(slot, ring)?;
-    Ok(both.rings.ring_of(slot) == both.plain.ring_of(slot) && first_the_same(both))
-}
-
-// Whether both answer the same slot first of each ring.
-fn first_the_same(both: &Both) -> bool {
-    both.rings.first(0) == both.plain.first(0)
-        && both.rings.first(1) == both.plain.first(1)
-        && both.rings.first(2) == both.plain.first(2)
-        && both.rings.first(3) == both.plain.first(3)
-        && both.rings.first(127) == both.plain.first(127)
-}
-
-// The numbers are those of Knuth's generator for 64 bits from 1 on, without their low 32 bits.
-#[test]
-fn the_rings_of_slots_answer_as_a_plain_list_does(rt: HostRuntime) -> Result<(), Fail> {
-    let mut both = make_both(rt.alloc())?;
-    let mut state: u64 = 1;
-    for _ in 0..10_000 {
-        state = state
-            .wrapping_mul(6_364_136_223_846_793_005)
-            .wrapping_add(1_442_695_040_888_963_407);
-        assert_eq!(rt; answer_the_same(&mut both, state >> 32)?, true);
+/// What the two answer in two ways of the slot and of the first slot of each ring.
+fn first_other(rings: &CountedRings, plain: &PlainRings, slot: u32) -> Option<&'static str> {
+    if rings.ring_of(slot) != plain.ring_of(slot) {
+        return Some("its ring");
     }
-    Ok(())
+    for ring in 0..128 {
+        if rings.first(ring) != plain.first(ring) {
+            return Some("the first of a ring");
+        }
+    }
+    None
 }

@@ -1,0 +1,138 @@
+//! Events of the machine as rows write them, by the names that they have.
+use crate::texts::{kind_of, name_of, number_of, small_of, words};
+use conn_machine::{Commanded, Event, Refusal, Why};
+use mpm_base::{Ask, Cause, Shape, Tail};
+
+/// The event that the text writes.
+pub fn event_of(text: &str) -> Option<Event> {
+    let (word, rest) = words(text);
+    let (name, more) = words(rest);
+    match word {
+        "Accept" => Some(Event::Accept(small_of(rest))),
+        "Park" => Some(Event::Park(name_of(name), kind_of(more)?)),
+        "Hold" => Some(Event::Hold(name_of(name))),
+        "Queue" => Some(Event::Queue(name_of(name))),
+        "Start" => Some(Event::Start(name_of(name))),
+        "Answer" => Some(Event::Answer(name_of(name), ask_of(more))),
+        "Linger" => Some(Event::Linger(name_of(name), cause_of(more)?)),
+        "Close" => close_of(name, more),
+        "Ready" => Some(Event::Ready(small_of(rest))),
+        "Tick" => Some(Event::Tick(number_of(rest))),
+        "StartChild" => Some(Event::StartChild(small_of(rest))),
+        "Retire" => Some(Event::Retire(small_of(rest))),
+        _ => Some(Event::Command(command_of(word, rest)?)),
+    }
+}
+
+/// The close of the connection of that name, for a cause and with a tail.
+fn close_of(name: &str, text: &str) -> Option<Event> {
+    let (cause, tail) = words(text);
+    let cause = cause_of(cause)?;
+    let tail = tail_of(tail)?;
+    Some(Event::Close(name_of(name), cause, tail))
+}
+
+/// The command that the words write.
+fn command_of(word: &str, rest: &str) -> Option<Commanded> {
+    match word {
+        "Graceful" => Some(Commanded::Graceful(shape_of(rest))),
+        "Refused" => Some(Commanded::Refused(refusal_of(rest)?)),
+        "GracefulStop" => Some(Commanded::GracefulStop(rest.parse::<u64>().ok())),
+        "Stop" => Some(Commanded::Stop(why_of(rest)?)),
+        _ => None,
+    }
+}
+
+/// What a request asks of the table: a code, and behind it `close` where it asks to close, or `refused` where it was refused.
+fn ask_of(text: &str) -> Ask {
+    let (code, how) = words(text);
+    Ask {
+        asked_close: how == "close",
+        refused: how == "refused",
+        code: code.parse::<u16>().unwrap_or(0),
+        page: false,
+    }
+}
+
+/// The shape of these eight words, in the order of its fields, with `on` or `off` for `keep`; or one of two workers where there are
+/// none.
+pub fn shape_of(text: &str) -> Shape {
+    let text = if text.is_empty() {
+        "2 200 60000 5000 on 100 1 2"
+    } else {
+        text
+    };
+    let (threads, rest) = words(text);
+    let (factor, rest) = words(rest);
+    let (read_ms, rest) = words(rest);
+    let (keep_ms, rest) = words(rest);
+    let (keep, rest) = words(rest);
+    let (most, rest) = words(rest);
+    let (target, children) = words(rest);
+    Shape {
+        threads: small_of(threads),
+        factor: small_of(factor),
+        read_ms: number_of(read_ms),
+        keep_ms: number_of(keep_ms),
+        keep: keep == "on",
+        most: small_of(most),
+        target: small_of(target),
+        children: small_of(children),
+    }
+}
+
+/// Why the service of a connection ended, by its name.
+fn cause_of(text: &str) -> Option<Cause> {
+    match text {
+        "ClientDone" => Some(Cause::ClientDone),
+        "LastSent" => Some(Cause::LastSent),
+        "KeepAliveLate" => Some(Cause::KeepAliveLate),
+        "ReadLate" => Some(Cause::ReadLate),
+        "WriteLate" => Some(Cause::WriteLate),
+        "Retiring" => Some(Cause::Retiring),
+        "LinkFailed" => Some(Cause::LinkFailed),
+        "Stopped" => Some(Cause::Stopped),
+        "NoMemory" => Some(Cause::NoMemory),
+        _ => None,
+    }
+}
+
+/// How a link was left, by its name.
+fn tail_of(text: &str) -> Option<Tail> {
+    match text {
+        "Direct" => Some(Tail::Direct),
+        "Drained" => Some(Tail::Drained),
+        "Sated" => Some(Tail::Sated),
+        "Late" => Some(Tail::Late),
+        "Failed" => Some(Tail::Failed),
+        "Halted" => Some(Tail::Halted),
+        "NoMemory" => Some(Tail::NoMemory),
+        _ => None,
+    }
+}
+
+/// Why a `graceful` changed nothing, by its name.
+fn refusal_of(text: &str) -> Option<Refusal> {
+    match text {
+        "Late" => Some(Refusal::Late),
+        "Absent" => Some(Refusal::Absent),
+        "Conf" => Some(Refusal::Conf),
+        "Site" => Some(Refusal::Site),
+        "Store" => Some(Refusal::Store),
+        "NoMemory" => Some(Refusal::NoMemory),
+        _ => None,
+    }
+}
+
+/// Why the server stopped, by its name.
+fn why_of(text: &str) -> Option<Why> {
+    match text {
+        "Asked" => Some(Why::Asked),
+        "Overdue" => Some(Why::Overdue),
+        "FrontEnded" => Some(Why::FrontEnded),
+        "FrontFailed" => Some(Why::FrontFailed),
+        "Full" => Some(Why::Full),
+        "NoMemory" => Some(Why::NoMemory),
+        _ => None,
+    }
+}

@@ -1,0 +1,86 @@
+//! Tests of the crates of the table, by their public calls alone: the event table, the counts that are kept beside its rows, the rule
+//! of admission, the queues of those that wait, and rings of slots. The file `stdin` has events and calls, section by section, and
+//! `stdout` what must come of each.
+//!
+//! In the input a line that begins with `== ` begins a section: the words up to a colon say what its rows are, and the rest is its
+//! title. Events have their names, as `Close 0.1 LinkFailed Direct` for the connection of slot 0 in life 1; a command stands without
+//! the word `Command`. An answer has its code, and `close` behind it where the request asks to close, or `refused`. A shape is eight
+//! words, in the order of its fields, with `on` or `off` for `keep`; where there are none it is `2 200 60000 5000 on 100 1 2`.
+//!
+//! - `may SLOTS CHILDREN SHAPE`: the first row has the events that come first, with `, ` between them. Each other one has a title up to
+//!   a colon, then more events up to a semicolon, and an event that is allowed behind them or isn't.
+//! - `step SLOTS CHILDREN SHAPE`: the same, and the last event is done: the state before it is shown, its reply, and the state behind it.
+//! - `play SLOTS CHILDREN SHAPE`: events that come one behind the other. In a row `show` the state is shown, and `accepted N` and
+//!   `newest N` make one of its numbers another.
+//! - `bounds`: shapes that a configuration may have, or may not.
+//! - `counts SLOTS CHILDREN SHAPE`: a seed, and a number of events that numbers from it ask for. Behind each the counts that are kept are
+//!   compared with what a look at each row counts.
+//! - `changes SLOTS CHILDREN CELLS`: the same for changes of rows that no event need make, of children and in cells below these numbers;
+//!   where `CELLS` is 0 each is in the lowest free cell.
+//! - `record`: numbers of passes, whose record without any entry is shown. `laws`: no rows; each law is called.
+//! - `admits`: workers, factor, idle workers and open connections of a child. `pick`: a title up to a colon, and children as these four
+//!   numbers, their own number, and `stops` where they don't run.
+//! - `queues SLOTS`: the calls `park NAME KIND DEADLINE`, `unpark NAME`, `overdue MOMENT` and `next`.
+//! - `rings SLOTS`: the calls `file SLOT RING`, or `file SLOT` into no ring, `first RING` and `ring of SLOT`.
+//! - `queues-as-a-list SLOTS`, `rings-as-a-list SLOTS`: a seed, and a number of calls that numbers from it ask for. Behind each of them
+//!   they are compared with a plain list.
+#![tactic(auto)]
+
+mod admitting;
+mod calls;
+mod counts;
+mod events;
+mod numbers;
+mod plain_queues;
+mod plain_rings;
+mod played;
+mod queues;
+mod random_events;
+mod records;
+mod shown;
+mod slot_rings;
+mod tables;
+mod texts;
+
+use std::alloc::Global;
+use std::io;
+
+fn main(rt: HostRuntime) -> io::Result<()> {
+    let input = io::read_to_string(rt.alloc(), rt.reader())?;
+    let mut sections = input.as_str().split("\n== ");
+    let _ = sections.next();
+    for section in sections {
+        let (title, rows) = section.split_once('\n').unwrap_or((section, ""));
+        println!(&rt; "== {title}")?;
+        let (kind, _) = title.split_once(':').unwrap_or((title, ""));
+        let (word, rest) = texts::words(kind);
+        show_section(&rt, rt.alloc(), word, rest, rows)?;
+    }
+    Ok(())
+}
+
+/// Shows what comes of the rows of a section of that kind.
+fn show_section(
+    rt: &impl Print,
+    alloc: Global,
+    word: &str,
+    rest: &str,
+    rows: &str,
+) -> io::Result<()> {
+    match word {
+        "may" => tables::show_allowed(rt, alloc, rest, rows),
+        "step" => tables::show_steps(rt, alloc, rest, rows),
+        "play" => tables::show_play(rt, alloc, rest, rows),
+        "bounds" => tables::show_bounds(rt, alloc, rows),
+        "counts" => played::show_counts(rt, alloc, rest, rows),
+        "changes" => played::show_changes(rt, alloc, rest, rows),
+        "admits" => admitting::show_admits(rt, rows),
+        "pick" => admitting::show_picks(rt, alloc, rows),
+        "queues" => queues::show_queues(rt, alloc, rest, rows),
+        "queues-as-a-list" => queues::show_same_queues(rt, alloc, rest, rows),
+        "rings" => slot_rings::show_slot_rings(rt, alloc, rest, rows),
+        "rings-as-a-list" => slot_rings::show_same_rings(rt, alloc, rest, rows),
+        "record" => records::show_records(rt, alloc, rows),
+        _ => records::show_laws(rt),
+    }
+}

@@ -1,0 +1,64 @@
+//! What is seen of a state.
+use conn_machine::{Row, State};
+use std::io;
+
+/// Shows how many rows and children there are, and what the state says of itself.
+pub fn show_sizes(rt: &impl Print, state: &State) -> io::Result<()> {
+    print!(rt;
+        "{} rows, none {}, {} children, none {}",
+        state.rows.len(),
+        state.rows.is_empty(),
+        state.children.len(),
+        state.children.is_empty()
+    )?;
+    println!(rt;
+        ", halted {}, live {}",
+        state.going.is_halted(),
+        state.has_live()
+    )
+}
+
+/// Shows the whole state: what it has once, each child, and each row with its signal.
+pub fn show_state(rt: &impl Print, state: &State) -> io::Result<()> {
+    println!(rt;
+        "  {:?} at {}, newest {}, accepted {}, {:?}",
+        state.going, state.moment, state.newest, state.accepted, state.shape
+    )?;
+    for child in state.children.as_slice() {
+        println!(rt;
+            "  {:?} child of {}, {:?}",
+            child.phase, child.generation, child.shape
+        )?;
+    }
+    for slot in 0..u32::MAX {
+        let Some(row) = state.rows.get(slot) else {
+            return Ok(());
+        };
+        show_row(rt, slot, row)?;
+        println!(rt; ", signal {}", state.signals.get(slot))?;
+    }
+    Ok(())
+}
+
+/// Shows the row of the slot.
+fn show_row(rt: &impl Print, slot: u32, row: &Row) -> io::Result<()> {
+    print!(rt;
+        "  {slot}.{} {:?}, owner {:?}, arrival {}, child {} of {}, live there {}",
+        row.life,
+        row.place,
+        row.owner(),
+        row.arrival,
+        row.child,
+        row.generation,
+        row.is_live_in(row.child)
+    )?;
+    print!(rt;
+        ", from {:?} until {}, mid {}, last {}, short {}, cause {:?}",
+        row.from, row.deadline, row.mid, row.last, row.short, row.cause
+    )?;
+    print!(rt;
+        ", notes {:?}, says last {}",
+        row.notes.as_slice(),
+        row.notes.says_last()
+    )
+}

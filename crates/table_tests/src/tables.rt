@@ -1,0 +1,195 @@
+//! The event table: whether events are allowed, what they reply, and what comes of the state.
+ghost use Rattle.conn_machine.specs.Sizes.{IsSized};
+
+use crate::events::{event_of, shape_of};
+use crate::shown::{show_sizes, show_state};
+use crate::texts::{grown, number_of, small_of, words};
+use conn_machine::{Commanded, Event, Reply, State, is_in_bounds, may, step};
+use mpm_base::NoMemory;
+use std::alloc::Global;
+use std::io;
+
+/// A state of a size that the machine takes.
+#[derive(Drop)]
+pub struct Table {
+    pub state: State,
+    ghost sized: { IsSized state },
+}
+
+impl Table {
+    /// The opening state that the words ask for: its slots, its children, and its shape where it isn't the usual one. There are at most
+    /// 8,192 slots and 32 children.
+    pub fn open(alloc: Global, text: &str) -> Result<Table, NoMemory> {
+        let (slots, rest) = words(text);
+        let (children, shape) = words(rest);
+        let slots = small_of(slots).min(8192);
+        let children = small_of(children).min(32);
+        let state = State::opening(alloc, slots, children, shape_of(shape))?;
+        Ok(Table { state })
+    }
+
+    /// Whether the state allows the event.
+    pub fn allows(&self, event: &Event) -> bool {
+        may(&self.state, event)
+    }
+
+    /// Does the event where the state allows it, and gives its reply. It has no clause, so that what `step` says isn't carried through
+    /// all that follows.
+    pub fn play(&mut self, alloc: Global, event: &Event) -> Result<Option<Reply>, NoMemory> {
+        if !may(&self.state, event) {
+            return Ok(None);
+        }
+        let reply = step(alloc, &mut self.state, event)?;
+        Ok(Some(reply))
+    }
+}
+
+/// Shows of each row whether its last event is allowed behind the others, which come behind those of the first row.
+pub fn show_allowed(rt: &impl Print, alloc: Global, opening: &str, rows: &str) -> io::Result<()> {
+    let (first, rows) = rows.split_once('\n').unwrap_or((rows, ""));
+    for row in rows.lines() {
+        print!(rt; "{row} => ")?;
+        show_last(rt, alloc, opening, first, row)?;
+    }
+    Ok(())
+}
+
+/// Shows whether the last event of the row is allowed behind the others.
+fn show_last(
+    rt: &impl Print,
+    alloc: Global,
+    opening: &str,
+    first: &str,
+    row: &str,
+) -> io::Result<()> {
+    let (before, last) = events_of(row);
+    let table = open_behind(rt, alloc, opening, first, before)?;
+    match event_of(last) {
+        Some(event) => println!(rt; "{}", table.allows(&event)),
+        None => println!(rt; "{last} is no event"),
+    }
+}
+
+/// Shows of each row the state behind all events but the last, which come behind those of the first row, then the reply to that
+/// event, and the state behind it.
+pub fn show_steps(rt: &impl Print, alloc: Global, opening: &str, rows: &str) -> io::Result<()> {
+    let (first, rows) = rows.split_once('\n').unwrap_or((rows, ""));
+    for row in rows.lines() {
+        println!(rt; "{row}")?;
+        show_step(rt, alloc, opening, first, row)?;
+    }
+    Ok(())
+}
+
+/// Shows the state before the last event of the row, its reply, and the state behind it.
+fn show_step(
+    rt: &impl Print,
+    alloc: Global,
+    opening: &str,
+    first: &str,
+    row: &str,
+) -> io::Result<()> {
+    let (before, last) = events_of(row);
+    let mut table = open_behind(rt, alloc, opening, first, before)?;
+    show_state(rt, &table.state)?;
+    show_event(rt, alloc, &mut table, last)?;
+    show_state(rt, &table.state)
+}
+
+/// The state that the words ask for, behind the first events and further ones.
+fn open_behind(
+    rt: &impl Print,
+    alloc: Global,
+    opening: &str,
+    first: &str,
+    events: &str,
+) -> io::Result<Table> {
+    let mut table = grown(Table::open(alloc, opening))?;
+    play_events(rt, alloc, &mut table, first)?;
+    play_events(rt, alloc, &mut table, events)?;
+    Ok(table)
+}
+
+/// Shows the reply to each event, or that it isn't allowed, where one comes behind the other. In a row `show` the state is shown, and
+/// in a row `accepted` or `newest` one of its numbers becomes another.
+pub fn show_play(rt: &impl Print, alloc: Global, opening: &str, rows: &str) -> io::Result<()> {
+    let mut table = grown(Table::open(alloc, opening))?;
+    for row in rows.lines() {
+        show_row_of_play(rt, alloc, &mut table, row)?;
+    }
+    Ok(())
+}
+
+/// Shows what comes of the row.
+fn show_row_of_play(
+    rt: &impl Print,
+    alloc: Global,
+    table: &mut Table,
+    row: &str,
+) -> io::Result<()> {
+    let (word, number) = words(row);
+    match word {
+        "show" => {
+            show_sizes(rt, &table.state)?;
+            show_state(rt, &table.state)
+        }
+        "accepted" => {
+            table.state.accepted = number_of(number);
+            Ok(())
+        }
+        "newest" => {
+            table.state.newest = small_of(number);
+            Ok(())
+        }
+        _ => show_event(rt, alloc, table, row),
+    }
+}
+
+/// Shows whether each row is a shape that a configuration may have, and whether a state allows a restart with it.
+pub fn show_bounds(rt: &impl Print, alloc: Global, rows: &str) -> io::Result<()> {
+    let table = grown(Table::open(alloc, "2 2"))?;
+    for row in rows.lines() {
+        let shape = shape_of(row);
+        let restart = Event::Command(Commanded::Graceful(shape));
+        println!(rt;
+            "{row} => {}, may {}",
+            is_in_bounds(&shape),
+            table.allows(&restart)
+        )?;
+    }
+    Ok(())
+}
+
+/// The events of a row but the last, and the last. What stands up to a colon is its title.
+fn events_of(row: &str) -> (&str, &str) {
+    let (_, events) = row.split_once(": ").unwrap_or(("", row));
+    events.split_once("; ").unwrap_or(("", events))
+}
+
+/// Does the events, and shows where one isn't allowed.
+fn play_events(rt: &impl Print, alloc: Global, table: &mut Table, events: &str) -> io::Result<()> {
+    if events.is_empty() {
+        return Ok(());
+    }
+    for text in events.split(", ") {
+        let reply = match event_of(text) {
+            Some(event) => grown(table.play(alloc, &event))?,
+            None => None,
+        };
+        if reply.is_none() {
+            print!(rt; "but {text} isn't allowed: ")?;
+        }
+    }
+    Ok(())
+}
+
+/// Does the event, and shows its reply, or that it isn't allowed.
+fn show_event(rt: &impl Print, alloc: Global, table: &mut Table, text: &str) -> io::Result<()> {
+    let Some(event) = event_of(text) else {
+        return println!(rt; "{text} is no event");
+    };
+    match grown(table.play(alloc, &event))? {
+        Some(reply) => println!(rt; "{text} => {reply:?}"),
+        None => println!(rt; "{text} => not allowed"),
+    }
+}
