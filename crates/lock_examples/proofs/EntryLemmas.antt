@@ -13,7 +13,7 @@ use Rattle.conn_machine.specs.Folds.{opening_record}
 use Rattle.conn_machine.specs.Runs.{after, entries_of, has_after, is_of_pass, load, may_make, row_after, row_of, AreEntriesOf}
 use Rattle.std.proofs.lemmas.Bool.{eq-eqb}
 use Rattle.table_rule.specs.Histories.{ArePermitted}
-use Rattle.table_rule.proofs.RecordLemmas.{each_first}
+use Rattle.lock_examples.proofs.PlaceLemmas.{each_first}
 use Rattle.lock_examples.specs.declared.stage.Stage.{Stage}
 use Rattle.lock_examples.specs.declared.stage.Stage.TheVariants.{Starts, Takes, Signals, Serves}
 use Rattle.lock_examples.specs.Toy.{SeenToy, entries_from, first_of, maker, next_round, next_stage, round_at, stage_at, step_entries, step_of, toy_name, toy_state}

@@ -1,4 +1,5 @@
 pub mod EntryLemmas
 pub mod FoldLemmas
+pub mod PlaceLemmas
 mod TextLemmas
 pub mod ToyLemmas

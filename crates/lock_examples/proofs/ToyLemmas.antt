@@ -16,7 +16,7 @@ use Rattle.conn_machine.specs.Made.{HasSeen}
 use Rattle.table_rule.specs.Histories.{ArePermitted, threads_of}
 use Rattle.table_rule.specs.Ledgers.{FoldsOn, KeepsOn, MayGiveBack}
 use Rattle.table_rule.specs.Tie.{IsNew}
-use Rattle.table_rule.proofs.RecordLemmas.{each_after, each_first}
+use Rattle.lock_examples.proofs.PlaceLemmas.{each_after, each_first}
 use Rattle.board_lock.specs.Passes.{GaveBack, TookTurn, fresh_view}
 use Rattle.lock_examples.specs.declared.stage.Stage.{Stage}
 use Rattle.lock_examples.specs.declared.stage.Stage.TheVariants.{Starts, Takes, Signals, Serves}

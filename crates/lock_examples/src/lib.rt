@@ -1,4 +1,4 @@
-//! Small values under the lock, and tests of the lock, the idle words, the perch and the queue with them.
+//! Small values under the lock, with which the lock, the idle words, the perch and the queue are tried.
 //!
 //! The machine of the first one has one child with two workers, and one connection. Pass 0 starts the child, takes the
 //! connection and signals it, and pass 1 serves it, over and over (`specs/Toy.antt`). Pass 0 may fold what was done.
