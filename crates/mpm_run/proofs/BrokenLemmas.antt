@@ -1,5 +1,5 @@
 -- What was done where a round was broken off.
-use Rattle.std.proofs.Common.{◌≡◌, inl, inr, List, [], ◌∷◌, ◌++◌, None, Some, sym, subst}
+use Rattle.std.proofs.Common.{◌≡◌, inl, inr, List, [], ◌∷◌, None, Some, sym, subst}
 use Rattle.conn_machine.specs.declared.event.Event.{Event}
 use Rattle.conn_machine.specs.declared.event.Event.TheVariants as event
 use Rattle.board.specs.declared.faults.BoardFault.{BoardFault}
@@ -8,7 +8,7 @@ use Rattle.worker_group.specs.declared.service.Exit.TheVariants as exit
 use Rattle.worker_group.specs.Acts.{Acts, ActsInSteps}
 use Rattle.worker_group.specs.Service.{given_up}
 use Rattle.mpm_run.specs.ClosingInside.{GivesUpDrained, lingering_given_up}
-use Rattle.mpm_run.specs.RoundInside.{EndsRound, GivesUpTaken, StandsStill}
+use Rattle.mpm_run.specs.RoundInside.{ChangesNothing, EndsRound, GivesUpTaken}
 use Rattle.mpm_run.proofs.EventLemmas.{AreSilent, silent-held, silent-none, silent-taken}
 
 -- events that neither tick nor signal, and nothing else
@@ -36,7 +36,7 @@ ends-taken steps fault a b gives = record {
 }
 
 -- nothing was done
-ends-still : ActsInSteps → (fault : BoardFault) (a b : SeenBook) → row_in 0 a ≡ None → StandsStill fault a b → EndsSilently a b
+ends-still : ActsInSteps → (fault : BoardFault) (a b : SeenBook) → row_in 0 a ≡ None → ChangesNothing fault a b → EndsSilently a b
 ends-still steps fault a b row still =
     subst (EndsSilently a) (sym still.same) (record { events = []; silent = silent-none; acts = steps.none 0 None a row })
 

@@ -74,6 +74,14 @@ pub has-end : (old new : FrontSeen) (b : SeenBoard) (f : SeenFront) → HasStopp
 has-end old new b f stopped told of_script none ends going =
     ended-end old new b f (stopped-ended old new b.book.state stopped.cause going) told of_script none ends
 
+-- a server whose front never failed stopped for one of these
+pub ends-for : (old new : FrontSeen) (s : State) → HasStopped old new s → old.counts.faults ≡ 0 → new.counts.faults ≡ 0 → IsEnd s.going
+ends-for old new s stopped none still = by stopped.cause where
+  by : StoppedFor old new s → IsEnd s.going
+  by (inl ended) = inl ended.going
+  by (inr (inl failed)) = absurd (omega (arith, none, still, failed.failed.1 (omega (arith, none))))
+  by (inr (inr full)) = inr full
+
 -- ## The front
 
 -- the clock of a front that was new with it was told what its waits gave, and answered that

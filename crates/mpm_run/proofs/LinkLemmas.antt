@@ -1,10 +1,11 @@
 -- What became of the links that the front handed out.
-use Rattle.std.proofs.Common.{◌≡◌, ◌⊎◌, inl, inr, ◌++◌, ◌∷◌, [], List, Option, None, Some, option_map, IfSome, OnErr, OnOk, Result, Ok, Err, refl, sym, ap, subst, ◌∙◌}
+use Rattle.std.proofs.Common.{◌≡◌, ◌⊎◌, inl, inr, true, is_some, ◌++◌, ◌∷◌, [], List, Option, None, Some, option_map, IfSome, OnErr, OnOk, Result, Ok, Err, refl, sym, ap, subst, ◌∙◌}
 use Rattle.mpm_base.specs.Count.{next_count}
 use Rattle.mpm_base.specs.Front.{FrontTold, IsHandedOut, IsNext, after_accept, after_turning_away, client_at, hushed_front}
 use Rattle.mpm_base.specs.Link.{LinkSeen, LinkTold, after_close, fresh_link}
 use Rattle.mpm_base.specs.declared.front.Arrival.TheVariants as arrival
 use Rattle.conn_machine.specs.declared.state.State.{State}
+use Rattle.conn_state.specs.Known.{KnownOutside}
 use Rattle.board.specs.declared.faults.BoardFault.{BoardFault}
 use Rattle.mpm_run.specs.declared.listen.End.{End}
 use Rattle.mpm_run.specs.Links.{HandsOutTaken, TakesLinks, TurnsOneAway}
@@ -20,8 +21,8 @@ step-links : (told : Option FrontTold) (s : State) → IsInStep told s → IfSom
 step-links None s step = tt
 step-links (Some t) s step = inl step.taken
 
-pub hands-step : {L : Type 0} (link_seen : L → LinkSeen) (told : Option FrontTold) (s : State) → IsInStep told s → HandsOut link_seen told s
-hands-step link_seen told s step tells = step-links told s step
+pub hands-step : (known : Option KnownOutside) (told : Option FrontTold) (s : State) → IsInStep told s → HandsOut known told s
+hands-step known told s step tells = step-links told s step
 
 -- ## A link that the table refuses
 
@@ -51,14 +52,14 @@ turned-away link l (Some t) told' told'' s s' handed step is same turned =
     (sym (turned ∙ ap (option_map (after_turning_away (Some l))) is)) (inr (turned-next t l s s' step next same))
 
 -- a connection was taken and given up, or its link was turned away
-pub hands-ended : {L : Type 0} (link_seen : L → LinkSeen) (link : L) (told : Option FrontTold) (s : State) (a b : SeenListener)
+pub hands-ended : {L : Type 0} (known : Option KnownOutside) (link_seen : L → LinkSeen) → (is_some known ≡ true → LinksTell link_seen) → (link : L) (told : Option FrontTold) (s : State) (a b : SeenListener)
     → IsHandedOut told (link_seen link).told → IsInStep told s → a.front.told ≡ option_map (after_accept (arrival.Some link)) told
-    → a.board.book.state.accepted ≡ s.accepted → EndsTaking (link_seen link).told a b → HandsOut link_seen b.front.told b.board.book.state
-hands-ended link_seen link told s a b handed step is same (inl taken) =
-    hands-step link_seen b.front.told b.board.book.state
+    → a.board.book.state.accepted ≡ s.accepted → EndsTaking (link_seen link).told a b → HandsOut known b.front.told b.board.book.state
+hands-ended known link_seen all link told s a b handed step is same (inl taken) =
+    hands-step known b.front.told b.board.book.state
     (taken.step (step-taken link told a.front.told s b.board.book.state is (taken.accepted ∙ ap next_count same) step))
-hands-ended link_seen link told s a b handed step is same (inr refused) =
-    λ tells. let links = tells.each link in
+hands-ended known link_seen all link told s a b handed step is same (inr refused) =
+    λ tells. let links = (all tells).each link in
     turned-away link links.0 told a.front.told b.front.told s b.board.book.state (subst (IsHandedOut told) links.1 handed) step is (refused.accepted ∙ same)
     (subst (λ (o : Option LinkTold). b.front.told ≡ option_map (after_turning_away o) a.front.told) links.1 refused.told)
 
@@ -99,9 +100,9 @@ on-err-tells (Ok x) P Q holds p = tt
 on-err-tells (Err f) P Q holds p = holds p
 
 -- what became of the links once the server has stopped
-pub handed-out : {L : Type 0} (link_seen : L → LinkSeen) (turns : Result End BoardFault) (told told' : Option FrontTold) (s s' : State) → HaltsAs turns s'.going
-    → s'.accepted ≡ s.accepted → told' ≡ option_map hushed_front told → OnOk turns (IsInStep told s) → OnErr turns (HandsOut link_seen told s)
-    → HandedOut link_seen told' s'
-handed-out link_seen turns told told' s s' halts same is step links tells =
+pub handed-out : (known : Option KnownOutside) (turns : Result End BoardFault) (told told' : Option FrontTold) (s s' : State) → HaltsAs turns s'.going
+    → s'.accepted ≡ s.accepted → told' ≡ option_map hushed_front told → OnOk turns (IsInStep told s) → OnErr turns (HandsOut known told s)
+    → HandedOut known told' s'
+handed-out known turns told told' s s' halts same is step links tells =
     subst (λ (o : Option FrontTold). IfSome o (TakesLinks s')) (sym is)
-    (handed-down turns told s s' halts same step (on-err-tells turns (LinksTell link_seen) _ links tells))
+    (handed-down turns told s s' halts same step (on-err-tells turns (is_some known ≡ true) _ links tells))

@@ -77,38 +77,24 @@ pub record ActsSomehow (who : ℕ) (a b : SeenBook) : Type 0 where
 
 served-acts : ActsInSteps → (who : ℕ) (names : List ConnName) (a b : SeenBoard) → AreServed who names a b → ActsSomehow who a.book b.book
 served-acts steps who [] a b acts = record { events = []; acts = acts }
-served-acts steps who (name ∷ names) a b (m, served, others) =
-    let more = served-acts steps who names m b others in
+served-acts steps who (name ∷ names) a b (x, y, idle, served, others) =
+    let more = served-acts steps who names y b others in
     record {
       events = _;
-      acts = steps.more who _ more.events None None a.book m.book b.book (service-acts steps who name a m served) more.acts;
+      acts =
+          steps.more who _ more.events None None a.book y.book b.book
+          (steps.more who [] _ None None a.book x.book y.book idle (service-acts steps who name x y served)) more.acts;
     }
 
 pub serves-acts : ActsInSteps → (a b : SeenBoard) → ServesSome a b → ActsSomehow 1 a.book b.book
 serves-acts steps a b serves = served-acts steps 1 serves.names a b serves.served
 
--- one was served behind a pass that did nothing
-served-first : ActsInSteps → (who : ℕ) (name : ConnName) (a b c : SeenBoard) → Acts who [] None a.book b.book → HasServed who name b c → HasServed who name a c
-served-first steps who name a b c idle served =
-    record {
-      asks = served.asks;
-      book = served.book;
-      acts =
-          steps.more who [] (event.Queue name ∷ event.Start name ∷ answer_events name served.asks) None (Some name) a.book b.book served.book idle
-          served.acts;
-      served = served.served;
-      named = served.named;
-      out = served.out;
-      exits = served.exits;
-      left = served.left;
-    }
-
 -- one more was served behind others
 served-more : ActsInSteps → (who : ℕ) (names : List ConnName) (name : ConnName) (a b c : SeenBoard) → AreServed who names a b → HasServed who name b c
     → AreServed who (names ++ name ∷ []) a c
-served-more steps who [] name a b c idle served =
-    (c, served-first steps who name a b c idle served, steps.none who None c.book served.left.acts.row)
-served-more steps who (n ∷ names) name a b c (m, first, others) served = (m, first, served-more steps who names name m b c others served)
+served-more steps who [] name a b c idle served = (b, c, idle, served, steps.none who None c.book served.left.acts.row)
+served-more steps who (n ∷ names) name a b c (x, y, idle, first, others) served =
+    (x, y, idle, first, served-more steps who names name y b c others served)
 
 -- where one was due
 pub serves-more : ActsInSteps → (name : ConnName) (a b c : SeenBoard) → (serves : ServesSome a b) → (NoneDue a.book.state → ⊥) → HasServed 1 name b c → ServesSome a c

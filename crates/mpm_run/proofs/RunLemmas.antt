@@ -1,5 +1,5 @@
 -- What a board shows of its run.
-use Rattle.std.proofs.Common.{◌≡◌, ℕ, ◌≤◌, ◌+◌, ◌<◌, min, Bool, true, false, ◌||◌, cond, List, [], ◌∷◌, ◌++◌, length, count_by, Option, Some, IfSome, refl, sym, ap, subst, ◌∙◌, arith, ◌⊎◌, inl, inr}
+use Rattle.std.proofs.Common.{◌≡◌, ℕ, ◌≤◌, ◌+◌, ◌<◌, min, Bool, true, false, ◌||◌, cond, List, [], ◌∷◌, ◌++◌, length, count_by, Option, None, Some, IfSome, is_some, refl, sym, ap, subst, ◌∙◌, arith, ◌⊎◌, inl, inr}
 use Rattle.std.proofs.lemmas.Bool.{cases_order}
 use Rattle.std.proofs.lemmas.List.{append-nil}
 use Rattle.std.proofs.lemmas.List.Sums.{sum_by-cons}
@@ -147,10 +147,14 @@ all-receive k (e ∷ ended) are ends = (receives k.clients e ends.0 are.0, all-r
 
 -- ## The links of ended connections
 
--- each tells where the type knows the clients
-pub all-tell : (k : KnownOutside) (ended : List SeenEnded) → EndedForClients (Some k) ended → AllTell ended
+-- each is that of a client, and tells, where the type knows the clients
+all-tell : (k : KnownOutside) (ended : List SeenEnded) → EndedForClients (Some k) ended → AllTell ended
 all-tell k [] ends = tt
 all-tell k (e ∷ ended) ends = ((ends.0.t, ends.0.told_is), all-tell k ended ends.1)
+
+pub known-tell : (known : Option KnownOutside) (ended : List SeenEnded) → is_some known ≡ true → EndedForClients known ended → AllTell ended
+known-tell None ended is ends = absurd (cc is)
+known-tell (Some k) ended is ends = all-tell k ended ends
 
 -- as many ended as the history took
 closed-plain : (n : RunNumbers) (b : SeenBoard) → b.book.folded ≡ folded_by n → HasClosedAll b → length b.ended ≡ count_events is_accept b.book.history

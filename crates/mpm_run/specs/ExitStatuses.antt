@@ -250,11 +250,11 @@ abbrev pub KeepsPatience : SeenBoard → SeenFront → Type 0
 KeepsPatience b f = ArePatient (comings_of f.script) f.told.waits b.book.base b.book.history
 
 -- how a run that stopped so may end: with 6 besides wherever memory lacked for its report
-abbrev pub EndsFor : Going → ℕ → Type 0
-EndsFor (Halted why.FrontEnded) status = (status ≡ 0) ⊎ (status ≡ 5) ⊎ (status ≡ 6)
-EndsFor (Halted why.Full) status = (status ≡ 7) ⊎ (status ≡ 6)
-EndsFor (Halted why.NoMemory) status = status ≡ 6
-EndsFor other status = ⊥
+abbrev pub MayEndWith : Going → ℕ → Type 0
+MayEndWith (Halted why.FrontEnded) status = (status ≡ 0) ⊎ (status ≡ 5) ⊎ (status ≡ 6)
+MayEndWith (Halted why.Full) status = (status ≡ 7) ⊎ (status ≡ 6)
+MayEndWith (Halted why.NoMemory) status = status ≡ 6
+MayEndWith other status = ⊥
 
 -- the script was played to its end: a wait answered Ended, all lines have happened, and each connection of the script was taken
 pub record HasEnd (b : SeenBoard) (f : SeenFront) : Type 0 where

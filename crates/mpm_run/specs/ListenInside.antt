@@ -115,9 +115,9 @@ HasStarted old new =
     (waits_of new.front.told ≡ waits_of old.front.told)
     ⊎ BeginsWithStarts (asked_children old.board.book.base) new.board.book.history
 
--- where its links tell, the table took each link that it handed out, or it turned the last one away
-abbrev pub HandsOut : {L : Type 0} → (L → LinkSeen) → Option FrontTold → State → Type 0
-HandsOut link_seen told s = LinksTell link_seen → IfSome told (λ t. HandsOutTaken s t ⊎ TurnsOneAway s t)
+-- where the type knows the clients, the table took each link that the front handed out, or it turned the last one away
+abbrev pub HandsOut : Option KnownOutside → Option FrontTold → State → Type 0
+HandsOut known told s = is_some known ≡ true → IfSome told (λ t. HandsOutTaken s t ⊎ TurnsOneAway s t)
 
 -- the number at which a count from this one stands behind the names
 abbrev pub number_after : ℕ → List ConnName → ℕ
@@ -129,14 +129,14 @@ pub record WatchesAll (b : SeenBook) (t : FrontTold) : Type 0 where
   pub watches : AreWatched b t
   pub count : b.state.accepted ≡ number_after b.folded.accepted (accepted_names b.history)
 
--- the same of a front that tells, whose links tell
-abbrev pub IsWatching : {L : Type 0} → (L → LinkSeen) → Option FrontTold → SeenBook → Type 0
-IsWatching link_seen told b = LinksTell link_seen → IfSome told (WatchesAll b)
+-- the same of a front that tells, where the type knows the clients
+abbrev pub IsWatching : Option KnownOutside → Option FrontTold → SeenBook → Type 0
+IsWatching known told b = is_some known ≡ true → IfSome told (WatchesAll b)
 
--- where its links tell, the table took each link that the front handed out, or the server was broken off and the last one was turned
--- away
-abbrev pub HandedOut : {L : Type 0} → (L → LinkSeen) → Option FrontTold → State → Type 0
-HandedOut link_seen told s = LinksTell link_seen → IfSome told (TakesLinks s)
+-- where the type knows the clients, the table took each link that the front handed out, or the server was broken off and the last one
+-- was turned away
+abbrev pub HandedOut : Option KnownOutside → Option FrontTold → State → Type 0
+HandedOut known told s = is_some known ≡ true → IfSome told (TakesLinks s)
 
 -- nothing has come of a front that tells, and of the table nothing was asked: no time has passed, that a patient one tells
 pub record IsAtStart (told : Option FrontTold) (b : SeenBook) : Type 0 where

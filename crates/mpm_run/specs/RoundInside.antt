@@ -104,7 +104,7 @@ pub record TakesSome (old new : SeenBook) : Type 0 where
   pub acts : Acts 0 (flat_map intake_events takes) None old new
 
 -- a call was refused for the fault, and nothing was done
-pub record StandsStill (fault : BoardFault) (old new : SeenBook) : Type 0 where
+pub record ChangesNothing (fault : BoardFault) (old new : SeenBook) : Type 0 where
   pub why : IsRefusedFor fault old
   pub same : new ≡ old
 
@@ -118,7 +118,7 @@ pub record GivesUpTaken (fault : BoardFault) (old new : SeenBook) : Type 0 where
 
 -- a connection could not be taken for the fault, or was taken and given up for it
 abbrev pub FailsTaking : BoardFault → SeenBook → SeenBook → Type 0
-FailsTaking fault old new = StandsStill fault old new ⊎ GivesUpTaken fault old new
+FailsTaking fault old new = ChangesNothing fault old new ⊎ GivesUpTaken fault old new
 
 -- connections were taken, each left as the front watches it, which led to this book; then one could not be for the fault
 pub record TakesUntil (fault : BoardFault) (old new : SeenBook) : Type 0 where
@@ -128,10 +128,11 @@ pub record TakesUntil (fault : BoardFault) (old new : SeenBook) : Type 0 where
 
 -- ## Connections that are served
 
--- the connections of these names were served by the pass, one behind the other, and nothing else was done
+-- the connections of these names were served by the pass, one behind the other, and the pass did nothing else
 abbrev pub AreServed : ℕ → List ConnName → SeenBoard → SeenBoard → Type 0
 AreServed who [] old new = Acts who [] None old.book new.book
-AreServed who (name ∷ names) old new = (b : SeenBoard) × HasServed who name old b × AreServed who names b new
+AreServed who (name ∷ names) old new =
+    (a : SeenBoard) × (b : SeenBoard) × Acts who [] None old.book a.book × HasServed who name a b × AreServed who names b new
 
 -- the pass that serves did so with these; where no connection was due with none
 pub record ServesSome (old new : SeenBoard) : Type 0 where

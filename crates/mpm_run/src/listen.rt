@@ -130,8 +130,8 @@ impl<L: Link + Send, F: Front<L = L>, C: Clock, N: Known> Listener<L, F, C, N> {
         ensures bound { bound_of self.new.front.told ≡ bound_of self.old.front.told }
         ensures hushed { IfSome self.new.front.told IsHushed }
         ensures started { IsOpening self.old.board.book → HasStarted self.old self.new }
-        ensures watched { IsWatching L.seen self.old.front.told self.old.board.book → IsWatching L.seen self.new.front.told self.new.board.book }
-        ensures links { HandedOut L.seen self.new.front.told self.new.board.book.state }
+        ensures watched { IsWatching N.known self.old.front.told self.old.board.book → IsWatching N.known self.new.front.told self.new.board.book }
+        ensures links { HandedOut N.known self.new.front.told self.new.board.book.state }
         ensures time { IsInTime (waits_of self.old.front.told) self.old.calls → IsInTime (waits_of self.new.front.told) self.new.calls }
         ensures patient { IsAtStart self.old.front.told self.old.board.book → IsPatientRun self.new.front.told self.new.calls self.new.board.book }
         ensures informed { WasInformed (waits_of self.new.front.told) self.new.calls self.new.board.book }
@@ -160,9 +160,9 @@ impl<L: Link + Send, F: Front<L = L>, C: Clock, N: Known> Listener<L, F, C, N> {
         ensures follows { Follows self.old.front self.new.front }
         ensures bound { bound_of self.new.front.told ≡ bound_of self.old.front.told }
         ensures started { IsOpening self.old.board.book → HasStarted self.old self.new }
-        ensures watched { IsWatching L.seen self.old.front.told self.old.board.book → IsWatching L.seen self.new.front.told self.new.board.book }
+        ensures watched { IsWatching N.known self.old.front.told self.old.board.book → IsWatching N.known self.new.front.told self.new.board.book }
         ensures step { OnOk result (IsInStep self.new.front.told self.new.board.book.state) }
-        ensures links { OnErr result (HandsOut L.seen self.new.front.told self.new.board.book.state) }
+        ensures links { OnErr result (HandsOut N.known self.new.front.told self.new.board.book.state) }
         ensures time { IsInTime (waits_of self.old.front.told) self.old.calls → IsInTime (waits_of self.new.front.told) self.new.calls }
         ensures patient { IsAtStart self.old.front.told self.old.board.book → IsPatientRun self.new.front.told self.new.calls self.new.board.book }
         ensures ends { TurnsEnd result self.old.front self.new.front self.new.board.book }
@@ -266,8 +266,8 @@ impl<L: Link + Send, F: Front<L = L>, C: Clock, N: Known> Listener<L, F, C, N> {
         ensures taken { OnOk result (TookAll self.new.front.told self.new.board.book.state) }
         ensures follows { Follows self.old.front self.new.front }
         ensures front { TellsOn OnlyTakes self.old.front.told self.new.front.told }
-        ensures watched { IsWatching L.seen self.old.front.told self.old.board.book → IsWatching L.seen self.new.front.told self.new.board.book }
-        ensures links { OnErr result (HandsOut L.seen self.new.front.told self.new.board.book.state) }
+        ensures watched { IsWatching N.known self.old.front.told self.old.board.book → IsWatching N.known self.new.front.told self.new.board.book }
+        ensures links { OnErr result (HandsOut N.known self.new.front.told self.new.board.book.state) }
         ensures calls { self.new.calls ≡ self.old.calls }
         ensures err { IfErr result (λ fault. MustStop fault self.new.board.book) }
     {
@@ -294,8 +294,8 @@ impl<L: Link + Send, F: Front<L = L>, C: Clock, N: Known> Listener<L, F, C, N> {
         ensures taken { OnOk result (TookAll self.new.front.told self.new.board.book.state) }
         ensures follows { Follows self.old.front self.new.front }
         ensures front { TellsOn OnlyTakes self.old.front.told self.new.front.told }
-        ensures watched { IsWatching L.seen self.old.front.told self.old.board.book → IsWatching L.seen self.new.front.told self.new.board.book }
-        ensures links { OnErr result (HandsOut L.seen self.new.front.told self.new.board.book.state) }
+        ensures watched { IsWatching N.known self.old.front.told self.old.board.book → IsWatching N.known self.new.front.told self.new.board.book }
+        ensures links { OnErr result (HandsOut N.known self.new.front.told self.new.board.book.state) }
         ensures calls { self.new.calls ≡ self.old.calls }
         ensures ready { self.new.ready ≡ self.old.ready }
         ensures err { IfErr result (λ fault. MustStop fault self.new.board.book) }
@@ -331,7 +331,7 @@ impl<L: Link + Send, F: Front<L = L>, C: Clock, N: Known> Listener<L, F, C, N> {
         ensures step { OnOk result (IsInStep self.old.front.told self.new.board.book.state → IsInStep self.new.front.told self.new.board.book.state) }
         ensures follows { Follows self.old.front self.new.front }
         ensures front { TellsOn OnlyTakes self.old.front.told self.new.front.told }
-        ensures watched { IsWatching L.seen self.old.front.told self.old.board.book → IsWatching L.seen self.new.front.told self.new.board.book }
+        ensures watched { IsWatching N.known self.old.front.told self.old.board.book → IsWatching N.known self.new.front.told self.new.board.book }
         ensures links { OnErr result (EndsTaking (L.seen link).told self.old self.new) }
         ensures calls { self.new.calls ≡ self.old.calls }
         ensures ready { self.new.ready ≡ self.old.ready }

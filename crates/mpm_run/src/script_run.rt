@@ -9,7 +9,7 @@ ghost use Rattle.script_front.specs.ScriptClock.{AreEchoes};
 ghost use Rattle.script_front.specs.ScriptFront.{IsOfScript};
 ghost use Rattle.mpm_run.specs.Configured.{warnings_of};
 ghost use Rattle.mpm_run.specs.ConfiguredInside.{IsOfText, IsScriptConfig};
-ghost use Rattle.mpm_run.specs.ExitStatuses.{EndsConfigRefused, EndsFor, EndsFull, EndsRefused, EndsUnread, EndsUnwritten, EndsWell, HasPlayed, HasRun, board_report, fault_at, seen_call};
+ghost use Rattle.mpm_run.specs.ExitStatuses.{EndsConfigRefused, MayEndWith, EndsFull, EndsRefused, EndsUnread, EndsUnwritten, EndsWell, HasPlayed, HasRun, board_report, fault_at, seen_call};
 ghost use Rattle.mpm_run.specs.ExitStatusesInside.{EndsReport, IsConfigRefusalOf, IsExitStatusOf, IsFullStop, IsLeftOfRun, IsPlayed, IsPlayedStatus, IsRefusalOf, IsScriptStatus, IsStoppedStatus, RefusesConfig, ReportsAs, status_of_writes};
 ghost use Rattle.mpm_run.specs.Invocations.{script_words};
 ghost use Rattle.mpm_run.specs.ListenInside.{IsEnd};
@@ -52,7 +52,7 @@ pub fn run_script<R: Wait, D: Store, K: Sink>(
 ) -> Outcome
     ensures kept { IfSome result.scripted (λ s. HasPlayed (seen_call (script_words name.now) (D.seen store.old) (D.seen store.new) (K.seen out.old) (K.seen out.new) result.shown) s.config s.board s.front) }
     ensures left { IfSome result.scripted IsLeftOfRun }
-    ensures stopped { IfSome result.scripted (λ s. EndsFor s.board.book.state.going result.status) }
+    ensures stopped { IfSome result.scripted (λ s. MayEndWith s.board.book.state.going result.status) }
     ensures known { IsScriptStatus result.status }
     ensures served { result.status ≡ 0 → IsSomeAnd result.scripted (λ s. EndsWell (K.seen out.old) (K.seen out.new) s.config s.board) }
     ensures misconfigured { result.status ≡ 1 → EndsConfigRefused (seen_call (script_words name.now) (D.seen store.old) (D.seen store.new) (K.seen out.old) (K.seen out.new) result.shown) }
@@ -106,7 +106,7 @@ fn play_script<R: Wait, K: Sink>(rt: &R, alloc: Global, script: Script, out: &mu
     requires { HaveTextNames script }
     ensures kept { IfSome result.scripted (λ s. IsPlayed script s) }
     ensures left { IfSome result.scripted IsLeftOfRun }
-    ensures stopped { IfSome result.scripted (λ s. EndsFor s.board.book.state.going result.status) }
+    ensures stopped { IfSome result.scripted (λ s. MayEndWith s.board.book.state.going result.status) }
     ensures shown { IsSome result.scripted → result.shown ≡ None }
     ensures known { IsPlayedStatus result.status ⊎ (result.status ≡ 1) }
     ensures served { result.status ≡ 0 → IsSomeAnd result.scripted (λ s. EndsWell (K.seen out.old) (K.seen out.new) s.config s.board) }
@@ -170,7 +170,7 @@ fn serve_script<R: Wait, K: Sink>(
     ensures script { IfSome result.scripted (λ s. s.front.script ≡ script) }
     ensures config { IfSome result.scripted (λ s. s.config ≡ config) }
     ensures left { IfSome result.scripted IsLeftOfRun }
-    ensures stopped { IfSome result.scripted (λ s. EndsFor s.board.book.state.going result.status) }
+    ensures stopped { IfSome result.scripted (λ s. MayEndWith s.board.book.state.going result.status) }
     ensures shown { result.shown ≡ None }
     ensures known { IsPlayedStatus result.status }
     ensures served { result.status ≡ 0 → IsSomeAnd result.scripted (λ s. EndsWell (K.seen out.old) (K.seen out.new) s.config s.board) }
@@ -232,7 +232,7 @@ fn played(
 fn finish<K: Sink>(alloc: Global, scripted: Scripted, written: bool, out: &mut K) -> Outcome
     requires stopped { IsEnd scripted.board.book.state.going }
     ensures scripted { result.scripted ≡ Some scripted }
-    ensures stopped { EndsFor scripted.board.book.state.going result.status }
+    ensures stopped { MayEndWith scripted.board.book.state.going result.status }
     ensures shown { result.shown ≡ None }
     ensures known { IsPlayedStatus result.status }
     ensures ended { (result.status ≡ 0) ⊎ (result.status ≡ 5) → scripted.board.book.state.going ≡ Halted why.FrontEnded }

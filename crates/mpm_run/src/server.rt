@@ -1,17 +1,16 @@
 //! The run of a server over a front and a clock, whichever they are, with what is written where it opens.
-ghost use Rattle.std.specs.Prelude.{◌≡◌, true, false, [], IfErr, IfOk, IfSome, OnErr};
+ghost use Rattle.std.specs.Prelude.{◌≡◌, true, false, [], IfErr, IfOk, IfSome, OnErr, is_some};
 ghost use Rattle.mpm_base.specs.Count.{NeverFalls};
 ghost use Rattle.mpm_base.specs.Front.{Binds};
 ghost use Rattle.mpm_run.specs.UnusedInside.{IsUnused};
 ghost use Rattle.conn_machine.specs.Made.{AreOfPasses};
 ghost use Rattle.board.specs.Board.{AreOfClients};
-ghost use Rattle.board.specs.Ranks.{AllTell};
 ghost use Rattle.mpm_run.specs.ExitStatusesInside.{WritesAll};
 ghost use Rattle.mpm_run.specs.FirstNumbers.{opened_by};
 ghost use Rattle.mpm_run.specs.FirstNumbersInside.{AreNumbers, opened_book};
 ghost use Rattle.mpm_run.specs.Links.{EndsLinks, TakesLinks};
 ghost use Rattle.mpm_run.specs.Listen.{HasClosedAll, IsClosedDown, IsRunFrom, NeverFolded};
-ghost use Rattle.mpm_run.specs.ListenInside.{ComesBack, Follows, HasStopped, IsInTime, IsKnownOfFront, LinksTell, waits_of};
+ghost use Rattle.mpm_run.specs.ListenInside.{ComesBack, Follows, HasStopped, IsInTime, IsKnownOfFront, waits_of};
 ghost use Rattle.mpm_run.specs.PatientInside.{IsPatientRun};
 ghost use Rattle.mpm_run.specs.Started.{IsStartedFirst};
 ghost use Rattle.mpm_run.specs.Times.{WasInformed};
@@ -82,9 +81,9 @@ pub fn run_server<
     ensures follows { IfOk result (λ s. Follows (F.seen front) (F.seen s.front)) }
     ensures front { IfOk result (λ s. IfSome (F.seen s.front).told (IsOpenedAndHushed numbers)) }
     ensures started { IfOk result (λ s. IfSome (F.seen s.front).told (IsStartedFirst numbers s.board.book)) }
-    ensures watched { LinksTell L.seen → IfOk result (λ s. IfSome (F.seen s.front).told (AreWatched s.board.book)) }
-    ensures links { LinksTell L.seen → IfOk result (λ s. IfSome (F.seen s.front).told (TakesLinks s.board.book.state)) }
-    ensures ended { IfOk result (λ s. AllTell s.board.ended → EndsLinks s.board) }
+    ensures watched { is_some N.known ≡ true → IfOk result (λ s. IfSome (F.seen s.front).told (AreWatched s.board.book)) }
+    ensures links { is_some N.known ≡ true → IfOk result (λ s. IfSome (F.seen s.front).told (TakesLinks s.board.book.state)) }
+    ensures ended { IfOk result (λ s. is_some N.known ≡ true → EndsLinks s.board) }
     ensures time { IfOk result (λ s. IsInTime (waits_of (F.seen s.front).told) (C.told s.clock)) }
     ensures informed { IfOk result (λ s. WasInformed (waits_of (F.seen s.front).told) (C.told s.clock) s.board.book) }
     ensures patient { IfOk result (λ s. IsPatientRun (F.seen s.front).told (C.told s.clock) s.board.book) }
@@ -168,7 +167,7 @@ fn show_run<L: Link, N: Known>(board: &Board<L, N>, numbers: RunNumbers)
     ensures unfolded { NeverFolded numbers board.now.book }
     ensures run { IsRunFrom numbers board.now }
     ensures closed { IsClosedDown board.now.book.state → HasClosedAll board.now }
-    ensures links { IsClosedDown board.now.book.state → AllTell board.now.ended → EndsLinks board.now }
+    ensures links { IsClosedDown board.now.book.state → is_some N.known ≡ true → EndsLinks board.now }
     ensures clients { AreOfClients N.known board.now }
 {
     events_keep_states_sound();

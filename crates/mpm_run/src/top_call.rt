@@ -3,7 +3,7 @@ ghost use Rattle.std.specs.Prelude.{◌≡◌, ◌⊎◌, IfSome, IsSomeAnd, IsN
 ghost use Rattle.conn_machine.specs.declared.event.Why.TheVariants as why;
 ghost use Rattle.conn_machine.specs.declared.state.Going.TheVariants.{Halted};
 ghost use Rattle.script_front.specs.Editions.{editions_of};
-ghost use Rattle.mpm_run.specs.ExitStatuses.{EndsConfigRefused, EndsFor, EndsFull, EndsRefused, EndsTestUnwritten, EndsTested, EndsUnknown, EndsUnread, EndsUnwritten, EndsWell, HasEnd, HasPlayed, IsExitStatus, KeepsPatience, KeepsTime, seen_call};
+ghost use Rattle.mpm_run.specs.ExitStatuses.{EndsConfigRefused, MayEndWith, EndsFull, EndsRefused, EndsTestUnwritten, EndsTested, EndsUnknown, EndsUnread, EndsUnwritten, EndsWell, HasEnd, HasPlayed, IsExitStatus, KeepsPatience, KeepsTime, seen_call};
 ghost use Rattle.mpm_run.specs.FirstNumbers as opening;
 ghost use Rattle.mpm_run.specs.Links.{KeepsLinks};
 ghost use Rattle.mpm_run.specs.Listen.{NeverFolded};
@@ -64,7 +64,7 @@ pub fn run<R: Threads + Wait + Sync, D: Store, K: Sink>(
 
     // Why it stopped: where nothing more could come the whole script was played, whatever the exit status.
     ensures ended { IfSome result.scripted (λ s. s.board.book.state.going ≡ Halted why.FrontEnded → HasEnd s.board s.front) }
-    ensures stopped { IfSome result.scripted (λ s. EndsFor s.board.book.state.going result.status) }
+    ensures stopped { IfSome result.scripted (λ s. MayEndWith s.board.book.state.going result.status) }
 
     // With exit status 0 it was, and the output has the warnings and the report; or a configuration was tested that is accepted, and the
     // output has its warnings and says so.

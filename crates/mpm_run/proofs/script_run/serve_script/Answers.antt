@@ -6,14 +6,15 @@ use Rattle.mpm_run.specs.Configured.{warnings_of}
 use Rattle.mpm_run.specs.ExitStatuses.{EndsFull, EndsUnwritten, EndsWell, HasRun, board_report}
 use Rattle.mpm_run.specs.ExitStatusesInside.{IsLeftOfRun, WritesAll}
 use Rattle.mpm_run.specs.Listen.{IsRunFrom, NeverFolded}
+use Rattle.mpm_run.specs.ListenInside.{IsEnd}
 use Rattle.mpm_run.specs.Started.{IsStartedFirst}
 use Rattle.mpm_run.specs.Tells.{AllReceive}
 use Rattle.mpm_run.specs.Watched.{IsOpenedAndHushed}
 use Rattle.mpm_run.specs.declared.outcome.Scripted.{Scripted}
 use Rattle.mpm_run.specs.declared.run_numbers.RunNumbers.{RunNumbers}
-use Rattle.mpm_run.proofs.EndLemmas.{has-end, keeps-time, left-and, left-if, report-full, report-unwritten, report-well}
+use Rattle.mpm_run.proofs.EndLemmas.{ends-for, has-end, keeps-time, left-and, left-if, report-full, report-unwritten, report-well}
 use Rattle.mpm_run.proofs.PaceLemmas.{patience-of}
-use Rattle.mpm_run.proofs.RunLemmas.{all-receive, all-tell}
+use Rattle.mpm_run.proofs.RunLemmas.{all-receive}
 use Rattle.mpm_run.proofs.script_run.serve_script.Goals as goal
 
 pub run_server-requires-clause-named : goal.run_server-requires-clause-named
@@ -22,6 +23,13 @@ run_server-requires-clause-named g c κs within =
 
 pub run_server-requires-clause-numbers : goal.run_server-requires-clause-numbers
 run_server-requires-clause-numbers g c κs within = c.numbers_of-numbers.ensures.allowed
+
+pub finish-requires : goal.finish-requires
+finish-requires g c = record {
+  stopped =
+      subst (λ (s : Scripted). IsEnd s.board.book.state.going) (sym c.played.ensures.whole)
+      (ends-for _ _ c.in-Ok-run_server.served.board.book.state c.in-Ok-run_server.ensures.stopped refl refl);
+}
 
 pub unreachable-requires : goal.unreachable-requires
 unreachable-requires g c =
@@ -57,12 +65,11 @@ returns-in-Ok-run_server-clause-left g c =
       front = subst (λ (n : RunNumbers). IsOpenedAndHushed n v.front.told) same kept.front;
       started = subst (λ (n : RunNumbers). IsStartedFirst n v.board.book v.front.told) same kept.started;
       watched =
-          kept.watched (record { each = λ link. (link.told, refl) });
+          kept.watched refl;
       links =
           record {
-            taken = kept.links (record { each = λ link. (link.told, refl) });
-            ended =
-                kept.ended (all-tell (record { clients = c.in-Ok.front.told.clients }) v.board.ended kept.clients.ended);
+            taken = kept.links refl;
+            ended = kept.ended refl;
           };
       time = keeps-time v.board v.front v.clock c.played.ensures.echoes kept.time kept.informed;
       patient = patience-of (comings_of v.front.script) v.front.told v.clock v.board.book of_script.comings c.played.ensures.echoes kept.patient;

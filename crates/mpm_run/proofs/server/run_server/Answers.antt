@@ -60,11 +60,11 @@ returns-clause-front g c =
     c.listen.ensures.bound c.listen.ensures.hushed)
 
 pub returns-clause-watched : goal.returns-clause-watched
-returns-clause-watched g c tells =
+returns-clause-watched g c knows =
     let idle =
     idle-bound c.args.numbers (g.F.Front.seen c.args.front) (g.F.Front.seen c.in-Ok.front) _ c.in-Ok.ensures.bound c.requires.unused c.requires.unasked in
     let all =
-    c.listen.ensures.watched (λ holds. watching-opened c.args.numbers (g.F.Front.seen c.in-Ok.front).told _ c.in-Ok-open_board.board.book c.in-Ok-open_board.ensures.book idle) tells in
+    c.listen.ensures.watched (λ holds. watching-opened c.args.numbers (g.F.Front.seen c.in-Ok.front).told _ c.in-Ok-open_board.board.book c.in-Ok-open_board.ensures.book idle) knows in
     let here = subst (λ (l : SeenListener). IfSome l.front.told (WatchesAll l.board.book)) (sym c.listener.view_is) all in
     subst (λ (b : SeenBoard). IfSome (g.F.Front.seen c.listener.inside.front).told (AreWatched b.book)) (sym c.forget.ensures.same)
     (are-watched _ c.listener.inside.board.book here)
@@ -108,6 +108,6 @@ returns-clause-started g c =
     (started-first c.args.numbers (g.F.Front.seen c.in-Ok.front).told c.listen.new.self.front.told c.listen.new.self.board.book (unwaited _ _ idle) here))
 
 pub returns-clause-links : goal.returns-clause-links
-returns-clause-links g c tells =
+returns-clause-links g c knows =
     subst (λ (b : SeenBoard). IfSome (g.F.Front.seen c.listener.inside.front).told (TakesLinks b.book.state)) (sym c.forget.ensures.same)
-    (subst (λ (l : SeenListener). IfSome l.front.told (TakesLinks l.board.book.state)) (sym c.listener.view_is) (c.listen.ensures.links tells))
+    (subst (λ (l : SeenListener). IfSome l.front.told (TakesLinks l.board.book.state)) (sym c.listener.view_is) (c.listen.ensures.links knows))

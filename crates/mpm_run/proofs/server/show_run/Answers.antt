@@ -1,4 +1,4 @@
-use Rattle.mpm_run.proofs.RunLemmas.{closed-all, ends-links, never-folded, run-from, run-opened}
+use Rattle.mpm_run.proofs.RunLemmas.{closed-all, ends-links, known-tell, never-folded, run-from, run-opened}
 use Rattle.mpm_run.proofs.server.show_run.Goals as goal
 
 pub returns-clause-unfolded : goal.returns-clause-unfolded
@@ -23,7 +23,7 @@ returns-clause-closed g c down =
     down
 
 pub returns-clause-links : goal.returns-clause-links
-returns-clause-links g c down tell =
+returns-clause-links g c down knows =
     let n = c.args.numbers in
     let b = c.args.board.now in
     let never = never-folded n b.book c.requires.base c.show.ensures.unfolded c.requires.passes in
@@ -37,4 +37,5 @@ returns-clause-links g c down tell =
     ends-links n b run never
     (λ number. c.ended_links_are_of_closed_connections.ensures.once n.slots n.children n.shape b.book.history b.ended number)
     (λ number. c.ended_links_are_of_closed_connections.ensures.no_other n.slots n.children n.shape b.book.history b.ended number)
-    (c.accepted_connections_are_closed_or_live.ensures.accepted n.slots n.children n.shape b.book.history) closed tell
+    (c.accepted_connections_are_closed_or_live.ensures.accepted n.slots n.children n.shape b.book.history) closed
+    (known-tell g.N.Known.known b.ended knows c.show.ensures.clients.ended)

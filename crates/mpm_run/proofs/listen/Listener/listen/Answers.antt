@@ -92,6 +92,6 @@ returns-clause-links g c =
     let step = rw (← c.self.view_is) at c.take_turns-turns.ensures.step in
     let links = rw (← c.self.view_is) at c.take_turns-turns.ensures.links in
     let turns = c.take_turns-turns.result in
-    handed-out g.L.Link.seen turns (g.F.Front.seen c.self.inside.front).told (g.F.Front.seen c.hush.new.self).told c.self.inside.board.book.state
+    handed-out g.N.Known.known turns (g.F.Front.seen c.self.inside.front).told (g.F.Front.seen c.hush.new.self).told c.self.inside.board.book.state
     c.retire_all.new.board.book.state (subst (HaltsAs turns) (sym (c.retire_all.ensures.going ∙ c.close_all.ensures.going)) c.halt.ensures.stopped)
     (c.retire_all.ensures.rest.accepted ∙ c.close_all.ensures.rest.accepted ∙ c.halt.ensures.taken) (ap (λ (f : FrontSeen). f.told) c.hush.ensures) step links

@@ -122,7 +122,7 @@ returns-clause-watched g c =
     let arrival = rw (← c.self.view_is) at c.requires.arrival in
     rw (← c.self.view_is)
     (λ before tells.
-    let link = tells.each c.args.link in
+    let link = (c.self.invariant.links tells).each c.args.link in
     let arrives = subst (IsArrival c.self.inside.board.book.state.accepted) link.1 arrival in
     watched-took c.in-Ok.taken.name c.watch-watched.result (g.L.Link.seen c.args.link).told link.0 (g.F.Front.seen c.self.inside.front).told
     (g.F.Front.seen c.watch-watched.new.self).told c.self.inside.board.book c.settle.new.board.book link.1 arrives.rank

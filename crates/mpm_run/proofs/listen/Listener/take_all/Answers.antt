@@ -139,5 +139,5 @@ pub returns-in_err-take-in-Some-accept-clause-links : goal.returns-in_err-take-i
 returns-in_err-take-in-Some-accept-clause-links g c =
     let step = rw (← c.self.view_is) at c.loop.invariant.step in
     on-err c.from_residual.result _
-    (hands-ended g.L.Link.seen c.in-Some-accept.link (g.F.Front.seen c.self.inside.front).told c.self.inside.board.book.state _ c.take.new.self
+    (hands-ended g.N.Known.known g.L.Link.seen c.self.invariant.links c.in-Some-accept.link (g.F.Front.seen c.self.inside.front).told c.self.inside.board.book.state _ c.take.new.self
     c.in-Some-accept.ensures.accepts.hands.1 step c.in-Some-accept.ensures.accepts.told_is refl c.in_err-take-in-Some-accept.ensures.links)

@@ -15,7 +15,7 @@ invariant-loop g l =
       step : IsInStep l.self.front.told l.self.board.book.state;
       follows : Follows l.fn.self.front l.self.front;
       front : TellsOn OnlyTakes l.fn.self.front.told l.self.front.told;
-      watched : IsWatching g.L.Link.seen l.fn.self.front.told l.fn.self.board.book → IsWatching g.L.Link.seen l.self.front.told l.self.board.book;
+      watched : IsWatching g.N.Known.known l.fn.self.front.told l.fn.self.board.book → IsWatching g.N.Known.known l.self.front.told l.self.board.book;
       calls : l.self.calls ≡ l.fn.self.calls;
       ready : l.self.ready ≡ l.fn.self.ready;
     }

@@ -218,26 +218,26 @@ pub returns-in_err-pass_time-clause-links : goal.returns-in_err-pass_time-clause
 returns-in_err-pass_time-clause-links g c =
     let step = rw (← c.self.view_is) at c.requires.step in
     on-err c.from_residual.result _
-    (hands-step g.L.Link.seen (g.F.Front.seen c.self.inside.front).told c.pass_time.new.board.book.state
+    (hands-step g.N.Known.known (g.F.Front.seen c.self.inside.front).told c.pass_time.new.board.book.state
     (step-kept (g.F.Front.seen c.self.inside.front).told c.self.inside.board.book.state c.pass_time.new.board.book.state c.pass_time.ensures.taken step))
 
 pub returns-in_err-signal_all-clause-links : goal.returns-in_err-signal_all-clause-links
 returns-in_err-signal_all-clause-links g c =
     let step = rw (← c.self.view_is) at c.requires.step in
     on-err c.from_residual-in_err-signal_all.result _
-    (hands-step g.L.Link.seen (g.F.Front.seen c.self.inside.front).told c.signal_all.new.board.book.state
+    (hands-step g.N.Known.known (g.F.Front.seen c.self.inside.front).told c.signal_all.new.board.book.state
     (step-kept (g.F.Front.seen c.self.inside.front).told c.self.inside.board.book.state c.signal_all.new.board.book.state (c.signal_all.ensures.rest.accepted ∙ c.pass_time.ensures.taken) step))
 
 pub returns-in_err-let_go_of_conns-clause-links : goal.returns-in_err-let_go_of_conns-clause-links
 returns-in_err-let_go_of_conns-clause-links g c =
     let step = rw (← c.self.view_is) at c.requires.step in
     on-err c.from_residual-in_err-let_go_of_conns.result _
-    (hands-step g.L.Link.seen (g.F.Front.seen c.self.inside.front).told c.let_go_of_conns.new.board.book.state
+    (hands-step g.N.Known.known (g.F.Front.seen c.self.inside.front).told c.let_go_of_conns.new.board.book.state
     (step-kept (g.F.Front.seen c.self.inside.front).told c.self.inside.board.book.state c.let_go_of_conns.new.board.book.state (c.let_go_of_conns.ensures.rest.accepted ∙ c.signal_all.ensures.rest.accepted ∙ c.pass_time.ensures.taken) step))
 
 pub returns-in_err-start_children-clause-links : goal.returns-in_err-start_children-clause-links
 returns-in_err-start_children-clause-links g c =
     let step = rw (← c.self.view_is) at c.requires.step in
     on-err c.from_residual-in_err-start_children.result _
-    (hands-step g.L.Link.seen (g.F.Front.seen c.self.inside.front).told c.start_children.new.board.book.state
+    (hands-step g.N.Known.known (g.F.Front.seen c.self.inside.front).told c.start_children.new.board.book.state
     (step-kept (g.F.Front.seen c.self.inside.front).told c.self.inside.board.book.state c.start_children.new.board.book.state (c.start_children.ensures.rest.accepted ∙ c.retire_all.ensures.rest.accepted ∙ c.let_go_of_conns.ensures.rest.accepted ∙ c.signal_all.ensures.rest.accepted ∙ c.pass_time.ensures.taken) step))

@@ -1,6 +1,6 @@
-use Rattle.std.proofs.Common.{None, inl, inr, ap, ◌∙◌}
+use Rattle.std.proofs.Common.{None, inl, inr, ap, ◌∙◌, ◌≡◌, true, is_some}
 use Rattle.conn_machine.specs.States.{is_halted}
-use Rattle.mpm_run.specs.ListenInside.{LinksTell, SeenListener, asked_children, waits_of}
+use Rattle.mpm_run.specs.ListenInside.{SeenListener, asked_children, waits_of}
 use Rattle.mpm_run.proofs.ChildrenLemmas.{begins-broken, begins-more, begins-round, begins-waited}
 use Rattle.mpm_run.proofs.FrontLemmas.{follows-wait, named-follows, takes-same}
 use Rattle.mpm_run.proofs.LinkLemmas.{hands-step}
@@ -14,7 +14,7 @@ use Rattle.mpm_run.proofs.listen.Listener.take_turns.Goals as goal
 pub loop-init : goal.loop-init
 loop-init g c = record {
   between =
-      between-started c.passes_act_in_steps.ensures.acts (LinksTell g.L.Link.seen) c.args.self.now c.start.new.self c.requires.passes c.requires.free c.requires.going c.requires.step c.requires.informed c.start.ensures.others
+      between-started c.passes_act_in_steps.ensures.acts (is_some g.N.Known.known ≡ true) c.args.self.now c.start.new.self c.requires.passes c.requires.free c.requires.going c.requires.step c.requires.informed c.start.ensures.others
       c.start.ensures.starts c.start.ensures.going c.start.ensures.rest;
   going = ap is_halted c.start.ensures.going ∙ c.requires.going;
   started = c.in_ok-first.ensures.first;
@@ -25,24 +25,24 @@ loop-init g c = record {
 
 pub returns-in_err-first-clause-free : goal.returns-in_err-first-clause-free
 returns-in_err-first-clause-free g c =
-    (between-started c.passes_act_in_steps.ensures.acts (LinksTell g.L.Link.seen) c.args.self.now c.start.new.self c.requires.passes c.requires.free c.requires.going c.requires.step c.requires.informed c.start.ensures.others
+    (between-started c.passes_act_in_steps.ensures.acts (is_some g.N.Known.known ≡ true) c.args.self.now c.start.new.self c.requires.passes c.requires.free c.requires.going c.requires.step c.requires.informed c.start.ensures.others
     c.start.ensures.starts c.start.ensures.going c.start.ensures.rest).free
 
 pub returns-in_err-first-clause-few : goal.returns-in_err-first-clause-few
 returns-in_err-first-clause-few g c =
-    (between-started c.passes_act_in_steps.ensures.acts (LinksTell g.L.Link.seen) c.args.self.now c.start.new.self c.requires.passes c.requires.free c.requires.going c.requires.step c.requires.informed c.start.ensures.others
+    (between-started c.passes_act_in_steps.ensures.acts (is_some g.N.Known.known ≡ true) c.args.self.now c.start.new.self c.requires.passes c.requires.free c.requires.going c.requires.step c.requires.informed c.start.ensures.others
     c.start.ensures.starts c.start.ensures.going c.start.ensures.rest).few
 
 pub returns-in_err-first-clause-watched : goal.returns-in_err-first-clause-watched
 returns-in_err-first-clause-watched g c =
-    (between-started c.passes_act_in_steps.ensures.acts (LinksTell g.L.Link.seen) c.args.self.now c.start.new.self c.requires.passes c.requires.free c.requires.going c.requires.step c.requires.informed c.start.ensures.others
+    (between-started c.passes_act_in_steps.ensures.acts (is_some g.N.Known.known ≡ true) c.args.self.now c.start.new.self c.requires.passes c.requires.free c.requires.going c.requires.step c.requires.informed c.start.ensures.others
     c.start.ensures.starts c.start.ensures.going c.start.ensures.rest).watched
 
 pub returns-in_err-first-clause-begun : goal.returns-in_err-first-clause-begun
 returns-in_err-first-clause-begun g c =
     on-err c.from_residual.result _
-    (broken-between (LinksTell g.L.Link.seen) c.args.self.now c.start.new.self
-    (between-started c.passes_act_in_steps.ensures.acts (LinksTell g.L.Link.seen) c.args.self.now c.start.new.self c.requires.passes c.requires.free c.requires.going c.requires.step c.requires.informed c.start.ensures.others
+    (broken-between (is_some g.N.Known.known ≡ true) c.args.self.now c.start.new.self
+    (between-started c.passes_act_in_steps.ensures.acts (is_some g.N.Known.known ≡ true) c.args.self.now c.start.new.self c.requires.passes c.requires.free c.requires.going c.requires.step c.requires.informed c.start.ensures.others
     c.start.ensures.starts c.start.ensures.going c.start.ensures.rest)).so_far
 
 pub invariant_of-self : goal.invariant_of-self
@@ -66,7 +66,7 @@ returns-in-Ended-clause-free g c =
     has-waited c.loop.rest c.take_pause-pause.result c.loop.self _ (g.F.Front.seen c.take_pause-pause.new.front) (g.C.Clock.told c.take_pause-pause.new.clock)
     c.take_pause-pause.new.ready c.moment-present.result c.self.view_is c.show.ensures.after c.show.ensures.sound c.moment-present.ensures
     c.take_pause-pause.ensures.waits c.take_pause-pause.ensures.asks in
-    (between-ended (LinksTell g.L.Link.seen) c.loop.rest c.take_pause-pause.result c.args.self.now c.loop.self _ c.loop.invariant.between waited c.in-Ended.is).free
+    (between-ended (is_some g.N.Known.known ≡ true) c.loop.rest c.take_pause-pause.result c.args.self.now c.loop.self _ c.loop.invariant.between waited c.in-Ended.is).free
 
 pub returns-in-Ended-clause-follows : goal.returns-in-Ended-clause-follows
 returns-in-Ended-clause-follows g c =
@@ -74,7 +74,7 @@ returns-in-Ended-clause-follows g c =
     has-waited c.loop.rest c.take_pause-pause.result c.loop.self _ (g.F.Front.seen c.take_pause-pause.new.front) (g.C.Clock.told c.take_pause-pause.new.clock)
     c.take_pause-pause.new.ready c.moment-present.result c.self.view_is c.show.ensures.after c.show.ensures.sound c.moment-present.ensures
     c.take_pause-pause.ensures.waits c.take_pause-pause.ensures.asks in
-    (between-ended (LinksTell g.L.Link.seen) c.loop.rest c.take_pause-pause.result c.args.self.now c.loop.self _ c.loop.invariant.between waited c.in-Ended.is).follows
+    (between-ended (is_some g.N.Known.known ≡ true) c.loop.rest c.take_pause-pause.result c.args.self.now c.loop.self _ c.loop.invariant.between waited c.in-Ended.is).follows
 
 pub returns-in-Ended-clause-few : goal.returns-in-Ended-clause-few
 returns-in-Ended-clause-few g c =
@@ -82,7 +82,7 @@ returns-in-Ended-clause-few g c =
     has-waited c.loop.rest c.take_pause-pause.result c.loop.self _ (g.F.Front.seen c.take_pause-pause.new.front) (g.C.Clock.told c.take_pause-pause.new.clock)
     c.take_pause-pause.new.ready c.moment-present.result c.self.view_is c.show.ensures.after c.show.ensures.sound c.moment-present.ensures
     c.take_pause-pause.ensures.waits c.take_pause-pause.ensures.asks in
-    (between-ended (LinksTell g.L.Link.seen) c.loop.rest c.take_pause-pause.result c.args.self.now c.loop.self _ c.loop.invariant.between waited c.in-Ended.is).few
+    (between-ended (is_some g.N.Known.known ≡ true) c.loop.rest c.take_pause-pause.result c.args.self.now c.loop.self _ c.loop.invariant.between waited c.in-Ended.is).few
 
 pub returns-in-Ended-clause-watched : goal.returns-in-Ended-clause-watched
 returns-in-Ended-clause-watched g c =
@@ -90,7 +90,7 @@ returns-in-Ended-clause-watched g c =
     has-waited c.loop.rest c.take_pause-pause.result c.loop.self _ (g.F.Front.seen c.take_pause-pause.new.front) (g.C.Clock.told c.take_pause-pause.new.clock)
     c.take_pause-pause.new.ready c.moment-present.result c.self.view_is c.show.ensures.after c.show.ensures.sound c.moment-present.ensures
     c.take_pause-pause.ensures.waits c.take_pause-pause.ensures.asks in
-    (between-ended (LinksTell g.L.Link.seen) c.loop.rest c.take_pause-pause.result c.args.self.now c.loop.self _ c.loop.invariant.between waited c.in-Ended.is).watched
+    (between-ended (is_some g.N.Known.known ≡ true) c.loop.rest c.take_pause-pause.result c.args.self.now c.loop.self _ c.loop.invariant.between waited c.in-Ended.is).watched
 
 pub returns-in-Ended-clause-bound : goal.returns-in-Ended-clause-bound
 returns-in-Ended-clause-bound g c =
@@ -98,7 +98,7 @@ returns-in-Ended-clause-bound g c =
     has-waited c.loop.rest c.take_pause-pause.result c.loop.self _ (g.F.Front.seen c.take_pause-pause.new.front) (g.C.Clock.told c.take_pause-pause.new.clock)
     c.take_pause-pause.new.ready c.moment-present.result c.self.view_is c.show.ensures.after c.show.ensures.sound c.moment-present.ensures
     c.take_pause-pause.ensures.waits c.take_pause-pause.ensures.asks in
-    (between-ended (LinksTell g.L.Link.seen) c.loop.rest c.take_pause-pause.result c.args.self.now c.loop.self _ c.loop.invariant.between waited c.in-Ended.is).bound
+    (between-ended (is_some g.N.Known.known ≡ true) c.loop.rest c.take_pause-pause.result c.args.self.now c.loop.self _ c.loop.invariant.between waited c.in-Ended.is).bound
 
 pub returns-in-Ended-clause-time : goal.returns-in-Ended-clause-time
 returns-in-Ended-clause-time g c =
@@ -106,7 +106,7 @@ returns-in-Ended-clause-time g c =
     has-waited c.loop.rest c.take_pause-pause.result c.loop.self _ (g.F.Front.seen c.take_pause-pause.new.front) (g.C.Clock.told c.take_pause-pause.new.clock)
     c.take_pause-pause.new.ready c.moment-present.result c.self.view_is c.show.ensures.after c.show.ensures.sound c.moment-present.ensures
     c.take_pause-pause.ensures.waits c.take_pause-pause.ensures.asks in
-    (between-ended (LinksTell g.L.Link.seen) c.loop.rest c.take_pause-pause.result c.args.self.now c.loop.self _ c.loop.invariant.between waited c.in-Ended.is).time
+    (between-ended (is_some g.N.Known.known ≡ true) c.loop.rest c.take_pause-pause.result c.args.self.now c.loop.self _ c.loop.invariant.between waited c.in-Ended.is).time
 
 pub returns-in-Ended-clause-informed : goal.returns-in-Ended-clause-informed
 returns-in-Ended-clause-informed g c =
@@ -114,7 +114,7 @@ returns-in-Ended-clause-informed g c =
     has-waited c.loop.rest c.take_pause-pause.result c.loop.self _ (g.F.Front.seen c.take_pause-pause.new.front) (g.C.Clock.told c.take_pause-pause.new.clock)
     c.take_pause-pause.new.ready c.moment-present.result c.self.view_is c.show.ensures.after c.show.ensures.sound c.moment-present.ensures
     c.take_pause-pause.ensures.waits c.take_pause-pause.ensures.asks in
-    (between-ended (LinksTell g.L.Link.seen) c.loop.rest c.take_pause-pause.result c.args.self.now c.loop.self _ c.loop.invariant.between waited c.in-Ended.is).informed
+    (between-ended (is_some g.N.Known.known ≡ true) c.loop.rest c.take_pause-pause.result c.args.self.now c.loop.self _ c.loop.invariant.between waited c.in-Ended.is).informed
 
 pub returns-in-Failed-clause-follows : goal.returns-in-Failed-clause-follows
 returns-in-Failed-clause-follows g c =
@@ -122,7 +122,7 @@ returns-in-Failed-clause-follows g c =
     has-waited c.loop.rest c.take_pause-pause.result c.loop.self _ (g.F.Front.seen c.take_pause-pause.new.front) (g.C.Clock.told c.take_pause-pause.new.clock)
     c.take_pause-pause.new.ready c.moment-present.result c.self.view_is c.show.ensures.after c.show.ensures.sound c.moment-present.ensures
     c.take_pause-pause.ensures.waits c.take_pause-pause.ensures.asks in
-    (between-failed (LinksTell g.L.Link.seen) c.loop.rest c.take_pause-pause.result c.args.self.now c.loop.self _ c.loop.invariant.between waited c.in-Failed.is).follows
+    (between-failed (is_some g.N.Known.known ≡ true) c.loop.rest c.take_pause-pause.result c.args.self.now c.loop.self _ c.loop.invariant.between waited c.in-Failed.is).follows
 
 pub returns-in-Failed-clause-few : goal.returns-in-Failed-clause-few
 returns-in-Failed-clause-few g c =
@@ -130,7 +130,7 @@ returns-in-Failed-clause-few g c =
     has-waited c.loop.rest c.take_pause-pause.result c.loop.self _ (g.F.Front.seen c.take_pause-pause.new.front) (g.C.Clock.told c.take_pause-pause.new.clock)
     c.take_pause-pause.new.ready c.moment-present.result c.self.view_is c.show.ensures.after c.show.ensures.sound c.moment-present.ensures
     c.take_pause-pause.ensures.waits c.take_pause-pause.ensures.asks in
-    (between-failed (LinksTell g.L.Link.seen) c.loop.rest c.take_pause-pause.result c.args.self.now c.loop.self _ c.loop.invariant.between waited c.in-Failed.is).few
+    (between-failed (is_some g.N.Known.known ≡ true) c.loop.rest c.take_pause-pause.result c.args.self.now c.loop.self _ c.loop.invariant.between waited c.in-Failed.is).few
 
 pub returns-in-Failed-clause-watched : goal.returns-in-Failed-clause-watched
 returns-in-Failed-clause-watched g c =
@@ -138,7 +138,7 @@ returns-in-Failed-clause-watched g c =
     has-waited c.loop.rest c.take_pause-pause.result c.loop.self _ (g.F.Front.seen c.take_pause-pause.new.front) (g.C.Clock.told c.take_pause-pause.new.clock)
     c.take_pause-pause.new.ready c.moment-present.result c.self.view_is c.show.ensures.after c.show.ensures.sound c.moment-present.ensures
     c.take_pause-pause.ensures.waits c.take_pause-pause.ensures.asks in
-    (between-failed (LinksTell g.L.Link.seen) c.loop.rest c.take_pause-pause.result c.args.self.now c.loop.self _ c.loop.invariant.between waited c.in-Failed.is).watched
+    (between-failed (is_some g.N.Known.known ≡ true) c.loop.rest c.take_pause-pause.result c.args.self.now c.loop.self _ c.loop.invariant.between waited c.in-Failed.is).watched
 
 pub returns-in-Failed-clause-bound : goal.returns-in-Failed-clause-bound
 returns-in-Failed-clause-bound g c =
@@ -146,7 +146,7 @@ returns-in-Failed-clause-bound g c =
     has-waited c.loop.rest c.take_pause-pause.result c.loop.self _ (g.F.Front.seen c.take_pause-pause.new.front) (g.C.Clock.told c.take_pause-pause.new.clock)
     c.take_pause-pause.new.ready c.moment-present.result c.self.view_is c.show.ensures.after c.show.ensures.sound c.moment-present.ensures
     c.take_pause-pause.ensures.waits c.take_pause-pause.ensures.asks in
-    (between-failed (LinksTell g.L.Link.seen) c.loop.rest c.take_pause-pause.result c.args.self.now c.loop.self _ c.loop.invariant.between waited c.in-Failed.is).bound
+    (between-failed (is_some g.N.Known.known ≡ true) c.loop.rest c.take_pause-pause.result c.args.self.now c.loop.self _ c.loop.invariant.between waited c.in-Failed.is).bound
 
 pub returns-in-Failed-clause-time : goal.returns-in-Failed-clause-time
 returns-in-Failed-clause-time g c =
@@ -154,7 +154,7 @@ returns-in-Failed-clause-time g c =
     has-waited c.loop.rest c.take_pause-pause.result c.loop.self _ (g.F.Front.seen c.take_pause-pause.new.front) (g.C.Clock.told c.take_pause-pause.new.clock)
     c.take_pause-pause.new.ready c.moment-present.result c.self.view_is c.show.ensures.after c.show.ensures.sound c.moment-present.ensures
     c.take_pause-pause.ensures.waits c.take_pause-pause.ensures.asks in
-    (between-failed (LinksTell g.L.Link.seen) c.loop.rest c.take_pause-pause.result c.args.self.now c.loop.self _ c.loop.invariant.between waited c.in-Failed.is).time
+    (between-failed (is_some g.N.Known.known ≡ true) c.loop.rest c.take_pause-pause.result c.args.self.now c.loop.self _ c.loop.invariant.between waited c.in-Failed.is).time
 
 pub returns-in-Failed-clause-informed : goal.returns-in-Failed-clause-informed
 returns-in-Failed-clause-informed g c =
@@ -162,7 +162,7 @@ returns-in-Failed-clause-informed g c =
     has-waited c.loop.rest c.take_pause-pause.result c.loop.self _ (g.F.Front.seen c.take_pause-pause.new.front) (g.C.Clock.told c.take_pause-pause.new.clock)
     c.take_pause-pause.new.ready c.moment-present.result c.self.view_is c.show.ensures.after c.show.ensures.sound c.moment-present.ensures
     c.take_pause-pause.ensures.waits c.take_pause-pause.ensures.asks in
-    (between-failed (LinksTell g.L.Link.seen) c.loop.rest c.take_pause-pause.result c.args.self.now c.loop.self _ c.loop.invariant.between waited c.in-Failed.is).informed
+    (between-failed (is_some g.N.Known.known ≡ true) c.loop.rest c.take_pause-pause.result c.args.self.now c.loop.self _ c.loop.invariant.between waited c.in-Failed.is).informed
 
 pub returns-in_err-take_in-clause-free : goal.returns-in_err-take_in-clause-free
 returns-in_err-take_in-clause-free g c =
@@ -170,7 +170,7 @@ returns-in_err-take_in-clause-free g c =
     has-waited c.loop.rest c.take_pause-pause.result c.loop.self _ (g.F.Front.seen c.take_pause-pause.new.front) (g.C.Clock.told c.take_pause-pause.new.clock)
     c.take_pause-pause.new.ready c.moment-present.result c.self.view_is c.show.ensures.after c.show.ensures.sound c.moment-present.ensures
     c.take_pause-pause.ensures.waits c.take_pause-pause.ensures.asks in
-    (broken-round c.passes_act_in_steps.ensures.acts _ (LinksTell g.L.Link.seen) c.loop.rest c.take_pause-pause.result c.args.self.now c.loop.self _ c.take_in.new.self c.loop.invariant.between waited
+    (broken-round c.passes_act_in_steps.ensures.acts _ (is_some g.N.Known.known ≡ true) c.loop.rest c.take_pause-pause.result c.args.self.now c.loop.self _ c.take_in.new.self c.loop.invariant.between waited
     c.in_err-take_in.ensures.broken c.take_in.ensures.up c.take_in.ensures.follows c.take_in.ensures.front c.take_in.ensures.watched c.take_in.ensures.calls).free
 
 pub returns-in_err-take_in-clause-follows : goal.returns-in_err-take_in-clause-follows
@@ -179,7 +179,7 @@ returns-in_err-take_in-clause-follows g c =
     has-waited c.loop.rest c.take_pause-pause.result c.loop.self _ (g.F.Front.seen c.take_pause-pause.new.front) (g.C.Clock.told c.take_pause-pause.new.clock)
     c.take_pause-pause.new.ready c.moment-present.result c.self.view_is c.show.ensures.after c.show.ensures.sound c.moment-present.ensures
     c.take_pause-pause.ensures.waits c.take_pause-pause.ensures.asks in
-    (broken-round c.passes_act_in_steps.ensures.acts _ (LinksTell g.L.Link.seen) c.loop.rest c.take_pause-pause.result c.args.self.now c.loop.self _ c.take_in.new.self c.loop.invariant.between waited
+    (broken-round c.passes_act_in_steps.ensures.acts _ (is_some g.N.Known.known ≡ true) c.loop.rest c.take_pause-pause.result c.args.self.now c.loop.self _ c.take_in.new.self c.loop.invariant.between waited
     c.in_err-take_in.ensures.broken c.take_in.ensures.up c.take_in.ensures.follows c.take_in.ensures.front c.take_in.ensures.watched c.take_in.ensures.calls).follows
 
 pub returns-in_err-take_in-clause-few : goal.returns-in_err-take_in-clause-few
@@ -188,7 +188,7 @@ returns-in_err-take_in-clause-few g c =
     has-waited c.loop.rest c.take_pause-pause.result c.loop.self _ (g.F.Front.seen c.take_pause-pause.new.front) (g.C.Clock.told c.take_pause-pause.new.clock)
     c.take_pause-pause.new.ready c.moment-present.result c.self.view_is c.show.ensures.after c.show.ensures.sound c.moment-present.ensures
     c.take_pause-pause.ensures.waits c.take_pause-pause.ensures.asks in
-    (broken-round c.passes_act_in_steps.ensures.acts _ (LinksTell g.L.Link.seen) c.loop.rest c.take_pause-pause.result c.args.self.now c.loop.self _ c.take_in.new.self c.loop.invariant.between waited
+    (broken-round c.passes_act_in_steps.ensures.acts _ (is_some g.N.Known.known ≡ true) c.loop.rest c.take_pause-pause.result c.args.self.now c.loop.self _ c.take_in.new.self c.loop.invariant.between waited
     c.in_err-take_in.ensures.broken c.take_in.ensures.up c.take_in.ensures.follows c.take_in.ensures.front c.take_in.ensures.watched c.take_in.ensures.calls).few
 
 pub returns-in_err-take_in-clause-watched : goal.returns-in_err-take_in-clause-watched
@@ -197,7 +197,7 @@ returns-in_err-take_in-clause-watched g c =
     has-waited c.loop.rest c.take_pause-pause.result c.loop.self _ (g.F.Front.seen c.take_pause-pause.new.front) (g.C.Clock.told c.take_pause-pause.new.clock)
     c.take_pause-pause.new.ready c.moment-present.result c.self.view_is c.show.ensures.after c.show.ensures.sound c.moment-present.ensures
     c.take_pause-pause.ensures.waits c.take_pause-pause.ensures.asks in
-    (broken-round c.passes_act_in_steps.ensures.acts _ (LinksTell g.L.Link.seen) c.loop.rest c.take_pause-pause.result c.args.self.now c.loop.self _ c.take_in.new.self c.loop.invariant.between waited
+    (broken-round c.passes_act_in_steps.ensures.acts _ (is_some g.N.Known.known ≡ true) c.loop.rest c.take_pause-pause.result c.args.self.now c.loop.self _ c.take_in.new.self c.loop.invariant.between waited
     c.in_err-take_in.ensures.broken c.take_in.ensures.up c.take_in.ensures.follows c.take_in.ensures.front c.take_in.ensures.watched c.take_in.ensures.calls).watched
 
 pub returns-in_err-take_in-clause-bound : goal.returns-in_err-take_in-clause-bound
@@ -206,7 +206,7 @@ returns-in_err-take_in-clause-bound g c =
     has-waited c.loop.rest c.take_pause-pause.result c.loop.self _ (g.F.Front.seen c.take_pause-pause.new.front) (g.C.Clock.told c.take_pause-pause.new.clock)
     c.take_pause-pause.new.ready c.moment-present.result c.self.view_is c.show.ensures.after c.show.ensures.sound c.moment-present.ensures
     c.take_pause-pause.ensures.waits c.take_pause-pause.ensures.asks in
-    (broken-round c.passes_act_in_steps.ensures.acts _ (LinksTell g.L.Link.seen) c.loop.rest c.take_pause-pause.result c.args.self.now c.loop.self _ c.take_in.new.self c.loop.invariant.between waited
+    (broken-round c.passes_act_in_steps.ensures.acts _ (is_some g.N.Known.known ≡ true) c.loop.rest c.take_pause-pause.result c.args.self.now c.loop.self _ c.take_in.new.self c.loop.invariant.between waited
     c.in_err-take_in.ensures.broken c.take_in.ensures.up c.take_in.ensures.follows c.take_in.ensures.front c.take_in.ensures.watched c.take_in.ensures.calls).bound
 
 pub returns-in_err-take_in-clause-time : goal.returns-in_err-take_in-clause-time
@@ -215,7 +215,7 @@ returns-in_err-take_in-clause-time g c =
     has-waited c.loop.rest c.take_pause-pause.result c.loop.self _ (g.F.Front.seen c.take_pause-pause.new.front) (g.C.Clock.told c.take_pause-pause.new.clock)
     c.take_pause-pause.new.ready c.moment-present.result c.self.view_is c.show.ensures.after c.show.ensures.sound c.moment-present.ensures
     c.take_pause-pause.ensures.waits c.take_pause-pause.ensures.asks in
-    (broken-round c.passes_act_in_steps.ensures.acts _ (LinksTell g.L.Link.seen) c.loop.rest c.take_pause-pause.result c.args.self.now c.loop.self _ c.take_in.new.self c.loop.invariant.between waited
+    (broken-round c.passes_act_in_steps.ensures.acts _ (is_some g.N.Known.known ≡ true) c.loop.rest c.take_pause-pause.result c.args.self.now c.loop.self _ c.take_in.new.self c.loop.invariant.between waited
     c.in_err-take_in.ensures.broken c.take_in.ensures.up c.take_in.ensures.follows c.take_in.ensures.front c.take_in.ensures.watched c.take_in.ensures.calls).time
 
 pub returns-in_err-take_in-clause-begun : goal.returns-in_err-take_in-clause-begun
@@ -225,7 +225,7 @@ returns-in_err-take_in-clause-begun g c =
     c.take_pause-pause.new.ready c.moment-present.result c.self.view_is c.show.ensures.after c.show.ensures.sound c.moment-present.ensures
     c.take_pause-pause.ensures.waits c.take_pause-pause.ensures.asks in
     on-err c.from_residual-in_err-take_in.result _
-    (broken-round c.passes_act_in_steps.ensures.acts _ (LinksTell g.L.Link.seen) c.loop.rest c.take_pause-pause.result c.args.self.now c.loop.self _ c.take_in.new.self c.loop.invariant.between waited
+    (broken-round c.passes_act_in_steps.ensures.acts _ (is_some g.N.Known.known ≡ true) c.loop.rest c.take_pause-pause.result c.args.self.now c.loop.self _ c.take_in.new.self c.loop.invariant.between waited
     c.in_err-take_in.ensures.broken c.take_in.ensures.up c.take_in.ensures.follows c.take_in.ensures.front c.take_in.ensures.watched c.take_in.ensures.calls).so_far
 
 pub serve-requires-clause-free : goal.serve-requires-clause-free
@@ -234,7 +234,7 @@ serve-requires-clause-free g c κs within =
     has-waited c.loop.rest c.take_pause-pause.result c.loop.self _ (g.F.Front.seen c.take_pause-pause.new.front) (g.C.Clock.told c.take_pause-pause.new.clock)
     c.take_pause-pause.new.ready c.moment-present.result c.self.view_is c.show.ensures.after c.show.ensures.sound c.moment-present.ensures
     c.take_pause-pause.ensures.waits c.take_pause-pause.ensures.asks in
-    (between-round (LinksTell g.L.Link.seen) c.loop.rest c.take_pause-pause.result c.args.self.now c.loop.self _ c.passes_act_in_steps.ensures.acts c.take_in.new.self c.loop.invariant.between waited
+    (between-round (is_some g.N.Known.known ≡ true) c.loop.rest c.take_pause-pause.result c.args.self.now c.loop.self _ c.passes_act_in_steps.ensures.acts c.take_in.new.self c.loop.invariant.between waited
     c.in_ok-take_in.ensures.round c.in_ok-take_in.ensures.moment c.in_ok-take_in.ensures.step c.take_in.ensures.up c.take_in.ensures.follows
     c.take_in.ensures.front c.take_in.ensures.watched c.take_in.ensures.calls).free 1
 
@@ -244,13 +244,13 @@ returns-in_err-rest-clause-free g c =
     has-waited c.loop.rest c.take_pause-pause.result c.loop.self _ (g.F.Front.seen c.take_pause-pause.new.front) (g.C.Clock.told c.take_pause-pause.new.clock)
     c.take_pause-pause.new.ready c.moment-present.result c.self.view_is c.show.ensures.after c.show.ensures.sound c.moment-present.ensures
     c.take_pause-pause.ensures.waits c.take_pause-pause.ensures.asks in
-    let between : IsBetween (LinksTell g.L.Link.seen) c.args.self.now c.take_in.new.self =
-    between-round (LinksTell g.L.Link.seen) c.loop.rest c.take_pause-pause.result c.args.self.now c.loop.self _ c.passes_act_in_steps.ensures.acts c.take_in.new.self c.loop.invariant.between waited
+    let between : IsBetween (is_some g.N.Known.known ≡ true) c.args.self.now c.take_in.new.self =
+    between-round (is_some g.N.Known.known ≡ true) c.loop.rest c.take_pause-pause.result c.args.self.now c.loop.self _ c.passes_act_in_steps.ensures.acts c.take_in.new.self c.loop.invariant.between waited
     c.in_ok-take_in.ensures.round c.in_ok-take_in.ensures.moment c.in_ok-take_in.ensures.step c.take_in.ensures.up c.take_in.ensures.follows
     c.take_in.ensures.front c.take_in.ensures.watched c.take_in.ensures.calls in
     let served : HasServed c.take_in.new.self c.serve.new.self =
     record { serves = c.serve.ensures.serves; rest = c.serve.ensures.rest; others = c.serve.ensures.others } in
-    (broken-served c.passes_act_in_steps.ensures.acts (LinksTell g.L.Link.seen) c.args.self.now c.take_in.new.self c.serve.new.self between served).free
+    (broken-served c.passes_act_in_steps.ensures.acts (is_some g.N.Known.known ≡ true) c.args.self.now c.take_in.new.self c.serve.new.self between served).free
 
 pub returns-in_err-rest-clause-base : goal.returns-in_err-rest-clause-base
 returns-in_err-rest-clause-base g c =
@@ -258,13 +258,13 @@ returns-in_err-rest-clause-base g c =
     has-waited c.loop.rest c.take_pause-pause.result c.loop.self _ (g.F.Front.seen c.take_pause-pause.new.front) (g.C.Clock.told c.take_pause-pause.new.clock)
     c.take_pause-pause.new.ready c.moment-present.result c.self.view_is c.show.ensures.after c.show.ensures.sound c.moment-present.ensures
     c.take_pause-pause.ensures.waits c.take_pause-pause.ensures.asks in
-    let between : IsBetween (LinksTell g.L.Link.seen) c.args.self.now c.take_in.new.self =
-    between-round (LinksTell g.L.Link.seen) c.loop.rest c.take_pause-pause.result c.args.self.now c.loop.self _ c.passes_act_in_steps.ensures.acts c.take_in.new.self c.loop.invariant.between waited
+    let between : IsBetween (is_some g.N.Known.known ≡ true) c.args.self.now c.take_in.new.self =
+    between-round (is_some g.N.Known.known ≡ true) c.loop.rest c.take_pause-pause.result c.args.self.now c.loop.self _ c.passes_act_in_steps.ensures.acts c.take_in.new.self c.loop.invariant.between waited
     c.in_ok-take_in.ensures.round c.in_ok-take_in.ensures.moment c.in_ok-take_in.ensures.step c.take_in.ensures.up c.take_in.ensures.follows
     c.take_in.ensures.front c.take_in.ensures.watched c.take_in.ensures.calls in
     let served : HasServed c.take_in.new.self c.serve.new.self =
     record { serves = c.serve.ensures.serves; rest = c.serve.ensures.rest; others = c.serve.ensures.others } in
-    (broken-served c.passes_act_in_steps.ensures.acts (LinksTell g.L.Link.seen) c.args.self.now c.take_in.new.self c.serve.new.self between served).base
+    (broken-served c.passes_act_in_steps.ensures.acts (is_some g.N.Known.known ≡ true) c.args.self.now c.take_in.new.self c.serve.new.self between served).base
 
 pub returns-in_err-rest-clause-passes : goal.returns-in_err-rest-clause-passes
 returns-in_err-rest-clause-passes g c =
@@ -272,13 +272,13 @@ returns-in_err-rest-clause-passes g c =
     has-waited c.loop.rest c.take_pause-pause.result c.loop.self _ (g.F.Front.seen c.take_pause-pause.new.front) (g.C.Clock.told c.take_pause-pause.new.clock)
     c.take_pause-pause.new.ready c.moment-present.result c.self.view_is c.show.ensures.after c.show.ensures.sound c.moment-present.ensures
     c.take_pause-pause.ensures.waits c.take_pause-pause.ensures.asks in
-    let between : IsBetween (LinksTell g.L.Link.seen) c.args.self.now c.take_in.new.self =
-    between-round (LinksTell g.L.Link.seen) c.loop.rest c.take_pause-pause.result c.args.self.now c.loop.self _ c.passes_act_in_steps.ensures.acts c.take_in.new.self c.loop.invariant.between waited
+    let between : IsBetween (is_some g.N.Known.known ≡ true) c.args.self.now c.take_in.new.self =
+    between-round (is_some g.N.Known.known ≡ true) c.loop.rest c.take_pause-pause.result c.args.self.now c.loop.self _ c.passes_act_in_steps.ensures.acts c.take_in.new.self c.loop.invariant.between waited
     c.in_ok-take_in.ensures.round c.in_ok-take_in.ensures.moment c.in_ok-take_in.ensures.step c.take_in.ensures.up c.take_in.ensures.follows
     c.take_in.ensures.front c.take_in.ensures.watched c.take_in.ensures.calls in
     let served : HasServed c.take_in.new.self c.serve.new.self =
     record { serves = c.serve.ensures.serves; rest = c.serve.ensures.rest; others = c.serve.ensures.others } in
-    (broken-served c.passes_act_in_steps.ensures.acts (LinksTell g.L.Link.seen) c.args.self.now c.take_in.new.self c.serve.new.self between served).passes
+    (broken-served c.passes_act_in_steps.ensures.acts (is_some g.N.Known.known ≡ true) c.args.self.now c.take_in.new.self c.serve.new.self between served).passes
 
 pub returns-in_err-rest-clause-up : goal.returns-in_err-rest-clause-up
 returns-in_err-rest-clause-up g c =
@@ -286,13 +286,13 @@ returns-in_err-rest-clause-up g c =
     has-waited c.loop.rest c.take_pause-pause.result c.loop.self _ (g.F.Front.seen c.take_pause-pause.new.front) (g.C.Clock.told c.take_pause-pause.new.clock)
     c.take_pause-pause.new.ready c.moment-present.result c.self.view_is c.show.ensures.after c.show.ensures.sound c.moment-present.ensures
     c.take_pause-pause.ensures.waits c.take_pause-pause.ensures.asks in
-    let between : IsBetween (LinksTell g.L.Link.seen) c.args.self.now c.take_in.new.self =
-    between-round (LinksTell g.L.Link.seen) c.loop.rest c.take_pause-pause.result c.args.self.now c.loop.self _ c.passes_act_in_steps.ensures.acts c.take_in.new.self c.loop.invariant.between waited
+    let between : IsBetween (is_some g.N.Known.known ≡ true) c.args.self.now c.take_in.new.self =
+    between-round (is_some g.N.Known.known ≡ true) c.loop.rest c.take_pause-pause.result c.args.self.now c.loop.self _ c.passes_act_in_steps.ensures.acts c.take_in.new.self c.loop.invariant.between waited
     c.in_ok-take_in.ensures.round c.in_ok-take_in.ensures.moment c.in_ok-take_in.ensures.step c.take_in.ensures.up c.take_in.ensures.follows
     c.take_in.ensures.front c.take_in.ensures.watched c.take_in.ensures.calls in
     let served : HasServed c.take_in.new.self c.serve.new.self =
     record { serves = c.serve.ensures.serves; rest = c.serve.ensures.rest; others = c.serve.ensures.others } in
-    (broken-served c.passes_act_in_steps.ensures.acts (LinksTell g.L.Link.seen) c.args.self.now c.take_in.new.self c.serve.new.self between served).up
+    (broken-served c.passes_act_in_steps.ensures.acts (is_some g.N.Known.known ≡ true) c.args.self.now c.take_in.new.self c.serve.new.self between served).up
 
 pub returns-in_err-rest-clause-follows : goal.returns-in_err-rest-clause-follows
 returns-in_err-rest-clause-follows g c =
@@ -300,13 +300,13 @@ returns-in_err-rest-clause-follows g c =
     has-waited c.loop.rest c.take_pause-pause.result c.loop.self _ (g.F.Front.seen c.take_pause-pause.new.front) (g.C.Clock.told c.take_pause-pause.new.clock)
     c.take_pause-pause.new.ready c.moment-present.result c.self.view_is c.show.ensures.after c.show.ensures.sound c.moment-present.ensures
     c.take_pause-pause.ensures.waits c.take_pause-pause.ensures.asks in
-    let between : IsBetween (LinksTell g.L.Link.seen) c.args.self.now c.take_in.new.self =
-    between-round (LinksTell g.L.Link.seen) c.loop.rest c.take_pause-pause.result c.args.self.now c.loop.self _ c.passes_act_in_steps.ensures.acts c.take_in.new.self c.loop.invariant.between waited
+    let between : IsBetween (is_some g.N.Known.known ≡ true) c.args.self.now c.take_in.new.self =
+    between-round (is_some g.N.Known.known ≡ true) c.loop.rest c.take_pause-pause.result c.args.self.now c.loop.self _ c.passes_act_in_steps.ensures.acts c.take_in.new.self c.loop.invariant.between waited
     c.in_ok-take_in.ensures.round c.in_ok-take_in.ensures.moment c.in_ok-take_in.ensures.step c.take_in.ensures.up c.take_in.ensures.follows
     c.take_in.ensures.front c.take_in.ensures.watched c.take_in.ensures.calls in
     let served : HasServed c.take_in.new.self c.serve.new.self =
     record { serves = c.serve.ensures.serves; rest = c.serve.ensures.rest; others = c.serve.ensures.others } in
-    (broken-served c.passes_act_in_steps.ensures.acts (LinksTell g.L.Link.seen) c.args.self.now c.take_in.new.self c.serve.new.self between served).follows
+    (broken-served c.passes_act_in_steps.ensures.acts (is_some g.N.Known.known ≡ true) c.args.self.now c.take_in.new.self c.serve.new.self between served).follows
 
 pub returns-in_err-rest-clause-few : goal.returns-in_err-rest-clause-few
 returns-in_err-rest-clause-few g c =
@@ -314,13 +314,13 @@ returns-in_err-rest-clause-few g c =
     has-waited c.loop.rest c.take_pause-pause.result c.loop.self _ (g.F.Front.seen c.take_pause-pause.new.front) (g.C.Clock.told c.take_pause-pause.new.clock)
     c.take_pause-pause.new.ready c.moment-present.result c.self.view_is c.show.ensures.after c.show.ensures.sound c.moment-present.ensures
     c.take_pause-pause.ensures.waits c.take_pause-pause.ensures.asks in
-    let between : IsBetween (LinksTell g.L.Link.seen) c.args.self.now c.take_in.new.self =
-    between-round (LinksTell g.L.Link.seen) c.loop.rest c.take_pause-pause.result c.args.self.now c.loop.self _ c.passes_act_in_steps.ensures.acts c.take_in.new.self c.loop.invariant.between waited
+    let between : IsBetween (is_some g.N.Known.known ≡ true) c.args.self.now c.take_in.new.self =
+    between-round (is_some g.N.Known.known ≡ true) c.loop.rest c.take_pause-pause.result c.args.self.now c.loop.self _ c.passes_act_in_steps.ensures.acts c.take_in.new.self c.loop.invariant.between waited
     c.in_ok-take_in.ensures.round c.in_ok-take_in.ensures.moment c.in_ok-take_in.ensures.step c.take_in.ensures.up c.take_in.ensures.follows
     c.take_in.ensures.front c.take_in.ensures.watched c.take_in.ensures.calls in
     let served : HasServed c.take_in.new.self c.serve.new.self =
     record { serves = c.serve.ensures.serves; rest = c.serve.ensures.rest; others = c.serve.ensures.others } in
-    (broken-served c.passes_act_in_steps.ensures.acts (LinksTell g.L.Link.seen) c.args.self.now c.take_in.new.self c.serve.new.self between served).few
+    (broken-served c.passes_act_in_steps.ensures.acts (is_some g.N.Known.known ≡ true) c.args.self.now c.take_in.new.self c.serve.new.self between served).few
 
 pub returns-in_err-rest-clause-watched : goal.returns-in_err-rest-clause-watched
 returns-in_err-rest-clause-watched g c =
@@ -328,13 +328,13 @@ returns-in_err-rest-clause-watched g c =
     has-waited c.loop.rest c.take_pause-pause.result c.loop.self _ (g.F.Front.seen c.take_pause-pause.new.front) (g.C.Clock.told c.take_pause-pause.new.clock)
     c.take_pause-pause.new.ready c.moment-present.result c.self.view_is c.show.ensures.after c.show.ensures.sound c.moment-present.ensures
     c.take_pause-pause.ensures.waits c.take_pause-pause.ensures.asks in
-    let between : IsBetween (LinksTell g.L.Link.seen) c.args.self.now c.take_in.new.self =
-    between-round (LinksTell g.L.Link.seen) c.loop.rest c.take_pause-pause.result c.args.self.now c.loop.self _ c.passes_act_in_steps.ensures.acts c.take_in.new.self c.loop.invariant.between waited
+    let between : IsBetween (is_some g.N.Known.known ≡ true) c.args.self.now c.take_in.new.self =
+    between-round (is_some g.N.Known.known ≡ true) c.loop.rest c.take_pause-pause.result c.args.self.now c.loop.self _ c.passes_act_in_steps.ensures.acts c.take_in.new.self c.loop.invariant.between waited
     c.in_ok-take_in.ensures.round c.in_ok-take_in.ensures.moment c.in_ok-take_in.ensures.step c.take_in.ensures.up c.take_in.ensures.follows
     c.take_in.ensures.front c.take_in.ensures.watched c.take_in.ensures.calls in
     let served : HasServed c.take_in.new.self c.serve.new.self =
     record { serves = c.serve.ensures.serves; rest = c.serve.ensures.rest; others = c.serve.ensures.others } in
-    (broken-served c.passes_act_in_steps.ensures.acts (LinksTell g.L.Link.seen) c.args.self.now c.take_in.new.self c.serve.new.self between served).watched
+    (broken-served c.passes_act_in_steps.ensures.acts (is_some g.N.Known.known ≡ true) c.args.self.now c.take_in.new.self c.serve.new.self between served).watched
 
 pub returns-in_err-rest-clause-bound : goal.returns-in_err-rest-clause-bound
 returns-in_err-rest-clause-bound g c =
@@ -342,13 +342,13 @@ returns-in_err-rest-clause-bound g c =
     has-waited c.loop.rest c.take_pause-pause.result c.loop.self _ (g.F.Front.seen c.take_pause-pause.new.front) (g.C.Clock.told c.take_pause-pause.new.clock)
     c.take_pause-pause.new.ready c.moment-present.result c.self.view_is c.show.ensures.after c.show.ensures.sound c.moment-present.ensures
     c.take_pause-pause.ensures.waits c.take_pause-pause.ensures.asks in
-    let between : IsBetween (LinksTell g.L.Link.seen) c.args.self.now c.take_in.new.self =
-    between-round (LinksTell g.L.Link.seen) c.loop.rest c.take_pause-pause.result c.args.self.now c.loop.self _ c.passes_act_in_steps.ensures.acts c.take_in.new.self c.loop.invariant.between waited
+    let between : IsBetween (is_some g.N.Known.known ≡ true) c.args.self.now c.take_in.new.self =
+    between-round (is_some g.N.Known.known ≡ true) c.loop.rest c.take_pause-pause.result c.args.self.now c.loop.self _ c.passes_act_in_steps.ensures.acts c.take_in.new.self c.loop.invariant.between waited
     c.in_ok-take_in.ensures.round c.in_ok-take_in.ensures.moment c.in_ok-take_in.ensures.step c.take_in.ensures.up c.take_in.ensures.follows
     c.take_in.ensures.front c.take_in.ensures.watched c.take_in.ensures.calls in
     let served : HasServed c.take_in.new.self c.serve.new.self =
     record { serves = c.serve.ensures.serves; rest = c.serve.ensures.rest; others = c.serve.ensures.others } in
-    (broken-served c.passes_act_in_steps.ensures.acts (LinksTell g.L.Link.seen) c.args.self.now c.take_in.new.self c.serve.new.self between served).bound
+    (broken-served c.passes_act_in_steps.ensures.acts (is_some g.N.Known.known ≡ true) c.args.self.now c.take_in.new.self c.serve.new.self between served).bound
 
 pub returns-in_err-rest-clause-time : goal.returns-in_err-rest-clause-time
 returns-in_err-rest-clause-time g c =
@@ -356,13 +356,13 @@ returns-in_err-rest-clause-time g c =
     has-waited c.loop.rest c.take_pause-pause.result c.loop.self _ (g.F.Front.seen c.take_pause-pause.new.front) (g.C.Clock.told c.take_pause-pause.new.clock)
     c.take_pause-pause.new.ready c.moment-present.result c.self.view_is c.show.ensures.after c.show.ensures.sound c.moment-present.ensures
     c.take_pause-pause.ensures.waits c.take_pause-pause.ensures.asks in
-    let between : IsBetween (LinksTell g.L.Link.seen) c.args.self.now c.take_in.new.self =
-    between-round (LinksTell g.L.Link.seen) c.loop.rest c.take_pause-pause.result c.args.self.now c.loop.self _ c.passes_act_in_steps.ensures.acts c.take_in.new.self c.loop.invariant.between waited
+    let between : IsBetween (is_some g.N.Known.known ≡ true) c.args.self.now c.take_in.new.self =
+    between-round (is_some g.N.Known.known ≡ true) c.loop.rest c.take_pause-pause.result c.args.self.now c.loop.self _ c.passes_act_in_steps.ensures.acts c.take_in.new.self c.loop.invariant.between waited
     c.in_ok-take_in.ensures.round c.in_ok-take_in.ensures.moment c.in_ok-take_in.ensures.step c.take_in.ensures.up c.take_in.ensures.follows
     c.take_in.ensures.front c.take_in.ensures.watched c.take_in.ensures.calls in
     let served : HasServed c.take_in.new.self c.serve.new.self =
     record { serves = c.serve.ensures.serves; rest = c.serve.ensures.rest; others = c.serve.ensures.others } in
-    (broken-served c.passes_act_in_steps.ensures.acts (LinksTell g.L.Link.seen) c.args.self.now c.take_in.new.self c.serve.new.self between served).time
+    (broken-served c.passes_act_in_steps.ensures.acts (is_some g.N.Known.known ≡ true) c.args.self.now c.take_in.new.self c.serve.new.self between served).time
 
 pub returns-in_err-rest-clause-begun : goal.returns-in_err-rest-clause-begun
 returns-in_err-rest-clause-begun g c =
@@ -370,13 +370,13 @@ returns-in_err-rest-clause-begun g c =
     has-waited c.loop.rest c.take_pause-pause.result c.loop.self _ (g.F.Front.seen c.take_pause-pause.new.front) (g.C.Clock.told c.take_pause-pause.new.clock)
     c.take_pause-pause.new.ready c.moment-present.result c.self.view_is c.show.ensures.after c.show.ensures.sound c.moment-present.ensures
     c.take_pause-pause.ensures.waits c.take_pause-pause.ensures.asks in
-    let between : IsBetween (LinksTell g.L.Link.seen) c.args.self.now c.take_in.new.self =
-    between-round (LinksTell g.L.Link.seen) c.loop.rest c.take_pause-pause.result c.args.self.now c.loop.self _ c.passes_act_in_steps.ensures.acts c.take_in.new.self c.loop.invariant.between waited
+    let between : IsBetween (is_some g.N.Known.known ≡ true) c.args.self.now c.take_in.new.self =
+    between-round (is_some g.N.Known.known ≡ true) c.loop.rest c.take_pause-pause.result c.args.self.now c.loop.self _ c.passes_act_in_steps.ensures.acts c.take_in.new.self c.loop.invariant.between waited
     c.in_ok-take_in.ensures.round c.in_ok-take_in.ensures.moment c.in_ok-take_in.ensures.step c.take_in.ensures.up c.take_in.ensures.follows
     c.take_in.ensures.front c.take_in.ensures.watched c.take_in.ensures.calls in
     let served : HasServed c.take_in.new.self c.serve.new.self =
     record { serves = c.serve.ensures.serves; rest = c.serve.ensures.rest; others = c.serve.ensures.others } in
-    on-err c.from_residual-in_err-rest.result _ (broken-served c.passes_act_in_steps.ensures.acts (LinksTell g.L.Link.seen) c.args.self.now c.take_in.new.self c.serve.new.self between served).so_far
+    on-err c.from_residual-in_err-rest.result _ (broken-served c.passes_act_in_steps.ensures.acts (is_some g.N.Known.known ≡ true) c.args.self.now c.take_in.new.self c.serve.new.self between served).so_far
 
 pub loop-preserved : goal.loop-preserved
 loop-preserved g c =
@@ -384,15 +384,15 @@ loop-preserved g c =
     has-waited c.loop.rest c.take_pause-pause.result c.loop.self _ (g.F.Front.seen c.take_pause-pause.new.front) (g.C.Clock.told c.take_pause-pause.new.clock)
     c.take_pause-pause.new.ready c.moment-present.result c.self.view_is c.show.ensures.after c.show.ensures.sound c.moment-present.ensures
     c.take_pause-pause.ensures.waits c.take_pause-pause.ensures.asks in
-    let between : IsBetween (LinksTell g.L.Link.seen) c.args.self.now c.take_in.new.self =
-    between-round (LinksTell g.L.Link.seen) c.loop.rest c.take_pause-pause.result c.args.self.now c.loop.self _ c.passes_act_in_steps.ensures.acts c.take_in.new.self c.loop.invariant.between waited
+    let between : IsBetween (is_some g.N.Known.known ≡ true) c.args.self.now c.take_in.new.self =
+    between-round (is_some g.N.Known.known ≡ true) c.loop.rest c.take_pause-pause.result c.args.self.now c.loop.self _ c.passes_act_in_steps.ensures.acts c.take_in.new.self c.loop.invariant.between waited
     c.in_ok-take_in.ensures.round c.in_ok-take_in.ensures.moment c.in_ok-take_in.ensures.step c.take_in.ensures.up c.take_in.ensures.follows
     c.take_in.ensures.front c.take_in.ensures.watched c.take_in.ensures.calls in
     let served : HasServed c.take_in.new.self c.serve.new.self =
     record { serves = c.serve.ensures.serves; rest = c.serve.ensures.rest; others = c.serve.ensures.others } in
     let serves = serves-acts c.passes_act_in_steps.ensures.acts c.take_in.new.self.board c.serve.new.self.board c.serve.ensures.serves in
     record {
-      between = between-served c.passes_act_in_steps.ensures.acts (LinksTell g.L.Link.seen) c.args.self.now c.take_in.new.self c.serve.new.self between served;
+      between = between-served c.passes_act_in_steps.ensures.acts (is_some g.N.Known.known ≡ true) c.args.self.now c.take_in.new.self c.serve.new.self between served;
       going = c.in_ok-rest.ensures.going;
       started =
           λ opening. begins-more 1 serves.events None (asked_children c.args.self.now.board.book.base) c.take_in.new.self.board.book c.serve.new.self.board.book
@@ -492,7 +492,7 @@ returns-in-Ended-clause-step g c =
     has-waited c.loop.rest c.take_pause-pause.result c.loop.self _ (g.F.Front.seen c.take_pause-pause.new.front) (g.C.Clock.told c.take_pause-pause.new.clock)
     c.take_pause-pause.new.ready c.moment-present.result c.self.view_is c.show.ensures.after c.show.ensures.sound c.moment-present.ensures
     c.take_pause-pause.ensures.waits c.take_pause-pause.ensures.asks in
-    (between-ended (LinksTell g.L.Link.seen) c.loop.rest c.take_pause-pause.result c.args.self.now c.loop.self _ c.loop.invariant.between waited c.in-Ended.is).step
+    (between-ended (is_some g.N.Known.known ≡ true) c.loop.rest c.take_pause-pause.result c.args.self.now c.loop.self _ c.loop.invariant.between waited c.in-Ended.is).step
 
 pub returns-in-Failed-clause-step : goal.returns-in-Failed-clause-step
 returns-in-Failed-clause-step g c =
@@ -500,13 +500,13 @@ returns-in-Failed-clause-step g c =
     has-waited c.loop.rest c.take_pause-pause.result c.loop.self _ (g.F.Front.seen c.take_pause-pause.new.front) (g.C.Clock.told c.take_pause-pause.new.clock)
     c.take_pause-pause.new.ready c.moment-present.result c.self.view_is c.show.ensures.after c.show.ensures.sound c.moment-present.ensures
     c.take_pause-pause.ensures.waits c.take_pause-pause.ensures.asks in
-    (between-failed (LinksTell g.L.Link.seen) c.loop.rest c.take_pause-pause.result c.args.self.now c.loop.self _ c.loop.invariant.between waited c.in-Failed.is).step
+    (between-failed (is_some g.N.Known.known ≡ true) c.loop.rest c.take_pause-pause.result c.args.self.now c.loop.self _ c.loop.invariant.between waited c.in-Failed.is).step
 
 pub returns-in_err-first-clause-links : goal.returns-in_err-first-clause-links
 returns-in_err-first-clause-links g c =
     on-err c.from_residual.result _
-    (hands-step g.L.Link.seen c.start.new.self.front.told c.start.new.self.board.book.state
-    (between-started c.passes_act_in_steps.ensures.acts (LinksTell g.L.Link.seen) c.args.self.now c.start.new.self c.requires.passes c.requires.free c.requires.going c.requires.step c.requires.informed c.start.ensures.others
+    (hands-step g.N.Known.known c.start.new.self.front.told c.start.new.self.board.book.state
+    (between-started c.passes_act_in_steps.ensures.acts (is_some g.N.Known.known ≡ true) c.args.self.now c.start.new.self c.requires.passes c.requires.free c.requires.going c.requires.step c.requires.informed c.start.ensures.others
     c.start.ensures.starts c.start.ensures.going c.start.ensures.rest).step)
 
 pub returns-in_err-take_in-clause-links : goal.returns-in_err-take_in-clause-links
@@ -518,12 +518,12 @@ returns-in_err-rest-clause-links g c =
     has-waited c.loop.rest c.take_pause-pause.result c.loop.self _ (g.F.Front.seen c.take_pause-pause.new.front) (g.C.Clock.told c.take_pause-pause.new.clock)
     c.take_pause-pause.new.ready c.moment-present.result c.self.view_is c.show.ensures.after c.show.ensures.sound c.moment-present.ensures
     c.take_pause-pause.ensures.waits c.take_pause-pause.ensures.asks in
-    let between : IsBetween (LinksTell g.L.Link.seen) c.args.self.now c.take_in.new.self =
-    between-round (LinksTell g.L.Link.seen) c.loop.rest c.take_pause-pause.result c.args.self.now c.loop.self _ c.passes_act_in_steps.ensures.acts c.take_in.new.self c.loop.invariant.between waited
+    let between : IsBetween (is_some g.N.Known.known ≡ true) c.args.self.now c.take_in.new.self =
+    between-round (is_some g.N.Known.known ≡ true) c.loop.rest c.take_pause-pause.result c.args.self.now c.loop.self _ c.passes_act_in_steps.ensures.acts c.take_in.new.self c.loop.invariant.between waited
     c.in_ok-take_in.ensures.round c.in_ok-take_in.ensures.moment c.in_ok-take_in.ensures.step c.take_in.ensures.up c.take_in.ensures.follows
     c.take_in.ensures.front c.take_in.ensures.watched c.take_in.ensures.calls in
     let served : HasServed c.take_in.new.self c.serve.new.self =
     record { serves = c.serve.ensures.serves; rest = c.serve.ensures.rest; others = c.serve.ensures.others } in
     on-err c.from_residual-in_err-rest.result _
-    (hands-step g.L.Link.seen c.serve.new.self.front.told c.serve.new.self.board.book.state
-    (between-served c.passes_act_in_steps.ensures.acts (LinksTell g.L.Link.seen) c.args.self.now c.take_in.new.self c.serve.new.self between served).step)
+    (hands-step g.N.Known.known c.serve.new.self.front.told c.serve.new.self.board.book.state
+    (between-served c.passes_act_in_steps.ensures.acts (is_some g.N.Known.known ≡ true) c.args.self.now c.take_in.new.self c.serve.new.self between served).step)
