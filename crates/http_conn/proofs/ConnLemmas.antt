@@ -1,5 +1,5 @@
 -- What the turns of a connection keep.
-use Rattle.std.proofs.Common.{◌≡◌, ℕ, ◌<◌, inl, inr, true, false, ◌&&◌, not, List, [], ◌++◌, take, length, Option, Some, None, option_map, IfSome, if◌then◌else◌, refl, sym, ap, subst, ◌∙◌, arith, append_assoc}
+use Rattle.std.proofs.Common.{◌≡◌, ℕ, ◌<◌, inl, inr, true, false, ◌&&◌, ◌||◌, not, List, [], ◌++◌, take, length, Option, Some, None, option_map, IfSome, if◌then◌else◌, refl, sym, ap, subst, ◌∙◌, arith, append_assoc}
 use Rattle.std.proofs.lemmas.Bool.{false≢true}
 use Rattle.std.proofs.lemmas.List.{append-nil}
 use Rattle.mpm_base.specs.Count.{Rises, RisesWhere, RisesExactlyWhere}
@@ -24,12 +24,12 @@ use Rattle.http_conn.specs.declared.turn.WriteTurn.TheVariants as write
 use Rattle.http_conn.specs.Items.{Item}
 use Rattle.http_conn.specs.Replies.{IsAskedIn, AreNotesOf, IsFitting, AreReplies, MayFollow}
 use Rattle.http_conn.specs.Rest.{StandsAs, is_awaited, is_in_head}
-use Rattle.http_conn.specs.Reader.{SeenReader, StandsFor, IsReading, finds_more, finds_end, finds_failure, AnswerFinds, KeepsAll, ReadsNext}
+use Rattle.http_conn.specs.Reader.{SeenReader, StandsFor, IsReading, finds_waiting, finds_more, finds_end, finds_failure, AnswerFinds, KeepsAll, ReadsNext}
 use Rattle.http_conn.specs.Follows.{follows}
 use Rattle.http_conn.specs.Outgoing.{Unsent, IsUnsentOf, pending_bytes}
 use Rattle.http_conn.specs.Writing.{SendsOn, with_sent}
 use Rattle.http_conn.specs.Conn.{SeenConn, IsFresh, is_usable, Streams, BrokeOff, StreamsWhile, TurnFits, IsConn}
-use Rattle.http_conn.specs.Turns.{after_reading, after_writing, is_more, is_gone, is_read_failure, pending_after, KeepsRead, ReadFinds, ReadsOn}
+use Rattle.http_conn.specs.Turns.{after_reading, after_writing, is_interim, is_more, is_gone, is_read_failure, pending_after, KeepsRead, FindsClient, ReadFinds, ReadsOn}
 use Rattle.http_conn.specs.ConnInside.{IsPlanOf, TurnOf, unsent_after, TakesIn, IsPlanned, IsHeld}
 use Rattle.http_conn.proofs.ReaderLemmas.{KeepsKept, or-nothing}
 
@@ -292,6 +292,26 @@ finds-read read.Gone c given plan rest of keeps finds = subst (λ g. AnswerFinds
 finds-read read.LinkFailed c given plan rest of keeps finds = subst (λ g. AnswerFinds g c.reader rest) of finds
 finds-read read.NoMemory c given plan rest of keeps finds = tt
 
+-- a client was found that waits only where the turn says so
+finds-client : (answer : ReadTurn) (site : SeenSite) (given : RequestAnswer) (old new : SeenReader) (plan : Option Plan) → TurnOf site given new.stage answer plan
+    → is_awaited new.stage ≡ (is_awaited old.stage || finds_waiting given) → FindsClient answer old new
+finds-client (read.Asked ask) site given old new plan of told = told ∙ ap (λ g. is_awaited old.stage || finds_waiting g) of.0
+finds-client read.Interim site given old new plan of told = told ∙ ap (λ g. is_awaited old.stage || finds_waiting g) of
+finds-client read.More site given old new plan of told = told ∙ ap (λ g. is_awaited old.stage || finds_waiting g) of
+finds-client read.Gone site given old new plan of told = told ∙ ap (λ g. is_awaited old.stage || finds_waiting g) of
+finds-client read.LinkFailed site given old new plan of told = told ∙ ap (λ g. is_awaited old.stage || finds_waiting g) of
+finds-client read.NoMemory site given old new plan of told = tt
+
+-- where the turn says so one was found
+interim-waits : (answer : ReadTurn) (site : SeenSite) (given : RequestAnswer) (s : Stage) (plan : Option Plan) → TurnOf site given s answer plan
+    → is_interim answer ≡ true → finds_waiting given ≡ true
+interim-waits (read.Asked ask) site given s plan of is = absurd (false≢true is)
+interim-waits read.Interim site given s plan of is = ap finds_waiting of
+interim-waits read.More site given s plan of is = absurd (false≢true is)
+interim-waits read.Gone site given s plan of is = absurd (false≢true is)
+interim-waits read.LinkFailed site given s plan of is = absurd (false≢true is)
+interim-waits read.NoMemory site given s plan of is = absurd (false≢true is)
+
 -- what the answer says of the calls of the link
 record SameTests (answer : ReadTurn) (given : RequestAnswer) : Type 0 where
   failure : finds_failure given ≡ is_read_failure answer
@@ -337,6 +357,8 @@ reads-on c seen plan' u u' link' r' answer turn' is pending takes turn_is =
       stands = λ rest h. keeps-read answer c.site takes.given r' plan' (rest ++ reads.got) takes.turn_of (reads.stands rest h);
       finds = λ rest h. finds-read answer (conn_after c link' (pending_bytes c.site u') r' turn') takes.given plan' (rest ++ reads.got) takes.turn_of
           (reads.stands rest h) (reads.finds rest h);
+      told_once = finds-client answer c.site takes.given c.reader r' plan' takes.turn_of reads.told_once;
+      not_twice = λ e. reads.not_twice (interim-waits answer c.site takes.given r'.stage plan' takes.turn_of e);
       faults = subst (λ b. RisesWhere b c.counts.faults link'.counts.faults) same.failure reads.faults;
       late_reads = subst (λ b. RisesExactlyWhere b c.counts.late_reads link'.counts.late_reads) same.more reads.late_reads;
       ends = subst (λ b. RisesExactlyWhere b c.counts.ends link'.counts.ends) same.gone reads.ends;

@@ -1,5 +1,5 @@
 -- What each turn of a connection leaves of it.
-use Rattle.std.specs.Prelude.{◌≡◌, ℕ, Bool, true, false, List, [], ◌∷◌, ◌++◌, take, drop, length, option_map, IfSome, ⊤}
+use Rattle.std.specs.Prelude.{◌≡◌, ℕ, Bool, true, false, ◌||◌, List, [], ◌∷◌, ◌++◌, take, drop, length, option_map, IfSome, ⊤}
 use Rattle.mpm_base.specs.Count.{RisesWhere, RisesExactlyWhere}
 use Rattle.mpm_base.specs.Link.{with_received}
 use Rattle.mpm_base.specs.declared.note.Note.{Note}
@@ -58,6 +58,11 @@ abbrev pub KeepsRead : ReadTurn → SeenReader → List ℕ → Type 0
 KeepsRead read.NoMemory r rest = ⊤
 KeepsRead other r rest = StandsFor r rest
 
+-- a client is found that waits only where the turn says so, unless memory lacked to tell it
+abbrev pub FindsClient : ReadTurn → SeenReader → SeenReader → Type 0
+FindsClient read.NoMemory old new = ⊤
+FindsClient other old new = is_awaited new.stage ≡ (is_awaited old.stage || is_interim other)
+
 -- what a turn of reading found in the bytes that came: the next item, an accepted head whose client waits, or that more has to come
 abbrev pub ReadFinds : ReadTurn → SeenConn → List ℕ → Type 0
 ReadFinds (read.Asked ask) c rest = IsAskedIn c.site c.reader.limits rest ask
@@ -82,6 +87,8 @@ pub record ReadsOn (old new : SeenConn) (answer : ReadTurn) : Type 0 where
   pub gives : IfSome old.told (λ t. got ≡ take (length got) t.coming)
   pub stands : (rest : List ℕ) → StandsFor old.reader rest → KeepsRead answer new.reader (rest ++ got)
   pub finds : (rest : List ℕ) → StandsFor old.reader rest → ReadFinds answer new (rest ++ got)
+  pub told_once : FindsClient answer old.reader new.reader
+  pub not_twice : is_interim answer ≡ true → is_awaited old.reader.stage ≡ false
   pub faults : RisesWhere (is_read_failure answer) old.counts.faults new.counts.faults
   pub late_reads : RisesExactlyWhere (is_more answer) old.counts.late_reads new.counts.late_reads
   pub ends : RisesExactlyWhere (is_gone answer) old.counts.ends new.counts.ends
