@@ -27,7 +27,6 @@ mod steps;
 mod turn;
 
 pub use conn::Conn;
-pub use exchange::{ReadAnswer, read_item};
 pub use outgoing::{FileRange, Outgoing, WritesPairs, send};
 pub use reader::{RequestAnswer, RequestReader};
 pub use received::Received;
