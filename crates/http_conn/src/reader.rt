@@ -1,5 +1,5 @@
 //! The reading side of a connection.
-ghost use Rattle.std.specs.Prelude.{◌≡◌, ◌==◌, ◌&&◌, ◌<◌, ◌≤◌, ℕ, true, List, [], ◌++◌, length, false, Some, OnOk, OnErr};
+ghost use Rattle.std.specs.Prelude.{◌≡◌, ◌==◌, ◌&&◌, ◌<◌, ◌≤◌, ℕ, true, List, [], ◌++◌, length, false, Some, None, OnOk, OnErr};
 ghost use Rattle.http_conn.specs.Rest.{is_awaited, is_in_head, is_whole};
 ghost use Rattle.http_conn.specs.Steps.{Steps, IsShortIn};
 ghost use Rattle.http_conn.specs.Items.{Item};
@@ -120,6 +120,7 @@ impl RequestReader {
         ensures leaves { (item : Item) (rest : List ℕ) → item_kept self.old.stage ≡ Some item → StandsFor self.old rest
             → LeavesItem item self.old self.new rest }
         ensures untold { (is_awaited self.new.stage ≡ true) → is_whole self.old.stage ≡ false }
+        ensures none { item_kept self.old.stage ≡ None → self.new ≡ self.old }
     {
         match &self.stage {
             Stage::Whole(_) => self.leave_request(),
