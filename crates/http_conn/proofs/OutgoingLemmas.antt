@@ -10,7 +10,8 @@ use Rattle.file_table.specs.Site.{SeenSite}
 use Rattle.http_core.specs.Served.{size_of_file}
 use Rattle.http_conn.specs.declared.outgoing.FileRange.{FileRange}
 use Rattle.http_conn.specs.Replies.{file_range}
-use Rattle.http_conn.specs.Outgoing.{Unsent, IsRangeOf, IsUnsentOf, range_bytes, pending_bytes, range_len, range_behind, unsent_behind}
+use Rattle.http_conn.specs.Outgoing.{Unsent, IsRangeOf, IsUnsentOf, range_bytes, pending_bytes, range_len}
+use Rattle.http_conn.specs.OutgoingInside.{range_behind, unsent_behind}
 use Rattle.http_conn.specs.WritingInside.{HasSent}
 
 -- ## A range of a file

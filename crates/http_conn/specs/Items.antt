@@ -4,7 +4,7 @@ use Rattle.std.specs.Prelude.{◌≡◌, ◌⊎◌, ℕ, List, [], ◌∷◌, Op
 use Rattle.std.proofs.Common.{inl, inr}
 use Rattle.http_read.specs.declared.request.Limits.{Limits}
 use Rattle.http_read.specs.RequestParts.{RequestParts}
-use Rattle.http_read.specs.Requests.{ReadRefusal, BeginsWholeRequest, BeginsRefusal, SpellsRequests, AreItems}
+use Rattle.http_read.specs.Requests.{ReadRefusal, BeginsWholeRequest, BeginsRefusal, SpellsRequests}
 
 -- a whole request, by what its head says, or a refusal
 abbrev pub Item : Type 0
@@ -28,10 +28,3 @@ pub record AreFirst (limits : Limits) (items : List Item) (rest bytes : List ℕ
   pub items_are : items ≡ items_of requests refusal
   pub spelled : SpellsRequests limits bytes requests rest
   pub refused : IfSome refusal (BeginsRefusal limits rest)
-
--- these are all items of the bytes, in order, and this is left behind them
-pub record AreAll (limits : Limits) (items : List Item) (rest bytes : List ℕ) : Type 0 where
-  pub requests : List (RequestParts × ℕ)
-  pub refusal : Option ReadRefusal
-  pub items_are : items ≡ items_of requests refusal
-  pub all : AreItems limits bytes requests refusal rest

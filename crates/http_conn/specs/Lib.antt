@@ -3,6 +3,7 @@ pub mod ConnInside
 pub mod Follows
 pub mod Items
 pub mod Outgoing
+pub mod OutgoingInside
 pub mod Reader
 pub mod ReaderInside
 pub mod Replies

@@ -1,5 +1,5 @@
 -- What a connection has yet to send: what is left of a head, and behind it a range of a file of the site.
-use Rattle.std.specs.Prelude.{ℕ, ◌+◌, ◌-◌, ◌<◌, ◌≤◌, List, [], ◌++◌, length, drop, slice_get, Option, Some, None, option_map, IfSome}
+use Rattle.std.specs.Prelude.{ℕ, ◌-◌, ◌<◌, ◌≤◌, List, [], ◌++◌, length, slice_get, Option, Some, None, IfSome}
 use Rattle.file_table.specs.Site.{SeenSite}
 use Rattle.http_core.specs.Served.{size_at}
 use Rattle.http_conn.specs.declared.outgoing.FileRange.{FileRange}
@@ -33,11 +33,3 @@ pending_bytes site u = u.head ++ range_bytes site u.body
 abbrev pub range_len : Option FileRange → ℕ
 range_len None = 0
 range_len (Some r) = r.to - r.from
-
--- the range without so many bytes at its front
-abbrev pub range_behind : ℕ → FileRange → FileRange
-range_behind n r = record r { from = r.from + n }
-
--- what is left where so many bytes more were sent
-abbrev pub unsent_behind : ℕ → Unsent → Unsent
-unsent_behind n u = record { head = drop n u.head; body = option_map (range_behind (n - length u.head)) u.body }

@@ -1,7 +1,8 @@
 //! The writing side of a connection.
 ghost use Rattle.std.specs.Prelude.{◌≡◌, ◌==◌, ◌+◌, ◌≤◌, [], ◌++◌, length, take, None, IfSome};
 ghost use Rattle.mpm_base.specs.Link.{Writes};
-ghost use Rattle.http_conn.specs.Outgoing.{IsRangeOf, IsUnsentOf, range_bytes, pending_bytes, range_len, unsent_behind};
+ghost use Rattle.http_conn.specs.Outgoing.{IsRangeOf, IsUnsentOf, range_bytes, pending_bytes, range_len};
+ghost use Rattle.http_conn.specs.OutgoingInside.{unsent_behind};
 ghost use Rattle.http_conn.specs.Writing.{SendsOn};
 
 use crate::turn::WriteTurn;
