@@ -21,7 +21,7 @@ use Rattle.http_conn.specs.Items.{Item, BeginsItem}
 use Rattle.http_conn.specs.Replies.{IsNoteFor, IsFitting, IsResponse, AreReplies, first_part, item_ask}
 use Rattle.http_conn.specs.Rest.{StandsAs, is_awaited, is_whole}
 use Rattle.http_conn.specs.Reader.{SeenReader, StandsFor, item_kept}
-use Rattle.http_conn.specs.Follows.{follows}
+use Rattle.http_conn.specs.Follows.{what_follows}
 use Rattle.http_conn.specs.Outgoing.{Unsent, IsUnsentOf, pending_bytes}
 use Rattle.http_conn.specs.Conn.{SeenConn, is_usable, Streams, StreamsWhile, TurnFits, IsConn}
 use Rattle.http_conn.specs.Turns.{IsNoteOf, LeavesItem, TakesNote}
@@ -139,7 +139,7 @@ module _ (fitting : (site : SeenSite) (limits : Limits) (notes : List Note) (byt
     → AreReplies site items notes replies → IsResponse site item note response
     → AreReplies site (items ++ item ∷ []) (notes ++ note ∷ []) (replies ++ (first_part item ++ response)))
     (bytes : (site : SeenSite) (item : Item) (note : Note) (response : List ℕ) → IsResponse site item note response → 0 < length response)
-    (first : (notes : List Note) (s : Stage) (item : Item) → item_kept s ≡ Some item → says_last notes ≡ false → follows notes s ≡ first_part item)
+    (first : (notes : List Note) (s : Stage) (item : Item) → item_kept s ≡ Some item → says_last notes ≡ false → what_follows notes s ≡ first_part item)
     (c : SeenConn) (plan : Option Plan) (note : Note) (response : List ℕ) (r' : SeenReader) (conn : IsConn c) (ready : IsReady c plan note) (a : IsAnswered c note response)
     (limits : r'.limits ≡ c.reader.limits) (leaves : LeavesItem a.item c.reader r' conn.rest)
     (untold : is_awaited r'.stage ≡ true → is_whole c.reader.stage ≡ false) where
@@ -149,7 +149,7 @@ module _ (fitting : (site : SeenSite) (limits : Limits) (notes : List Note) (byt
       let sent : t.sent ≡ s.replies ++ first_part a.item =
       sym (append-nil t.sent) ∙ ap (λ xs. t.sent ++ xs) (sym ready.none_pending) ∙ s.stream
       ∙ ap (λ xs. s.replies ++ xs) (first c.notes c.reader.stage a.item a.kept ready.goes_on) in
-      let none : follows (c.notes ++ note ∷ []) r'.stage ≡ [] =
+      let none : what_follows (c.notes ++ note ∷ []) r'.stage ≡ [] =
       none-follows (is_awaited r'.stage) (says_last (c.notes ++ note ∷ [])) (λ told. last-snoc c.notes note ∙ a.ends (untold told)) in
       record {
         items = s.items ++ a.item ∷ [];
@@ -218,7 +218,7 @@ module _ (fitting : (site : SeenSite) (limits : Limits) (notes : List Note) (byt
     → AreReplies site items notes replies → IsResponse site item note response
     → AreReplies site (items ++ item ∷ []) (notes ++ note ∷ []) (replies ++ (first_part item ++ response)))
     (bytes : (site : SeenSite) (item : Item) (note : Note) (response : List ℕ) → IsResponse site item note response → 0 < length response)
-    (first : (notes : List Note) (s : Stage) (item : Item) → item_kept s ≡ Some item → says_last notes ≡ false → follows notes s ≡ first_part item)
+    (first : (notes : List Note) (s : Stage) (item : Item) → item_kept s ≡ Some item → says_last notes ≡ false → what_follows notes s ≡ first_part item)
     (c seen : SeenConn) (plan : Option Plan) (u u' : Unsent) (note : Note) (notes' : List Note) (r' : SeenReader) (held : IsHeld c plan u) (is : c ≡ seen)
     (asked : IsNoteOf seen.turn note) (notes_are : notes' ≡ c.notes ++ note ∷ [])
     (planned : (request : RequestParts) → plan ≡ Some (plan_for c.site request) → IsResponse c.site (inl request) note (pending_bytes c.site u'))

@@ -25,12 +25,12 @@ use Rattle.http_conn.specs.Items.{Item}
 use Rattle.http_conn.specs.Replies.{IsAskedIn, AreNotesOf, IsFitting, AreReplies, MayFollow}
 use Rattle.http_conn.specs.Rest.{StandsAs, is_awaited, is_in_head}
 use Rattle.http_conn.specs.Reader.{SeenReader, StandsFor, IsReading, finds_waiting, finds_more, finds_end, finds_failure, AnswerFinds, KeepsAll, ReadsNext}
-use Rattle.http_conn.specs.Follows.{follows}
+use Rattle.http_conn.specs.Follows.{what_follows}
 use Rattle.http_conn.specs.Outgoing.{Unsent, IsUnsentOf, pending_bytes}
 use Rattle.http_conn.specs.Writing.{SendsOn, with_sent}
 use Rattle.http_conn.specs.Conn.{SeenConn, IsFresh, is_usable, Streams, BrokeOff, StreamsWhile, TurnFits, IsConn}
 use Rattle.http_conn.specs.Turns.{after_reading, after_writing, is_interim, is_more, is_gone, is_read_failure, pending_after, KeepsRead, FindsClient, ReadFinds, ReadsOn}
-use Rattle.http_conn.specs.ConnInside.{IsPlanOf, TurnOf, unsent_after, TakesIn, IsPlanned, IsHeld}
+use Rattle.http_conn.specs.ConnInside.{IsPlanOf, IsTurnOf, unsent_after, TakesIn, IsPlanned, IsHeld}
 use Rattle.http_conn.proofs.ReaderLemmas.{KeepsKept, or-nothing}
 
 -- the first items of the bytes stay the first, with their notes
@@ -41,7 +41,7 @@ Stays = (site : SeenSite) (limits : Limits) (notes : List Note) (bytes : List �
 -- what follows the replies may follow them
 abbrev pub FollowsMay : Type 0
 FollowsMay = (limits : Limits) (notes : List Note) (unread : List ℕ) (s : Stage) (rest : List ℕ) → StandsAs limits unread s rest
-    → MayFollow limits notes rest (follows notes s)
+    → MayFollow limits notes rest (what_follows notes s)
 
 -- ## The reply stream over a turn of reading
 
@@ -60,17 +60,17 @@ module _ (stays : Stays) (goes_on : KeepsKept) (may : FollowsMay) (c c' : SeenCo
   replies-read = rw (site, notes) s.are_replies
 
   -- what was sent
-  sent-read : t.sent ≡ s.replies ++ follows c.notes c.reader.stage
+  sent-read : t.sent ≡ s.replies ++ what_follows c.notes c.reader.stage
   sent-read = sym (append-nil t.sent) ∙ ap (λ xs. t.sent ++ xs) (sym none) ∙ s.stream
 
   -- the stream goes on
-  pub stream-read : follows c'.notes c'.reader.stage ≡ follows c.notes c.reader.stage ++ c'.pending → Streams c' (rest ++ got) (with_received (length got) t)
+  pub stream-read : what_follows c'.notes c'.reader.stage ≡ what_follows c.notes c.reader.stage ++ c'.pending → Streams c' (rest ++ got) (with_received (length got) t)
   stream-read further = record {
     items = s.items;
     replies = s.replies;
     fitting = fitting-read;
     are_replies = replies-read;
-    stream = ap (λ xs. xs ++ c'.pending) sent-read ∙ append_assoc s.replies (follows c.notes c.reader.stage) c'.pending ∙ ap (λ xs. s.replies ++ xs) (sym further);
+    stream = ap (λ xs. xs ++ c'.pending) sent-read ∙ append_assoc s.replies (what_follows c.notes c.reader.stage) c'.pending ∙ ap (λ xs. s.replies ++ xs) (sym further);
   }
 
   -- it breaks off
@@ -79,7 +79,7 @@ module _ (stays : Stays) (goes_on : KeepsKept) (may : FollowsMay) (c c' : SeenCo
     items = s.items;
     left = rest ++ got;
     replies = s.replies;
-    interim = follows c.notes c.reader.stage;
+    interim = what_follows c.notes c.reader.stage;
     fitting = fitting-read;
     are_replies = replies-read;
     may_follow = rw (limits, notes)
@@ -88,13 +88,13 @@ module _ (stays : Stays) (goes_on : KeepsKept) (may : FollowsMay) (c c' : SeenCo
   }
 
 -- what follows the replies where no client was found
-follows-same : (notes : List Note) (s s' : Stage) (more : List ℕ) → is_awaited s' ≡ is_awaited s → more ≡ [] → follows notes s' ≡ follows notes s ++ more
+follows-same : (notes : List Note) (s s' : Stage) (more : List ℕ) → is_awaited s' ≡ is_awaited s → more ≡ [] → what_follows notes s' ≡ what_follows notes s ++ more
 follows-same notes s s' more same none =
-    ap (λ b. if b && not (says_last notes) then continue_text else []) same ∙ sym (append-nil (follows notes s)) ∙ ap (λ xs. follows notes s ++ xs) (sym none)
+    ap (λ b. if b && not (says_last notes) then continue_text else []) same ∙ sym (append-nil (what_follows notes s)) ∙ ap (λ xs. what_follows notes s ++ xs) (sym none)
 
 -- and where one was
 follows-told : (notes : List Note) (s s' : Stage) (more : List ℕ) → is_awaited s ≡ false → is_awaited s' ≡ true → says_last notes ≡ false → more ≡ continue_text
-    → follows notes s' ≡ follows notes s ++ more
+    → what_follows notes s' ≡ what_follows notes s ++ more
 follows-told notes s s' more before after goes_on told =
     ap (λ b. if b && not (says_last notes) then continue_text else []) after ∙ ap (λ b. if not b then continue_text else []) goes_on
     ∙ ap (λ xs. (if false && not (says_last notes) then continue_text else []) ++ xs) (sym told)
@@ -148,7 +148,7 @@ module _ (stays : Stays) (goes_on : KeepsKept) (may : FollowsMay) (c : SeenConn)
     (told_is : link'.told ≡ option_map (with_received (length got)) c.told) (gives : IfSome c.told (λ t. got ≡ take (length got) t.coming))
     (s : IfSome c.told (Streams c rest)) where
   -- the stream of a link that may tell goes on
-  pub told-goes : follows c.notes r'.stage ≡ follows c.notes c.reader.stage ++ pending' → IfSome link'.told (Streams (conn_after c link' pending' r' turn') (rest ++ got))
+  pub told-goes : what_follows c.notes r'.stage ≡ what_follows c.notes c.reader.stage ++ pending' → IfSome link'.told (Streams (conn_after c link' pending' r' turn') (rest ++ got))
   told-goes further = subst (λ o. IfSome o (Streams (conn_after c link' pending' r' turn') (rest ++ got))) (sym told_is) (each c.told gives s)
     where
       -- of one that tells, and of one that doesn't
@@ -177,7 +177,7 @@ module _ (stays : Stays) (goes_on : KeepsKept) (may : FollowsMay) (c : SeenConn)
     (conn : IsConn c) (usable : is_usable c.turn ≡ true) (none : c.pending ≡ []) (open_still : says_last c.notes ≡ false) (reading : IsReading r') where
   -- what holds of the connection after a turn of reading
   conn-read : (answer : ReadTurn) (given : RequestAnswer) → ReadsNext (record { told = c.told; counts = c.counts }) link' c.reader r' given
-      → TurnOf c.site given r'.stage answer plan' → pending' ≡ pending_after answer c.pending → IsConn (conn_after c link' pending' r' (after_reading answer))
+      → IsTurnOf c.site given r'.stage answer plan' → pending' ≡ pending_after answer c.pending → IsConn (conn_after c link' pending' r' (after_reading answer))
   conn-read (read.Asked ask) given reads of left =
       let n = subst (λ g. ReadsNext (record { told = c.told; counts = c.counts }) link' c.reader r' g) of.0 reads in
       record {
@@ -246,7 +246,7 @@ module _ (stays : Stays) (goes_on : KeepsKept) (may : FollowsMay) (c : SeenConn)
   }
 
 -- the plan is that of what was asked
-planned-read : (answer : ReadTurn) (site : SeenSite) (given : RequestAnswer) (s : Stage) (plan : Option Plan) → TurnOf site given s answer plan → IsPlanned (after_reading answer) site s plan
+planned-read : (answer : ReadTurn) (site : SeenSite) (given : RequestAnswer) (s : Stage) (plan : Option Plan) → IsTurnOf site given s answer plan → IsPlanned (after_reading answer) site s plan
 planned-read (read.Asked ask) site given s plan of = of.1
 planned-read read.Interim site given s plan of = tt
 planned-read read.More site given s plan of = tt
@@ -272,7 +272,7 @@ held-read stays goes_on may c seen plan plan' u u' link' r' answer turn' held is
 -- ## What a turn of reading says
 
 -- what is kept stands for all that came, unless memory lacked
-keeps-read : (answer : ReadTurn) (site : SeenSite) (given : RequestAnswer) (r : SeenReader) (plan : Option Plan) (rest : List ℕ) → TurnOf site given r.stage answer plan
+keeps-read : (answer : ReadTurn) (site : SeenSite) (given : RequestAnswer) (r : SeenReader) (plan : Option Plan) (rest : List ℕ) → IsTurnOf site given r.stage answer plan
     → KeepsAll given r rest → KeepsRead answer r rest
 keeps-read (read.Asked ask) site given r plan rest of keeps = subst (λ g. KeepsAll g r rest) of.0 keeps
 keeps-read read.Interim site given r plan rest of keeps = subst (λ g. KeepsAll g r rest) of keeps
@@ -282,7 +282,7 @@ keeps-read read.LinkFailed site given r plan rest of keeps = subst (λ g. KeepsA
 keeps-read read.NoMemory site given r plan rest of keeps = tt
 
 -- what was found
-finds-read : (answer : ReadTurn) (c : SeenConn) (given : RequestAnswer) (plan : Option Plan) (rest : List ℕ) → TurnOf c.site given c.reader.stage answer plan
+finds-read : (answer : ReadTurn) (c : SeenConn) (given : RequestAnswer) (plan : Option Plan) (rest : List ℕ) → IsTurnOf c.site given c.reader.stage answer plan
     → KeepsAll given c.reader rest → AnswerFinds given c.reader rest → ReadFinds answer c rest
 finds-read (read.Asked ask) c given plan rest of keeps finds =
     asked-in c.site c.reader.stage ask plan c.reader.limits c.reader.unread rest of.1 (subst (λ g. KeepsAll g c.reader rest) of.0 keeps)
@@ -293,7 +293,7 @@ finds-read read.LinkFailed c given plan rest of keeps finds = subst (λ g. Answe
 finds-read read.NoMemory c given plan rest of keeps finds = tt
 
 -- a client was found that waits only where the turn says so
-finds-client : (answer : ReadTurn) (site : SeenSite) (given : RequestAnswer) (old new : SeenReader) (plan : Option Plan) → TurnOf site given new.stage answer plan
+finds-client : (answer : ReadTurn) (site : SeenSite) (given : RequestAnswer) (old new : SeenReader) (plan : Option Plan) → IsTurnOf site given new.stage answer plan
     → is_awaited new.stage ≡ (is_awaited old.stage || finds_waiting given) → FindsClient answer old new
 finds-client (read.Asked ask) site given old new plan of told = told ∙ ap (λ g. is_awaited old.stage || finds_waiting g) of.0
 finds-client read.Interim site given old new plan of told = told ∙ ap (λ g. is_awaited old.stage || finds_waiting g) of
@@ -303,7 +303,7 @@ finds-client read.LinkFailed site given old new plan of told = told ∙ ap (λ g
 finds-client read.NoMemory site given old new plan of told = tt
 
 -- where the turn says so one was found
-interim-waits : (answer : ReadTurn) (site : SeenSite) (given : RequestAnswer) (s : Stage) (plan : Option Plan) → TurnOf site given s answer plan
+interim-waits : (answer : ReadTurn) (site : SeenSite) (given : RequestAnswer) (s : Stage) (plan : Option Plan) → IsTurnOf site given s answer plan
     → is_interim answer ≡ true → finds_waiting given ≡ true
 interim-waits (read.Asked ask) site given s plan of is = absurd (false≢true is)
 interim-waits read.Interim site given s plan of is = ap finds_waiting of
@@ -323,7 +323,7 @@ tests-at : (answer : ReadTurn) (given other : RequestAnswer) → given ≡ other
 tests-at answer given other is same = subst (SameTests answer) (sym is) same
 
 -- they agree
-same-tests : (answer : ReadTurn) (site : SeenSite) (given : RequestAnswer) (s : Stage) (plan : Option Plan) → TurnOf site given s answer plan → SameTests answer given
+same-tests : (answer : ReadTurn) (site : SeenSite) (given : RequestAnswer) (s : Stage) (plan : Option Plan) → IsTurnOf site given s answer plan → SameTests answer given
 same-tests (read.Asked ask) site given s plan of = tests-at (read.Asked ask) given answer.Item of.0 (record { failure = refl; more = refl; gone = refl })
 same-tests read.Interim site given s plan of = tests-at read.Interim given answer.Awaited of (record { failure = refl; more = refl; gone = refl })
 same-tests read.More site given s plan of = tests-at read.More given answer.More of (record { failure = refl; more = refl; gone = refl })
@@ -384,7 +384,7 @@ sent-breaks may c rest t stands s = record {
   items = s.items;
   left = rest;
   replies = s.replies;
-  interim = follows c.notes c.reader.stage;
+  interim = what_follows c.notes c.reader.stage;
   fitting = s.fitting;
   are_replies = s.are_replies;
   may_follow = may c.reader.limits c.notes c.reader.unread c.reader.stage rest stands;

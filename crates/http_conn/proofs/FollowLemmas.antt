@@ -12,7 +12,7 @@ use Rattle.http_conn.specs.Replies.{Expects, IsInterim, MayFollow, first_part}
 use Rattle.http_conn.specs.Rest.{StandsAs, is_awaited}
 use Rattle.http_conn.specs.Steps.{WaitsIn}
 use Rattle.http_conn.specs.Reader.{item_kept}
-use Rattle.http_conn.specs.Follows.{follows}
+use Rattle.http_conn.specs.Follows.{what_follows}
 
 -- the bytes by two tests
 abbrev pub tells : Bool → Bool → List ℕ
@@ -27,7 +27,7 @@ may-tell limits notes rest true false only says = inr (refl, says, only refl)
 
 -- what follows the replies may follow them
 pub follows-may : ((limits : Limits) (unread : List ℕ) (s : Stage) (rest : List ℕ) → StandsAs limits unread s rest → is_awaited s ≡ true → Expects limits rest)
-    → (limits : Limits) (notes : List Note) (unread : List ℕ) (s : Stage) (rest : List ℕ) → StandsAs limits unread s rest → MayFollow limits notes rest (follows notes s)
+    → (limits : Limits) (notes : List Note) (unread : List ℕ) (s : Stage) (rest : List ℕ) → StandsAs limits unread s rest → MayFollow limits notes rest (what_follows notes s)
 follows-may only limits notes unread s rest h = may-tell limits notes rest (is_awaited s) (says_last notes) (only limits unread s rest h) refl
 
 -- it is due
@@ -55,7 +55,7 @@ due-tells limits notes rest false last only found says = record {
 pub follows-due : ((limits : Limits) (unread : List ℕ) (s : Stage) (rest : List ℕ) → StandsAs limits unread s rest → is_awaited s ≡ true → Expects limits rest)
     → ((limits : Limits) (unread : List ℕ) (s : Stage) (rest : List ℕ) → WaitsIn limits unread s rest → Expects limits rest → is_awaited s ≡ true)
     → (limits : Limits) (notes : List Note) (unread : List ℕ) (s : Stage) (rest : List ℕ) → StandsAs limits unread s rest → WaitsIn limits unread s rest
-    → IsInterim limits notes rest (follows notes s)
+    → IsInterim limits notes rest (what_follows notes s)
 follows-due only found limits notes unread s rest h waits =
     due-tells limits notes rest (is_awaited s) (says_last notes) (only limits unread s rest h) (found limits unread s rest waits) refl
 
@@ -77,5 +77,5 @@ first-kept (stage.Whole request) item is = ap first_part (some-is (inl request) 
 first-kept (stage.Refused code expected) item is = ap first_part (some-is (inr (record { code = code; expected = expected })) item is)
 
 -- what follows the replies is sent before the response to an item that was read
-pub follows-first : (notes : List Note) (s : Stage) (item : Item) → item_kept s ≡ Some item → says_last notes ≡ false → follows notes s ≡ first_part item
+pub follows-first : (notes : List Note) (s : Stage) (item : Item) → item_kept s ≡ Some item → says_last notes ≡ false → what_follows notes s ≡ first_part item
 follows-first notes s item kept goes_on = open-tells (is_awaited s) (says_last notes) goes_on ∙ first-kept s item kept

@@ -19,7 +19,7 @@ use Rattle.http_conn.specs.Rest.{StandsAs, is_awaited, is_in_head, is_in_body, i
 use Rattle.http_conn.specs.Steps.{Steps, PassesHead, StaysInPart, WaitsIn, is_told}
 use Rattle.http_conn.specs.Reader.{SeenReader, StandsFor, AwaitsMore, IsAnswerable, item_kept, finds_waiting, finds_more, finds_end, finds_failure, AnswerFinds, KeepsAll, ReadsNext}
 use Rattle.http_conn.specs.Turns.{LeavesItem}
-use Rattle.http_conn.specs.ReaderInside.{HasCome, HasComeSome, EndsTurn}
+use Rattle.http_conn.specs.ReaderInside.{HasCome, HasComeSome, EndsReading}
 use Rattle.http_conn.proofs.ApartLemmas.{waits-for_request}
 use Rattle.http_conn.proofs.BoundLemmas.{waits-few}
 use Rattle.http_conn.proofs.FollowLemmas.{some-is}
@@ -178,7 +178,7 @@ module _ (link link1 link2 : LinkSeen) (old mid new : SeenReader) (first : HasCo
   }
 
   -- the last read
-  pub reads-last : (given : RequestAnswer) → ((rest : List ℕ) → StandsFor old rest → AwaitsMore mid (rest ++ first.got)) → EndsTurn link1 link2 mid new given
+  pub reads-last : (given : RequestAnswer) → ((rest : List ℕ) → StandsFor old rest → AwaitsMore mid (rest ++ first.got)) → EndsReading link1 link2 mid new given
       → ReadsNext link link2 old new given
   reads-last given waits later = record {
     same_limits = later.same_limits ∙ first.same_limits;
@@ -227,7 +227,7 @@ come-piece goes_on link link' old new count buffer more reads is some few left =
 
 -- memory lacked for the bytes that came
 pub ends-lost : (link link' : LinkSeen) (old new : SeenReader) (count : ℕ) (buffer : List ℕ) → Reads link link' (got.Got count) buffer → new ≡ old
-    → EndsTurn link link' old new answer.NoMemory
+    → EndsReading link link' old new answer.NoMemory
 ends-lost link link' old new count buffer reads same = record {
   same_limits = ap (λ (r : SeenReader). r.limits) same;
   got = take count buffer;
@@ -254,7 +254,7 @@ ends-empty : (link link' : LinkSeen) (r : SeenReader) (given : RequestAnswer) �
     → ((rest : List ℕ) → StandsFor r rest → KeepsAll given r rest) → ((rest : List ℕ) → AwaitsMore r rest → AnswerFinds given r rest)
     → RisesWhere (finds_failure given) link.counts.faults link'.counts.faults → RisesExactlyWhere (finds_more given) link.counts.late_reads link'.counts.late_reads
     → link'.counts.late_writes ≡ link.counts.late_writes → RisesExactlyWhere (finds_end given) link.counts.ends link'.counts.ends
-    → EndsTurn link link' r r given
+    → EndsReading link link' r r given
 ends-empty link link' r given same none_comes nothing stands finds faults late_reads late_writes ends = record {
   same_limits = refl;
   got = [];
@@ -283,20 +283,20 @@ end-comes link buffer told' same gives = subst (λ o. IfSome o (λ t. t.coming �
 
 module _ (link link' : LinkSeen) (r : SeenReader) (buffer : List ℕ) where
   -- the link has nothing more at that moment
-  pub ends-late : Reads link link' got.NotReady buffer → EndsTurn link link' r r answer.More
+  pub ends-late : Reads link link' got.NotReady buffer → EndsReading link link' r r answer.More
   ends-late reads =
       let same = reads.told_is ∙ same-told (after_read got.NotReady) (λ t. refl) link.told in
       ends-empty link link' r answer.More same (λ e. absurd (cc)) refl (λ rest h. h) (λ rest h. h) reads.faults reads.late_reads reads.late_writes reads.ends
 
   -- the client sends no more
-  pub ends-gone : Reads link link' got.End buffer → EndsTurn link link' r r answer.Gone
+  pub ends-gone : Reads link link' got.End buffer → EndsReading link link' r r answer.Gone
   ends-gone reads =
       let same = reads.told_is ∙ same-told (after_read got.End) (λ t. refl) link.told in
       ends-empty link link' r answer.Gone same (λ e. end-comes link buffer link'.told same reads.gives) refl (λ rest h. h) (λ rest h. h)
       reads.faults reads.late_reads reads.late_writes reads.ends
 
   -- the call failed
-  pub ends-failed : Reads link link' got.Failed buffer → EndsTurn link link' r r answer.LinkFailed
+  pub ends-failed : Reads link link' got.Failed buffer → EndsReading link link' r r answer.LinkFailed
   ends-failed reads =
       let same = reads.told_is ∙ same-told (after_read got.Failed) (λ t. refl) link.told in
       ends-empty link link' r answer.LinkFailed same (λ e. absurd (cc)) refl (λ rest h. h) (λ rest h. h)

@@ -11,7 +11,7 @@ use Rattle.http_conn.specs.declared.turn.LastTurn.TheVariants as turn
 use Rattle.http_conn.specs.Items.{Item}
 use Rattle.http_conn.specs.Replies.{IsAskedIn, IsFitting, AreReplies, MayFollow}
 use Rattle.http_conn.specs.Reader.{SeenReader, StandsFor, AwaitsMore}
-use Rattle.http_conn.specs.Follows.{follows}
+use Rattle.http_conn.specs.Follows.{what_follows}
 
 -- a connection: what its link tells and counts, its name, child and generation, the site of its generation, its responses so
 -- far, what of them is still to be sent, the reader of its requests, and what its last turn answered
@@ -49,7 +49,7 @@ pub record Streams (c : SeenConn) (rest : List ℕ) (t : LinkTold) : Type 0 wher
   pub replies : List ℕ
   pub fitting : IsFitting c.site c.reader.limits c.notes t.received items rest
   pub are_replies : AreReplies c.site items c.notes replies
-  pub stream : t.sent ++ c.pending ≡ replies ++ follows c.notes c.reader.stage
+  pub stream : t.sent ++ c.pending ≡ replies ++ what_follows c.notes c.reader.stage
 
 -- the list goes on behind the front
 abbrev pub IsFrontOf : List ℕ → List ℕ → Type 0

@@ -44,13 +44,13 @@ AsksItem site s read.LinkFailed plan = ⊥
 AsksItem site s read.NoMemory plan = ⊤
 
 -- the answer of a turn, by that of the reader
-abbrev pub TurnOf : SeenSite → RequestAnswer → Stage → ReadTurn → Option Plan → Type 0
-TurnOf site given s (read.Asked ask) plan = (given ≡ answer.Item) × IsPlanOf site s ask plan
-TurnOf site given s read.Interim plan = given ≡ answer.Awaited
-TurnOf site given s read.More plan = given ≡ answer.More
-TurnOf site given s read.Gone plan = given ≡ answer.Gone
-TurnOf site given s read.LinkFailed plan = given ≡ answer.LinkFailed
-TurnOf site given s read.NoMemory plan = (given ≡ answer.Item) ⊎ ((given ≡ answer.Awaited) ⊎ (given ≡ answer.NoMemory))
+abbrev pub IsTurnOf : SeenSite → RequestAnswer → Stage → ReadTurn → Option Plan → Type 0
+IsTurnOf site given s (read.Asked ask) plan = (given ≡ answer.Item) × IsPlanOf site s ask plan
+IsTurnOf site given s read.Interim plan = given ≡ answer.Awaited
+IsTurnOf site given s read.More plan = given ≡ answer.More
+IsTurnOf site given s read.Gone plan = given ≡ answer.Gone
+IsTurnOf site given s read.LinkFailed plan = given ≡ answer.LinkFailed
+IsTurnOf site given s read.NoMemory plan = (given ≡ answer.Item) ⊎ ((given ≡ answer.Awaited) ⊎ (given ≡ answer.NoMemory))
 
 -- what is left to send after a turn of reading
 abbrev pub unsent_after : ReadTurn → Unsent → Unsent
@@ -65,7 +65,7 @@ unsent_after read.NoMemory u = u
 pub record TakesIn (link link' : LinkSeen) (site : SeenSite) (old new : SeenReader) (u u' : Unsent) (turn : ReadTurn) (plan : Option Plan) : Type 0 where
   pub given : RequestAnswer
   pub reads : ReadsNext link link' old new given
-  pub turn_of : TurnOf site given new.stage turn plan
+  pub turn_of : IsTurnOf site given new.stage turn plan
   pub unsent_is : u' ≡ unsent_after turn u
   pub reading : IsReading new
 

@@ -7,5 +7,5 @@ use Rattle.http_conn.specs.declared.stage.Stage.{Stage}
 use Rattle.http_conn.specs.Rest.{is_awaited}
 
 -- what follows the replies: the response that tells the client to send the body, once its head was read, and nothing behind a reply that was the last
-abbrev pub follows : List Note → Stage → List ℕ
-follows notes s = if is_awaited s && not (says_last notes) then continue_text else []
+abbrev pub what_follows : List Note → Stage → List ℕ
+what_follows notes s = if is_awaited s && not (says_last notes) then continue_text else []

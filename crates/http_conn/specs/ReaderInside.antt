@@ -28,7 +28,7 @@ pub record HasComeSome (link link' : LinkSeen) (old new : SeenReader) : Type 0 w
   pub same_stage : new.stage ≡ old.stage
 
 -- the read ended the turn with an answer, where more had to come
-pub record EndsTurn (link link' : LinkSeen) (old new : SeenReader) (given : RequestAnswer) : Type 0 where
+pub record EndsReading (link link' : LinkSeen) (old new : SeenReader) (given : RequestAnswer) : Type 0 where
   pub same_limits : new.limits ≡ old.limits
   pub got : List ℕ
   pub told_is : link'.told ≡ option_map (with_received (length got)) link.told
@@ -46,4 +46,4 @@ pub record EndsTurn (link link' : LinkSeen) (old new : SeenReader) (given : Requ
 -- one read of the link: bytes came, or the turn ended with an answer
 abbrev pub TakesPiece : LinkSeen → LinkSeen → SeenReader → SeenReader → Option RequestAnswer → Type 0
 TakesPiece link link' old new None = HasComeSome link link' old new
-TakesPiece link link' old new (Some given) = EndsTurn link link' old new given
+TakesPiece link link' old new (Some given) = EndsReading link link' old new given

@@ -11,7 +11,7 @@ ghost use Rattle.http_core.specs.Code.{refuses_head};
 ghost use Rattle.http_conn.specs.Items.{Item, BeginsItem, AreFirst};
 ghost use Rattle.http_conn.specs.Replies.{AreReplies, Expects, IsFitting, IsInterim, IsNoteFor, IsResponse, MayFollow, first_part, item_ask};
 ghost use Rattle.http_conn.specs.Reader.{item_kept};
-ghost use Rattle.http_conn.specs.Follows.{follows};
+ghost use Rattle.http_conn.specs.Follows.{what_follows};
 ghost use Rattle.http_conn.specs.Rest.{StandsAs, is_awaited};
 ghost use Rattle.http_conn.specs.Steps.{IsReadable, WaitsIn};
 ghost use Rattle.http_conn.specs.declared.stage.Stage.{Stage};
@@ -112,11 +112,11 @@ pub fn waiting_clients_are_found()
 /// come; and where the next item was read it is what is sent before the response to that.
 pub fn follows_what_was_read()
     ensures may { (limits : Limits) (notes : List Note) (unread : List ℕ) (stage : Stage) (rest : List ℕ) → StandsAs limits unread stage rest
-        → MayFollow limits notes rest (follows notes stage) }
+        → MayFollow limits notes rest (what_follows notes stage) }
     ensures due { (limits : Limits) (notes : List Note) (unread : List ℕ) (stage : Stage) (rest : List ℕ) → StandsAs limits unread stage rest
-        → WaitsIn limits unread stage rest → IsInterim limits notes rest (follows notes stage) }
+        → WaitsIn limits unread stage rest → IsInterim limits notes rest (what_follows notes stage) }
     ensures first { (notes : List Note) (stage : Stage) (item : Item) → item_kept stage ≡ Some item → says_last notes ≡ false
-        → follows notes stage ≡ first_part item }
+        → what_follows notes stage ≡ first_part item }
 {
     waiting_clients_are_found();
 }
