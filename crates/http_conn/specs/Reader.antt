@@ -43,7 +43,7 @@ pub record AwaitsMore (r : SeenReader) (rest : List ℕ) : Type 0 where
 abbrev pub IsAnswerable : SeenReader → List ℕ → Type 0
 IsAnswerable r rest = ((item : Item) × (size : ℕ) × BeginsItem r.limits rest item size) ⊎ (Expects r.limits rest × (is_awaited r.stage ≡ false))
 
--- the reader goes on behind a whole request: the bytes that it keeps are the rest, and none of them was read
+-- the reader goes on behind a whole request: the bytes that it keeps are the rest, whose head isn't accepted yet
 pub record LeavesRequest (old new : SeenReader) : Type 0 where
   pub same_limits : new.limits ≡ old.limits
   pub same_unread : new.unread ≡ old.unread

@@ -94,7 +94,7 @@ pub record ReadsOn (old new : SeenConn) (answer : ReadTurn) : Type 0 where
   pub ends : RisesExactlyWhere (is_gone answer) old.counts.ends new.counts.ends
   pub late_writes : new.counts.late_writes ≡ old.counts.late_writes
 
--- the link was asked for nothing
+-- the link tells and counts what it did before
 pub record AsksNothing (old new : SeenConn) : Type 0 where
   pub told : new.told ≡ old.told
   pub counts : new.counts ≡ old.counts

@@ -11,9 +11,9 @@ pub enum ReadTurn {
     Asked(Ask),
     /// The head of the next request was accepted, and what tells its client to send the body is pending.
     Interim,
-    /// The link has nothing more at this moment, and no request is whole.
+    /// The link has nothing more at this moment; no request is whole, and none is refused.
     More,
-    /// The client sends no more, and no request is whole.
+    /// The client sends no more; no request is whole, and none is refused.
     Gone,
     /// A call of the link failed.
     LinkFailed,
@@ -41,7 +41,7 @@ pub enum LastTurn {
     Asked(Ask),
     /// A turn of reading found a client that waits to be told to send the body; what tells it is pending.
     Interim,
-    /// The response was taken, and is pending.
+    /// The note was taken, and its response is pending.
     Answered,
     /// A turn of reading found no whole request.
     More,
