@@ -354,6 +354,7 @@ reads-on c seen plan' u u' link' r' answer turn' is pending takes turn_is =
       got = reads.got;
       told = reads.told_is;
       gives = reads.gives;
+      asks = reads.asks;
       stands = λ rest h. keeps-read answer c.site takes.given r' plan' (rest ++ reads.got) takes.turn_of (reads.stands rest h);
       finds = λ rest h. finds-read answer (conn_after c link' (pending_bytes c.site u') r' turn') takes.given plan' (rest ++ reads.got) takes.turn_of
           (reads.stands rest h) (reads.finds rest h);

@@ -17,7 +17,7 @@ use Rattle.http_conn.specs.Items.{Item, BeginsItem}
 use Rattle.http_conn.specs.Replies.{Expects}
 use Rattle.http_conn.specs.Rest.{StandsAs, is_awaited, is_in_head, is_in_body, is_whole, is_refused}
 use Rattle.http_conn.specs.Steps.{Steps, PassesHead, StaysInPart, WaitsIn, is_told}
-use Rattle.http_conn.specs.Reader.{SeenReader, StandsFor, AwaitsMore, IsAnswerable, item_kept, finds_waiting, finds_more, finds_end, finds_failure, AnswerFinds, KeepsAll, ReadsNext}
+use Rattle.http_conn.specs.Reader.{SeenReader, StandsFor, AwaitsMore, AsksInNeed, IsAnswerable, item_kept, finds_waiting, finds_more, finds_end, finds_failure, AnswerFinds, KeepsAll, ReadsNext}
 use Rattle.http_conn.specs.Turns.{LeavesItem}
 use Rattle.http_conn.specs.ReaderInside.{HasCome, HasComeSome, EndsReading}
 use Rattle.http_conn.proofs.ApartLemmas.{waits-for_request}
@@ -93,7 +93,8 @@ refused-kept (stage.Body request reader) is = absurd (false≢true is)
 refused-kept (stage.Whole request) is = absurd (false≢true is)
 refused-kept (stage.Refused code expected) is = refl
 
-module _ (link link' : LinkSeen) (old mid new : SeenReader) (come : HasCome link link' old mid) (same : new.limits ≡ mid.limits) where
+module _ (link link' : LinkSeen) (old mid new : SeenReader) (come : HasCome link link' old mid) (same : new.limits ≡ mid.limits)
+    (asks : (rest : List ℕ) → StandsFor old rest → AsksInNeed old rest come.got) where
   -- a step found the next item
   found-item : (given : Step) → Steps mid.limits mid.unread new.unread mid.stage new.stage given → is_told given ≡ false → is_some (item_kept new.stage) ≡ true
       → ReadsNext link link' old new answer.Item
@@ -105,6 +106,7 @@ module _ (link link' : LinkSeen) (old mid new : SeenReader) (come : HasCome link
         told_is = further.told_is;
         gives = further.gives;
         none_comes = λ e. absurd (cc);
+        asks = asks;
         stands = further.stands;
         finds = λ rest h. kept;
         told_once = further.same_client ∙ sym (or-nothing (is_awaited old.stage) false refl);
@@ -131,6 +133,7 @@ module _ (link link' : LinkSeen) (old mid new : SeenReader) (come : HasCome link
     told_is = come.told_is;
     gives = come.gives;
     none_comes = λ e. absurd (cc);
+    asks = asks;
     stands = step-stands link link' old mid new step.Awaited come same steps;
     finds = λ rest h. steps.finds.awaited_is;
     told_once = steps.told_once ∙ ap (λ b. b || true) come.same_client;
@@ -151,6 +154,7 @@ module _ (link link' : LinkSeen) (old mid new : SeenReader) (come : HasCome link
         told_is = further.told_is;
         gives = further.gives;
         none_comes = λ e. absurd (cc);
+        asks = asks;
         stands = λ rest h. tt;
         finds = λ rest h. tt;
         told_once = further.same_client ∙ sym (or-nothing (is_awaited old.stage) false refl);
@@ -160,6 +164,36 @@ module _ (link link' : LinkSeen) (old mid new : SeenReader) (come : HasCome link
         late_writes = further.late_writes;
         ends = further.ends;
       }
+
+-- items don't wait for more
+abbrev pub ItemsApart : Type 0
+ItemsApart = (limits : Limits) (bytes : List ℕ) (item : Item) (size : ℕ) → BeginsItem limits bytes item size → ¬ (WaitsForRequest limits bytes)
+
+-- a client that waits is found before more has to come
+abbrev pub ClientsFound : Type 0
+ClientsFound = (limits : Limits) (unread : List ℕ) (s : Stage) (rest : List ℕ) → WaitsIn limits unread s rest → Expects limits rest → is_awaited s ≡ true
+
+-- where more has to come nothing that is there can be answered
+pub none-there : ItemsApart → ClientsFound → (old new : SeenReader) (rest : List ℕ) → new.limits ≡ old.limits → is_awaited new.stage ≡ is_awaited old.stage
+    → AwaitsMore new rest → IsAnswerable old rest → ⊥
+none-there apart found old new rest same client waits (inl (item, size, begins)) =
+    apart new.limits rest item size (subst (λ l. BeginsItem l rest item size) (sym same) begins)
+    (waits-for_request new.limits new.unread new.stage rest waits.waits)
+none-there apart found old new rest same client waits (inr (expects, unfound)) =
+    false≢true (sym unfound ∙ sym client ∙ found new.limits new.unread new.stage rest waits.waits (subst (λ l. Expects l rest) (sym same) expects))
+
+-- a read where more had to come
+pub asks-in_need : ItemsApart → ClientsFound → (link link' : LinkSeen) (old mid : SeenReader) (come : HasCome link link' old mid) (more : List ℕ)
+    → ((rest : List ℕ) → StandsFor old rest → AwaitsMore mid (rest ++ come.got)) → length more ≤ 4096
+    → (rest : List ℕ) → StandsFor old rest → AsksInNeed old rest (come.got ++ more)
+asks-in_need apart found link link' old mid come more waits few rest h =
+    inr (record {
+      before = come.got;
+      last = more;
+      got_is = refl;
+      few = few;
+      none_there = λ a. none-there apart found old mid (rest ++ come.got) come.same_limits come.same_client (waits rest h) a;
+    })
 
 module _ (link link1 link2 : LinkSeen) (old mid new : SeenReader) (first : HasCome link link1 old mid) where
   -- a further read
@@ -178,14 +212,15 @@ module _ (link link1 link2 : LinkSeen) (old mid new : SeenReader) (first : HasCo
   }
 
   -- the last read
-  pub reads-last : (given : RequestAnswer) → ((rest : List ℕ) → StandsFor old rest → AwaitsMore mid (rest ++ first.got)) → EndsReading link1 link2 mid new given
-      → ReadsNext link link2 old new given
-  reads-last given waits later = record {
+  pub reads-last : ItemsApart → ClientsFound → (given : RequestAnswer) → ((rest : List ℕ) → StandsFor old rest → AwaitsMore mid (rest ++ first.got))
+      → EndsReading link1 link2 mid new given → ReadsNext link link2 old new given
+  reads-last apart found given waits later = record {
     same_limits = later.same_limits ∙ first.same_limits;
     got = first.got ++ later.got;
     told_is = told-joined link.told link1.told link2.told first.got later.got first.told_is later.told_is;
     gives = gives-joined link.told link1.told link2.told first.got later.got first.told_is first.gives later.gives;
     none_comes = later.none_comes;
+    asks = asks-in_need apart found link link1 old mid first later.got waits later.few;
     stands = λ rest h. subst (KeepsAll given new) (append_assoc rest first.got later.got) (later.stands (rest ++ first.got) (first.stands rest h));
     finds = λ rest h. subst (AnswerFinds given new) (append_assoc rest first.got later.got) (later.finds (rest ++ first.got) (waits rest h));
     told_once = later.same_client ∙ first.same_client ∙ sym (or-nothing (is_awaited old.stage) (finds_waiting given) later.none_waits);
@@ -226,9 +261,9 @@ come-piece goes_on link link' old new count buffer more reads is some few left =
     }
 
 -- memory lacked for the bytes that came
-pub ends-lost : (link link' : LinkSeen) (old new : SeenReader) (count : ℕ) (buffer : List ℕ) → Reads link link' (got.Got count) buffer → new ≡ old
-    → EndsReading link link' old new answer.NoMemory
-ends-lost link link' old new count buffer reads same = record {
+pub ends-lost : (link link' : LinkSeen) (old new : SeenReader) (count : ℕ) (buffer : List ℕ) → Reads link link' (got.Got count) buffer → length buffer ≤ 4096
+    → new ≡ old → EndsReading link link' old new answer.NoMemory
+ends-lost link link' old new count buffer reads few same = record {
   same_limits = ap (λ (r : SeenReader). r.limits) same;
   got = take count buffer;
   told_is = reads.told_is ∙ ap (λ n. option_map (with_received n) link.told) (sym (length-take-le count buffer reads.fits.0));
@@ -238,6 +273,7 @@ ends-lost link link' old new count buffer reads same = record {
   finds = λ rest h. tt;
   same_client = ap (λ (r : SeenReader). is_awaited r.stage) same;
   none_waits = refl;
+  few = omega (arith, few, reads.fits.0, length-take-le count buffer reads.fits.0);
   faults = reads.faults;
   late_reads = reads.late_reads;
   late_writes = reads.late_writes;
@@ -265,6 +301,7 @@ ends-empty link link' r given same none_comes nothing stands finds faults late_r
   finds = λ rest h. nil-behind (AnswerFinds given r) rest (finds rest h);
   same_client = refl;
   none_waits = nothing;
+  few = omega arith;
   faults = faults;
   late_reads = late_reads;
   late_writes = late_writes;
@@ -311,18 +348,13 @@ item-more spelled refused limits rest more (inl request) size b = (spelled limit
 item-more spelled refused limits rest more (inr refusal) size b = (refused-more refused limits rest more refusal b.0, b.1)
 
 -- where more has to come there was no item before, and no client that waits and wasn't found
-pub none-answerable : KeepsHeads → KeepsSpelled → KeepsRefused
-    → ((limits : Limits) (bytes : List ℕ) (item : Item) (size : ℕ) → BeginsItem limits bytes item size → ¬ (WaitsForRequest limits bytes))
-    → ((limits : Limits) (unread : List ℕ) (s : Stage) (rest : List ℕ) → WaitsIn limits unread s rest → Expects limits rest → is_awaited s ≡ true)
-    → (old new : SeenReader) (rest more : List ℕ) → new.limits ≡ old.limits → is_awaited new.stage ≡ is_awaited old.stage
+pub none-answerable : KeepsHeads → KeepsSpelled → KeepsRefused → ItemsApart → ClientsFound → (old new : SeenReader) (rest more : List ℕ) → new.limits ≡ old.limits → is_awaited new.stage ≡ is_awaited old.stage
     → AwaitsMore new (rest ++ more) → IsAnswerable old rest → ⊥
 none-answerable heads spelled refused apart found old new rest more same client waits (inl (item, size, begins)) =
-    apart new.limits (rest ++ more) item size
-    (item-more spelled refused new.limits rest more item size (subst (λ l. BeginsItem l rest item size) (sym same) begins))
-    (waits-for_request new.limits new.unread new.stage (rest ++ more) waits.waits)
+    none-there apart found old new (rest ++ more) same client waits
+    (inl (item, size, item-more spelled refused old.limits rest more item size begins))
 none-answerable heads spelled refused apart found old new rest more same client waits (inr (expects, unfound)) =
-    false≢true (sym unfound ∙ sym client
-    ∙ found new.limits new.unread new.stage (rest ++ more) waits.waits (expects-more heads new.limits rest more (subst (λ l. Expects l rest) (sym same) expects)))
+    none-there apart found old new (rest ++ more) same client waits (inr (expects-more heads old.limits rest more expects, unfound))
 
 -- where more has to come the bytes are few
 pub come-few : (new : SeenReader) (rest more : List ℕ) → AwaitsMore new (rest ++ more) → length more ≤ 1102733746998

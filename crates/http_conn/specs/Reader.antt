@@ -1,5 +1,5 @@
 -- A reader of the requests that come over a link: what it keeps, and what a turn of reading takes and finds.
-use Rattle.std.specs.Prelude.{◌≡◌, ◌⊎◌, ℕ, Bool, true, false, ◌||◌, List, [], ◌++◌, take, length, Option, Some, None, option_map, is_some, IfSome, ⊤}
+use Rattle.std.specs.Prelude.{◌≡◌, ◌⊎◌, ℕ, ◌≤◌, Bool, true, false, ◌||◌, List, [], ◌++◌, take, length, Option, Some, None, option_map, is_some, IfSome, ⊤}
 use Rattle.std.proofs.Common.{inl, inr}
 use Rattle.mpm_base.specs.Count.{RisesWhere, RisesExactlyWhere}
 use Rattle.mpm_base.specs.Link.{LinkSeen, with_received}
@@ -106,6 +106,18 @@ KeepsAll answer.Gone r rest = StandsFor r rest
 KeepsAll answer.LinkFailed r rest = StandsFor r rest
 KeepsAll answer.NoMemory r rest = ⊤
 
+-- the last of the bytes that came, at most 4,096, came where nothing that was there before them could be answered
+pub record ComesLast (old : SeenReader) (rest got : List ℕ) : Type 0 where
+  pub before : List ℕ
+  pub last : List ℕ
+  pub got_is : got ≡ before ++ last
+  pub few : length last ≤ 4096
+  pub none_there : ¬ (IsAnswerable old (rest ++ before))
+
+-- the link was asked only where nothing that was there could be answered: no byte came, or the last ones came so
+abbrev pub AsksInNeed : SeenReader → List ℕ → List ℕ → Type 0
+AsksInNeed old rest got = (got ≡ []) ⊎ ComesLast old rest got
+
 -- a turn of reading took what the link gave behind the bytes for which the reader stood, and ended with the answer
 pub record ReadsNext (link link' : LinkSeen) (old new : SeenReader) (given : RequestAnswer) : Type 0 where
   pub same_limits : new.limits ≡ old.limits
@@ -113,6 +125,7 @@ pub record ReadsNext (link link' : LinkSeen) (old new : SeenReader) (given : Req
   pub told_is : link'.told ≡ option_map (with_received (length got)) link.told
   pub gives : IfSome link.told (λ t. got ≡ take (length got) t.coming)
   pub none_comes : given ≡ answer.Gone → IfSome link'.told (λ t. t.coming ≡ [])
+  pub asks : (rest : List ℕ) → StandsFor old rest → AsksInNeed old rest got
   pub stands : (rest : List ℕ) → StandsFor old rest → KeepsAll given new (rest ++ got)
   pub finds : (rest : List ℕ) → StandsFor old rest → AnswerFinds given new (rest ++ got)
   pub told_once : is_awaited new.stage ≡ (is_awaited old.stage || finds_waiting given)

@@ -38,6 +38,7 @@ pub record EndsReading (link link' : LinkSeen) (old new : SeenReader) (given : R
   pub finds : (rest : List ℕ) → AwaitsMore old rest → AnswerFinds given new (rest ++ got)
   pub same_client : is_awaited new.stage ≡ is_awaited old.stage
   pub none_waits : finds_waiting given ≡ false
+  pub few : length got ≤ 4096
   pub faults : RisesWhere (finds_failure given) link.counts.faults link'.counts.faults
   pub late_reads : RisesExactlyWhere (finds_more given) link.counts.late_reads link'.counts.late_reads
   pub late_writes : link'.counts.late_writes ≡ link.counts.late_writes

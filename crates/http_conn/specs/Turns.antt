@@ -13,7 +13,7 @@ use Rattle.http_conn.specs.declared.turn.WriteTurn.TheVariants as write
 use Rattle.http_conn.specs.Items.{Item, BeginsItem}
 use Rattle.http_conn.specs.Replies.{IsAskedIn, IsNoteFor, IsResponse}
 use Rattle.http_conn.specs.Rest.{is_awaited}
-use Rattle.http_conn.specs.Reader.{SeenReader, StandsFor, AwaitsMore}
+use Rattle.http_conn.specs.Reader.{SeenReader, StandsFor, AwaitsMore, AsksInNeed}
 use Rattle.http_conn.specs.Writing.{is_not_ready, is_write_failure, WriteLeaves, with_sent}
 use Rattle.http_conn.specs.Conn.{SeenConn}
 
@@ -85,6 +85,7 @@ pub record ReadsOn (old new : SeenConn) (answer : ReadTurn) : Type 0 where
   pub got : List ℕ
   pub told : new.told ≡ option_map (with_received (length got)) old.told
   pub gives : IfSome old.told (λ t. got ≡ take (length got) t.coming)
+  pub asks : (rest : List ℕ) → StandsFor old.reader rest → AsksInNeed old.reader rest got
   pub stands : (rest : List ℕ) → StandsFor old.reader rest → KeepsRead answer new.reader (rest ++ got)
   pub finds : (rest : List ℕ) → StandsFor old.reader rest → ReadFinds answer new (rest ++ got)
   pub told_once : FindsClient answer old.reader new.reader

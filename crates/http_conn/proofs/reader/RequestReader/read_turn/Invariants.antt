@@ -1,5 +1,5 @@
 use Rattle.std.proofs.Common.{◌≡◌, ℕ, ◌+◌, ◌≤◌, List, length}
-use Rattle.http_conn.specs.Reader.{StandsFor, IsAnswerable}
+use Rattle.http_conn.specs.Reader.{StandsFor, IsAnswerable, AsksInNeed}
 use Rattle.http_conn.specs.ReaderInside.{HasCome}
 use Rattle.http_conn.proofs.ReaderLemmas.{behind_head}
 use Rattle.http_conn.proofs.reader.RequestReader.read_turn.Given as goal
@@ -10,5 +10,6 @@ invariant-loop g l = record {
   come : HasCome (g.L.Link.seen l.fn.link) (g.L.Link.seen l.link) l.fn.self l.self;
   each : l.counter ≤ length come.got + behind_head l.self.stage;
   few : length come.got ≤ 1102733751094;
+  asks : (rest : List ℕ) → StandsFor l.fn.self rest → AsksInNeed l.fn.self rest come.got;
   still : (rest : List ℕ) → StandsFor l.fn.self rest → IsAnswerable l.fn.self rest → g.L.Link.seen l.link ≡ g.L.Link.seen l.fn.link;
 }

@@ -9,7 +9,8 @@ returns-in-Ok g c =
     refl (grind (arith, common_steps)) (grind (arith, common_steps)) c.in-Ok.ensures.ok
 
 pub returns-in-Err : goal.returns-in-Err
-returns-in-Err g c = ends-lost _ _ c.args.self.now c.keep.new.self c.in-Got.count c.read.new.buffer c.in-Got.ensures c.in-Err.ensures.err
+returns-in-Err g c =
+    ends-lost _ _ c.args.self.now c.keep.new.self c.in-Got.count c.read.new.buffer c.in-Got.ensures (grind (arith, common_steps)) c.in-Err.ensures.err
 
 pub returns-in-End : goal.returns-in-End
 returns-in-End g c = ends-gone _ _ c.args.self.now c.read.new.buffer c.in-End.ensures
