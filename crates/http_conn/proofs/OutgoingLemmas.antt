@@ -1,6 +1,6 @@
 -- What is left to send, and what a call of the link takes of it.
-use Rattle.std.proofs.Common.{◌≡◌, ◌==◌, false, ℕ, zero, suc, ◌+◌, ◌-◌, ◌<◌, ◌≤◌, min, List, [], ◌∷◌, ◌++◌, take, drop, length, slice_get, Option, Some, None, option_map, IfSome, refl, sym, ap, ◌∙◌, arith, length-append, append_assoc}
-use Rattle.std.proofs.lemmas.List.{length-drop, length-take, drop-drop, drop-take, take-append-drop, take-append-le, length-take-le}
+use Rattle.std.proofs.Common.{◌≡◌, ◌==◌, true, false, ℕ, zero, suc, ◌+◌, ◌-◌, ◌<◌, ◌≤◌, min, List, [], ◌∷◌, ◌++◌, take, drop, length, slice_get, Option, Some, None, option_map, IfSome, refl, sym, ap, ◌∙◌, arith, length-append, append_assoc}
+use Rattle.std.proofs.lemmas.List.{length-drop, length-take, drop-drop, drop-take, take-append-drop, take-append-le, length-take-le, nil_from_length}
 use Rattle.std.proofs.lemmas.Bool.Decides.{nat_tests}
 use Rattle.std.proofs.Math.Seq.{drop-nil}
 use Rattle.mpm_base.specs.declared.store.File.{File}
@@ -12,6 +12,8 @@ use Rattle.http_conn.specs.declared.outgoing.FileRange.{FileRange}
 use Rattle.http_conn.specs.Replies.{file_range}
 use Rattle.http_conn.specs.Outgoing.{Unsent, IsRangeOf, IsUnsentOf, range_bytes, pending_bytes, range_len}
 use Rattle.http_conn.specs.OutgoingInside.{range_behind, unsent_behind}
+use Rattle.http_conn.specs.declared.turn.WriteTurn.TheVariants as write
+use Rattle.http_conn.specs.Writing.{SendsOn}
 use Rattle.http_conn.specs.WritingInside.{HasSent}
 
 -- ## A range of a file
@@ -145,6 +147,23 @@ has_sent-offered told told' counts counts' site u u' n of left writes =
       late_reads = writes.late_reads;
       late_writes = writes.late_writes;
       ends = writes.ends;
+    }
+
+-- where nothing is left, a front of what was pending and no more was sent
+pub sends-done : (told told' : Option LinkTold) (counts counts' : LinkCounts) (bytes : List ℕ) (site : SeenSite) (u : Unsent) → IsUnsentOf site u
+    → HasSent told told' counts counts' bytes (pending_bytes site u) → (length u.head + range_len u.body == 0) ≡ true
+    → SendsOn told told' counts counts' bytes [] write.Done
+sends-done told told' counts counts' bytes site u of sent left =
+    let none : pending_bytes site u ≡ [] = nil_from_length (pending_bytes site u) (grind (arith, nat_tests, left, pending-length site u of)) in
+    record {
+      leaves = refl;
+      sent = sent.sent;
+      front = sent.front ∙ ap (λ xs. sent.sent ++ xs) none;
+      told_is = sent.told_is;
+      faults = sent.faults;
+      late_reads = sent.late_reads;
+      late_writes = sent.late_writes;
+      ends = sent.ends;
     }
 
 -- fewer bytes are left then

@@ -221,13 +221,13 @@ impl<L: WritesPairs> Conn<L> {
         }
     }
 
-    /// Sends what is pending, until the link has no room. Takes no memory.
+    /// Sends what is pending, until the link has no room. Takes no memory, and holds none for what is pending where nothing is.
     pub fn write_turn(&mut self) -> WriteTurn
         requires usable { is_usable self.old.turn ≡ true }
         ensures { WritesOn self.old self.new result }
     {
         follows_what_was_read();
-        let turn = send(&mut self.link, &self.site, &mut self.unsent);
+        let turn = send(self.alloc, &mut self.link, &self.site, &mut self.unsent);
         self.turn = turn.leaves();
         turn
     }

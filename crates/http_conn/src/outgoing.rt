@@ -8,6 +8,7 @@ ghost use Rattle.http_conn.specs.Writing.{SendsOn};
 use crate::turn::WriteTurn;
 use file_table::{Site, bytes};
 use mpm_base::{Link, Octets, Sent};
+use std::alloc::Global;
 use std::marker::Model;
 
 /// How many bytes of a body a link is offered at once.
@@ -123,8 +124,13 @@ fn piece_of(site: &Site, range: FileRange) -> &[u8]
 }
 
 /// Sends what is left, until the link has no room. Each call of the link is offered what is left of the head, and behind it a
-/// piece of the body.
-pub fn send<L: WritesPairs>(link: &mut L, site: &Site, unsent: &mut Outgoing) -> WriteTurn
+/// piece of the body. Where nothing is left, no memory is held for it then.
+pub fn send<L: WritesPairs>(
+    alloc: Global,
+    link: &mut L,
+    site: &Site,
+    unsent: &mut Outgoing,
+) -> WriteTurn
     requires { IsUnsentOf site.now unsent.old }
     ensures sends { SendsOn (L.seen link.old).told (L.seen link.new).told (L.seen link.old).counts (L.seen link.new).counts
         (pending_bytes site.now unsent.old) (pending_bytes site.now unsent.new) result }
@@ -137,5 +143,6 @@ pub fn send<L: WritesPairs>(link: &mut L, site: &Site, unsent: &mut Outgoing) ->
             Sent::Failed => return WriteTurn::LinkFailed,
         }
     }
+    *unsent = Outgoing::of(Octets::make(alloc), None);
     WriteTurn::Done
 }

@@ -103,14 +103,19 @@ impl RequestReader {
         }
     }
 
+    /// Holds no memory for bytes where none is kept.
+    fn free_empty(&mut self)
+        ensures { self.new ≡ self.old }
+    {
+        self.unread.free_empty(self.alloc);
+    }
+
     /// Goes on behind the next request, which is whole. A reader that has no byte then holds no memory.
     pub fn leave_request(&mut self)
         requires { is_whole self.old.stage ≡ true }
         ensures { LeavesRequest self.old self.new }
     {
-        if self.unread.is_empty() {
-            self.unread = Received::make(self.alloc);
-        }
+        self.free_empty();
         self.stage = Stage::Head(HeadReader::new(self.limits));
     }
 
@@ -164,7 +169,8 @@ impl RequestReader {
         Ok(())
     }
 
-    /// Takes what the link has, at most a piece. None where bytes came.
+    /// Takes what the link has, at most a piece. None where bytes came. A reader that waits and has no byte then holds no memory
+    /// for one.
     fn take_piece<L: Link>(&mut self, link: &mut L) -> Option<RequestAnswer>
         requires { IsShortIn self.old.unread self.old.stage }
         ensures { TakesPiece (L.seen link.old) (L.seen link.new) self.old self.new result }
@@ -178,7 +184,10 @@ impl RequestReader {
                 Err(NoMemory) => Some(RequestAnswer::NoMemory),
             },
             Got::End => Some(RequestAnswer::Gone),
-            Got::NotReady => Some(RequestAnswer::More),
+            Got::NotReady => {
+                self.free_empty();
+                Some(RequestAnswer::More)
+            }
             Got::Failed => Some(RequestAnswer::LinkFailed),
         }
     }

@@ -56,6 +56,15 @@ impl Received {
         self.from += count;
     }
 
+    /// Holds no memory where there is no byte.
+    pub fn free_empty(&mut self, alloc: Global)
+        ensures { self.new ≡ self.old }
+    {
+        if self.is_empty() {
+            *self = Received::make(alloc);
+        }
+    }
+
     /// Puts the bytes at the end, and moves those that are there to the front of the room. Where memory lacks no byte changes.
     pub fn add(&mut self, bytes: &[u8]) -> Result<(), NoMemory>
         ensures ok { OnOk result (self.new ≡ self.old ++ bytes.now) }

@@ -16,7 +16,8 @@ pub returns-in-End : goal.returns-in-End
 returns-in-End g c = ends-gone _ _ c.args.self.now c.read.new.buffer c.in-End.ensures
 
 pub returns-in-NotReady : goal.returns-in-NotReady
-returns-in-NotReady g c = ends-late _ _ c.args.self.now c.read.new.buffer c.in-NotReady.ensures
+returns-in-NotReady g c =
+    rw c.free_empty.ensures (ends-late _ _ c.args.self.now c.read.new.buffer c.in-NotReady.ensures)
 
 pub returns-in-Failed : goal.returns-in-Failed
 returns-in-Failed g c = ends-failed _ _ c.args.self.now c.read.new.buffer c.in-Failed.ensures
