@@ -1,19 +1,21 @@
 -- Where an item stands at the front of the bytes, none has to come; and where more has to come, a client that waits was found.
-use Rattle.std.proofs.Common.{◌≡◌, ◌≢◌, ℕ, Bool, true, List, drop, inl, inr, sym, ap, subst, ◌∙◌}
+use Rattle.std.proofs.Common.{◌≡◌, ◌≢◌, ◌==◌, ℕ, Bool, true, false, ◌&&◌, List, [], ◌∷◌, drop, length, inl, inr, refl, sym, ap, subst, ◌∙◌, arith}
 use Rattle.std.proofs.lemmas.Bool.{false≢true}
+use Rattle.std.proofs.lemmas.Bool.Decides.{nat_tests}
+use Rattle.std.proofs.lemmas.List.Elements.{All-nil}
 use Rattle.http_read.specs.declared.request.BodyKind.{BodyKind}
 use Rattle.http_read.specs.declared.request.Limits.{Limits}
 use Rattle.http_read.specs.declared.head.HeadAnswer.{HeadAnswer}
 use Rattle.http_read.specs.declared.head.HeadAnswer.TheVariants as answer
 use Rattle.http_read.specs.RequestParts.{RequestParts}
-use Rattle.http_read.specs.Head.{BeginsHead, HeadIs}
+use Rattle.http_read.specs.Head.{BeginsHead, HeadIs, IsHeadFront}
 use Rattle.http_read.specs.BodyForm.{BodyForm, WholeBody, BodyFront, BrokenBody, HasForm}
 use Rattle.http_read.specs.Requests.{BeginsRefusal, WaitsForRequest}
 use Rattle.http_conn.specs.declared.stage.Stage.{Stage}
 use Rattle.http_conn.specs.declared.stage.Stage.TheVariants as stage
 use Rattle.http_conn.specs.Items.{Item, BeginsItem}
 use Rattle.http_conn.specs.Replies.{Expects}
-use Rattle.http_conn.specs.Rest.{StandsAs, is_awaited}
+use Rattle.http_conn.specs.Rest.{StandsAs, is_awaited, is_in_head}
 use Rattle.http_conn.specs.Steps.{WaitsIn}
 
 -- bytes have one answer about their head
@@ -94,3 +96,39 @@ found-expects limits unread (stage.Body request reader) rest h is = record { req
 found-expects limits unread (stage.Whole request) rest h is =
     record { request = request; head_len = h.whole.head_len; head = h.whole.head; expects = is }
 found-expects limits unread (stage.Refused code expected) rest h is = refused-expects limits code expected rest h is
+
+-- ## Where no byte stands behind the answered requests
+
+-- no byte is a front of a head
+none-front : (limits : Limits) → IsHeadFront limits []
+none-front limits = record {
+  small = omega arith;
+  unended = inl (record { blank = []; front = []; blank_lines = All-nil _; front_line = All-nil _; short = omega arith; bytes_are = refl });
+}
+
+-- some byte is there
+some-byte : (rest : List ℕ) → (rest ≡ [] → ⊥) → false ≡ (length rest == 0)
+some-byte [] none = absurd (none refl)
+some-byte (byte ∷ rest) none =
+    let some : (length (byte ∷ rest) == 0) ≡ false = grind (arith, nat_tests) in
+    sym some
+
+-- no head stands there where there is no byte
+head-some : OneHead → (limits : Limits) (rest : List ℕ) (request : RequestParts) (n : ℕ) → BeginsHead limits rest request n → rest ≡ [] → ⊥
+head-some one limits rest request n h none =
+    absurd (let same = one limits rest (answer.Whole request n) answer.More h (subst (IsHeadFront limits) (sym none) (none-front limits)) (λ e. cc) (λ e. cc) in cc)
+
+-- no item stands there
+item-some : OneHead → OneBody → (limits : Limits) (rest : List ℕ) (item : Item) (size : ℕ) → BeginsItem limits rest item size → rest ≡ [] → ⊥
+item-some one_head one_body limits rest item size b none =
+    waits-apart one_head one_body limits rest item size b (inl (subst (IsHeadFront limits) (sym none) (none-front limits)))
+
+-- nothing is kept then, and else something is
+pub empty-rest : OneHead → OneBody → (limits : Limits) (unread : List ℕ) (s : Stage) (rest : List ℕ) → StandsAs limits unread s rest
+    → (is_in_head s && (length unread == 0)) ≡ (length rest == 0)
+empty-rest one_head one_body limits unread (stage.Head reader) rest h = ap (λ xs. length xs == 0) (sym h.rest_is)
+empty-rest one_head one_body limits unread (stage.Body request reader) rest h = some-byte rest (head-some one_head limits rest request h.head_len h.head)
+empty-rest one_head one_body limits unread (stage.Whole request) rest h =
+    some-byte rest (item-some one_head one_body limits rest (inl request) h.size h.whole)
+empty-rest one_head one_body limits unread (stage.Refused code expected) rest h =
+    some-byte rest (item-some one_head one_body limits rest (inr (record { code = code; expected = expected })) 0 (h, refl))

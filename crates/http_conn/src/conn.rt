@@ -17,7 +17,7 @@ ghost use Rattle.http_conn.specs.Turns.{AsksNothing, IsNoteOf, ReadsOn, TakesNot
 use crate::exchange::{ReadAnswer, read_item};
 use crate::laws::{
     answered_items_go_on, answered_items_stay, follows_what_was_read, kept_bytes_go_on,
-    refusals_have_their_codes, replies_go_on, responses_have_bytes,
+    kept_bytes_show_empty_rests, refusals_have_their_codes, replies_go_on, responses_have_bytes,
 };
 use crate::outgoing::{Outgoing, WritesPairs, send};
 use crate::reader::RequestReader;
@@ -151,8 +151,10 @@ impl<L: WritesPairs> Conn<L> {
 
     /// Whether each byte that was read is one of an answered request.
     pub fn rest_empty(&self) -> bool
-        ensures { result ≡ (is_in_head self.now.reader.stage && (length self.now.reader.unread == 0)) }
+        ensures kept { result ≡ (is_in_head self.now.reader.stage && (length self.now.reader.unread == 0)) }
+        ensures rest { (rest : List ℕ) → StandsFor self.now.reader rest → result ≡ (length rest == 0) }
     {
+        kept_bytes_show_empty_rests();
         self.reader.is_empty()
     }
 

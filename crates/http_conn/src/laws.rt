@@ -1,5 +1,5 @@
 //! Laws of the items of a connection's bytes and of the replies to them. Each is the contract of a function that does nothing.
-ghost use Rattle.std.specs.Prelude.{◌≡◌, ℕ, ◌<◌, Bool, true, false, List, [], ◌∷◌, ◌++◌, drop, length, Some};
+ghost use Rattle.std.specs.Prelude.{◌≡◌, ◌==◌, ◌&&◌, ℕ, ◌<◌, Bool, true, false, List, [], ◌∷◌, ◌++◌, drop, length, Some};
 ghost use Rattle.std.proofs.Common.{inl, inr};
 ghost use Rattle.mpm_base.specs.Notes.{says_last};
 ghost use Rattle.mpm_base.specs.declared.note.Note.{Note};
@@ -12,7 +12,7 @@ ghost use Rattle.http_conn.specs.Items.{Item, BeginsItem, AreFirst};
 ghost use Rattle.http_conn.specs.Replies.{AreReplies, Expects, IsFitting, IsInterim, IsNoteFor, IsResponse, MayFollow, first_part, item_ask};
 ghost use Rattle.http_conn.specs.Reader.{item_kept};
 ghost use Rattle.http_conn.specs.Follows.{what_follows};
-ghost use Rattle.http_conn.specs.Rest.{StandsAs, is_awaited};
+ghost use Rattle.http_conn.specs.Rest.{StandsAs, is_awaited, is_in_head};
 ghost use Rattle.http_conn.specs.Steps.{IsReadable, WaitsIn};
 ghost use Rattle.http_conn.specs.declared.stage.Stage.{Stage};
 
@@ -77,6 +77,15 @@ pub fn kept_bytes_go_on()
 {
     keeps_answer();
     keeps_spelling();
+}
+
+/// Nothing is kept of the next request exactly where no byte stands behind the answered ones.
+pub fn kept_bytes_show_empty_rests()
+    ensures { (limits : Limits) (unread : List ℕ) (stage : Stage) (rest : List ℕ) → StandsAs limits unread stage rest
+        → (is_in_head stage && (length unread == 0)) ≡ (length rest == 0) }
+{
+    one_answer();
+    one_form();
 }
 
 /// The readers may go on with what stands for any bytes.
