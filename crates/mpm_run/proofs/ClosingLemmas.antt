@@ -102,12 +102,13 @@ lets-more steps Way name a b c lets one =
 
 -- one that was held could not wait on
 pub refused-wait : (name named : ConnName) (why : Cause) (fault : BoardFault) (a b c : SeenBook) → Acts 0 (event.Hold name ∷ []) (Some name) a b
-    → named ≡ name → IsRefusedFor fault b → Acts 0 (lingering_given_up fault why named) None b c → GivesUpDrained fault a c
-refused-wait name named why fault a b c held same refused given = record {
+    → after b.base b.history ≡ b.state → named ≡ name → IsRefusedFor fault b → Acts 0 (lingering_given_up fault why named) None b c → GivesUpDrained fault a c
+refused-wait name named why fault a b c held state same refused given = record {
   name = name;
   ending = why;
   book = b;
   held = held;
+  state = state;
   why = refused;
   acts = acts-spelled _ (lingering_given_up fault why name) b c given (ap (lingering_given_up fault why) same);
 }

@@ -392,7 +392,7 @@ pace-served steps law rest a b here there abreast patient took served until rest
           let at_rest = restful.0 quiet in
           served-rests rest a b took until at_rest
           (acts-state law 1 [] None a.board.book b.board.book here there
-          (subst (λ (names : List ConnName). AreServed 1 names a.board b.board) (served.serves.none at_rest.served) served.serves.served));
+          (subst (λ (names : List ConnName). AreServed 1 names a.board b.board) (served.serves.none at_rest.served) served.serves.served).acts);
     })
 
 -- ## The end

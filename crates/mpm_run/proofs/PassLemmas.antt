@@ -76,14 +76,14 @@ pub record ActsSomehow (who : ℕ) (a b : SeenBook) : Type 0 where
   pub acts : Acts who events None a b
 
 served-acts : ActsInSteps → (who : ℕ) (names : List ConnName) (a b : SeenBoard) → AreServed who names a b → ActsSomehow who a.book b.book
-served-acts steps who [] a b acts = record { events = []; acts = acts }
+served-acts steps who [] a b idle = record { events = []; acts = idle.acts }
 served-acts steps who (name ∷ names) a b (x, y, idle, served, others) =
     let more = served-acts steps who names y b others in
     record {
       events = _;
       acts =
           steps.more who _ more.events None None a.book y.book b.book
-          (steps.more who [] _ None None a.book x.book y.book idle (service-acts steps who name x y served)) more.acts;
+          (steps.more who [] _ None None a.book x.book y.book idle.acts (service-acts steps who name x y served)) more.acts;
     }
 
 pub serves-acts : ActsInSteps → (a b : SeenBoard) → ServesSome a b → ActsSomehow 1 a.book b.book
@@ -92,7 +92,8 @@ serves-acts steps a b serves = served-acts steps 1 serves.names a b serves.serve
 -- one more was served behind others
 served-more : ActsInSteps → (who : ℕ) (names : List ConnName) (name : ConnName) (a b c : SeenBoard) → AreServed who names a b → HasServed who name b c
     → AreServed who (names ++ name ∷ []) a c
-served-more steps who [] name a b c idle served = (b, c, idle, served, steps.none who None c.book served.left.acts.row)
+served-more steps who [] name a b c idle served =
+    (b, c, idle, served, record { acts = steps.none who None c.book served.left.acts.row; conns = refl; ended = refl })
 served-more steps who (n ∷ names) name a b c (x, y, idle, first, others) served =
     (x, y, idle, first, served-more steps who names name y b c others served)
 

@@ -8,6 +8,7 @@ use Rattle.mpm_base.specs.declared.conn.Kind.{Kind}
 use Rattle.mpm_base.specs.declared.conn.Kind.TheVariants.{Reading, KeepAlive, Writing, Linger, ShortLinger}
 use Rattle.mpm_base.specs.declared.conn.Tail.{Tail}
 use Rattle.mpm_base.specs.declared.conn.Tail.TheVariants as tail
+use Rattle.conn_machine.specs.Runs.{after}
 use Rattle.conn_machine.specs.declared.event.Commanded.TheVariants.{Stop}
 use Rattle.conn_machine.specs.declared.event.Event.{Event}
 use Rattle.conn_machine.specs.declared.event.Event.TheVariants as event
@@ -167,6 +168,7 @@ pub record GivesUpDrained (fault : BoardFault) (old new : SeenBook) : Type 0 whe
   pub ending : Cause
   pub book : SeenBook
   pub held : Acts 0 (event.Hold name ∷ []) (Some name) old book
+  pub state : after book.base book.history ≡ book.state
   pub why : IsRefusedFor fault book
   pub acts : Acts 0 (lingering_given_up fault ending name) None book new
 

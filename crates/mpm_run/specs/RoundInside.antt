@@ -13,7 +13,7 @@ use Rattle.conn_machine.specs.declared.event.Event.{Event}
 use Rattle.conn_machine.specs.declared.event.Event.TheVariants as event
 use Rattle.conn_machine.specs.declared.event.Why.{Why}
 use Rattle.conn_machine.specs.declared.event.Why.TheVariants as why
-use Rattle.conn_machine.specs.Runs.{full_load, load}
+use Rattle.conn_machine.specs.Runs.{after, full_load, load}
 use Rattle.conn_state.specs.Conn.{IsFrontOf}
 use Rattle.board.specs.declared.faults.BoardFault.{BoardFault}
 use Rattle.board.specs.declared.faults.BoardFault.TheVariants as fault
@@ -113,6 +113,7 @@ pub record GivesUpTaken (fault : BoardFault) (old new : SeenBook) : Type 0 where
   pub name : ConnName
   pub book : SeenBook
   pub took : Acts 0 (event.Accept name.slot ∷ []) (Some name) old book
+  pub state : after book.base book.history ≡ book.state
   pub why : IsRefusedFor fault book
   pub acts : GivesUp fault name book new
 
@@ -128,11 +129,17 @@ pub record TakesUntil (fault : BoardFault) (old new : SeenBook) : Type 0 where
 
 -- ## Connections that are served
 
+-- the pass did nothing, and the connections that the board has, and those that ended, are the same
+pub record LeavesConns (who : ℕ) (old new : SeenBoard) : Type 0 where
+  pub acts : Acts who [] None old.book new.book
+  pub conns : new.conns ≡ old.conns
+  pub ended : new.ended ≡ old.ended
+
 -- the connections of these names were served by the pass, one behind the other, and the pass did nothing else
 abbrev pub AreServed : ℕ → List ConnName → SeenBoard → SeenBoard → Type 0
-AreServed who [] old new = Acts who [] None old.book new.book
+AreServed who [] old new = LeavesConns who old new
 AreServed who (name ∷ names) old new =
-    (a : SeenBoard) × (b : SeenBoard) × Acts who [] None old.book a.book × HasServed who name a b × AreServed who names b new
+    (a : SeenBoard) × (b : SeenBoard) × LeavesConns who old a × HasServed who name a b × AreServed who names b new
 
 -- the pass that serves did so with these; where no connection was due with none
 pub record ServesSome (old new : SeenBoard) : Type 0 where

@@ -22,7 +22,7 @@ ghost use Rattle.mpm_run.specs.ListenInside.{MustStop, NoneOverdue, NoneParked};
 ghost use Rattle.mpm_run.specs.RoundInside.{NoneHas};
 
 use crate::listen::LISTENER;
-use crate::round::show_none_live;
+use crate::round::{show_none_live, show_state};
 use board::{Board, BoardFault};
 use conn_machine::Why;
 use conn_machine::laws_of_runs::{
@@ -173,6 +173,7 @@ fn drain<L: Link, N: Known>(board: &mut Board<L, N>, name: ConnName) -> Result<(
         unreachable!()
     };
     let mut conn = board.hold(LISTENER, name);
+    show_state(board);
     match tail_of(conn.linger_turn()) {
         Some(tail) => {
             close(board, LISTENER, conn, cause, tail);

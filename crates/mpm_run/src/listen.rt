@@ -347,6 +347,7 @@ impl<L: Link + Send, F: Front<L = L>, C: Clock, N: Known> Listener<L, F, C, N> {
                 return Err(fault);
             }
         };
+        show_state(&self.board);
         let watched = self.front.watch(taken.name, &mut link);
         let conn = Conn::new(self.alloc, taken.name, taken.child, taken.generation, link);
         conn.show();

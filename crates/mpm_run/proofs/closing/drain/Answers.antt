@@ -134,7 +134,7 @@ returns-in-None-clause-until g c =
     (λ fault why given. refused-wait c.args.name c.linger_turn.new.self.name c.in-Some-Some.cause fault c.args.board.now.book c.hold-conn.new.self.book
     c.linger_on.new.board.book
     (held-acts c.passes_act_in_steps.ensures.acts c.args.name _ c.args.board.now c.hold-conn.new.self c.hold-conn.ensures.is c.hold-conn.ensures.entries c.hold-conn.ensures.row)
-    (c.linger_turn.ensures.name ∙ c.hold-conn.ensures.name) why given)
+    c.show_state.ensures.after (c.linger_turn.ensures.name ∙ c.hold-conn.ensures.name) why given)
     c.linger_on.ensures.why c.linger_on.ensures.given_up
 
 pub returns-in-None-clause-fewer : goal.returns-in-None-clause-fewer

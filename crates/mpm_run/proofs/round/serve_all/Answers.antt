@@ -12,7 +12,8 @@ loop-name-init g c = record {
       record {
         names = [];
         none = λ none. refl;
-        served = c.passes_act_in_steps.ensures.acts.none 1 None c.args.board.now.book c.requires.free;
+        served =
+            record { acts = c.passes_act_in_steps.ensures.acts.none 1 None c.args.board.now.book c.requires.free; conns = refl; ended = refl };
       };
   still = λ none. none;
   state = c.show_state.ensures.after;

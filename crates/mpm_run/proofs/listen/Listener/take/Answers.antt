@@ -77,6 +77,7 @@ returns-clause-until g c =
       name = c.in-Ok.taken.name;
       book = c.accept.new.board.book;
       took = c.in-Ok.ensures.acts;
+      state = c.show_state.ensures.after;
       why = why;
       acts = subst (λ (x : SeenConn). GivesUp f x.name c.accept.new.board.book c.settle.new.board.book) c.new-conn.ensures given;
     }))
