@@ -16,8 +16,8 @@ const SECOND: ConnName = ConnName { slot: 1, life: 0 };
 
 const THIRD: ConnName = ConnName { slot: 2, life: 0 };
 
-/// The slot of the first connection is used again.
-const FOURTH: ConnName = ConnName { slot: 0, life: 1 };
+/// The slot that was left last, that of the second connection, is used again.
+const FOURTH: ConnName = ConnName { slot: 1, life: 1 };
 
 /// One more connection is taken, under that name, and waits for its request.
 fn joins(
