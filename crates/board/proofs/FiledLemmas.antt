@@ -22,7 +22,7 @@ use Rattle.conn_machine.specs.States.{child_of, is_signalled, opening_state, unu
 use Rattle.conn_machine.specs.Table.{is_vacant_at, may_be_queued, next, taken_row, parked_row, held_row, queued_row, served_row, answered_row, lingering_row, closed_row}
 use Rattle.timeout_queues.specs.Filed.{StandsIn}
 use Rattle.board.specs.FaultsInside.{FindsVacant}
-use Rattle.board.specs.FiledInside.{AreAllVacant, AreFiled, FindsInChild, FindsInRing, refiled, refiled_by, ring_of_child, ring_of_row, slot_of_event}
+use Rattle.board.specs.FiledInside.{AreAllVacant, AreFiled, FindsInChild, FindsInRing, refiled_rings, refiled_by, ring_of_child, ring_of_row, slot_of_event}
 use Rattle.board.specs.Finds.{FindsRow, has_to_be_drained, is_due, is_let_go}
 use Rattle.board.specs.RowsInside.{RowsChangeAlone}
 
@@ -134,7 +134,7 @@ filed_if s s' rings slot (Some x) are sizes stays here =
 
 -- each slot stands in the ring of its row, once the one that may have changed was filed again
 filed_again : (touched : Option ℕ) (s s' : State) (rings : List (Option ℕ)) → AreFiled s rings → length s'.rows ≡ length s.rows
-    → StaysBut touched s s' → AreFiled s' (refiled s' rings touched)
+    → StaysBut touched s s' → AreFiled s' (refiled_rings s' rings touched)
 filed_again None s s' rings are sizes stays = record {
   slots = are.slots ∙ sym sizes;
   filed = λ j r at. filed_still None s s' rings j r are stays (λ e. none-some j e) at;
@@ -144,7 +144,7 @@ filed_again (Some slot) s s' rings are sizes stays =
 
 -- so it does after an event, once that of its slot was
 pub filed_on : RowsChangeAlone → (s s' : State) (e : Event) (rings rings' : List (Option ℕ)) (touched : Option ℕ) → AreFiled s rings → s' ≡ next s e
-    → length s'.rows ≡ length s.rows → touched ≡ slot_of_event e → rings' ≡ refiled s' rings touched → AreFiled s' rings'
+    → length s'.rows ≡ length s.rows → touched ≡ slot_of_event e → rings' ≡ refiled_rings s' rings touched → AreFiled s' rings'
 filed_on law s s' e rings rings' touched are state_is sizes slot_is rings_is =
     let stays : StaysBut (slot_of_event e) s s' = subst (StaysBut (slot_of_event e) s) (sym state_is) (stays_but law s e) in
     subst (AreFiled s') (sym rings_is)
@@ -457,7 +457,8 @@ drain_found s None none = λ slot r at.
     let waits = and_parts (is_parked r.place) (is_lingering r) all.0 in
     none slot r at (ap (λ (b : Bool). ring_of_row b r) all.1 ∙ ring-to_drain r waits.0 waits.1))
 drain_found s (Some name) is =
-    let of = of_ring (is_signalled s name.slot) is.row 64 is.ring_is in
+    let r = is.row in
+    let of = of_ring (is_signalled s name.slot) r 64 is.ring_is in
     let parked = of.parked (omega arith) in
     waiting_lives s.rows name is.row (has_to_be_drained s name.slot) is.found is.life parked
     (and_from (is_parked is.row.place && is_lingering is.row) (is_signalled s name.slot)

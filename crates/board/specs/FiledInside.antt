@@ -59,9 +59,9 @@ refiled_by s slot rings None = rings
 refiled_by s slot rings (Some r) = slice_set rings slot (ring_of_row (is_signalled s slot) r)
 
 -- the rings, once the slot, where there is one, stands in the ring of its row
-abbrev pub refiled : State → List (Option ℕ) → Option ℕ → List (Option ℕ)
-refiled s rings None = rings
-refiled s rings (Some slot) = refiled_by s slot rings (slice_get s.rows slot)
+abbrev pub refiled_rings : State → List (Option ℕ) → Option ℕ → List (Option ℕ)
+refiled_rings s rings None = rings
+refiled_rings s rings (Some slot) = refiled_by s slot rings (slice_get s.rows slot)
 
 -- ## What stands in a ring
 

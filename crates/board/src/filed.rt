@@ -7,7 +7,7 @@ ghost use Rattle.conn_machine.specs.Sizes.{HasSizesOf, IsSized};
 ghost use Rattle.conn_machine.specs.Sound.{IsSound};
 ghost use Rattle.board.specs.FaultsInside.{FindsVacant};
 ghost use Rattle.board.specs.Finds.{FindsRow, has_to_be_drained, is_due, is_let_go};
-ghost use Rattle.board.specs.FiledInside.{AreAllVacant, FindsInChild, FindsInRing, refiled, ring_of_child, ring_of_row, slot_of_event};
+ghost use Rattle.board.specs.FiledInside.{AreAllVacant, FindsInChild, FindsInRing, refiled_rings, ring_of_child, ring_of_row, slot_of_event};
 
 use crate::laws::one_row_changes;
 use conn_machine::{Event, Reply, Row, State};
@@ -179,7 +179,7 @@ pub(crate) fn step(alloc: Global, state: &mut FiledState, event: &Event) -> Resu
 /// Puts the slot, where there is one, into the ring of its row.
 fn refile(state: &State, rings: &mut SlotRings, slot: Option<u32>)
     requires { length rings.old ≡ length state.now.rows }
-    ensures { rings.new ≡ refiled state.now rings.old slot }
+    ensures { rings.new ≡ refiled_rings state.now rings.old slot }
 {
     let Some(slot) = slot else {
         return;

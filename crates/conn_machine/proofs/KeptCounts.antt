@@ -18,7 +18,7 @@ use Rattle.conn_machine.specs.declared.counts.Totals.{Totals}
 use Rattle.conn_machine.specs.declared.row.Row.{Row}
 use Rattle.conn_machine.specs.Rows.{is_vacant, is_working, is_with_a_pass, is_parked_as, is_closing, is_live, is_carried_by, is_open_in, is_live_in, is_working_in, is_served_in, is_free_cell, lowest_free_cell}
 use Rattle.conn_machine.specs.States.{unused_row}
-use Rattle.conn_machine.specs.CountsInside.{one_if, moved, standing_of, changed_totals, CountsAll, no_counts, counts_of, MovesStanding, CountsChild, IsChanged, AreOpeningCounts, IsCounted}
+use Rattle.conn_machine.specs.CountsInside.{one_if, moved_count, standing_of, changed_totals, CountsAll, no_counts, counts_of, MovesStanding, CountsChild, IsChanged, AreOpeningCounts, IsCounted}
 use Rattle.conn_machine.proofs.CellLemmas.{count_by-any, count_by-none}
 use Rattle.conn_machine.proofs.CountLemmas.{count_none}
 use Rattle.conn_machine.proofs.UpdateLemmas.{count_cons}
@@ -37,7 +37,7 @@ replaced p rows i r r' n below is counted =
 
 -- the same of a number that stays at its greatest, of a list that has fewer rows
 replaced_few : (p : Row → Bool) (rows : List Row) (i : ℕ) (r r' : Row) (n : ℕ) → length rows < 2 ^ 32 → i < length rows
-    → r ≡ get_or rows i r → n ≡ count_by p rows → moved n (p r) (p r') ≡ count_by p (set rows i r')
+    → r ≡ get_or rows i r → n ≡ count_by p rows → moved_count n (p r) (p r') ≡ count_by p (set rows i r')
 replaced_few p rows i r r' n few below is counted =
     let e = replaced p rows i r r' n below is counted in
     let most : n - one_if (p r) + one_if (p r') ≤ 4294967295 =
@@ -62,15 +62,15 @@ totals_changed t rows i r r' few below is was = record {
 -- ## The counts of one child
 
 -- a number of the child once a row of it, or of another child, goes
-gone : (n l : ℕ) (own passes : Bool) → n ≤ 4294967295 → (own ≡ true → l ≡ moved n passes false) → (own ≡ false → l ≡ n)
+gone : (n l : ℕ) (own passes : Bool) → n ≤ 4294967295 → (own ≡ true → l ≡ moved_count n passes false) → (own ≡ false → l ≡ n)
     → l ≡ n - one_if (own && passes)
 gone n l true true few here there = let e = here refl in omega (arith, e)
 gone n l true false few here there = let e = here refl in omega (arith, e)
 gone n l false passes few here there = let e = there refl in omega (arith, e)
 
 -- and once one comes
-come : (l m : ℕ) (own passes : Bool) → l ≤ 4294967295 → (own ≡ true → m ≡ moved l false passes) → (own ≡ false → m ≡ l)
-    → m ≡ moved l false (own && passes)
+come : (l m : ℕ) (own passes : Bool) → l ≤ 4294967295 → (own ≡ true → m ≡ moved_count l false passes) → (own ≡ false → m ≡ l)
+    → m ≡ moved_count l false (own && passes)
 come l m true true few here there = here refl
 come l m true false few here there = here refl
 come l m false passes few here there = let e = there refl in omega (arith, e)
@@ -90,15 +90,15 @@ bit_come l m false passes here there = let e = there refl in omega (arith, e)
 -- a number of the child goes on being the count: what the row's own standing says, and whose it is
 number_changed : (p : Row → Bool) (rows : List Row) (i : ℕ) (r r' : Row) (n l m : ℕ) (own passes own' passes' : Bool)
     → length rows < 2 ^ 32 → i < length rows → r ≡ get_or rows i r → p r ≡ own && passes → p r' ≡ own' && passes'
-    → (own ≡ true → l ≡ moved n passes false) → (own ≡ false → l ≡ n)
-    → (own' ≡ true → m ≡ moved l false passes') → (own' ≡ false → m ≡ l)
+    → (own ≡ true → l ≡ moved_count n passes false) → (own ≡ false → l ≡ n)
+    → (own' ≡ true → m ≡ moved_count l false passes') → (own' ≡ false → m ≡ l)
     → n ≡ count_by p rows → m ≡ count_by p (set rows i r')
 number_changed p rows i r r' n l m own passes own' passes' few below is before now left same entered same' counted =
     let small : n ≤ 4294967295 = omega (arith, counted, few, count_by-le-length p rows) in
     let a : l ≡ n - one_if (own && passes) = gone n l own passes small left same in
     let small' : l ≤ 4294967295 = omega (arith, a, small) in
-    let b : m ≡ moved l false (own' && passes') = come l m own' passes' small' entered same' in
-    let e : moved n (p r) (p r') ≡ count_by p (set rows i r') = replaced_few p rows i r r' n few below is counted in
+    let b : m ≡ moved_count l false (own' && passes') = come l m own' passes' small' entered same' in
+    let e : moved_count n (p r) (p r') ≡ count_by p (set rows i r') = replaced_few p rows i r r' n few below is counted in
     let first : one_if (p r) ≡ one_if (own && passes) = ap one_if before in
     let second : one_if (p r') ≡ one_if (own' && passes') = ap one_if now in
     omega (arith, a, b, e, first, second)

@@ -18,8 +18,8 @@ abbrev pub one_if : Bool → ℕ
 one_if so = cond so 1 0
 
 -- the count once one that passed or didn't is replaced by another
-abbrev pub moved : ℕ → Bool → Bool → ℕ
-moved n before now = min (n - one_if before + one_if now) 4294967295
+abbrev pub moved_count : ℕ → Bool → Bool → ℕ
+moved_count n before now = min (n - one_if before + one_if now) 4294967295
 
 -- ## What counts see of a row
 
@@ -33,13 +33,13 @@ standing_of r = record { child = r.child; place = r.place; lingering = is_linger
 abbrev pub changed_totals : Place → Place → Totals → Totals
 changed_totals before now t =
     record {
-      vacant = moved t.vacant (is_vacant before) (is_vacant now);
-      live = moved t.live (not (is_unused before)) (not (is_unused now));
-      in_hand = moved t.in_hand (is_with_a_pass before) (is_with_a_pass now);
-      working = moved t.working (is_working before) (is_working now);
-      writing = moved t.writing (is_parked_as Writing before) (is_parked_as Writing now);
-      keep_alive = moved t.keep_alive (is_parked_as KeepAlive before) (is_parked_as KeepAlive now);
-      closing = moved t.closing (is_closing before) (is_closing now);
+      vacant = moved_count t.vacant (is_vacant before) (is_vacant now);
+      live = moved_count t.live (not (is_unused before)) (not (is_unused now));
+      in_hand = moved_count t.in_hand (is_with_a_pass before) (is_with_a_pass now);
+      working = moved_count t.working (is_working before) (is_working now);
+      writing = moved_count t.writing (is_parked_as Writing before) (is_parked_as Writing now);
+      keep_alive = moved_count t.keep_alive (is_parked_as KeepAlive before) (is_parked_as KeepAlive now);
+      closing = moved_count t.closing (is_closing before) (is_closing now);
     }
 
 -- the numbers are the counts of the rows
@@ -73,18 +73,18 @@ has_bit_for busy (Working cell phase) = nat_lt cell 64 && bit_at busy cell == 0
 
 -- the counts of the row's own child, without the row
 pub record LeavesOwn (x : Standing) (old new : ChildCounts) : Type 0 where
-  pub carried : new.carried ≡ moved old.carried (is_carried_at x.place) false
-  pub open_rows : new.open_rows ≡ moved old.open_rows (not (is_unused x.place) && not x.lingering) false
-  pub live : new.live ≡ moved old.live (not (is_unused x.place)) false
-  pub working : new.working ≡ moved old.working (is_working x.place) false
+  pub carried : new.carried ≡ moved_count old.carried (is_carried_at x.place) false
+  pub open_rows : new.open_rows ≡ moved_count old.open_rows (not (is_unused x.place) && not x.lingering) false
+  pub live : new.live ≡ moved_count old.live (not (is_unused x.place)) false
+  pub working : new.working ≡ moved_count old.working (is_working x.place) false
   pub busy : (c : ℕ) → bit_at new.busy c ≡ bit_at old.busy c - one_if (is_in_cell c x.place)
 
 -- the counts of the row's own child, with the row
 pub record EntersOwn (x : Standing) (old new : ChildCounts) : Type 0 where
-  pub carried : new.carried ≡ moved old.carried false (is_carried_at x.place)
-  pub open_rows : new.open_rows ≡ moved old.open_rows false (not (is_unused x.place) && not x.lingering)
-  pub live : new.live ≡ moved old.live false (not (is_unused x.place))
-  pub working : new.working ≡ moved old.working false (is_working x.place)
+  pub carried : new.carried ≡ moved_count old.carried false (is_carried_at x.place)
+  pub open_rows : new.open_rows ≡ moved_count old.open_rows false (not (is_unused x.place) && not x.lingering)
+  pub live : new.live ≡ moved_count old.live false (not (is_unused x.place))
+  pub working : new.working ≡ moved_count old.working false (is_working x.place)
   pub busy : (c : ℕ) → bit_at new.busy c ≡ bit_at old.busy c + one_if (is_in_cell c x.place)
 
 -- the counts of a child without the row, which may be another child's

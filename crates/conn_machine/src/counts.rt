@@ -64,8 +64,8 @@ impl Row {
 }
 
 /// The count once one that passed or didn't is replaced by another.
-fn moved(count: u32, before: bool, now: bool) -> u32
-    ensures { result ≡ spec.moved count before now }
+fn moved_count(count: u32, before: bool, now: bool) -> u32
+    ensures { result ≡ spec.moved_count count before now }
 {
     count
         .saturating_sub(u32::from(before))
@@ -77,21 +77,21 @@ impl Totals {
     fn change(&mut self, before: Place, now: Place)
         ensures { self.new ≡ spec.changed_totals before now self.old }
     {
-        self.vacant = moved(self.vacant, before.is_vacant(), now.is_vacant());
-        self.live = moved(self.live, !before.is_unused(), !now.is_unused());
-        self.in_hand = moved(self.in_hand, before.is_in_hand(), now.is_in_hand());
-        self.working = moved(self.working, before.is_working(), now.is_working());
-        self.writing = moved(
+        self.vacant = moved_count(self.vacant, before.is_vacant(), now.is_vacant());
+        self.live = moved_count(self.live, !before.is_unused(), !now.is_unused());
+        self.in_hand = moved_count(self.in_hand, before.is_in_hand(), now.is_in_hand());
+        self.working = moved_count(self.working, before.is_working(), now.is_working());
+        self.writing = moved_count(
             self.writing,
             before.is_parked_as(Kind::Writing),
             now.is_parked_as(Kind::Writing),
         );
-        self.keep_alive = moved(
+        self.keep_alive = moved_count(
             self.keep_alive,
             before.is_parked_as(Kind::KeepAlive),
             now.is_parked_as(Kind::KeepAlive),
         );
-        self.closing = moved(self.closing, before.is_closing(), now.is_closing());
+        self.closing = moved_count(self.closing, before.is_closing(), now.is_closing());
     }
 }
 
@@ -204,10 +204,10 @@ impl ChildCounts {
         ensures { spec.LeavesOwn row self.old self.new }
     {
         let live = !row.place.is_unused();
-        self.carried = moved(self.carried, row.place.is_carried(), false);
-        self.open_rows = moved(self.open_rows, live && !row.lingering, false);
-        self.live = moved(self.live, live, false);
-        self.working = moved(self.working, row.place.is_working(), false);
+        self.carried = moved_count(self.carried, row.place.is_carried(), false);
+        self.open_rows = moved_count(self.open_rows, live && !row.lingering, false);
+        self.live = moved_count(self.live, live, false);
+        self.working = moved_count(self.working, row.place.is_working(), false);
         self.busy = busy_without(self.busy, row.place);
     }
 
@@ -217,10 +217,10 @@ impl ChildCounts {
         ensures { spec.EntersOwn row self.old self.new }
     {
         let live = !row.place.is_unused();
-        self.carried = moved(self.carried, false, row.place.is_carried());
-        self.open_rows = moved(self.open_rows, false, live && !row.lingering);
-        self.live = moved(self.live, false, live);
-        self.working = moved(self.working, false, row.place.is_working());
+        self.carried = moved_count(self.carried, false, row.place.is_carried());
+        self.open_rows = moved_count(self.open_rows, false, live && !row.lingering);
+        self.live = moved_count(self.live, false, live);
+        self.working = moved_count(self.working, false, row.place.is_working());
         self.busy = busy_with(self.busy, row.place);
     }
 }

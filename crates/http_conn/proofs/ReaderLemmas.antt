@@ -9,8 +9,8 @@ use Rattle.http_read.specs.declared.request.Limits.{Limits}
 use Rattle.http_read.specs.Requests.{WaitsForRequest}
 use Rattle.http_conn.specs.declared.stage.Stage.{Stage}
 use Rattle.http_conn.specs.declared.stage.Stage.TheVariants as stage
-use Rattle.http_conn.specs.declared.steps.Step.{Step}
-use Rattle.http_conn.specs.declared.steps.Step.TheVariants as step
+use Rattle.http_conn.specs.declared.steps.StepAnswer.{StepAnswer}
+use Rattle.http_conn.specs.declared.steps.StepAnswer.TheVariants as step
 use Rattle.http_conn.specs.declared.reader.RequestAnswer.{RequestAnswer}
 use Rattle.http_conn.specs.declared.reader.RequestAnswer.TheVariants as answer
 use Rattle.http_conn.specs.Items.{Item, BeginsItem}
@@ -49,7 +49,7 @@ pub or-nothing : (b told : Bool) → told ≡ false → (b || told) ≡ b
 or-nothing true told is = refl
 or-nothing false told is = is
 
-module _ (link link' : LinkSeen) (old mid new : SeenReader) (given : Step) (come : HasCome link link' old mid) (same : new.limits ≡ mid.limits)
+module _ (link link' : LinkSeen) (old mid new : SeenReader) (given : StepAnswer) (come : HasCome link link' old mid) (same : new.limits ≡ mid.limits)
     (steps : Steps mid.limits mid.unread new.unread mid.stage new.stage given) where
   -- what is kept after a step stands for all that came
   pub step-stands : (rest : List ℕ) → StandsFor old rest → StandsFor new (rest ++ come.got)
@@ -96,7 +96,7 @@ refused-kept (stage.Refused code expected) is = refl
 module _ (link link' : LinkSeen) (old mid new : SeenReader) (come : HasCome link link' old mid) (same : new.limits ≡ mid.limits)
     (asks : (rest : List ℕ) → StandsFor old rest → AsksInNeed old rest come.got) where
   -- a step found the next item
-  found-item : (given : Step) → Steps mid.limits mid.unread new.unread mid.stage new.stage given → is_told given ≡ false → is_some (item_kept new.stage) ≡ true
+  found-item : (given : StepAnswer) → Steps mid.limits mid.unread new.unread mid.stage new.stage given → is_told given ≡ false → is_some (item_kept new.stage) ≡ true
       → ReadsNext link link' old new answer.Item
   found-item given steps nothing kept =
       let further = come-step link link' old mid new given come same steps nothing in

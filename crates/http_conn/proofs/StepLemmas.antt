@@ -20,8 +20,8 @@ use Rattle.http_read.specs.BodyAnswers.{CountsBytes, AnswersBody}
 use Rattle.http_read.specs.Requests.{BeginsRefusal}
 use Rattle.http_conn.specs.declared.stage.Stage.{Stage}
 use Rattle.http_conn.specs.declared.stage.Stage.TheVariants as stage
-use Rattle.http_conn.specs.declared.steps.Step.{Step}
-use Rattle.http_conn.specs.declared.steps.Step.TheVariants as step
+use Rattle.http_conn.specs.declared.steps.StepAnswer.{StepAnswer}
+use Rattle.http_conn.specs.declared.steps.StepAnswer.TheVariants as step
 use Rattle.http_conn.specs.Rest.{StandsInHead, StandsInBody, StandsBehind, is_awaited}
 use Rattle.http_conn.specs.Steps.{is_told, WaitsInHead, WaitsInBody, StepFinds, StepWants, StepKeeps, Steps}
 use Rattle.http_conn.specs.StepsInside.{StartsBody}
@@ -171,7 +171,7 @@ begun-steps false limits unread unread' reader request place len head left stand
 }
 
 -- the head was accepted
-pub head-accepted : (limits : Limits) (unread unread' : List ℕ) (reader : HeadReader) (request : RequestParts) (len : ℕ) (s : Stage) (given : Step)
+pub head-accepted : (limits : Limits) (unread unread' : List ℕ) (reader : HeadReader) (request : RequestParts) (len : ℕ) (s : Stage) (given : StepAnswer)
     → HeadIs reader.limits unread (answer.Whole request len) → unread' ≡ drop len unread → StartsBody request s given
     → Steps limits unread unread' (stage.Head reader) s given
 head-accepted limits unread unread' reader request len s given head left starts =
@@ -274,7 +274,7 @@ body-refuses limits unread request old new code answers = record {
 }
 
 -- the request was whole, or refused, before
-pub found-before : (limits : Limits) (unread : List ℕ) (s : Stage) (given : Step) → is_told given ≡ false → StepFinds given s s
+pub found-before : (limits : Limits) (unread : List ℕ) (s : Stage) (given : StepAnswer) → is_told given ≡ false → StepFinds given s s
     → ((rest : List ℕ) → StepWants given limits unread s rest) → StepKeeps given unread s → Steps limits unread unread s s given
 found-before limits unread s given nothing finds wants keeps = record {
   stands = λ rest h. h;

@@ -10,12 +10,12 @@ use Rattle.http_read.specs.BodyForm.{IsBodyFront}
 use Rattle.http_read.specs.BodyPlaces.{begun_len}
 use Rattle.http_conn.specs.declared.stage.Stage.{Stage}
 use Rattle.http_conn.specs.declared.stage.Stage.TheVariants as stage
-use Rattle.http_conn.specs.declared.steps.Step.{Step}
-use Rattle.http_conn.specs.declared.steps.Step.TheVariants as step
+use Rattle.http_conn.specs.declared.steps.StepAnswer.{StepAnswer}
+use Rattle.http_conn.specs.declared.steps.StepAnswer.TheVariants as step
 use Rattle.http_conn.specs.Rest.{StandsAs, is_awaited, is_in_head, is_in_body, is_whole, is_refused}
 
 -- the client is to be told to send the body
-abbrev pub is_told : Step → Bool
+abbrev pub is_told : StepAnswer → Bool
 is_told step.Whole = false
 is_told step.Refused = false
 is_told step.Accepted = false
@@ -46,7 +46,7 @@ pub record LacksInHead (s s' : Stage) : Type 0 where
   pub stays : is_in_head s' ≡ true
 
 -- what the step found of the next request
-abbrev pub StepFinds : Step → Stage → Stage → Type 0
+abbrev pub StepFinds : StepAnswer → Stage → Stage → Type 0
 StepFinds step.Whole s s' = EndsBody s s'
 StepFinds step.Refused s s' = is_refused s' ≡ true
 StepFinds step.Accepted s s' = PassesHead false s s'
@@ -74,7 +74,7 @@ WaitsIn limits unread (stage.Whole request) rest = ⊥
 WaitsIn limits unread (stage.Refused code expected) rest = ⊥
 
 -- more has to come where the step says so
-abbrev pub StepWants : Step → Limits → List ℕ → Stage → List ℕ → Type 0
+abbrev pub StepWants : StepAnswer → Limits → List ℕ → Stage → List ℕ → Type 0
 StepWants step.Whole limits unread s rest = ⊤
 StepWants step.Refused limits unread s rest = ⊤
 StepWants step.Accepted limits unread s rest = ⊤
@@ -97,7 +97,7 @@ IsShortIn unread (stage.Whole request) = ⊥
 IsShortIn unread (stage.Refused code expected) = ⊥
 
 -- few bytes are kept where more has to come
-abbrev pub StepKeeps : Step → List ℕ → Stage → Type 0
+abbrev pub StepKeeps : StepAnswer → List ℕ → Stage → Type 0
 StepKeeps step.Whole unread s = ⊤
 StepKeeps step.Refused unread s = ⊤
 StepKeeps step.Accepted unread s = ⊤
@@ -106,7 +106,7 @@ StepKeeps step.Wants unread s = IsShortIn unread s
 StepKeeps step.NoMemory unread s = ⊤
 
 -- a step through the bytes that are there: what is kept stands for the same bytes
-pub record Steps (limits : Limits) (unread unread' : List ℕ) (s s' : Stage) (answer : Step) : Type 0 where
+pub record Steps (limits : Limits) (unread unread' : List ℕ) (s s' : Stage) (answer : StepAnswer) : Type 0 where
   pub stands : (rest : List ℕ) → StandsAs limits unread s rest → StandsAs limits unread' s' rest
   pub wants : (rest : List ℕ) → StandsAs limits unread s rest → StepWants answer limits unread' s' rest
   pub keeps : (rest : List ℕ) → StandsAs limits unread s rest → StepKeeps answer unread' s'

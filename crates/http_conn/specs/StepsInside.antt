@@ -5,11 +5,11 @@ use Rattle.http_read.specs.RequestParts.{RequestParts}
 use Rattle.http_read.specs.BodyPlaces.{StandsAt, begun_len}
 use Rattle.http_conn.specs.declared.stage.Stage.{Stage}
 use Rattle.http_conn.specs.declared.stage.Stage.TheVariants as stage
-use Rattle.http_conn.specs.declared.steps.Step.{Step}
-use Rattle.http_conn.specs.declared.steps.Step.TheVariants as step
+use Rattle.http_conn.specs.declared.steps.StepAnswer.{StepAnswer}
+use Rattle.http_conn.specs.declared.steps.StepAnswer.TheVariants as step
 
 -- the request was read up to the front of its body
-pub record StartsBody (request : RequestParts) (s : Stage) (answer : Step) : Type 0 where
+pub record StartsBody (request : RequestParts) (s : Stage) (answer : StepAnswer) : Type 0 where
   pub reader : BodyPlace
   pub stage_is : s ≡ stage.Body request reader
   pub stands : StandsAt request.body [] reader

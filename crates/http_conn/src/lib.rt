@@ -32,5 +32,5 @@ pub use reader::{RequestAnswer, RequestReader};
 pub use received::Received;
 pub use responses::{refuse, respond, tell_to_send};
 pub use stage::Stage;
-pub use steps::{Step, read_on};
+pub use steps::{StepAnswer, read_on};
 pub use turn::{LastTurn, ReadTurn, WriteTurn};

@@ -12,7 +12,7 @@ use crate::laws::{
 };
 use crate::received::Received;
 use crate::stage::Stage;
-use crate::steps::{Step, read_on};
+use crate::steps::{StepAnswer, read_on};
 use http_read::{HeadReader, Limits, keeps_answer, keeps_spelling};
 use mpm_base::{Got, Link, NoMemory};
 use std::alloc::Global;
@@ -136,7 +136,7 @@ impl RequestReader {
     }
 
     /// Reads on by the bytes that are there.
-    fn step(&mut self) -> Step
+    fn step(&mut self) -> StepAnswer
         ensures limits { self.new.limits ≡ self.old.limits }
         ensures steps { Steps self.old.limits self.old.unread self.new.unread self.old.stage self.new.stage result }
     {
@@ -205,11 +205,11 @@ impl RequestReader {
         let _ = &self.limits;
         for _ in 0..u64::MAX {
             match self.step() {
-                Step::Whole | Step::Refused => return RequestAnswer::Item,
-                Step::Awaited => return RequestAnswer::Awaited,
-                Step::NoMemory => return RequestAnswer::NoMemory,
-                Step::Accepted => {}
-                Step::Wants => {
+                StepAnswer::Whole | StepAnswer::Refused => return RequestAnswer::Item,
+                StepAnswer::Awaited => return RequestAnswer::Awaited,
+                StepAnswer::NoMemory => return RequestAnswer::NoMemory,
+                StepAnswer::Accepted => {}
+                StepAnswer::Wants => {
                     if let Some(answer) = self.take_piece(link) {
                         return answer;
                     }

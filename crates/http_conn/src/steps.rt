@@ -14,7 +14,7 @@ use std::alloc::Global;
 
 /// What the bytes that are there say of the next request.
 #[derive(Clone, Copy, Debug, PartialEq, Eq)]
-pub enum Step {
+pub enum StepAnswer {
     /// It is whole.
     Whole,
     /// It is refused.
@@ -30,7 +30,7 @@ pub enum Step {
 }
 
 /// Reads on in its head.
-fn read_head(alloc: Global, reader: HeadReader, unread: &mut Received) -> (Stage, Step)
+fn read_head(alloc: Global, reader: HeadReader, unread: &mut Received) -> (Stage, StepAnswer)
     requires within { reader.looked ≤ length unread.old }
     requires looked { HasLookedAt (take reader.looked unread.old) reader }
     ensures { (limits : Limits) → Steps limits unread.old unread.new (stage.Head reader) result.0 result.1 }
@@ -41,26 +41,26 @@ fn read_head(alloc: Global, reader: HeadReader, unread: &mut Received) -> (Stage
             unread.skip(len as usize);
             begin_body(request)
         }
-        HeadAnswer::More => (Stage::Head(reader), Step::Wants),
-        HeadAnswer::Refused(code) => (Stage::Refused(code, false), Step::Refused),
-        HeadAnswer::NoMemory => (Stage::Head(reader), Step::NoMemory),
+        HeadAnswer::More => (Stage::Head(reader), StepAnswer::Wants),
+        HeadAnswer::Refused(code) => (Stage::Refused(code, false), StepAnswer::Refused),
+        HeadAnswer::NoMemory => (Stage::Head(reader), StepAnswer::NoMemory),
     }
 }
 
 /// Goes on behind its head.
-fn begin_body(request: Request) -> (Stage, Step)
+fn begin_body(request: Request) -> (Stage, StepAnswer)
     ensures { StartsBody request result.0 result.1 }
 {
     let body = BodyReader::start(request.body());
     if request.expects() {
-        (Stage::Body(request, body), Step::Awaited)
+        (Stage::Body(request, body), StepAnswer::Awaited)
     } else {
-        (Stage::Body(request, body), Step::Accepted)
+        (Stage::Body(request, body), StepAnswer::Accepted)
     }
 }
 
 /// Reads on in its body, and drops what it reads of it.
-fn read_body(request: Request, reader: BodyReader, unread: &mut Received) -> (Stage, Step)
+fn read_body(request: Request, reader: BodyReader, unread: &mut Received) -> (Stage, StepAnswer)
     requires within { begun_len reader ≤ length unread.old }
     ensures { (limits : Limits) → Steps limits unread.old unread.new (stage.Body request reader) result.0 result.1 }
 {
@@ -68,29 +68,29 @@ fn read_body(request: Request, reader: BodyReader, unread: &mut Received) -> (St
     match reader.feed(unread.as_slice()) {
         BodyAnswer::Took(count) => {
             unread.skip(count as usize);
-            (Stage::Body(request, reader), Step::Wants)
+            (Stage::Body(request, reader), StepAnswer::Wants)
         }
         BodyAnswer::Done(end) => {
             unread.skip(end as usize);
-            (Stage::Whole(request), Step::Whole)
+            (Stage::Whole(request), StepAnswer::Whole)
         }
         BodyAnswer::Bad(code) => {
             let expected = request.expects();
-            (Stage::Refused(code, expected), Step::Refused)
+            (Stage::Refused(code, expected), StepAnswer::Refused)
         }
     }
 }
 
 /// Reads on by the bytes that are there, and takes what they say of the next request. Where more has to come it keeps of a
 /// body only the line that isn't whole, and of a head no more bytes than one may have.
-pub fn read_on(alloc: Global, stage: Stage, unread: &mut Received) -> (Stage, Step)
+pub fn read_on(alloc: Global, stage: Stage, unread: &mut Received) -> (Stage, StepAnswer)
     requires { IsReadable unread.old stage }
     ensures { (limits : Limits) → Steps limits unread.old unread.new stage result.0 result.1 }
 {
     match stage {
         Stage::Head(reader) => read_head(alloc, reader, unread),
         Stage::Body(request, reader) => read_body(request, reader, unread),
-        Stage::Whole(request) => (Stage::Whole(request), Step::Whole),
-        Stage::Refused(code, expected) => (Stage::Refused(code, expected), Step::Refused),
+        Stage::Whole(request) => (Stage::Whole(request), StepAnswer::Whole),
+        Stage::Refused(code, expected) => (Stage::Refused(code, expected), StepAnswer::Refused),
     }
 }

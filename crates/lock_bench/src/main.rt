@@ -12,7 +12,7 @@ mod queues;
 mod turns;
 
 use mpm_base::NoMemory;
-use plan::{Kind, Plan, plan_of};
+use plan::{Structure, Workload, workload_of};
 use std::alloc::Global;
 use std::process::ExitCode;
 use std::sync::Wait;
@@ -33,7 +33,7 @@ const NO_MEMORY: u8 = 6;
 
 fn main(rt: HostRuntime) -> ExitCode {
     let plan = match env::args(&rt) {
-        Ok(words) => plan_of(words),
+        Ok(words) => workload_of(words),
         Err(_) => None,
     };
     let Some(plan) = plan else {
@@ -57,12 +57,12 @@ fn ended(line: io::Result<()>, status: u8) -> ExitCode {
 fn rounds_of<R: Wait + Threads + Sync>(
     rt: &R,
     alloc: Global,
-    plan: &Plan,
+    plan: &Workload,
 ) -> Result<u64, NoMemory> {
-    match plan.kind {
-        Kind::BoardLock => turns::by_board_lock(rt, alloc, plan),
-        Kind::Mutex => turns::by_mutex(rt, alloc, plan),
-        Kind::FdQueue => queues::by_fd_queue(rt, alloc, plan),
-        Kind::ArrayQueue => queues::by_array_queue(rt, alloc, plan),
+    match plan.structure {
+        Structure::BoardLock => turns::by_board_lock(rt, alloc, plan),
+        Structure::Mutex => turns::by_mutex(rt, alloc, plan),
+        Structure::FdQueue => queues::by_fd_queue(rt, alloc, plan),
+        Structure::ArrayQueue => queues::by_array_queue(rt, alloc, plan),
     }
 }

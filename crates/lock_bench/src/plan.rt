@@ -8,7 +8,7 @@ const MOST_THREADS: u32 = 64;
 
 /// What the rounds are done with.
 #[derive(Clone, Copy, Debug, PartialEq)]
-pub enum Kind {
+pub enum Structure {
     BoardLock,
     Mutex,
     FdQueue,
@@ -17,8 +17,8 @@ pub enum Kind {
 
 /// What is done, by how many threads, and how often by each.
 #[derive(Debug, Drop)]
-pub struct Plan {
-    pub kind: Kind,
+pub struct Workload {
+    pub structure: Structure,
     pub threads: u32,
     pub rounds: u32,
     ghost some: { 1 ≤ threads },
@@ -26,29 +26,29 @@ pub struct Plan {
 }
 
 /// The plan of the words behind the program's name, where they are one.
-pub fn plan_of(words: Args) -> Option<Plan> {
+pub fn workload_of(words: Args) -> Option<Workload> {
     let mut words = words;
     let _ = words.next();
-    let kind = kind_of(words.next()?.as_str())?;
+    let structure = structure_of(words.next()?.as_str())?;
     let threads = words.next()?.as_str().parse::<u32>().ok()?;
     let rounds = words.next()?.as_str().parse::<u32>().ok()?;
     if words.next().is_some() || threads == 0 || threads > MOST_THREADS {
         return None;
     }
-    Some(Plan {
-        kind,
+    Some(Workload {
+        structure,
         threads,
         rounds,
     })
 }
 
-/// The kind of that name.
-fn kind_of(name: &str) -> Option<Kind> {
+/// The structure of that name.
+fn structure_of(name: &str) -> Option<Structure> {
     match name {
-        "board_lock" => Some(Kind::BoardLock),
-        "mutex" => Some(Kind::Mutex),
-        "fd_queue" => Some(Kind::FdQueue),
-        "array_queue" => Some(Kind::ArrayQueue),
+        "board_lock" => Some(Structure::BoardLock),
+        "mutex" => Some(Structure::Mutex),
+        "fd_queue" => Some(Structure::FdQueue),
+        "array_queue" => Some(Structure::ArrayQueue),
         _ => None,
     }
 }

@@ -2,7 +2,7 @@
 ghost use Rattle.std.specs.Prelude.{◌≡◌, ◌≤◌, ℕ, Some, slice_get};
 ghost use Rattle.crossbeam_queue.specs.Passes.{IsPassOf};
 
-use crate::plan::{Plan, sum_of};
+use crate::plan::{Workload, sum_of};
 use crossbeam_queue::ArrayQueue;
 use fd_queue::{FdQueue, FdSeat, Item};
 use lock_examples::last_seat;
@@ -26,7 +26,7 @@ struct User<'q> {
 pub fn by_fd_queue<R: Wait + Threads + Sync>(
     rt: &R,
     alloc: Global,
-    plan: &Plan,
+    plan: &Workload,
 ) -> Result<u64, NoMemory> {
     let (queue, seats) = FdQueue::make(alloc, PLACES, plan.threads)?;
     let jobs = users(alloc, &queue, seats)?;
@@ -71,7 +71,7 @@ fn puts_and_takes<R: Wait>(rt: &R, user: User, rounds: u32) -> u32
 pub fn by_array_queue<R: Wait + Threads + Sync>(
     rt: &R,
     alloc: Global,
-    plan: &Plan,
+    plan: &Workload,
 ) -> Result<u64, NoMemory> {
     let queue = ArrayQueue::new(alloc, PLACES as usize)?;
     let (shared, rounds) = (&queue, plan.rounds);

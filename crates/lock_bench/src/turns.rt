@@ -1,7 +1,7 @@
 //! Rounds with a lock.
 ghost use Rattle.std.specs.Prelude.{◌≤◌};
 
-use crate::plan::{Plan, sum_of};
+use crate::plan::{Workload, sum_of};
 use conn_machine::Kept;
 use lock_examples::{Player, Toy, looks, opened, players};
 use mpm_base::NoMemory;
@@ -13,7 +13,7 @@ use std::thread::{self, Threads};
 pub fn by_board_lock<R: Wait + Threads + Sync>(
     rt: &R,
     alloc: Global,
-    plan: &Plan,
+    plan: &Workload,
 ) -> Result<u64, NoMemory> {
     let (shared, mut passes) = opened(alloc, plan.threads)?;
     let jobs = players(alloc, &shared, &mut passes, plan.threads)?;
@@ -40,7 +40,7 @@ fn takes_turns<R: Wait>(rt: &R, player: Player, rounds: u32) -> u32
 pub fn by_mutex<R: Wait + Threads + Sync>(
     rt: &R,
     alloc: Global,
-    plan: &Plan,
+    plan: &Workload,
 ) -> Result<u64, NoMemory> {
     let value = Mutex::new(Box::new(alloc, Toy::new(alloc, plan.threads))?);
     let (shared, rounds) = (&value, plan.rounds);

@@ -14,8 +14,8 @@ use Rattle.conn_machine.specs.Runs.{after, entries_of, has_after, is_of_pass, lo
 use Rattle.std.proofs.lemmas.Bool.{eq-eqb}
 use Rattle.table_rule.specs.Histories.{ArePermitted}
 use Rattle.lock_examples.proofs.PlaceLemmas.{each_first}
-use Rattle.lock_examples.specs.declared.stage.Stage.{Stage}
-use Rattle.lock_examples.specs.declared.stage.Stage.TheVariants.{Starts, Takes, Signals, Serves}
+use Rattle.lock_examples.specs.declared.stage.ToyStage.{ToyStage}
+use Rattle.lock_examples.specs.declared.stage.ToyStage.TheVariants.{Starts, Takes, Signals, Serves}
 use Rattle.lock_examples.specs.Toy.{SeenToy, entries_from, first_of, maker, next_round, next_stage, round_at, stage_at, step_entries, step_of, toy_name, toy_state}
 
 -- ## Lists
@@ -83,13 +83,13 @@ permitted_append permit credits s (e ∷ a) b are more = (are.0, permitted_appen
 -- ## Where the steps lead
 
 -- the state before a step
-abbrev pub state_of : Stage → State
+abbrev pub state_of : ToyStage → State
 state_of Starts = toy_state
 state_of Takes = next toy_state (event.StartChild 0)
 state_of Signals = next (next (next toy_state (event.StartChild 0)) (event.Accept 0)) (event.Park toy_name Reading)
 state_of Serves = next (next (next (next toy_state (event.StartChild 0)) (event.Accept 0)) (event.Park toy_name Reading)) (event.Ready 0)
 
-pub after_step : (s : Stage) (r : ℕ) → after (state_of s) (step_entries s r) ≡ state_of (next_stage s)
+pub after_step : (s : ToyStage) (r : ℕ) → after (state_of s) (step_entries s r) ≡ state_of (next_stage s)
 after_step Starts r = refl
 after_step Takes r = refl
 after_step Signals r = refl
@@ -114,7 +114,7 @@ after_more n m = sym (after-append toy_state (first_of n) (entries_from n m)) �
 pub newest_after : (n : ℕ) → (after toy_state (first_of n)).newest ≡ 0
 newest_after n = ap (λ (s : State). s.newest) (after_first n) ∙ by (stage_at n)
   where
-    by : (s : Stage) → (state_of s).newest ≡ 0
+    by : (s : ToyStage) → (state_of s).newest ≡ 0
     by Starts = refl
     by Takes = refl
     by Signals = refl
@@ -123,20 +123,20 @@ newest_after n = ap (λ (s : State). s.newest) (after_first n) ∙ by (stage_at 
 -- ## How many entries they are
 
 -- how many entries of pass 0 there are before a step
-abbrev listed : Stage → ℕ → ℕ
+abbrev listed : ToyStage → ℕ → ℕ
 listed Starts r = r
 listed Takes r = r + 1
 listed Signals r = r + 3
 listed Serves r = r + 4
 
-pub record AreCounted (l : List Entry) (s : Stage) (r : ℕ) : Type 0 where
+pub record AreCounted (l : List Entry) (s : ToyStage) (r : ℕ) : Type 0 where
   pub listener : length (entries_of 0 l) ≡ listed s r
   pub worker : length (entries_of 1 l) ≡ 3 * r
 
 grow : (n x y z t : ℕ) → n ≡ x + y → x ≡ z → z + y ≡ t → n ≡ t
 grow n x y z t e d c = omega arith
 
-step_counted : (l : List Entry) (s : Stage) (r : ℕ) → AreCounted l s r → AreCounted (l ++ step_entries s r) (next_stage s) (next_round s r)
+step_counted : (l : List Entry) (s : ToyStage) (r : ℕ) → AreCounted l s r → AreCounted (l ++ step_entries s r) (next_stage s) (next_round s r)
 step_counted l Starts r c = record {
   listener = grow _ (length (entries_of 0 l)) 1 r (r + 1) (count_append 0 l (step_entries Starts r)) c.listener refl;
   worker = grow _ (length (entries_of 1 l)) 0 (3 * r) (3 * r) (count_append 1 l (step_entries Starts r)) c.worker (add-zero (3 * r));
@@ -174,7 +174,7 @@ few (suc n) =
     let whole = length-append (first_of n) (step_of n) in
     (one (length (first_of n)) (length (step_of n)) _ whole before.0 more.0, three (length (first_of n)) (length (step_of n)) _ (round_at n) (next_round (stage_at n) (round_at n)) whole before.1 more.1)
   where
-    by : (s : Stage) (r : ℕ) → (1 ≤ length (step_entries s r)) × (3 * next_round s r ≤ 3 * r + length (step_entries s r))
+    by : (s : ToyStage) (r : ℕ) → (1 ≤ length (step_entries s r)) × (3 * next_round s r ≤ 3 * r + length (step_entries s r))
     by Starts r = (omega arith, omega arith)
     by Takes r = (omega arith, omega arith)
     by Signals r = (omega arith, omega arith)
@@ -240,26 +240,26 @@ row_behind p s n row whole (e ∷ es) had fine =
     (row_own p whole e fine.0 ∙ ap (λ o. has_after o e.event e.reply) had) fine.5
 
 -- the number of the first entry of a step
-abbrev first_number : Stage → ℕ → ℕ
+abbrev first_number : ToyStage → ℕ → ℕ
 first_number Starts r = r
 first_number Takes r = r + 1
 first_number Signals r = r + 3
 first_number Serves r = 3 * r
 
-own_number : (l : List Entry) (s : Stage) (r : ℕ) → AreCounted l s r → length (entries_of (maker s) l) ≡ first_number s r
+own_number : (l : List Entry) (s : ToyStage) (r : ℕ) → AreCounted l s r → length (entries_of (maker s) l) ≡ first_number s r
 own_number l Starts r c = c.listener
 own_number l Takes r c = c.listener
 own_number l Signals r c = c.listener
 own_number l Serves r c = c.worker
 
 -- with this connection the step may be made
-abbrev pub FitsRow : Stage → Option ConnName → Type 0
+abbrev pub FitsRow : ToyStage → Option ConnName → Type 0
 FitsRow Starts row = row ≡ None
 FitsRow Takes row = row ≡ None
 FitsRow Signals row = ⊤
 FitsRow Serves row = row ≡ None
 
-fine_step : (s : Stage) (r : ℕ) (row : Option ConnName) → FitsRow s row → AreFine (maker s) (state_of s) (first_number s r) row (step_entries s r)
+fine_step : (s : ToyStage) (r : ℕ) (row : Option ConnName) → FitsRow s row → AreFine (maker s) (state_of s) (first_number s r) row (step_entries s r)
 fine_step Starts r row fits = (refl, refl, refl, refl, λ w. refl, tt)
 fine_step Takes r row fits =
     let two : r + 2 ≡ r + 1 + 1 = omega arith in
@@ -271,7 +271,7 @@ fine_step Serves r row fits =
     subst (λ o. AreFine 1 (state_of Serves) (3 * r) o (step_entries Serves r)) (sym fits)
     (refl, refl, refl, refl, λ w. refl, (refl, refl, refl, refl, λ w. refl, (refl, two, refl, refl, λ w. refl, tt)))
 
-fits_next : (s : Stage) (r : ℕ) (row : Option ConnName) → FitsRow s row → maker s ≡ maker (next_stage s)
+fits_next : (s : ToyStage) (r : ℕ) (row : Option ConnName) → FitsRow s row → maker s ≡ maker (next_stage s)
     → FitsRow (next_stage s) (row_after row (step_entries s r))
 fits_next Starts r row fits same = fits
 fits_next Takes r row fits same = tt
@@ -335,26 +335,26 @@ none_behind n start whole at mine =
     row_behind 1 (state_of (stage_at n)) (first_number (stage_at n) (round_at n)) (row_of 1 whole) whole (step_of n) refl (fine_at 1 n start whole at mine)
     ∙ by (stage_at n) (round_at n) mine
   where
-    by : (s : Stage) (r : ℕ) → maker s ≡ 1 → row_after (row_of 1 whole) (step_entries s r) ≡ None
+    by : (s : ToyStage) (r : ℕ) → maker s ≡ 1 → row_after (row_of 1 whole) (step_entries s r) ≡ None
     by Starts r is = absurd (omega arith)
     by Takes r is = absurd (omega arith)
     by Signals r is = absurd (omega arith)
     by Serves r is = refl
 
 -- with this permit the step may be made
-abbrev FitsPermit : Stage → Option ℕ → Type 0
+abbrev FitsPermit : ToyStage → Option ℕ → Type 0
 FitsPermit Starts permit = ⊤
 FitsPermit Takes permit = ⊤
 FitsPermit Signals permit = ⊤
 FitsPermit Serves permit = permit ≡ Some 0
 
-permit_step : (s : Stage) (r : ℕ) (permit : Option ℕ) (credits : List ℕ) → FitsPermit s permit → ArePermitted permit credits (state_of s) (step_entries s r)
+permit_step : (s : ToyStage) (r : ℕ) (permit : Option ℕ) (credits : List ℕ) → FitsPermit s permit → ArePermitted permit credits (state_of s) (step_entries s r)
 permit_step Starts r permit credits fits = (tt, tt)
 permit_step Takes r permit credits fits = (tt, (tt, tt))
 permit_step Signals r permit credits fits = (tt, tt)
 permit_step Serves r permit credits fits = ((_, refl, fits), (tt, (tt, tt)))
 
-fits_permit : (s : Stage) (p : ℕ) (permit : Option ℕ) → maker s ≡ p → (p ≡ 1 → permit ≡ Some 0) → FitsPermit s permit
+fits_permit : (s : ToyStage) (p : ℕ) (permit : Option ℕ) → maker s ≡ p → (p ≡ 1 → permit ≡ Some 0) → FitsPermit s permit
 fits_permit Starts p permit mine has = tt
 fits_permit Takes p permit mine has = tt
 fits_permit Signals p permit mine has = tt

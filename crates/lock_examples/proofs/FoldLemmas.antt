@@ -16,8 +16,8 @@ use Rattle.conn_machine.specs.declared.state.State.{State}
 use Rattle.conn_machine.specs.Events.{causes, count_events, is_accept, is_answer, is_close, is_close_for, is_order, is_ready, is_start_child, is_tick}
 use Rattle.conn_machine.specs.Runs.{after, entries_of, has_after, row_after}
 use Rattle.conn_machine.specs.Folds.{causes_after, first_edition, fold_of, is_in_use, opening_record}
-use Rattle.lock_examples.specs.declared.stage.Stage.{Stage}
-use Rattle.lock_examples.specs.declared.stage.Stage.TheVariants.{Starts, Takes, Signals, Serves}
+use Rattle.lock_examples.specs.declared.stage.ToyStage.{ToyStage}
+use Rattle.lock_examples.specs.declared.stage.ToyStage.TheVariants.{Starts, Takes, Signals, Serves}
 use Rattle.lock_examples.specs.Toy.{entries_from, first_of, round_at, stage_at, step_entries, step_of, toy_record, toy_state}
 use Rattle.lock_examples.proofs.EntryLemmas.{after_more, all_from, entries_of-append, more_of, newest_after}
 
@@ -75,7 +75,7 @@ rows_twice a b i (x ∷ xs) =
 none_of : (n : ℕ) → filter (λ e. is_order e.event) (step_of n) ≡ []
 none_of n = by (stage_at n) (round_at n)
   where
-    by : (s : Stage) (r : ℕ) → filter (λ (e : Entry). is_order e.event) (step_entries s r) ≡ []
+    by : (s : ToyStage) (r : ℕ) → filter (λ (e : Entry). is_order e.event) (step_entries s r) ≡ []
     by Starts r = refl
     by Takes r = refl
     by Signals r = refl

@@ -18,8 +18,8 @@ use Rattle.table_rule.specs.Ledgers.{FoldsOn, KeepsOn, MayGiveBack}
 use Rattle.table_rule.specs.Tie.{IsNew}
 use Rattle.lock_examples.proofs.PlaceLemmas.{each_after, each_first}
 use Rattle.board_lock.specs.Passes.{GaveBack, TookTurn, fresh_view}
-use Rattle.lock_examples.specs.declared.stage.Stage.{Stage}
-use Rattle.lock_examples.specs.declared.stage.Stage.TheVariants.{Starts, Takes, Signals, Serves}
+use Rattle.lock_examples.specs.declared.stage.ToyStage.{ToyStage}
+use Rattle.lock_examples.specs.declared.stage.ToyStage.TheVariants.{Starts, Takes, Signals, Serves}
 use Rattle.lock_examples.specs.Toy.{FoldsBetween, IsReadyPass, KeepsOpening, MakesStep, SeenToy, entries_from, first_of, maker, next_stage, stage_at, step_of, toy_ledger, toy_record, toy_shape, toy_state}
 use Rattle.lock_examples.proofs.EntryLemmas.{AreStepsOf, FitsRow, IsAt, after-append, after_first, after_more, are_more, count_append, more_from, more_of, none_behind, permits_more, state_of}
 use Rattle.lock_examples.proofs.FoldLemmas.{record_more, record_opens}
@@ -97,7 +97,7 @@ fits_listener (suc (suc n)) row none mine =
     differ : (m : ℕ) → m ≡ 0 → m ≡ 1 → ⊥
     differ m e d = omega arith
 
-fits_none : (s : Stage) (row : Option ConnName) → row ≡ None → FitsRow s row
+fits_none : (s : ToyStage) (row : Option ConnName) → row ≡ None → FitsRow s row
 fits_none Starts row none = none
 fits_none Takes row none = none
 fits_none Signals row none = tt
@@ -335,7 +335,7 @@ stays_free v w z old at new made took number none same makes gave =
 started : (n : ℕ) → threads_of (state_of (stage_at (suc n))) 0 ≡ 2
 started n = by (stage_at n)
   where
-    by : (s : Stage) → threads_of (state_of (next_stage s)) 0 ≡ 2
+    by : (s : ToyStage) → threads_of (state_of (next_stage s)) 0 ≡ 2
     by Starts = refl
     by Takes = refl
     by Signals = refl

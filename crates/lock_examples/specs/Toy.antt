@@ -18,8 +18,8 @@ use Rattle.atomic_table.specs.Table.{Me}
 use Rattle.table_rule.specs.declared.view.View.{View}
 use Rattle.table_rule.specs.Views.{IsIdle}
 use Rattle.board_lock.specs.Passes.{HasNoTurn}
-use Rattle.lock_examples.specs.declared.stage.Stage.{Stage}
-use Rattle.lock_examples.specs.declared.stage.Stage.TheVariants.{Starts, Takes, Signals, Serves}
+use Rattle.lock_examples.specs.declared.stage.ToyStage.{ToyStage}
+use Rattle.lock_examples.specs.declared.stage.ToyStage.TheVariants.{Starts, Takes, Signals, Serves}
 
 -- a child has two workers
 abbrev pub toy_shape : Shape
@@ -36,21 +36,21 @@ toy_name = record { slot = 0; life = 0 }
 -- ## Steps
 
 -- the pass that makes a step: pass 1 serves, pass 0 does all else
-abbrev pub maker : Stage → ℕ
+abbrev pub maker : ToyStage → ℕ
 maker Starts = 0
 maker Takes = 0
 maker Signals = 0
 maker Serves = 1
 
 -- what is done behind a step: once the connection waits, it is signalled and served in turn
-abbrev pub next_stage : Stage → Stage
+abbrev pub next_stage : ToyStage → ToyStage
 next_stage Starts = Takes
 next_stage Takes = Signals
 next_stage Signals = Serves
 next_stage Serves = Signals
 
 -- how often the connection was served, once the step was made
-abbrev pub next_round : Stage → ℕ → ℕ
+abbrev pub next_round : ToyStage → ℕ → ℕ
 next_round Starts round = round
 next_round Takes round = round
 next_round Signals round = round
@@ -62,7 +62,7 @@ entry_by p n e answer = record { pass = p; ordinal = n; event = e; reply = answe
 
 -- the entries of a step: the child starts; the connection is taken and waits; it is signalled; it is handed to a worker,
 -- served, and waits again
-abbrev pub step_entries : Stage → ℕ → List Entry
+abbrev pub step_entries : ToyStage → ℕ → List Entry
 step_entries Starts round = entry_by 0 round (event.StartChild 0) Done ∷ []
 step_entries Takes round = entry_by 0 (round + 1) (event.Accept 0) (Took toy_name 0 0) ∷ entry_by 0 (round + 2) (event.Park toy_name Reading) Done ∷ []
 step_entries Signals round = entry_by 0 (round + 3) (event.Ready 0) Done ∷ []
@@ -71,7 +71,7 @@ step_entries Serves round =
     ∷ entry_by 1 (3 * round + 2) (event.Park toy_name Reading) Done ∷ []
 
 -- what is done in the step of that number
-abbrev pub stage_at : ℕ → Stage
+abbrev pub stage_at : ℕ → ToyStage
 stage_at zero = Starts
 stage_at (suc n) = next_stage (stage_at n)
 

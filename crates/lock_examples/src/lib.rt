@@ -21,7 +21,7 @@ pub use opening::{last_of, opened, opened_plain};
 pub use player::{Player, players};
 pub use resting::{last_looks, rests_one};
 pub use seats::last_seat;
-pub use stage::Stage;
+pub use stage::ToyStage;
 pub use texts::{Texts, folds_texts, writes};
 pub use toy::Toy;
 pub use turns::{folds, goes_on, looks, serves};

@@ -10,7 +10,7 @@ const NAME: ConnName = ConnName { slot: 0, life: 0 };
 
 /// What is done in a step.
 #[derive(Clone, Copy, Debug, PartialEq)]
-pub enum Stage {
+pub enum ToyStage {
     /// The child starts.
     Starts,
     /// The connection is taken, and waits.
@@ -21,25 +21,25 @@ pub enum Stage {
     Serves,
 }
 
-impl Stage {
+impl ToyStage {
     /// The pass that does it.
     pub fn maker(self) -> u32
         ensures { result ≡ maker self }
     {
         match self {
-            Stage::Starts | Stage::Takes | Stage::Signals => 0,
-            Stage::Serves => 1,
+            ToyStage::Starts | ToyStage::Takes | ToyStage::Signals => 0,
+            ToyStage::Serves => 1,
         }
     }
 
     /// What is done next.
-    pub fn next(self) -> Stage
+    pub fn next(self) -> ToyStage
         ensures { result ≡ next_stage self }
     {
         match self {
-            Stage::Starts => Stage::Takes,
-            Stage::Takes | Stage::Serves => Stage::Signals,
-            Stage::Signals => Stage::Serves,
+            ToyStage::Starts => ToyStage::Takes,
+            ToyStage::Takes | ToyStage::Serves => ToyStage::Signals,
+            ToyStage::Signals => ToyStage::Serves,
         }
     }
 
@@ -49,8 +49,8 @@ impl Stage {
         ensures { result ≡ next_round self round }
     {
         match self {
-            Stage::Starts | Stage::Takes | Stage::Signals => round,
-            Stage::Serves => round + 1,
+            ToyStage::Starts | ToyStage::Takes | ToyStage::Signals => round,
+            ToyStage::Serves => round + 1,
         }
     }
 
@@ -61,19 +61,19 @@ impl Stage {
         ensures { entries.new.items ≡ entries.old.items ++ step_entries self round }
     {
         match self {
-            Stage::Starts => {
+            ToyStage::Starts => {
                 entries.push_reserved(entry(0, round, Event::StartChild(0), Reply::Done));
             }
-            Stage::Takes => {
+            ToyStage::Takes => {
                 let took = Reply::Took(NAME, 0, 0);
                 entries.push_reserved(entry(0, round + 1, Event::Accept(0), took));
                 let park = Event::Park(NAME, Kind::Reading);
                 entries.push_reserved(entry(0, round + 2, park, Reply::Done));
             }
-            Stage::Signals => {
+            ToyStage::Signals => {
                 entries.push_reserved(entry(0, round + 3, Event::Ready(0), Reply::Done));
             }
-            Stage::Serves => {
+            ToyStage::Serves => {
                 let first = 3 * round;
                 entries.push_reserved(entry(1, first, Event::Queue(NAME), Reply::Done));
                 entries.push_reserved(entry(1, first + 1, Event::Start(NAME), Reply::Cell(0)));

@@ -2,7 +2,7 @@
 ghost use Rattle.std.specs.Prelude.{◌≡◌};
 ghost use Rattle.lock_examples.specs.Toy.{Folds, FoldsBetween, KeepsOpening, MakesStep};
 
-use crate::stage::Stage;
+use crate::stage::ToyStage;
 use conn_machine::{Entry, Kept};
 use std::alloc::Global;
 use std::marker::Model;
@@ -20,7 +20,7 @@ pub struct Toy {
     entries: Vec<Entry>,
     steps: u64,
     /// The next step, and how often the connection was served before it.
-    stage: Stage,
+    stage: ToyStage,
     round: u64,
     /// How many of the steps were folded.
     folded: u64,
@@ -56,7 +56,7 @@ impl Toy {
         Toy {
             entries: Vec::new(alloc),
             steps: 0,
-            stage: Stage::Starts,
+            stage: ToyStage::Starts,
             round: 0,
             folded: 0,
             passes,

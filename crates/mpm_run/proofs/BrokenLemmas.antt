@@ -6,8 +6,8 @@ use Rattle.board.specs.declared.faults.BoardFault.{BoardFault}
 use Rattle.board.specs.Book.{SeenBook, row_in}
 use Rattle.worker_group.specs.declared.service.Exit.TheVariants as exit
 use Rattle.worker_group.specs.Acts.{Acts, ActsInSteps}
-use Rattle.worker_group.specs.Service.{given_up}
-use Rattle.mpm_run.specs.ClosingInside.{GivesUpDrained, lingering_given_up}
+use Rattle.worker_group.specs.Service.{give_up_events}
+use Rattle.mpm_run.specs.ClosingInside.{GivesUpDrained, lingering_give_up_events}
 use Rattle.mpm_run.specs.RoundInside.{ChangesNothing, EndsRound, GivesUpTaken}
 use Rattle.mpm_run.proofs.EventLemmas.{AreSilent, silent-held, silent-none, silent-taken}
 
@@ -20,19 +20,19 @@ pub record EndsSilently (a b : SeenBook) : Type 0 where
 -- a connection that lingers was held and given up
 ends-drained : ActsInSteps → (fault : BoardFault) (a b : SeenBook) → GivesUpDrained fault a b → EndsSilently a b
 ends-drained steps fault a b gives = record {
-  events = event.Hold gives.name ∷ lingering_given_up fault gives.ending gives.name;
+  events = event.Hold gives.name ∷ lingering_give_up_events fault gives.ending gives.name;
   silent = silent-held fault gives.ending gives.name;
   acts =
-      steps.more 0 (event.Hold gives.name ∷ []) (lingering_given_up fault gives.ending gives.name) (Some gives.name) None a gives.book b gives.held
+      steps.more 0 (event.Hold gives.name ∷ []) (lingering_give_up_events fault gives.ending gives.name) (Some gives.name) None a gives.book b gives.held
       gives.acts;
 }
 
 -- one was taken and given up
 ends-taken : ActsInSteps → (fault : BoardFault) (a b : SeenBook) → GivesUpTaken fault a b → EndsSilently a b
 ends-taken steps fault a b gives = record {
-  events = event.Accept gives.name.slot ∷ given_up fault gives.name;
+  events = event.Accept gives.name.slot ∷ give_up_events fault gives.name;
   silent = silent-taken (record { name = gives.name; way = exit.GiveUp fault });
-  acts = steps.more 0 (event.Accept gives.name.slot ∷ []) (given_up fault gives.name) (Some gives.name) None a gives.book b gives.took gives.acts;
+  acts = steps.more 0 (event.Accept gives.name.slot ∷ []) (give_up_events fault gives.name) (Some gives.name) None a gives.book b gives.took gives.acts;
 }
 
 -- nothing was done

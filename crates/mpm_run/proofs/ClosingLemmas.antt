@@ -20,7 +20,7 @@ use Rattle.board.specs.Events.{with_recorded}
 use Rattle.worker_group.specs.declared.service.Exit.{Exit}
 use Rattle.worker_group.specs.Acts.{Acts, ActsInSteps}
 use Rattle.worker_group.specs.Service.{LeavesRest, left_events}
-use Rattle.mpm_run.specs.ClosingInside.{AllLeftBy, GivesUpDrained, LetsGo, LetsOneGo, Departure, departure_events, lingering_given_up, state_by}
+use Rattle.mpm_run.specs.ClosingInside.{AllLeftBy, GivesUpDrained, LetsGo, LetsOneGo, Departure, departure_events, lingering_give_up_events, state_by}
 use Rattle.mpm_run.proofs.AddedLemmas.{added-events}
 use Rattle.mpm_run.proofs.RoundLemmas.{acts-spelled}
 
@@ -102,7 +102,7 @@ lets-more steps Way name a b c lets one =
 
 -- one that was held could not wait on
 pub refused-wait : (name named : ConnName) (why : Cause) (fault : BoardFault) (a b c : SeenBook) → Acts 0 (event.Hold name ∷ []) (Some name) a b
-    → after b.base b.history ≡ b.state → named ≡ name → IsRefusedFor fault b → Acts 0 (lingering_given_up fault why named) None b c → GivesUpDrained fault a c
+    → after b.base b.history ≡ b.state → named ≡ name → IsRefusedFor fault b → Acts 0 (lingering_give_up_events fault why named) None b c → GivesUpDrained fault a c
 refused-wait name named why fault a b c held state same refused given = record {
   name = name;
   ending = why;
@@ -110,5 +110,5 @@ refused-wait name named why fault a b c held state same refused given = record {
   held = held;
   state = state;
   why = refused;
-  acts = acts-spelled _ (lingering_given_up fault why name) b c given (ap (lingering_given_up fault why) same);
+  acts = acts-spelled _ (lingering_give_up_events fault why name) b c given (ap (lingering_give_up_events fault why) same);
 }

@@ -13,7 +13,7 @@ use Rattle.worker_group.specs.declared.service.Exit.{Exit}
 use Rattle.worker_group.specs.declared.service.Exit.TheVariants as exit
 use Rattle.worker_group.specs.Acts.{Acts, events_of}
 use Rattle.worker_group.specs.Service.{left_events}
-use Rattle.mpm_run.specs.ClosingInside.{Departure, departure_events, lingering_given_up}
+use Rattle.mpm_run.specs.ClosingInside.{Departure, departure_events, lingering_give_up_events}
 use Rattle.mpm_run.specs.RoundInside.{Departures, Round, Intake, gone_events, departures_events, round_events, stop_events, intake_events, time_events}
 use Rattle.mpm_run.specs.Times.{signals_in, signals_of, ticks_in, ticks_of}
 
@@ -67,7 +67,7 @@ pub silent-gone : (gone : List Departure) → AreSilent (gone_events gone)
 silent-gone [] = silent-none
 silent-gone (l ∷ gone) = silent-both (departure_events l) (gone_events gone) (silent-letting l) (silent-gone gone)
 
-pub silent-held : (fault : BoardFault) (ending : Cause) (name : ConnName) → AreSilent (event.Hold name ∷ lingering_given_up fault ending name)
+pub silent-held : (fault : BoardFault) (ending : Cause) (name : ConnName) → AreSilent (event.Hold name ∷ lingering_give_up_events fault ending name)
 silent-held fault.Halted ending name = record { ticks = refl; signals = refl }
 silent-held fault.Full ending name = record { ticks = refl; signals = refl }
 silent-held fault.NoMemory ending name = record { ticks = refl; signals = refl }

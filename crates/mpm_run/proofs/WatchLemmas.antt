@@ -32,7 +32,7 @@ use Rattle.worker_group.specs.Acts.{Acts}
 use Rattle.mpm_run.specs.ListenInside.{WatchesAll, number_after}
 use Rattle.mpm_run.specs.declared.listen.End.{End}
 use Rattle.worker_group.specs.Service.{left_events}
-use Rattle.mpm_run.specs.ClosingInside.{IsHaltedWay, LetsGo, Departure, departure_events, lingering_given_up}
+use Rattle.mpm_run.specs.ClosingInside.{IsHaltedWay, LetsGo, Departure, departure_events, lingering_give_up_events}
 use Rattle.mpm_run.specs.RoundInside.{GivesUp, LetsGoOfConns, LetsGoUntil, Departures, PassesTime, RetiresSome, StartsSome, end_events, gone_events, halt_events, departures_events, signal_events, way_of}
 use Rattle.mpm_run.specs.Times.{known_slots, ticks_to}
 use Rattle.mpm_run.specs.Watched.{AreClosedAtOnce, IsClosedAtOnce, accepted_names, link_watched, links_from, names_taken, names_given}
@@ -92,7 +92,7 @@ none-gone : (gone : List Departure) → TakesNone (gone_events gone)
 none-gone [] = refl
 none-gone (l ∷ gone) = none-both (departure_events l) (gone_events gone) (none-left l.way l.name) (none-gone gone)
 
-none-given_up : (fault : BoardFault) (ending : Cause) (name : ConnName) → TakesNone (lingering_given_up fault ending name)
+none-given_up : (fault : BoardFault) (ending : Cause) (name : ConnName) → TakesNone (lingering_give_up_events fault ending name)
 none-given_up fault.Halted ending name = refl
 none-given_up fault.Full ending name = refl
 none-given_up fault.NoMemory ending name = refl

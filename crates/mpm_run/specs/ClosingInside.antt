@@ -157,10 +157,10 @@ abbrev pub DrainsSome : SeenBook → SeenBook → Type 0
 DrainsSome old new = LetsGo IsDrainedWay old new
 
 -- the events by which a connection that lingers for the cause is given up: it is closed, and a full history stops the server before
-abbrev pub lingering_given_up : BoardFault → Cause → ConnName → List Event
-lingering_given_up fault.Halted ending name = event.Close name ending tail.Halted ∷ []
-lingering_given_up fault.Full ending name = event.Command (Stop why.Full) ∷ event.Close name ending tail.Halted ∷ []
-lingering_given_up fault.NoMemory ending name = event.Close name ending tail.NoMemory ∷ []
+abbrev pub lingering_give_up_events : BoardFault → Cause → ConnName → List Event
+lingering_give_up_events fault.Halted ending name = event.Close name ending tail.Halted ∷ []
+lingering_give_up_events fault.Full ending name = event.Command (Stop why.Full) ∷ event.Close name ending tail.Halted ∷ []
+lingering_give_up_events fault.NoMemory ending name = event.Close name ending tail.NoMemory ∷ []
 
 -- a connection that lingers was held, which led to this book; its further wait was refused there for the fault, and it was given up
 pub record GivesUpDrained (fault : BoardFault) (old new : SeenBook) : Type 0 where
@@ -170,7 +170,7 @@ pub record GivesUpDrained (fault : BoardFault) (old new : SeenBook) : Type 0 whe
   pub held : Acts 0 (event.Hold name ∷ []) (Some name) old book
   pub state : after book.base book.history ≡ book.state
   pub why : IsRefusedFor fault book
-  pub acts : Acts 0 (lingering_given_up fault ending name) None book new
+  pub acts : Acts 0 (lingering_give_up_events fault ending name) None book new
 
 -- connections that linger were left so, which led to this book; then one could not wait any more, and was given up for the fault
 pub record DrainsUntil (fault : BoardFault) (old new : SeenBook) : Type 0 where

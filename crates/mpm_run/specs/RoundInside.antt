@@ -23,7 +23,7 @@ use Rattle.board.specs.Faults.{IsRefusedFor}
 use Rattle.worker_group.specs.declared.service.Exit.{Exit}
 use Rattle.worker_group.specs.declared.service.Exit.TheVariants as exit
 use Rattle.worker_group.specs.Acts.{Acts}
-use Rattle.worker_group.specs.Service.{HasServed, given_up, left_events}
+use Rattle.worker_group.specs.Service.{HasServed, give_up_events, left_events}
 use Rattle.mpm_run.specs.ClosingInside.{AllLeftBy, GivesUpDrained, IsDrainedWay, IsLateWay, IsRetiringWay, Departure, NoneEarly, departure_events}
 use Rattle.mpm_run.specs.ListenInside.{IsInStep, SeenListener, why_of}
 use Rattle.mpm_run.specs.Patient.{NoneDue}
@@ -73,7 +73,7 @@ AllLeft (t ∷ takes) = IsLeftAsWatched t.way × AllLeft takes
 
 -- the connection was given up for the fault, and nothing else was done
 abbrev pub GivesUp : BoardFault → ConnName → SeenBook → SeenBook → Type 0
-GivesUp fault name old new = Acts 0 (given_up fault name) None old new
+GivesUp fault name old new = Acts 0 (give_up_events fault name) None old new
 
 -- the connection of the link was taken, the link watched under its name, and the connection left by what that answered
 pub record IsTaking (link : Option LinkTold) (old new : SeenListener) : Type 0 where

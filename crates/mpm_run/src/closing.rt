@@ -15,7 +15,7 @@ ghost use Rattle.board.specs.Book.{row_in};
 ghost use Rattle.worker_group.specs.Acts.{Acts};
 ghost use Rattle.worker_group.specs.InHand.{IsInHand};
 ghost use Rattle.worker_group.specs.Service.{LeavesRest, RefusalLasts};
-ghost use Rattle.mpm_run.specs.ClosingInside.{DrainsSome, DrainsUntil, GivesUpDrained, IsDrainedWay, IsHaltedWay, IsLateWay, IsLingeringFor, IsRetiringWay, LetsGo, LetsGoLate, LetsLinger, LetsOneGo, cause_of_late, late_weight, lingering_given_up, parked_count, serving_count, signal_count, tail_of};
+ghost use Rattle.mpm_run.specs.ClosingInside.{DrainsSome, DrainsUntil, GivesUpDrained, IsDrainedWay, IsHaltedWay, IsLateWay, IsLingeringFor, IsRetiringWay, LetsGo, LetsGoLate, LetsLinger, LetsOneGo, cause_of_late, late_weight, lingering_give_up_events, parked_count, serving_count, signal_count, tail_of};
 ghost use Rattle.mpm_run.specs.Listen.{HasNoLive};
 ghost use Rattle.mpm_run.specs.Patient.{NoneToDrain, NoneToLetGo};
 ghost use Rattle.mpm_run.specs.ListenInside.{MustStop, NoneOverdue, NoneParked};
@@ -210,7 +210,7 @@ fn linger_on<L: Link, N: Known>(
     requires late { conn.linger ≡ linger.NotReady }
     ensures parked { OnOk result (Acts 0 (event.Park conn.name kind ∷ []) None board.old.book board.new.book) }
     ensures state { OnOk result (board.new.book.state ≡ next board.old.book.state (event.Park conn.name kind)) }
-    ensures given_up { IfErr result (λ fault. Acts 0 (lingering_given_up fault cause conn.name) None board.old.book board.new.book) }
+    ensures given_up { IfErr result (λ fault. Acts 0 (lingering_give_up_events fault cause conn.name) None board.old.book board.new.book) }
     ensures why { IfErr result (λ fault. IsRefusedFor fault board.old.book) }
     ensures lasts { IfErr result (λ fault. RefusalLasts fault board.new.book) }
     ensures rest { LeavesRest board.old.book board.new.book }
@@ -237,7 +237,7 @@ fn give_up_lingering<L: Link, N: Known>(
     requires row { row_in 0 board.old.book ≡ Some conn.name }
     requires lingers { IsLingeringFor cause board.old.book.state conn }
     requires why { IsRefusedFor fault board.old.book }
-    ensures acts { Acts 0 (lingering_given_up fault cause conn.name) None board.old.book board.new.book }
+    ensures acts { Acts 0 (lingering_give_up_events fault cause conn.name) None board.old.book board.new.book }
     ensures lasts { RefusalLasts fault board.new.book }
     ensures rest { LeavesRest board.old.book board.new.book }
 {

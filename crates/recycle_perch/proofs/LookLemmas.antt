@@ -6,7 +6,7 @@ use Rattle.std.proofs.lemmas.Option.{same_Some}
 use Rattle.atomic_table.specs.declared.ruled.Mark.{Mark}
 use Rattle.recycle_perch.specs.declared.looks.Looks.{Looks}
 use Rattle.table_rule.specs.declared.trail.Step.{Step}
-use Rattle.recycle_perch.specs.Looking.{AllLookAt, LookAt, found_none, found_taken, with_step_at, with_steps}
+use Rattle.recycle_perch.specs.Looking.{AllLookAt, LookAt, with_none_found, with_taken_found, with_step_at, with_steps}
 use Rattle.recycle_perch.specs.Words.{deeds, laid_none, laid_one, took_none, took_one}
 
 -- ## A step at a place
@@ -92,14 +92,14 @@ tried (Err x) marks i m w number carrier at its told =
 
 -- one place more was found empty
 pub none_more : (numbers : List ℕ) (i : ℕ) (before now after : List (List (ℕ × ℕ))) → i < length numbers
-    → now ≡ found_none (take i numbers) before → after ≡ with_step_at i took_none now → after ≡ found_none (take (i + 1) numbers) before
+    → now ≡ with_none_found (take i numbers) before → after ≡ with_step_at i took_none now → after ≡ with_none_found (take (i + 1) numbers) before
 none_more numbers i before now after within so_far step =
     step ∙ (ap (with_step_at i took_none) so_far
-    ∙ (sym (steps_more took_none (λ _. true) numbers i before within refl) ∙ ap (λ k. found_none (take k numbers) before) (sym (add-one i))))
+    ∙ (sym (steps_more took_none (λ _. true) numbers i before within refl) ∙ ap (λ k. with_none_found (take k numbers) before) (sym (add-one i))))
 
 taken_as : (b : Bool) (numbers : List ℕ) (i carrier : ℕ) (before now after : List (List (ℕ × ℕ))) → i < length numbers
-    → (slice_index numbers i == carrier) ≡ b → now ≡ found_taken carrier (take i numbers) before
-    → after ≡ (if b then with_step_at i laid_none now else now) → after ≡ found_taken carrier (take (suc i) numbers) before
+    → (slice_index numbers i == carrier) ≡ b → now ≡ with_taken_found carrier (take i numbers) before
+    → after ≡ (if b then with_step_at i laid_none now else now) → after ≡ with_taken_found carrier (take (suc i) numbers) before
 taken_as true numbers i carrier before now after within passes so_far step =
     step ∙ (ap (with_step_at i laid_none) so_far ∙ sym (steps_more laid_none (λ number. number == carrier) numbers i before within passes))
 taken_as false numbers i carrier before now after within fails so_far step =
@@ -107,13 +107,13 @@ taken_as false numbers i carrier before now after within fails so_far step =
 
 -- one place more was tried
 pub taken_more : (numbers : List ℕ) (i back carrier : ℕ) (before now after : List (List (ℕ × ℕ))) → i < length numbers → back ≡ carrier
-    → now ≡ found_taken carrier (take i numbers) before
+    → now ≡ with_taken_found carrier (take i numbers) before
     → after ≡ (if slice_index numbers i == back then with_step_at i laid_none now else now)
-    → after ≡ found_taken carrier (take (i + 1) numbers) before
+    → after ≡ with_taken_found carrier (take (i + 1) numbers) before
 taken_more numbers i back carrier before now after within its so_far step =
     taken_as (slice_index numbers i == carrier) numbers i carrier before now after within refl so_far
     (step ∙ ap (λ k. if slice_index numbers i == k then with_step_at i laid_none now else now) its)
-    ∙ ap (λ k. found_taken carrier (take k numbers) before) (sym (add-one i))
+    ∙ ap (λ k. with_taken_found carrier (take k numbers) before) (sym (add-one i))
 
 -- ## Elements of changed lists
 

@@ -55,23 +55,23 @@ with_steps step test (number ∷ numbers) (before ∷ others) =
     (if test number then before ++ step ∷ [] else before) ∷ with_steps step test numbers others
 
 -- one step more at each of the places, which found none there, and left none
-abbrev pub found_none : List ℕ → List (List (ℕ × ℕ)) → List (List (ℕ × ℕ))
-found_none numbers all = with_steps took_none (λ _. true) numbers all
+abbrev pub with_none_found : List ℕ → List (List (ℕ × ℕ)) → List (List (ℕ × ℕ))
+with_none_found numbers all = with_steps took_none (λ _. true) numbers all
 
 -- one step more at each place of this carrier, which found another one there, and left it
-abbrev pub found_taken : ℕ → List ℕ → List (List (ℕ × ℕ)) → List (List (ℕ × ℕ))
-found_taken carrier numbers all = with_steps laid_none (λ number. number == carrier) numbers all
+abbrev pub with_taken_found : ℕ → List ℕ → List (List (ℕ × ℕ)) → List (List (ℕ × ℕ))
+with_taken_found carrier numbers all = with_steps laid_none (λ number. number == carrier) numbers all
 
 -- the carrier of that number was taken from its place; at each place before that one none was found
 pub record WasTaken (carrier : ℕ) (numbers : List ℕ) (before after : List (List (ℕ × ℕ))) : Type 0 where
   pub place : ℕ
   pub within : place < length numbers
   pub its : slice_index numbers place ≡ carrier
-  pub steps : after ≡ with_step_at place took_one (found_none (take place numbers) before)
+  pub steps : after ≡ with_step_at place took_one (with_none_found (take place numbers) before)
 
 -- the carrier of that number was laid down on a place of its own, where none rested
 pub record WasLaidDown (carrier : ℕ) (numbers : List ℕ) (before after : List (List (ℕ × ℕ))) : Type 0 where
   pub place : ℕ
   pub within : place < length numbers
   pub its : slice_index numbers place ≡ carrier
-  pub steps : after ≡ with_step_at place laid_one (found_taken carrier (take place numbers) before)
+  pub steps : after ≡ with_step_at place laid_one (with_taken_found carrier (take place numbers) before)

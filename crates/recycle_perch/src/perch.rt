@@ -1,6 +1,6 @@
 //! A row of places.
 ghost use Rattle.std.specs.Prelude.{◌≡◌, ◌≤◌, ◌<◌, ◌==◌, [], ◌∷◌, ◌++◌, All, IfOk, IfSome, IfErr, OnOk, OnErr, MatchOption, MatchResult, slice_index, vec_len, vec_capacity, if◌then◌else◌};
-ghost use Rattle.recycle_perch.specs.Looking.{AllAreOf, AllLookAt, AreOf, HasPlaceMore, WasLaidDown, WasTaken, found_none, found_taken, carriers_of, steps_of, with_step_at, word_names_of};
+ghost use Rattle.recycle_perch.specs.Looking.{AllAreOf, AllLookAt, AreOf, HasPlaceMore, WasLaidDown, WasTaken, with_none_found, with_taken_found, carriers_of, steps_of, with_step_at, word_names_of};
 ghost use Rattle.recycle_perch.specs.Resting.{IsFreeCarrier, IsWokenCarrier};
 ghost use Rattle.recycle_perch.specs.Words.{laid_none, laid_one, took_none, took_one};
 
@@ -97,7 +97,7 @@ impl<'a, K: Kept> Perch<'a, K> {
     pub fn take(&self, looks: &mut Looks) -> Option<Carrier<K>>
         requires looks { AreOf self.now.places looks.old }
         ensures looks { AreOf self.now.places looks.new }
-        ensures steps { MatchOption result (steps_of looks.new ≡ found_none (carriers_of self.now.places.items) (steps_of looks.old)) (λ carrier. WasTaken carrier.seat.me.0.who.number (carriers_of self.now.places.items) (steps_of looks.old) (steps_of looks.new)) }
+        ensures steps { MatchOption result (steps_of looks.new ≡ with_none_found (carriers_of self.now.places.items) (steps_of looks.old)) (λ carrier. WasTaken carrier.seat.me.0.who.number (carriers_of self.now.places.items) (steps_of looks.old) (steps_of looks.new)) }
         ensures own { IfSome result (λ carrier. carrier.seat.table_id ≡ self.now.shared.now.table.shared.table_id) }
         ensures free { IfSome result (λ carrier. IsFreeCarrier carrier.seat.me) }
         ensures woken { IfSome result (λ carrier. IsWokenCarrier carrier.seat.me) }
@@ -133,7 +133,7 @@ impl<'a, K: Kept> Perch<'a, K> {
         requires free { IsFreeCarrier carrier.seat.me }
         requires looks { AreOf self.now.places looks.old }
         ensures looks { AreOf self.now.places looks.new }
-        ensures steps { MatchResult result (λ _. WasLaidDown carrier.seat.me.0.who.number (carriers_of self.now.places.items) (steps_of looks.old) (steps_of looks.new)) (λ _. steps_of looks.new ≡ found_taken carrier.seat.me.0.who.number (carriers_of self.now.places.items) (steps_of looks.old)) }
+        ensures steps { MatchResult result (λ _. WasLaidDown carrier.seat.me.0.who.number (carriers_of self.now.places.items) (steps_of looks.old) (steps_of looks.new)) (λ _. steps_of looks.new ≡ with_taken_found carrier.seat.me.0.who.number (carriers_of self.now.places.items) (steps_of looks.old)) }
         ensures own { IfErr result (λ back. back.seat.table_id ≡ self.now.shared.now.table.shared.table_id) }
         ensures free { IfErr result (λ back. IsFreeCarrier back.seat.me) }
         ensures number { IfErr result (λ back. back.seat.me.0.who.number ≡ carrier.seat.me.0.who.number) }

@@ -3,7 +3,7 @@ use Rattle.std.proofs.Common.{◌≡◌, ◌==◌, ℕ, ◌<◌, ◌⊎◌, inl,
 use Rattle.std.proofs.lemmas.Bool.Decides.{nat_tests}
 use Rattle.mpm_base.specs.Front.{HasAllTaken, earlier}
 use Rattle.script_front.specs.PlayedFrontInside.{gone_to, with_begun, with_clients, with_end, with_lines}
-use Rattle.script_front.specs.ScriptFront.{IsUnderWay, Moves, Plays, SeenFront, begins, ends, lines_by, lines_now, next_moment, over, passes, served, signals, stays, taken_closed, to_come}
+use Rattle.script_front.specs.ScriptFront.{IsUnderWay, Moves, Plays, SeenFront, begins, ends, lines_by, lines_now, next_moment, over, passes, served, signals, stays, all_taken_closed, to_come}
 use Rattle.script_front.specs.Signals.{Gives, SeenClient, all_closed}
 use Rattle.mpm_base.specs.declared.front.Woke.TheVariants as woke
 
@@ -65,5 +65,5 @@ module _ (old new : SeenFront) (until : Option ℕ) (quiet : Bool) (ready : List
         rw none (ends goes (rw is (rw none at gives)) idle comes (rw is taken) (rw is closed) (moves-end old new still is))
 
     pub plays-stays : (m : ℕ) → new ≡ with_clients still (with_begun old) → ready ≡ [] → m ≡ old.told.moment → quiet ≡ true → earlier until (next_moment (to_come old)) ≡ None
-        → (HasAllTaken new.told → taken_closed new ≡ false) → Plays old new until quiet (woke.Woke m) ready
+        → (HasAllTaken new.told → all_taken_closed new ≡ false) → Plays old new until quiet (woke.Woke m) ready
     plays-stays m is none stands idle comes some = rw (none, stands) (stays goes (rw none at gives-new is) idle comes some (moves-still old new still is))

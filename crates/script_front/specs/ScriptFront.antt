@@ -179,8 +179,8 @@ pub record Moves (old new : SeenFront) (count moment : ℕ) : Type 0 where
   pub moment_is : new.told.moment ≡ moment
 
 -- each link that was handed out was found closed
-abbrev pub taken_closed : SeenFront → Bool
-taken_closed f = all_closed (take f.told.accepted f.clients)
+abbrev pub all_taken_closed : SeenFront → Bool
+all_taken_closed f = all_closed (take f.told.accepted f.clients)
 
 -- it hasn't answered Ended, and no line stands before the next `at`
 pub record IsUnderWay (f : SeenFront) : Type 0 where
@@ -207,10 +207,10 @@ pub data Plays (old new : SeenFront) (until : Option ℕ) (quiet : Bool) : Woke 
       → new.clients ≡ after_next (lines_by to (to_come old)) old still → Plays old new until quiet (woke.Woke to) []
   -- nothing comes any more
   ends : IsUnderWay old → Gives 256 old.clients old.names new.clients [] → quiet ≡ true → earlier until (next_moment (to_come old)) ≡ None
-      → HasAllTaken new.told → taken_closed new ≡ true → Moves old new 0 old.told.moment → Plays old new until quiet woke.Ended []
+      → HasAllTaken new.told → all_taken_closed new ≡ true → Moves old new 0 old.told.moment → Plays old new until quiet woke.Ended []
   -- it waits for its links to be taken or closed
   stays : IsUnderWay old → Gives 256 old.clients old.names new.clients [] → quiet ≡ true → earlier until (next_moment (to_come old)) ≡ None
-      → (HasAllTaken new.told → taken_closed new ≡ false) → Moves old new 0 old.told.moment → Plays old new until quiet (woke.Woke old.told.moment) []
+      → (HasAllTaken new.told → all_taken_closed new ≡ false) → Moves old new 0 old.told.moment → Plays old new until quiet (woke.Woke old.told.moment) []
 
 -- ## An accept
 

@@ -2,14 +2,14 @@
 
 /// Numbers of 32 bits: those of Knuth's generator for 64 bits, without their low 32 bits.
 #[derive(Clone, Copy, Debug)]
-pub struct Numbers {
+pub struct NumberStream {
     state: u64,
 }
 
-impl Numbers {
+impl NumberStream {
     /// The numbers behind the seed.
-    pub fn from(seed: u64) -> Numbers {
-        Numbers { state: seed }
+    pub fn from(seed: u64) -> NumberStream {
+        NumberStream { state: seed }
     }
 
     /// The next number.

@@ -1,7 +1,7 @@
 //! Changes that numbers ask for, behind each of which the counts that are kept are compared with what a look at each row counts.
 use crate::calls::kind_from;
 use crate::counts::{has_live, show_other};
-use crate::numbers::{Numbers, below};
+use crate::numbers::{NumberStream, below};
 use crate::random_events::{cause_from, event_from};
 use crate::tables::Table;
 use crate::texts::{grown, number_of, small_of, words};
@@ -16,7 +16,7 @@ pub fn show_counts(rt: &impl Print, alloc: Global, opening: &str, rows: &str) ->
     for row in rows.lines() {
         print!(rt; "{row} => ")?;
         let (seed, events) = words(row);
-        let mut numbers = Numbers::from(number_of(seed));
+        let mut numbers = NumberStream::from(number_of(seed));
         let done = play_events(rt, alloc, opening, &mut numbers, number_of(events))?;
         println!(rt; ", {done} allowed")?;
     }
@@ -29,7 +29,7 @@ fn play_events(
     rt: &impl Print,
     alloc: Global,
     opening: &str,
-    numbers: &mut Numbers,
+    numbers: &mut NumberStream,
     events: u64,
 ) -> io::Result<u64> {
     let mut table = grown(Table::open(alloc, opening))?;
@@ -62,7 +62,11 @@ fn is_over(state: &State) -> bool {
 }
 
 /// Plays the next event, and says whether it was allowed.
-fn plays_one(alloc: Global, table: &mut Table, numbers: &mut Numbers) -> Result<bool, NoMemory> {
+fn plays_one(
+    alloc: Global,
+    table: &mut Table,
+    numbers: &mut NumberStream,
+) -> Result<bool, NoMemory> {
     let number = numbers.next();
     let detail = numbers.next();
     let event = event_from(&table.state, number, detail);
@@ -89,7 +93,7 @@ pub fn show_changes(rt: &impl Print, alloc: Global, sizes: &str, rows: &str) -> 
     for row in rows.lines() {
         print!(rt; "{row} => ")?;
         let (seed, changes) = words(row);
-        let mut numbers = Numbers::from(number_of(seed));
+        let mut numbers = NumberStream::from(number_of(seed));
         let mut changed = grown(Rows::make(alloc, small_of(slots)))?;
         make_changes(rt, &mut changed, bounds, &mut numbers, number_of(changes))?;
     }
@@ -101,7 +105,7 @@ fn make_changes(
     rt: &impl Print,
     rows: &mut Rows,
     bounds: Bounds,
-    numbers: &mut Numbers,
+    numbers: &mut NumberStream,
     changes: u64,
 ) -> io::Result<()> {
     let children = small(bounds.children).saturating_add(1);

@@ -2,7 +2,7 @@
 ghost use Rattle.std.specs.Prelude.{◌≤◌};
 
 use crate::calls::{Answer, Call, call_from, call_of};
-use crate::numbers::Numbers;
+use crate::numbers::NumberStream;
 use crate::plain_queues::PlainQueues;
 use crate::texts::{grown, number_of, small_of, words};
 use std::alloc::Global;
@@ -66,7 +66,7 @@ fn show_first_other(
     row: &str,
 ) -> io::Result<()> {
     let (seed, calls) = words(row);
-    let mut numbers = Numbers::from(number_of(seed));
+    let mut numbers = NumberStream::from(number_of(seed));
     for place in 0..number_of(calls) {
         let call = call_from(numbers.next(), slots);
         let found = answer_to(rings, call);

@@ -1,7 +1,7 @@
 //! Slots in rings, by example, and that they answer as a plain list does, and so in the order in which they were put there.
 ghost use Rattle.std.specs.Prelude.{◌≡◌, ◌<◌, length};
 
-use crate::numbers::Numbers;
+use crate::numbers::NumberStream;
 use crate::plain_rings::PlainRings;
 use crate::texts::{grown, number_of, small_of, words};
 use mpm_base::NoMemory;
@@ -96,7 +96,7 @@ fn show_first_other(
     requires { 0 < slots }
 {
     let (seed, calls) = words(row);
-    let mut numbers = Numbers::from(number_of(seed));
+    let mut numbers = NumberStream::from(number_of(seed));
     for place in 0..number_of(calls) {
         let number = numbers.next();
         let slot = (number % u64::from(slots)) as u32;

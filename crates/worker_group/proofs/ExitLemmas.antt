@@ -32,7 +32,7 @@ use Rattle.board.specs.Faults.{IsRefusedFor}
 use Rattle.worker_group.specs.declared.service.Exit.{Exit}
 use Rattle.worker_group.specs.declared.service.Exit.TheVariants as exit
 use Rattle.worker_group.specs.Acts.{Acts}
-use Rattle.worker_group.specs.Service.{ExitsAfter, IsGivenUp, IsLastEnded, IsLeftBy, IsThere, LeavesRest, RefusalLasts, given_up, kept_kind}
+use Rattle.worker_group.specs.Service.{ExitsAfter, IsGivenUp, IsLastEnded, IsLeftBy, IsThere, LeavesRest, RefusalLasts, give_up_events, kept_kind}
 use Rattle.worker_group.proofs.ServeLemmas.{alive}
 
 -- ## What the connection waits for
@@ -81,7 +81,7 @@ left-as who out out' c a b is left = subst (λ (w : Exit). IsLeftBy who w c a b)
 
 -- one that was to wait waits, or was given up
 pub park-left : {T : Type 0} (who : ℕ) (kind : Kind) (c : SeenConn) (a : SeenBook) (b : SeenBoard) (r : Result T BoardFault)
-    → OnOk r (Acts who (event.Park c.name kind ∷ []) None a b.book) → IfErr r (λ fault. Acts who (given_up fault c.name) None a b.book)
+    → OnOk r (Acts who (event.Park c.name kind ∷ []) None a b.book) → IfErr r (λ fault. Acts who (give_up_events fault c.name) None a b.book)
     → IfErr r (λ fault. IsRefusedFor fault a) → OnOk r (IsThere c b) → IfErr r (λ fault. IsGivenUp fault c b) → IsLeftBy who (exit.Park kind) c a b
 park-left who kind c a b (Ok x) parked given why there ended =
     record { way = exit.Park kind; leaves = inl refl; acts = parked; stands = there }

@@ -155,17 +155,17 @@ pub record LeavesRest (old new : SeenBook) : Type 0 where
 -- ## The events of that
 
 -- the events by which a connection is given up for the fault: it is closed, and a full history stops the server before
-abbrev pub given_up : BoardFault → ConnName → List Event
-given_up fault.Halted name = event.Close name cause.Stopped Direct ∷ []
-given_up fault.Full name = event.Command (Stop why.Full) ∷ event.Close name cause.Stopped Direct ∷ []
-given_up fault.NoMemory name = event.Close name cause.NoMemory Direct ∷ []
+abbrev pub give_up_events : BoardFault → ConnName → List Event
+give_up_events fault.Halted name = event.Close name cause.Stopped Direct ∷ []
+give_up_events fault.Full name = event.Command (Stop why.Full) ∷ event.Close name cause.Stopped Direct ∷ []
+give_up_events fault.NoMemory name = event.Close name cause.NoMemory Direct ∷ []
 
 -- the events by which a connection in hand is left
 abbrev pub left_events : Exit → ConnName → List Event
 left_events (exit.Park kind) name = event.Park name kind ∷ []
 left_events (exit.Linger why) name = event.Linger name why ∷ []
 left_events (exit.Close why how) name = event.Close name why how ∷ []
-left_events (exit.GiveUp fault) name = given_up fault name
+left_events (exit.GiveUp fault) name = give_up_events fault name
 
 -- the events by which responses are decided for what was asked
 abbrev pub answer_events : ConnName → List Ask → List Event

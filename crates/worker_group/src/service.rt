@@ -15,7 +15,7 @@ ghost use Rattle.board.specs.Fits.{FoundNoMore, IsSettled};
 ghost use Rattle.worker_group.specs.Acts.{Acts};
 ghost use Rattle.worker_group.specs.InHand.{IsClosable, IsInHand};
 ghost use Rattle.worker_group.specs.InHandInside.{IsServed, answers_left};
-ghost use Rattle.worker_group.specs.Service.{EndsOut, ExitsAfter, HasServed, HasTurned, IsGivenUp, IsLastEnded, IsLeftBy, IsLetLinger, IsThere, IsWayOut, LeavesRest, RefusalLasts, answer_events, given_up, left_events};
+ghost use Rattle.worker_group.specs.Service.{EndsOut, ExitsAfter, HasServed, HasTurned, IsGivenUp, IsLastEnded, IsLeftBy, IsLetLinger, IsThere, IsWayOut, LeavesRest, RefusalLasts, answer_events, give_up_events, left_events};
 ghost use Rattle.worker_group.specs.ServiceInside.{MayLeave};
 
 use board::{Board, BoardFault};
@@ -188,7 +188,7 @@ pub fn park<L: Link, N: Known>(
     requires settled { IsSettled kind None conn }
     requires turned { FoundNoMore kind conn }
     ensures parked { OnOk result (Acts who (event.Park conn.name kind ∷ []) None board.old.book board.new.book) }
-    ensures given_up { IfErr result (λ fault. Acts who (given_up fault conn.name) None board.old.book board.new.book) }
+    ensures given_up { IfErr result (λ fault. Acts who (give_up_events fault conn.name) None board.old.book board.new.book) }
     ensures why { IfErr result (λ fault. IsRefusedFor fault board.old.book) }
     ensures there { OnOk result (IsThere conn board.new) }
     ensures ended { IfErr result (λ fault. IsGivenUp fault conn board.new) }
@@ -243,7 +243,7 @@ pub fn give_up<L: Link, N: Known>(
     requires row { row_in who board.old.book ≡ Some conn.name }
     requires hand { IsInHand board.old.book.state conn }
     requires why { IsRefusedFor fault board.old.book }
-    ensures acts { Acts who (given_up fault conn.name) None board.old.book board.new.book }
+    ensures acts { Acts who (give_up_events fault conn.name) None board.old.book board.new.book }
     ensures ended { IsGivenUp fault conn board.new }
     ensures lasts { RefusalLasts fault board.new.book }
     ensures rest { who ≡ 0 → LeavesRest board.old.book board.new.book }

@@ -1,6 +1,6 @@
 use Rattle.std.proofs.Common.{drop, sym, ap, subst, ◌∙◌}
 use Rattle.http_conn.specs.declared.stage.Stage.TheVariants as stage
-use Rattle.http_conn.specs.declared.steps.Step.TheVariants as step
+use Rattle.http_conn.specs.declared.steps.StepAnswer.TheVariants as step
 use Rattle.http_conn.specs.Steps.{Steps}
 use Rattle.http_conn.proofs.StepLemmas.{body-takes, body-ends, body-refuses}
 use Rattle.http_conn.proofs.steps.read_body.Goals as goal

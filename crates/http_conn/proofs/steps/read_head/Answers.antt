@@ -1,6 +1,6 @@
 use Rattle.std.proofs.Common.{false, drop, refl, sym, ap, subst, ◌∙◌}
 use Rattle.http_conn.specs.declared.stage.Stage.TheVariants as stage
-use Rattle.http_conn.specs.declared.steps.Step.TheVariants as step
+use Rattle.http_conn.specs.declared.steps.StepAnswer.TheVariants as step
 use Rattle.http_conn.specs.Steps.{Steps}
 use Rattle.http_conn.proofs.StepLemmas.{head-accepted, head-goes_on, head-no_memory, head-refuses}
 use Rattle.http_conn.proofs.steps.read_head.Goals as goal

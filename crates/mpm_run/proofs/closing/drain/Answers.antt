@@ -11,7 +11,7 @@ use Rattle.board.specs.Faults.{IsRefusedFor}
 use Rattle.board.specs.Finds.{has_to_be_drained}
 use Rattle.worker_group.specs.declared.service.Exit.TheVariants as exit
 use Rattle.worker_group.specs.Acts.{Acts}
-use Rattle.mpm_run.specs.ClosingInside.{GivesUpDrained, IsDrainedWay, lingering_given_up}
+use Rattle.mpm_run.specs.ClosingInside.{GivesUpDrained, IsDrainedWay, lingering_give_up_events}
 use Rattle.mpm_run.proofs.ClosingLemmas.{held-acts, let-go, refused-wait}
 use Rattle.mpm_run.proofs.HeldLemmas.{closes-turned, held-lingering, holding, lingers-by, lingers-turned, may-wait_on, waited-for, was-at}
 use Rattle.mpm_run.proofs.LeavingLemmas.{row-cause, to-drain}
@@ -129,7 +129,7 @@ pub returns-in-None-clause-until : goal.returns-in-None-clause-until
 returns-in-None-clause-until g c =
     if-err-both c.linger_on.result
     (λ (fault : BoardFault). IsRefusedFor fault c.hold-conn.new.self.book)
-    (λ (fault : BoardFault). Acts 0 (lingering_given_up fault c.in-Some-Some.cause c.linger_turn.new.self.name) None c.hold-conn.new.self.book c.linger_on.new.board.book)
+    (λ (fault : BoardFault). Acts 0 (lingering_give_up_events fault c.in-Some-Some.cause c.linger_turn.new.self.name) None c.hold-conn.new.self.book c.linger_on.new.board.book)
     (λ (fault : BoardFault). GivesUpDrained fault c.args.board.now.book c.linger_on.new.board.book)
     (λ fault why given. refused-wait c.args.name c.linger_turn.new.self.name c.in-Some-Some.cause fault c.args.board.now.book c.hold-conn.new.self.book
     c.linger_on.new.board.book

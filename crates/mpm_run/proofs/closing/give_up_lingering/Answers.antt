@@ -14,7 +14,7 @@ use Rattle.board.specs.Book.{SeenBook, book_with_entry, full_stop}
 use Rattle.board.specs.Board.{SeenBoard}
 use Rattle.worker_group.specs.Acts.{Acts}
 use Rattle.worker_group.specs.Service.{LeavesRest, RefusalLasts}
-use Rattle.mpm_run.specs.ClosingInside.{lingering_given_up}
+use Rattle.mpm_run.specs.ClosingInside.{lingering_give_up_events}
 use Rattle.mpm_run.proofs.HeldLemmas.{closes-lingering}
 use Rattle.mpm_run.proofs.RoundLemmas.{acts-added}
 use Rattle.mpm_run.proofs.closing.give_up_lingering.Goals as goal
@@ -31,9 +31,9 @@ close-requires-clause-may g c =
     closes-lingering c.args.board.now.book.state c.args.cause tail.Halted c.args.conn c.requires.lingers halted c.requires.lingers.shut
 
 -- the events of the fault that it is
-acts-for : (why : Cause) (name : ConnName) (f g : BoardFault) (a b : SeenBook) → f ≡ g → Acts 0 (lingering_given_up g why name) None a b
-    → Acts 0 (lingering_given_up f why name) None a b
-acts-for why name f g a b is acts = subst (λ (x : BoardFault). Acts 0 (lingering_given_up x why name) None a b) (sym is) acts
+acts-for : (why : Cause) (name : ConnName) (f g : BoardFault) (a b : SeenBook) → f ≡ g → Acts 0 (lingering_give_up_events g why name) None a b
+    → Acts 0 (lingering_give_up_events f why name) None a b
+acts-for why name f g a b is acts = subst (λ (x : BoardFault). Acts 0 (lingering_give_up_events x why name) None a b) (sym is) acts
 
 -- what lasts of it
 lasts-for : (f g : BoardFault) (b : SeenBook) → f ≡ g → RefusalLasts g b → RefusalLasts f b

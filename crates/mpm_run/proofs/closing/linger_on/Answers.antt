@@ -6,7 +6,7 @@ use Rattle.board.specs.Faults.{IsRefusedFor}
 use Rattle.board.specs.Book.{row_in}
 use Rattle.worker_group.specs.Acts.{Acts}
 use Rattle.worker_group.specs.Service.{LeavesRest}
-use Rattle.mpm_run.specs.ClosingInside.{IsLingeringFor, lingering_given_up}
+use Rattle.mpm_run.specs.ClosingInside.{IsLingeringFor, lingering_give_up_events}
 use Rattle.mpm_run.proofs.HeldLemmas.{found-no_more, settled-on}
 use Rattle.mpm_run.proofs.closing.linger_on.Goals as goal
 
@@ -46,9 +46,9 @@ returns-in-Ok-clause-rest g c =
 
 pub returns-in-Err-clause-given_up : goal.returns-in-Err-clause-given_up
 returns-in-Err-clause-given_up g c =
-    subst (λ (b : SeenBoard). Acts 0 (lingering_given_up c.in-Err.fault c.args.cause c.args.conn.name) None b.book c.give_up_lingering.new.board.book)
+    subst (λ (b : SeenBoard). Acts 0 (lingering_give_up_events c.in-Err.fault c.args.cause c.args.conn.name) None b.book c.give_up_lingering.new.board.book)
     c.in-Err.ensures.err
-    (subst (λ (x : SeenConn). Acts 0 (lingering_given_up c.in-Err.fault c.args.cause x.name) None c.park.new.self.book c.give_up_lingering.new.board.book)
+    (subst (λ (x : SeenConn). Acts 0 (lingering_give_up_events c.in-Err.fault c.args.cause x.name) None c.park.new.self.book c.give_up_lingering.new.board.book)
     c.in-Err.ensures.back c.give_up_lingering.ensures.acts)
 
 pub returns-in-Err-clause-rest : goal.returns-in-Err-clause-rest

@@ -13,7 +13,7 @@ use Rattle.board.specs.Faults.{IsFull, IsRefusedFor}
 use Rattle.board.specs.Book.{SeenBook, full_stop}
 use Rattle.board.specs.Board.{SeenBoard}
 use Rattle.worker_group.specs.Acts.{Acts}
-use Rattle.worker_group.specs.Service.{IsGivenUp, RefusalLasts, given_up}
+use Rattle.worker_group.specs.Service.{IsGivenUp, RefusalLasts, give_up_events}
 use Rattle.worker_group.proofs.ActsLemmas.{acts_more, acts_recorded}
 use Rattle.worker_group.proofs.ExitLemmas.{full-closed, halted-closed, rest_closed, rest_more, rest_stopped}
 use Rattle.worker_group.proofs.service.give_up.Goals as goal
@@ -24,9 +24,9 @@ halt-requires-clause-role g c =
     le-leb full_load (load c.args.board.now.book.history) why.heavy
 
 -- the events of the fault that it is
-acts-for : (who : ℕ) (name : ConnName) (f g : BoardFault) (a b : SeenBook) → f ≡ g → Acts who (given_up g name) None a b
-    → Acts who (given_up f name) None a b
-acts-for who name f g a b is acts = subst (λ (x : BoardFault). Acts who (given_up x name) None a b) (sym is) acts
+acts-for : (who : ℕ) (name : ConnName) (f g : BoardFault) (a b : SeenBook) → f ≡ g → Acts who (give_up_events g name) None a b
+    → Acts who (give_up_events f name) None a b
+acts-for who name f g a b is acts = subst (λ (x : BoardFault). Acts who (give_up_events x name) None a b) (sym is) acts
 
 -- what lasts of it
 lasts-for : (f g : BoardFault) (b : SeenBook) → f ≡ g → RefusalLasts g b → RefusalLasts f b

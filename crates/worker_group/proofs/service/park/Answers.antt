@@ -6,7 +6,7 @@ use Rattle.board.specs.Board.{SeenBoard}
 use Rattle.board.specs.Fits.{IsSettled}
 use Rattle.board.specs.Book.{row_in}
 use Rattle.worker_group.specs.Acts.{Acts}
-use Rattle.worker_group.specs.Service.{IsGivenUp, LeavesRest, given_up}
+use Rattle.worker_group.specs.Service.{IsGivenUp, LeavesRest, give_up_events}
 use Rattle.worker_group.proofs.ActsLemmas.{acts_one}
 use Rattle.worker_group.proofs.ServeLemmas.{cause-none}
 use Rattle.worker_group.proofs.ExitLemmas.{put-there, rest_parked}
@@ -42,8 +42,8 @@ returns-in-Ok-clause-rest g c listener =
 
 pub returns-in-Err-clause-given_up : goal.returns-in-Err-clause-given_up
 returns-in-Err-clause-given_up g c =
-    subst (λ (b : SeenBoard). Acts c.args.who (given_up c.in-Err.fault c.args.conn.name) None b.book c.give_up.new.board.book) c.in-Err.ensures.err
-    (subst (λ (x : SeenConn). Acts c.args.who (given_up c.in-Err.fault x.name) None c.park.new.self.book c.give_up.new.board.book)
+    subst (λ (b : SeenBoard). Acts c.args.who (give_up_events c.in-Err.fault c.args.conn.name) None b.book c.give_up.new.board.book) c.in-Err.ensures.err
+    (subst (λ (x : SeenConn). Acts c.args.who (give_up_events c.in-Err.fault x.name) None c.park.new.self.book c.give_up.new.board.book)
     c.in-Err.ensures.back c.give_up.ensures.acts)
 
 pub returns-in-Err-clause-rest : goal.returns-in-Err-clause-rest

@@ -1,7 +1,7 @@
 use Rattle.std.proofs.Common.{◌≡◌, ℕ, ◌<◌, inl, inr, List, [], max, length, ap, sym, subst, ◌∙◌, arith}
 use Rattle.mpm_base.specs.Front.{HasAllTaken, earlier}
 use Rattle.script_front.specs.PlayedFrontInside.{gone_to, with_begun, with_clients, with_end}
-use Rattle.script_front.specs.ScriptFront.{IsUnderWay, SeenFront, next_moment, taken_closed, to_come}
+use Rattle.script_front.specs.ScriptFront.{IsUnderWay, SeenFront, next_moment, all_taken_closed, to_come}
 use Rattle.script_front.specs.Signals.{Gives}
 use Rattle.script_front.proofs.PlaysLemmas.{plays-begins, plays-ends, plays-over, plays-passes, none-of, plays-signals, plays-stays, some-of}
 use Rattle.script_front.proofs.script_front.ScriptFront.wake.Goals as goal
@@ -69,7 +69,7 @@ returns-then-is_over-clause-plays c =
     let taken = subst (λ (f : SeenFront). HasAllTaken f.told) begun over.0 in
     plays-ends c.args.self.now c.end-then-is_over.new.self c.args.until c.args.quiet _ _ (goes at.After-signal) (gives at.After-signal)
     (c.end-then-is_over.ensures.state ∙ ap with_end begun) (none at.After-earlier-next) c.if-not-quiet.false (comes at.After-earlier-next begun ∙ c.in_default.is)
-    (record { left = taken.left; read = taken.read; accepted = taken.accepted }) (ap taken_closed (sym begun) ∙ over.1)
+    (record { left = taken.left; read = taken.read; accepted = taken.accepted }) (ap all_taken_closed (sym begun) ∙ over.1)
 
 pub returns-clause-plays : goal.returns-clause-plays
 returns-clause-plays c =
