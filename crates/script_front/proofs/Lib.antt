@@ -2,7 +2,10 @@ pub mod ClientLemmas
 pub mod ComingLemmas
 pub mod EditionLemmas
 pub mod MomentLemmas
+pub mod NameChainLemmas
 pub mod PlayedLemmas
+pub mod PlanLemmas
 pub mod PlaysLemmas
 pub mod SignalLemmas
 pub mod WaitLemmas
+pub mod WalkLemmas

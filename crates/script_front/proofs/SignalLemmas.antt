@@ -1,13 +1,18 @@
 -- What lines, a watch and the signals of a wait leave of the clients.
-use Rattle.std.proofs.Common.{◌≡◌, ℕ, zero, suc, ◌+◌, ◌-◌, ◌<◌, ◌≤◌, inl, inr, Bool, true, false, not, ◌&&◌, if◌then◌else◌, bytes_eq, List, [], ◌∷◌, ◌++◌, length, get_or, set, take, drop, map, Option, None, Some, ap, sym, refl, ◌∙◌, append_assoc, append-nil, take-append-drop, arith}
+use Rattle.std.proofs.Common.{◌≡◌, ℕ, zero, suc, ◌+◌, ◌-◌, ◌<◌, ◌≤◌, inl, inr, Bool, true, false, not, ◌&&◌, if◌then◌else◌, bytes_eq, List, [], ◌∷◌, ◌++◌, length, get_or, set, take, drop, map, Option, None, Some, ap, subst, sym, refl, ◌∙◌, append_assoc, append-nil, take-append-drop, arith}
 use Rattle.std.proofs.lemmas.Grind.{drop_more_same}
 use Rattle.std.proofs.lemmas.List.{at_drop_more, drop-set-lt, drop_all, drop_more, length_push, take_all, take_more_set}
+use Rattle.std.specs.List.{slice_get}
+use Rattle.std.proofs.lemmas.Option.{get_or_from_slice_get, slice_get-map, slice_get_read}
 use Rattle.mpm_base.specs.declared.conn.ConnName.{ConnName}
 use Rattle.mpm_base.specs.declared.script_line.ClientAct.{ClientAct}
 use Rattle.mpm_base.specs.declared.script_line.ClientAct.TheVariants as act
 use Rattle.mpm_base.specs.declared.script_line.ScriptLine.{ScriptLine}
 use Rattle.mpm_base.specs.declared.script_line.ScriptLine.TheVariants as line
+use Rattle.script_front.specs.NameChainsInside.{IsLastBelow}
+use Rattle.script_front.specs.PlayedPartsInside.{is_of_client}
 use Rattle.script_front.specs.Signals.{Gives, LooksAt, SeenClient, after_act, client_after_line, client_after_lines, after_watch_of, done, full, given, gone, idle, new_client, without_signal, watched_client}
+use Rattle.script_front.proofs.WalkLemmas.{Alike, Walked, alike-maps, map-itself, walked-at, walked-end, walked-length, walked-start, walked-step}
 
 -- ## Each client keeps its name
 
@@ -73,6 +78,37 @@ gives-few (gone looks due shut gives) = gives-few gives
 pub lines_more : (lines : List ScriptLine) (i : ℕ) (line : ScriptLine) (client : SeenClient) → i < length lines
     → client_after_lines (drop i lines) client ≡ client_after_lines (drop (i + 1) lines) (client_after_line (get_or lines i line) client)
 lines_more lines i line client h = at_drop_more (λ lines. client_after_lines lines client) lines i line h
+
+-- the same of all clients
+pub all_more : (lines : List ScriptLine) (i : ℕ) (line : ScriptLine) (clients : List SeenClient) → i < length lines → line ≡ get_or lines i line
+    → map (client_after_lines (drop (i + 1) lines)) (map (client_after_line line) clients) ≡ map (client_after_lines (drop i lines)) clients
+all_more lines i line [] h is = refl
+all_more lines i line (client ∷ clients) h is =
+    let one : client_after_lines (drop (i + 1) lines) (client_after_line line client) ≡ client_after_lines (drop i lines) client =
+    ap (λ l. client_after_lines (drop (i + 1) lines) (client_after_line l client)) is ∙ sym (lines_more lines i line client h) in
+    rw (one, all_more lines i line clients h is)
+
+-- a line that acts on no client
+silence : (said : ScriptLine) (client : SeenClient) → is_of_client said ≡ false → client_after_line said client ≡ client
+silence (line.At m) client none = refl
+silence (line.Conn name) client none = refl
+silence (line.Client name act) client none = absurd (cc)
+silence (line.Command word) client none = refl
+silence (line.Site site) client none = refl
+
+pub all_silent : (said : ScriptLine) (clients : List SeenClient) → is_of_client said ≡ false → map (client_after_line said) clients ≡ clients
+all_silent said [] none = refl
+all_silent said (client ∷ clients) none = rw (silence said client none) (ap (λ rest. client ∷ rest) (all_silent said clients none))
+
+-- no line is left
+pub all_end : (lines : List ScriptLine) (i : ℕ) (clients : List SeenClient) → length lines ≤ i → map (client_after_lines (drop i lines)) clients ≡ clients
+all_end lines i [] h = refl
+all_end lines i (client ∷ clients) h = rw (all_end lines i clients h, drop_all i lines h) refl
+
+-- each keeps its name
+pub names-line : (line : ScriptLine) (clients : List SeenClient) → names (map (client_after_line line) clients) ≡ names clients
+names-line line [] = refl
+names-line line (client ∷ clients) = rw (line-name line client) (ap (λ rest. client.name ∷ rest) (names-line line clients))
 
 -- a client was changed as a watch of its link does
 pub watch-set : (clients : List SeenClient) (number : ℕ) (x : SeenClient) → number < length clients → x ≡ get_or clients number x
@@ -176,3 +212,38 @@ gives-none clients now ns i ready x found name on l k is named few looks silence
         let room : 256 - length ready ≡ suc (255 - length ready) = omega (arith, few) in
         λ later slots gives. rw room (gone looks due shut (rw (append-nil ready, room) at gives))
     go true false due unclosed = absurd (let no : false ≡ true = silence ∙ rw (due, unclosed) refl in cc no)
+
+-- what a list holds once it was lent whole
+pub lent-back : {X : Type 0} (n : ℕ) (new old : List X) → n ≡ length old → length new ≡ length old → take n (new ++ drop (length new) old) ≡ new
+lent-back n new old size same = rw (drop_all (length new) old (omega (arith, same)), append-nil new) (take_all n new (omega (arith, size, same)))
+
+-- ## A walk over the clients of one name
+
+module _ (clients : List SeenClient) (all : List (List ℕ)) (named : names clients ≡ all) (name : List ℕ) (did : ClientAct) where
+  abbrev acted : List SeenClient
+  acted = map (client_after_line (line.Client name did)) clients
+
+  acted-alike : Alike name all clients acted
+  acted-alike =
+      subst (λ (ns : List (List ℕ)). Alike name ns clients acted) named
+      (subst (λ (cs : List SeenClient). Alike name (names clients) cs acted) (map-itself clients)
+      (alike-maps (λ (client : SeenClient). client.name) (λ client. client) (client_after_line (line.Client name did)) name (λ client other. rw other refl) clients))
+
+  pub acts-start : (next : Option ℕ) → IsLastBelow name (length all) all next → Walked name all clients acted clients next
+  acts-start next last = walked-start name all clients acted acted-alike next last
+
+  pub acts-step : (now : List SeenClient) (place : ℕ) (x : SeenClient) (next : Option ℕ) → Walked name all clients acted now (Some place) → x ≡ get_or now place x
+      → IsLastBelow (get_or all place []) place all next → Walked name all clients acted (set now place (after_act did x)) next
+  acts-step now place x next walked is last =
+      let each : length clients ≡ length all = acted-alike.old_each in
+      let size : length now ≡ length all = walked-length name all clients acted acted-alike now (Some place) walked in
+      let item : slice_get now place ≡ Some x = slice_get_read now (length now) place x refl (omega (arith, size, walked.at.0)) is in
+      let old : slice_get clients place ≡ Some x = sym (walked-at name all clients acted acted-alike now place walked) ∙ item in
+      let own : get_or all place [] ≡ x.name =
+      ap (λ (ns : List (List ℕ)). get_or ns place []) (sym named) ∙ get_or_from_slice_get (names clients) place x.name [] (slice_get-map (λ (client : SeenClient). client.name) clients place ∙ rw old refl) in
+      let hits : bytes_eq name x.name ≡ true = subst (λ (n : List ℕ). bytes_eq name n ≡ true) own walked.at.1 in
+      let there : slice_get acted place ≡ Some (after_act did x) = slice_get-map (client_after_line (line.Client name did)) clients place ∙ rw (old, hits) refl in
+      walked-step name all clients acted acted-alike now place (after_act did x) next walked there last
+
+  pub acts-end : (now : List SeenClient) → Walked name all clients acted now None → now ≡ acted
+  acts-end now walked = walked-end name all clients acted acted-alike now walked

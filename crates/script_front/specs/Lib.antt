@@ -1,4 +1,5 @@
 pub mod Editions
+pub mod NameChainsInside
 pub mod PlayedFrontInside
 pub mod PlayedPartsInside
 pub mod ScriptClock

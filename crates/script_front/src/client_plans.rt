@@ -1,93 +1,101 @@
 //! What the lines of a script say of each of its links.
-ghost use Rattle.std.specs.Prelude.{◌≡◌, [], ◌∷◌, IfOk, IfSome, IfNone};
-ghost use Rattle.mpm_script.specs.Clients.{drops, fails_in_line, fails_of, is_dropped, number_for};
-ghost use Rattle.script_front.specs.PlayedPartsInside.{plan_of};
+ghost use Rattle.std.specs.Prelude.{◌≡◌, [], length, map, OnOk};
+ghost use Rattle.mpm_base.specs.declared.script_line.ScriptLine.TheVariants as said;
+ghost use Rattle.script_front.specs.PlayedPartsInside.{TellsPlans, new_plan, plan_after, plan_after_act, plan_of, plans};
 
-use crate::client_texts::sent_by;
+use crate::name_chains::NameChains;
+use crate::script_client::act_in;
 use mpm_base::{ClientAct, LinkCall, NoMemory, Octets, ScriptLine};
-use stand_ins::Calls;
+use stand_ins::{Calls, Wire};
 use std::alloc::Global;
+use std::collections::VecDeque;
+use std::sync::Arc;
 
-/// What a link is made of that was not handed out: what its client sends, the numbers of its reads and of its writes that
-/// are to fail, in the order of their lines, and whether a line drops it.
+/// What a link is made of that was not handed out: what its client sends up to its first end and whether there is one, the
+/// numbers of its reads and of its writes that are to fail, in the order of their lines, and whether a line drops it.
 #[derive(Drop)]
 pub(crate) struct LinkPlan {
     pub(crate) text: Octets,
+    pub(crate) ended: bool,
     pub(crate) fail_reads: Calls,
     pub(crate) fail_writes: Calls,
     pub(crate) drops: bool,
 }
 
-/// What the lines say of the link of the connection of that name.
-pub(crate) fn plan_of(
-    alloc: Global,
-    name: &[u8],
-    lines: &[ScriptLine],
-) -> Result<LinkPlan, NoMemory>
-    ensures { IfOk result (λ plan. plan ≡ plan_of lines.now name.now) }
-{
-    Ok(LinkPlan {
-        text: sent_by(alloc, name, lines)?,
-        fail_reads: fails_of(alloc, LinkCall::Read, name, lines)?,
-        fail_writes: fails_of(alloc, LinkCall::Write, name, lines)?,
-        drops: is_dropped(name, lines),
-    })
+impl LinkPlan {
+    /// Nothing is said of the link yet, which takes no memory.
+    pub(crate) fn make(alloc: Global) -> LinkPlan
+        ensures { result ≡ new_plan }
+    {
+        LinkPlan {
+            text: Octets::make(alloc),
+            ended: false,
+            fail_reads: Calls::make(alloc),
+            fail_writes: Calls::make(alloc),
+            drops: false,
+        }
+    }
+
+    /// A line says that the client does this.
+    pub(crate) fn hear(&mut self, act: &ClientAct) -> Result<(), NoMemory>
+        ensures { OnOk result (self.new ≡ plan_after_act act.now self.old) }
+    {
+        match act {
+            ClientAct::Send(bytes) => {
+                if !self.ended {
+                    self.text.add(bytes.as_slice())?;
+                }
+            }
+            ClientAct::End => self.ended = true,
+            ClientAct::Room(_) => (),
+            ClientAct::Drop => self.drops = true,
+            ClientAct::Fail(LinkCall::Read, number) => self.fail_reads.add(*number)?,
+            ClientAct::Fail(LinkCall::Write, number) => self.fail_writes.add(*number)?,
+        }
+        Ok(())
+    }
 }
 
-/// The numbers of such calls of the link of that name that are to fail.
-fn fails_of(
-    alloc: Global,
-    call: LinkCall,
-    name: &[u8],
+/// What a link is made of that was not handed out, and what the front shares with it.
+#[derive(Drop)]
+pub(crate) struct Awaited {
+    pub(crate) plan: LinkPlan,
+    pub(crate) wire: Arc<Wire>,
+}
+
+/// Puts down what the lines say of each link, in one pass.
+pub(crate) fn hear_lines(
+    chains: &NameChains,
     lines: &[ScriptLine],
-) -> Result<Calls, NoMemory>
-    ensures { IfOk result (λ calls. calls ≡ fails_of call name.now lines.now) }
+    awaited: &mut VecDeque<Awaited>,
+) -> Result<(), NoMemory>
+    requires { plans awaited.old.items ≡ map (plan_after []) chains.now }
+    ensures { OnOk result (plans awaited.new.items ≡ map (plan_of lines.now) chains.now) }
 {
-    let mut calls = Calls::make(alloc);
     for line in lines {
-        if let Some(number) = fails_in(call, name, line) {
-            calls.add(number)?;
+        if let Some((name, act)) = act_in(line) {
+            hear_act(chains, name, act, awaited)?;
         }
     }
-    Ok(calls)
+    Ok(())
 }
 
-/// The number of such a call of the link of that name that the line makes fail.
-fn fails_in(call: LinkCall, name: &[u8], line: &ScriptLine) -> Option<u64>
-    ensures some { IfSome result (λ number. fails_in_line call name.now line.now ≡ number ∷ []) }
-    ensures none { IfNone result (fails_in_line call name.now line.now ≡ []) }
+/// Puts down what the act of the clients of that name says of their links.
+fn hear_act(
+    chains: &NameChains,
+    name: &[u8],
+    act: &ClientAct,
+    awaited: &mut VecDeque<Awaited>,
+) -> Result<(), NoMemory>
+    requires { length awaited.old.items ≡ length chains.now }
+    ensures each { OnOk result (length awaited.new.items ≡ length chains.now) }
+    ensures tells { OnOk result (TellsPlans (said.Client name.now act.now) chains.now (plans awaited.old.items) (plans awaited.new.items)) }
 {
-    match line {
-        ScriptLine::Client(other, ClientAct::Fail(which, number)) if other.as_slice() == name => {
-            number_for(call, *which, *number)
-        }
-        _ => None,
+    let mut next = chains.last(name);
+    'places: while let Some(place) = next {
+        let one = &mut awaited[place];
+        one.plan.hear(act)?;
+        next = chains.earlier(place);
     }
-}
-
-/// The number, where the calls are of one kind.
-fn number_for(call: LinkCall, which: LinkCall, number: u64) -> Option<u64>
-    ensures some { IfSome result (λ found. number_for call which number ≡ found ∷ []) }
-    ensures none { IfNone result (number_for call which number ≡ []) }
-{
-    match (call, which) {
-        (LinkCall::Read, LinkCall::Read) | (LinkCall::Write, LinkCall::Write) => Some(number),
-        _ => None,
-    }
-}
-
-/// Whether one of the lines drops the link of that name.
-fn is_dropped(name: &[u8], lines: &[ScriptLine]) -> bool
-    ensures { result ≡ is_dropped name.now lines.now }
-{
-    lines.iter().any(|line| drops(name, line))
-}
-
-fn drops(name: &[u8], line: &ScriptLine) -> bool
-    ensures { result ≡ drops name.now line.now }
-{
-    match line {
-        ScriptLine::Client(other, ClientAct::Drop) => other.as_slice() == name,
-        _ => false,
-    }
+    Ok(())
 }

@@ -7,10 +7,11 @@
 //! makes the store of a script, with all editions of its files; which these are stands in `specs/Editions.antt`.
 #![tactic(auto)]
 
+mod client_parts;
 mod client_plans;
-mod client_texts;
 mod coming_lines;
 mod editions;
+mod name_chains;
 mod script_client;
 mod script_clients;
 mod script_clock;

@@ -1,7 +1,10 @@
 //! A client of a script, as the front of the script knows it.
-ghost use Rattle.std.specs.Prelude.{◌≡◌, ◌&&◌, not, [], bytes_eq, length, map};
+ghost use Rattle.std.specs.Prelude.{◌≡◌, ◌&&◌, not, false, [], length, map, IfSome, IfNone};
+ghost use Rattle.mpm_base.specs.declared.script_line.ScriptLine.TheVariants as said;
+ghost use Rattle.script_front.specs.PlayedPartsInside.{is_of_client};
 ghost use Rattle.script_front.specs.Signals.{Gives, LooksAt, after_act, client_after_line, client_after_lines, all_closed, new_client, without_signal, watched_client};
 
+use crate::name_chains::NameChains;
 use mpm_base::{ClientAct, ConnName, Octets, Ready, ScriptLine};
 use stand_ins::Wire;
 use std::marker::Model;
@@ -40,13 +43,6 @@ impl ScriptClient {
             due: false,
             closed: false,
         }
-    }
-
-    /// Whether it has that name.
-    fn is_named(&self, name: &[u8]) -> bool
-        ensures { result ≡ bytes_eq name.now self.now.name }
-    {
-        name == self.name.as_slice()
     }
 
     /// Whether its link was found closed.
@@ -94,27 +90,6 @@ impl ScriptClient {
         }
     }
 
-    /// The line happens, which acts on it only where it names it.
-    fn hear(&mut self, line: &ScriptLine)
-        ensures { self.new ≡ client_after_line line.now self.old }
-    {
-        if let ScriptLine::Client(name, act) = line {
-            if self.is_named(name.as_slice()) {
-                self.act(act);
-            }
-        }
-    }
-
-    /// The lines happen, one after the other.
-    #[tactic(auto, using(crate::proofs::SignalLemmas::lines_more))]
-    fn hear_all(&mut self, lines: &[ScriptLine])
-        ensures { self.new ≡ client_after_lines lines.now self.old }
-    {
-        for line in lines {
-            self.hear(line);
-        }
-    }
-
     /// From now on its link is watched: a signal is due where bytes came before, or the end has.
     pub(crate) fn watch(&mut self)
         ensures { self.new ≡ watched_client self.old }
@@ -133,12 +108,38 @@ impl ScriptClient {
     }
 }
 
-/// These lines happen to each of the clients.
-pub(crate) fn happen(lines: &[ScriptLine], clients: &mut [ScriptClient])
+/// These lines happen to each of the clients, which have these names.
+pub(crate) fn happen(chains: &NameChains, lines: &[ScriptLine], clients: &mut [ScriptClient])
+    requires { map (λ client. client.name) clients.old ≡ chains.now }
     ensures { clients.new ≡ map (client_after_lines lines.now) clients.old }
 {
-    for client in clients.iter_mut() {
-        client.hear_all(lines);
+    for line in lines {
+        if let Some((name, act)) = act_in(line) {
+            act_on(chains, name, act, clients);
+        }
+    }
+}
+
+/// The name of the clients on which the line acts, and what it does to them.
+pub(crate) fn act_in(line: &ScriptLine) -> Option<(&[u8], &ClientAct)>
+    ensures some { IfSome result (λ acts. line.now ≡ said.Client acts.0.now acts.1.now) }
+    ensures none { IfNone result (is_of_client line.now ≡ false) }
+{
+    match line {
+        ScriptLine::Client(name, act) => Some((name.as_slice(), act)),
+        _ => None,
+    }
+}
+
+/// The act happens to each client of that name.
+fn act_on(chains: &NameChains, name: &[u8], act: &ClientAct, clients: &mut [ScriptClient])
+    requires { map (λ client. client.name) clients.old ≡ chains.now }
+    ensures { clients.new ≡ map (client_after_line (said.Client name.now act.now)) clients.old }
+{
+    let mut next = chains.last(name);
+    'places: while let Some(place) = next {
+        clients[place].act(act);
+        next = chains.earlier(place);
     }
 }
 

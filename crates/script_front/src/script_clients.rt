@@ -1,30 +1,24 @@
 //! The clients of a script, as its front knows them.
-ghost use Rattle.std.specs.Prelude.{◌≡◌, ◌<◌, ◌≤◌, false, None, Some, [], ◌∷◌, ◌++◌, length, take, map, slice_set, IfOk, IfSome, IfNone, OnOk, OnErr};
-ghost use Rattle.mpm_script.specs.Clients.{made_by, names_of};
+ghost use Rattle.std.specs.Prelude.{◌≡◌, ◌<◌, ◌≤◌, Some, [], ◌∷◌, length, take, map, slice_set, IfOk, IfSome, IfNone};
+ghost use Rattle.mpm_script.specs.Clients.{names_of};
 ghost use Rattle.script_front.specs.PlayedPartsInside.{plans_of};
 ghost use Rattle.script_front.specs.ScriptFront.{no_name_yet};
 ghost use Rattle.script_front.specs.Signals.{Gives, client_after_lines, after_watch_of, all_closed, new_client};
 
-use crate::client_plans::{LinkPlan, plan_of};
+use crate::client_parts::parts_of;
+use crate::client_plans::Awaited;
+use crate::name_chains::NameChains;
 use crate::script_client::{ScriptClient, are_closed, give, happen};
-use mpm_base::{ConnName, NoMemory, Octets, Ready, ScriptLine};
-use stand_ins::Wire;
+use mpm_base::{ConnName, NoMemory, Ready, ScriptLine};
 use std::alloc::Global;
 use std::collections::VecDeque;
 use std::marker::Model;
-use std::sync::Arc;
-
-/// What a link is made of that was not handed out, and what the front shares with it.
-#[derive(Drop)]
-pub(crate) struct Awaited {
-    pub(crate) plan: LinkPlan,
-    pub(crate) wire: Arc<Wire>,
-}
 
 /// The clients of a script in the order of its connections, what the links are made of that were not handed out, and under
 /// which name each link is watched.
 #[derive(Drop)]
 pub(crate) struct ScriptClients {
+    chains: NameChains,
     awaited: VecDeque<Awaited>,
     clients: Vec<ScriptClient>,
     names: Vec<Option<ConnName>>,
@@ -37,6 +31,10 @@ impl Model for ScriptClients {
     ghost Value = { SeenClients };
 
     ghost view = { λ c. record { waiting = map (λ awaited. awaited.plan) c.awaited.items; clients = c.clients.items; watched = c.names.items } };
+
+    ghost use Rattle.script_front.specs.PlayedPartsInside.{AreClients};
+
+    ghost invariant = { λ c. AreClients c.chains c.clients.items c.names.items };
 }
 
 impl ScriptClients {
@@ -46,31 +44,13 @@ impl ScriptClients {
         ensures clients { IfOk result (λ clients. clients.clients ≡ map new_client (names_of lines.now)) }
         ensures watched { IfOk result (λ clients. clients.watched ≡ map no_name_yet (names_of lines.now)) }
     {
-        let mut clients = ScriptClients {
-            awaited: VecDeque::new(alloc),
-            clients: Vec::new(alloc),
-            names: Vec::new(alloc),
-        };
-        for line in lines {
-            if let Some(name) = made_by(line) {
-                let plan = plan_of(alloc, name, lines)?;
-                clients.add(alloc, name, plan)?;
-            }
-        }
-        Ok(clients)
-    }
-
-    /// Puts a client behind the others. Where memory lacks a part of it may be there.
-    fn add(&mut self, alloc: Global, name: &[u8], plan: LinkPlan) -> Result<(), NoMemory>
-        ensures ok { OnOk result (self.new ≡ record { waiting = self.old.waiting ++ plan ∷ []; clients = self.old.clients ++ new_client name.now ∷ []; watched = self.old.watched ++ None ∷ [] }) }
-    {
-        let wire = Arc::new(alloc, Wire::make())?;
-        let theirs = Arc::try_clone(&wire)?;
-        let client = ScriptClient::make(Octets::of(alloc, name)?, wire);
-        self.clients.push(client)?;
-        self.names.push(None)?;
-        self.awaited.push_back(Awaited { plan, wire: theirs })?;
-        Ok(())
+        let parts = parts_of(alloc, lines)?;
+        Ok(ScriptClients {
+            chains: parts.chains,
+            awaited: parts.awaited,
+            clients: parts.clients,
+            names: parts.watched,
+        })
     }
 
     /// Takes out what the next link is made of.
@@ -112,7 +92,7 @@ impl ScriptClients {
     pub(crate) fn happen(&mut self, lines: &[ScriptLine])
         ensures { self.new ≡ record self.old { clients = map (client_after_lines lines.now) self.old.clients } }
     {
-        happen(lines, self.clients.as_mut_slice());
+        happen(&self.chains, lines, self.clients.as_mut_slice());
     }
 
     /// Gives the slots of those watched links for which a signal is due and which weren't closed, as far as there is room.
@@ -131,16 +111,5 @@ impl ScriptClients {
         ensures { result ≡ all_closed (take count self.now.clients) }
     {
         are_closed(&self.clients.as_slice()[..count])
-    }
-}
-
-/// The name of the connection that the line makes.
-fn made_by(line: &ScriptLine) -> Option<&[u8]>
-    ensures some { IfSome result (λ name. made_by line.now ≡ name.now ∷ []) }
-    ensures none { IfNone result (made_by line.now ≡ []) }
-{
-    match line {
-        ScriptLine::Conn(name) => Some(name.as_slice()),
-        _ => None,
     }
 }

@@ -1,0 +1,12 @@
+use Rattle.std.proofs.Common.{map}
+use Rattle.mpm_base.specs.declared.script_line.ScriptLine.TheVariants as line
+use Rattle.script_front.specs.Signals.{client_after_line}
+use Rattle.script_front.proofs.WalkLemmas.{Walked, reach}
+use Rattle.script_front.proofs.script_client.act_on.Given as goal
+
+abbrev pub invariant-places : goal.invariant-places
+invariant-places l =
+    Walked l.name l.chains l.fn.clients (map (client_after_line (line.Client l.name l.act)) l.fn.clients) l.clients l.next
+
+abbrev pub decreases-places : goal.decreases-places
+decreases-places l = reach l.next
