@@ -1,5 +1,5 @@
 -- Why a run ends with its exit status, and what it leaves of the output.
-use Rattle.std.specs.Prelude.{◌≡◌, ℕ, ◌<◌, ◌≤◌, ◌⊎◌, List, ◌++◌, length, map, Option, Some, None, option_map, IfSome, Ok, Err}
+use Rattle.std.specs.Prelude.{◌≡◌, ℕ, ◌<◌, ◌≤◌, ◌⊎◌, List, ◌++◌, length, map, Option, Some, None, option_map, IfSome, IsSomeAnd, Ok, Err}
 use Rattle.mpm_base.specs.Count.{NeverFalls, Rises}
 use Rattle.mpm_script.specs.Clients.{clients_of, names_of}
 use Rattle.mpm_script.specs.Script.{ScriptIs}
@@ -27,6 +27,7 @@ use Rattle.mpm_run.specs.Report.{report_of}
 use Rattle.mpm_run.specs.Tells.{AllReceive}
 use Rattle.mpm_run.specs.Texts.{config_refused, script_refused, store_fault, syntax_ok, usage}
 use Rattle.mpm_run.specs.Times.{WasInformed}
+use Rattle.mpm_run.specs.declared.outcome.Scripted.{Scripted}
 use Rattle.mpm_run.specs.declared.texts.ConfigRefusal.{ConfigRefusal}
 use Rattle.mpm_run.specs.declared.texts.ConfigRefusal.TheVariants.{BadValue}
 use Rattle.mpm_run.specs.declared.texts.ScriptRefusal.{ScriptRefusal}
@@ -281,3 +282,13 @@ pub record EndsFull (sink sink' : SinkSeen) (c : Configuration) (b : SeenBoard) 
 -- the exit statuses that there are
 abbrev pub IsExitStatus : ℕ → Type 0
 IsExitStatus s = (s ≡ 0) ⊎ (s ≡ 1) ⊎ (s ≡ 2) ⊎ (s ≡ 3) ⊎ (s ≡ 5) ⊎ (s ≡ 6) ⊎ (s ≡ 7) ⊎ (s ≡ 8)
+
+-- ## Of a run, or of a test
+
+-- with exit status 0: the run that is left ended well, or the test did
+abbrev pub Succeeds : Call → Option Scripted → Type 0
+Succeeds call scripted = IsSomeAnd scripted (λ s. EndsWell call.sink call.sink' s.config s.board) ⊎ EndsTested call
+
+-- with exit status 5: a write failed of the texts of the run that is left, or of those of the test
+abbrev pub LacksOutput : Call → Option Scripted → Type 0
+LacksOutput call scripted = IsSomeAnd scripted (λ s. EndsUnwritten call.sink call.sink' s.board) ⊎ EndsTestUnwritten call

@@ -1,9 +1,9 @@
 //! The top call: from the words of the command line to the texts.
-ghost use Rattle.std.specs.Prelude.{◌≡◌, ◌⊎◌, IfSome, IsSomeAnd, IsNone};
+ghost use Rattle.std.specs.Prelude.{◌≡◌, IfSome, IsSomeAnd, IsNone};
 ghost use Rattle.conn_machine.specs.declared.event.Why.TheVariants as why;
 ghost use Rattle.conn_machine.specs.declared.state.Going.TheVariants.{Halted};
 ghost use Rattle.script_front.specs.Editions.{editions_of};
-ghost use Rattle.mpm_run.specs.ExitStatuses.{EndsConfigRefused, MayEndWith, EndsFull, EndsRefused, EndsTestUnwritten, EndsTested, EndsUnknown, EndsUnread, EndsUnwritten, EndsWell, HasEnd, HasPlayed, IsExitStatus, KeepsPatience, KeepsTime, seen_call};
+ghost use Rattle.mpm_run.specs.ExitStatuses.{EndsConfigRefused, EndsFull, EndsRefused, EndsUnknown, EndsUnread, HasEnd, HasPlayed, IsExitStatus, KeepsPatience, KeepsTime, LacksOutput, MayEndWith, Succeeds, seen_call};
 ghost use Rattle.mpm_run.specs.FirstNumbers as opening;
 ghost use Rattle.mpm_run.specs.Links.{KeepsLinks};
 ghost use Rattle.mpm_run.specs.Listen.{NeverFolded};
@@ -68,7 +68,7 @@ pub fn run<R: Threads + Wait + Sync, D: Store, K: Sink>(
 
     // With exit status 0 it was, and the output has the warnings and the report; or a configuration was tested that is accepted, and the
     // output has its warnings and says so.
-    ensures served { result.status ≡ 0 → IsSomeAnd result.scripted (λ s. EndsWell (K.seen out.old) (K.seen out.new) s.config s.board) ⊎ EndsTested (seen_call words.now (D.seen store.old) (D.seen store.new) (K.seen out.old) (K.seen out.new) result.shown) }
+    ensures served { result.status ≡ 0 → Succeeds (seen_call words.now (D.seen store.old) (D.seen store.new) (K.seen out.old) (K.seen out.new) result.shown) result.scripted }
 
     // Each other exit status has its cause.
     ensures known { IsExitStatus result.status }
@@ -76,7 +76,7 @@ pub fn run<R: Threads + Wait + Sync, D: Store, K: Sink>(
     ensures unknown { result.status ≡ 2 → EndsUnknown (seen_call words.now (D.seen store.old) (D.seen store.new) (K.seen out.old) (K.seen out.new) result.shown) }
     ensures unread { result.status ≡ 3 → EndsUnread (seen_call words.now (D.seen store.old) (D.seen store.new) (K.seen out.old) (K.seen out.new) result.shown) }
     ensures refused { result.status ≡ 8 → EndsRefused (seen_call words.now (D.seen store.old) (D.seen store.new) (K.seen out.old) (K.seen out.new) result.shown) }
-    ensures unwritten { result.status ≡ 5 → IsSomeAnd result.scripted (λ s. EndsUnwritten (K.seen out.old) (K.seen out.new) s.board) ⊎ EndsTestUnwritten (seen_call words.now (D.seen store.old) (D.seen store.new) (K.seen out.old) (K.seen out.new) result.shown) }
+    ensures unwritten { result.status ≡ 5 → LacksOutput (seen_call words.now (D.seen store.old) (D.seen store.new) (K.seen out.old) (K.seen out.new) result.shown) result.scripted }
     ensures full { result.status ≡ 7 → IsSomeAnd result.scripted (λ s. EndsFull (K.seen out.old) (K.seen out.new) s.config s.board) }
 
     // Where no run opened for want of memory, nothing is written.
