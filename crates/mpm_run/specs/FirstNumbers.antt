@@ -7,14 +7,14 @@ use Rattle.conn_machine.specs.States.{opening_state}
 use Rattle.conn_machine.specs.declared.state.State.{State}
 use Rattle.mpm_run.specs.declared.run_numbers.RunNumbers.{RunNumbers}
 
--- the numbers by which a run of this configuration works: where it listens, and what its children are started with, but for one child;
--- 64 slots, and two passes, of which one listens and one serves
+-- the numbers by which a run of this configuration works: 8,192 slots, as many child numbers as it allows servers, what the children are
+-- started with and how many of them, where it listens; and two passes, of which one listens and one serves
 abbrev pub numbers_of : Configuration → RunNumbers
 numbers_of c = record {
-  slots = 64;
-  children = 1;
+  slots = 8192;
+  children = c.current.server_limit;
   passes = 2;
-  shape = record (shape_of_numbers c.current) { target = 1; children = 1 };
+  shape = shape_of_numbers c.current;
   listen = c.listen;
   control = c.control;
 }

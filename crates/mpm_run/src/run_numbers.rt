@@ -23,20 +23,19 @@ pub struct RunNumbers {
     pub control: Option<u16>,
 }
 
-/// The numbers of a run by the configuration, but for one child.
+/// How many connections there is a place for.
+const SLOTS: u32 = 8192;
+
+/// The numbers of a run by the configuration: it has as many child numbers as ServerLimit says.
 pub fn numbers_of(config: &Config) -> RunNumbers
     ensures value { result ≡ spec.numbers_of config.entry.now }
     ensures allowed { AreNumbers result }
 {
     RunNumbers {
-        slots: 64,
-        children: 1,
+        slots: SLOTS,
+        children: config.now.server_limit,
         passes: 2,
-        shape: Shape {
-            target: 1,
-            children: 1,
-            ..shape_of(config)
-        },
+        shape: shape_of(config),
         listen: config.listen,
         control: config.control,
     }

@@ -3,6 +3,15 @@ use mpm_base::{NoMemory, Octets, Words};
 use stand_ins::Calls;
 use std::alloc::Global;
 
+/// What is shown besides of a run that opened.
+#[derive(Clone, Copy, Debug, Default)]
+pub struct View {
+    /// The history.
+    pub history: bool,
+    /// Moment by moment how many connections were taken and closed, in place of each connection.
+    pub moments: bool,
+}
+
 /// What a run is to be over.
 #[derive(Drop)]
 pub struct Case {
@@ -16,8 +25,8 @@ pub struct Case {
     pub bad_writes: Calls,
     /// The output takes single bytes.
     pub slow: bool,
-    /// The history is shown.
-    pub history: bool,
+    /// What is shown besides of a run that opened.
+    pub view: View,
     /// A line says nothing of a run.
     pub strange: bool,
 }
@@ -30,7 +39,7 @@ pub fn case_of(alloc: Global, lines: &str) -> Result<Case, NoMemory> {
         bad_reads: Calls::make(alloc),
         bad_writes: Calls::make(alloc),
         slow: false,
-        history: false,
+        view: View::default(),
         strange: false,
     };
     for line in lines.lines() {
@@ -47,6 +56,7 @@ fn take_line(case: &mut Case, line: &str) -> Result<(), NoMemory> {
         "|" => add_line(&mut case.file, rest),
         "+" => case.file.add(rest.as_bytes()),
         "times" => add_often(&mut case.file, rest),
+        "each" => add_each(&mut case.file, rest),
         "store" => case.bad_reads.add(number_of(rest)),
         "output" => case.bad_writes.add(number_of(rest)),
         _ => {
@@ -60,7 +70,8 @@ fn take_line(case: &mut Case, line: &str) -> Result<(), NoMemory> {
 fn take_word(case: &mut Case, word: &str) {
     match word {
         "slow" => case.slow = true,
-        "history" => case.history = true,
+        "history" => case.view.history = true,
+        "moments" => case.view.moments = true,
         _ => case.strange = true,
     }
 }
@@ -89,6 +100,28 @@ fn add_often(file: &mut Octets, words: &str) -> Result<(), NoMemory> {
         file.add(text.as_bytes())?;
     }
     Ok(())
+}
+
+/// Puts a line at the end for each number from the first one up to the second, which isn't among them.
+fn add_each(file: &mut Octets, words: &str) -> Result<(), NoMemory> {
+    let (first, rest) = words.split_once(' ').unwrap_or((words, ""));
+    let (end, text) = rest.split_once(' ').unwrap_or((rest, ""));
+    for number in number_of(first)..number_of(end) {
+        add_numbered(file, text, number)?;
+    }
+    Ok(())
+}
+
+/// Puts the text at the end, the number in place of each `#` of it, and the end of a line.
+fn add_numbered(file: &mut Octets, text: &str, number: u64) -> Result<(), NoMemory> {
+    let mut parts = text.split('#');
+    let first = parts.next().unwrap_or("");
+    file.add(first.as_bytes())?;
+    for part in parts {
+        file.add_number(number)?;
+        file.add(part.as_bytes())?;
+    }
+    file.add(b"\n")
 }
 
 /// The number that the text writes, or 0.

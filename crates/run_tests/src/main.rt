@@ -6,9 +6,11 @@
 //!
 //! - `words WORD ..`: the words of the command line. `s` is the name of the one file of the folder.
 //! - `| TEXT`: a line of the file. `+ TEXT`: more of it, without the end of a line. `times N TEXT`: the text so many times.
+//! - `each N M TEXT`: a line for each number from N up to M, M left out, in which it stands in place of each `#`.
 //! - `store N`, `output N`: the store's, the output's call of that number fails.
 //! - `slow`: the output takes single bytes.
-//! - `history`: the history is shown.
+//! - `history`: the history is shown. `moments`: in place of each connection, how many children were started, and connections taken
+//!   and closed, at each moment.
 //!
 //! With `rt try --fail-alloc N` the Nth allocation fails, for each N. The program then ends with an error where the run of that
 //! moment stopped as it must. Where the output itself found no memory for its bytes, it has failed: that run has status 5 then, and

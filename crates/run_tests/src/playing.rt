@@ -1,5 +1,5 @@
 //! Plays the runs of the input, one behind the other.
-use crate::case::{Case, case_of};
+use crate::case::{Case, View, case_of};
 use crate::shown::{show_outcome, shows_want_of_memory};
 use mpm_base::{NoMemory, Octets, Words};
 use mpm_run::{Outcome, run};
@@ -47,7 +47,7 @@ fn play<R: Print + Threads + Wait + Sync>(rt: &R, alloc: Global, case: Case) -> 
         bad_reads,
         bad_writes,
         slow,
-        history,
+        view,
         ..
     } = case;
     let Ok(mut store) = folder(alloc, &file, bad_reads) else {
@@ -55,7 +55,7 @@ fn play<R: Print + Threads + Wait + Sync>(rt: &R, alloc: Global, case: Case) -> 
     };
     let mut out = output(alloc, bad_writes, slow);
     let outcome = end_of(rt, alloc, &words, &mut store, &mut out);
-    show_end(rt, alloc, &outcome, &store, &out, history)
+    show_end(rt, alloc, &outcome, &store, &out, view)
 }
 
 /// Shows how the run ended, where it didn't stop for want of memory as it must.
@@ -65,7 +65,7 @@ fn show_end(
     outcome: &Outcome,
     store: &MemStore,
     out: &MemSink,
-    history: bool,
+    view: View,
 ) -> io::Result<()> {
     if shows_want_of_memory(outcome, out) {
         return Err(out_of_memory());
@@ -76,7 +76,7 @@ fn show_end(
         outcome.shown,
         store.faults()
     )?;
-    show_outcome(rt, alloc, outcome, out, history)
+    show_outcome(rt, alloc, outcome, out, view)
 }
 
 /// How the run ends. It has no clause, so that what `run` says isn't carried through all that follows.

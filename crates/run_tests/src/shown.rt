@@ -1,19 +1,21 @@
 //! What is printed of a run.
-use conn_machine::{Entry, Going, Why};
+use crate::case::View;
+use conn_machine::{Entry, Event, Going, Why};
 use conn_state::Ended;
+use mpm_base::Moment;
 use mpm_run::Outcome;
 use stand_ins::{MemSink, ScriptLink};
 use std::alloc::Global;
 use std::io;
 
-/// Prints what was written, and where a run opened how far its script came, how its connections ended, and its history where it is
-/// asked for.
+/// Prints what was written, and where a run opened how far its script came, how its connections ended, or how many were taken and
+/// closed at each moment, and its history where it is asked for.
 pub fn show_outcome(
     rt: &impl Print,
     alloc: Global,
     outcome: &Outcome,
     out: &MemSink,
-    history: bool,
+    view: View,
 ) -> io::Result<()> {
     let text = String::from_utf8_lossy(alloc, out.bytes())?;
     print!(rt; "{text}")?;
@@ -22,8 +24,12 @@ pub fn show_outcome(
     };
     let lines = scripted.front.script().lines().len();
     println!(rt; "played {} of {lines}", scripted.front.happened())?;
-    show_connections(rt, alloc, scripted.board.ended())?;
-    if history {
+    if view.moments {
+        show_moments(rt, scripted.board.history())?;
+    } else {
+        show_connections(rt, alloc, scripted.board.ended())?;
+    }
+    if view.history {
         show_history(rt, scripted.board.history())?;
     }
     Ok(())
@@ -72,6 +78,48 @@ pub fn show_history(rt: &impl Print, history: &[Entry]) -> io::Result<()> {
         )?;
     }
     Ok(())
+}
+
+/// What happened while the moment was the present one.
+#[derive(Clone, Copy, Debug, Default)]
+struct Happened {
+    /// The moment.
+    moment: Moment,
+    /// How many children were started.
+    started: u64,
+    /// How many connections were taken.
+    taken: u64,
+    /// How many connections were closed.
+    closed: u64,
+}
+
+/// Prints for each moment of the history how many children were started, and connections taken and closed.
+fn show_moments(rt: &impl Print, history: &[Entry]) -> io::Result<()> {
+    let mut now = Happened::default();
+    for entry in history {
+        match &entry.event {
+            Event::Tick(moment) => {
+                show_moment(rt, now)?;
+                now = Happened {
+                    moment: *moment,
+                    ..Happened::default()
+                };
+            }
+            Event::StartChild(_) => now.started = now.started.saturating_add(1),
+            Event::Accept(_) => now.taken = now.taken.saturating_add(1),
+            Event::Close(..) => now.closed = now.closed.saturating_add(1),
+            _ => (),
+        }
+    }
+    show_moment(rt, now)
+}
+
+/// Prints what happened while the moment was the present one.
+fn show_moment(rt: &impl Print, now: Happened) -> io::Result<()> {
+    println!(rt;
+        "at {}: {} started, {} taken, {} closed",
+        now.moment, now.started, now.taken, now.closed
+    )
 }
 
 /// Whether the run stopped for want of memory, and as it must then: each link that was taken was closed once, and there is a
