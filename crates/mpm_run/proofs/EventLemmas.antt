@@ -20,7 +20,7 @@ use Rattle.mpm_run.specs.Times.{signals_in, signals_of, ticks_in, ticks_of}
 -- ## Lists of events
 
 -- what is found in the events of one list behind another
-in-both : (find : Event → List ℕ) (es fs : List Event) (xs ys : List ℕ) → flat_map find es ≡ xs → flat_map find fs ≡ ys
+pub in-both : (find : Event → List ℕ) (es fs : List Event) (xs ys : List ℕ) → flat_map find es ≡ xs → flat_map find fs ≡ ys
     → flat_map find (es ++ fs) ≡ xs ++ ys
 in-both find es fs xs ys first second =
     flat_map-append find es fs ∙ ap (λ (zs : List ℕ). zs ++ flat_map find fs) first ∙ ap (λ (zs : List ℕ). xs ++ zs) second

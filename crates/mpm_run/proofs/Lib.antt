@@ -1,4 +1,5 @@
 pub mod AddedLemmas
+pub mod AskedLemmas
 pub mod BrokenLemmas
 pub mod CauseLemmas
 pub mod ChildrenLemmas

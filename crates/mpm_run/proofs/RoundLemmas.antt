@@ -22,8 +22,9 @@ use Rattle.worker_group.specs.Acts.{Acts, ActsInSteps}
 use Rattle.worker_group.specs.Service.{LeavesRest, RefusalLasts, left_events}
 use Rattle.mpm_run.specs.ListenInside.{MustStop}
 use Rattle.mpm_run.specs.ClosingInside.{DrainsUntil, IsDrainedWay, IsLateWay, IsRetiringWay, LetsGo, NoneEarly}
-use Rattle.mpm_run.specs.RoundInside.{AllLeft, BreaksOff, EndsRound, GoesRound, IsLeftAsWatched, LetsGoOfConns, LetsGoUntil, NoneHas, PassesTime, RetiresSome, Round, SignalsFirst, StartsSome, Intake, TakesSome, gone_events, round_events, signal_events, intake_events, time_events}
+use Rattle.mpm_run.specs.RoundInside.{AllLeft, BreaksOff, EndsRound, GoesRound, IsLeftAsWatched, LetsGoOfConns, LetsGoUntil, NoneHas, PassesTime, RetiresSome, Round, SignalsFirst, StartsAsAsked, StartsSome, Intake, TakesSome, gone_events, round_events, signal_events, intake_events, time_events}
 use Rattle.mpm_run.specs.Times.{known_slots, ticks_to}
+use Rattle.mpm_run.proofs.AskedLemmas.{AreStartless, asked-silent, startless-departures, startless-gone, startless-readies, startless-retires, startless-takes, startless-time}
 
 -- ## No pass has a connection
 
@@ -52,14 +53,16 @@ acts-added steps e has b b' is adds row = steps.one 0 e has b.book b'.book (ap (
 -- ## Starts and ends of children
 
 pub starts-none : ActsInSteps → (b : SeenBook) → row_in 0 b ≡ None → StartsSome b b
-starts-none steps b row = record { children = []; acts = steps.none 0 None b row }
+starts-none steps b row = record { children = []; acts = steps.none 0 None b row; asked = λ before. before }
 
-pub starts-more : ActsInSteps → (k : ℕ) (a b c : SeenBook) → StartsSome a b → Acts 0 (event.StartChild k ∷ []) None b c → StartsSome a c
-starts-more steps k a b c starts one = record {
+pub starts-more : ActsInSteps → (k : ℕ) (a b c : SeenBook) → StartsSome a b → Acts 0 (event.StartChild k ∷ []) None b c → StartsAsAsked b c
+    → StartsSome a c
+starts-more steps k a b c starts one asked = record {
   children = starts.children ++ k ∷ [];
   acts =
       acts-spelled _ (map event.StartChild (starts.children ++ k ∷ [])) a c (steps.more 0 _ _ None None a b c starts.acts one)
       (sym (map-append event.StartChild starts.children (k ∷ [])));
+  asked = λ before. asked (starts.asked before);
 }
 
 pub retires-none : ActsInSteps → (b : SeenBook) → row_in 0 b ≡ None → RetiresSome b b
@@ -160,6 +163,15 @@ lets-go-none steps b row = record {
   acts = steps.none 0 None b row;
 }
 
+-- where each child was asked for that a part of them started
+asked-along : {es fs gs hs ks : List Event} (a b c d e f h : SeenBook) → Acts 0 es None a b → Acts 0 fs None b c → Acts 0 gs None c d → Acts 0 hs None d e
+    → Acts 0 ks None f h → AreStartless es → AreStartless fs → AreStartless gs → AreStartless hs → StartsAsAsked e f → AreStartless ks → StartsAsAsked a h
+asked-along {es} {fs} {gs} {hs} {ks} a b c d e f h time signals lets retires takes no_time no_signals no_lets no_retires started no_takes before =
+    asked-silent 0 ks None f h takes no_takes
+    (started
+    (asked-silent 0 hs None d e retires no_retires
+    (asked-silent 0 gs None c d lets no_lets (asked-silent 0 fs None b c signals no_signals (asked-silent 0 es None a b time no_time before)))))
+
 -- the parts of a round
 pub goes-round : ActsInSteps → (to : ℕ) (slots : List ℕ) (a b c d e f h : SeenBook) → PassesTime to a b → Acts 0 (signal_events b slots) None b c
     → LetsGoOfConns c d → RetiresSome d e → StartsSome e f → TakesSome f h → GoesRound to slots a h
@@ -185,6 +197,10 @@ goes-round steps to slots a b c d e f h time signals lets retires starts takes =
       (steps.more 0 _ _ None None a e f
       (steps.more 0 _ _ None None a d e
       (steps.more 0 _ _ None None a c d (steps.more 0 _ _ None None a b c time.acts signals) lets.acts) retires.acts) starts.acts) takes.acts;
+  asked =
+      asked-along a b c d e f h time.acts signals lets.acts retires.acts takes.acts (startless-time time.early (ticks_to a.state.moment to) time.late)
+      (startless-readies (known_slots (length b.base.rows) slots)) (startless-departures lets.departures) (startless-retires retires.children)
+      starts.asked (startless-takes takes.takes);
 }
 
 -- and of one that was broken off behind the time
@@ -213,6 +229,10 @@ breaks-behind steps fault to slots a b c d e f h x time signals lets retires sta
       (steps.more 0 _ _ None None a e f
       (steps.more 0 _ _ None None a d e
       (steps.more 0 _ _ None None a c d (steps.more 0 _ _ None None a b c time.acts signals.acts) lets.acts) retires.acts) starts.acts) takes.acts;
+  asked =
+      asked-along a b c d e f h time.acts signals.acts lets.acts retires.acts takes.acts (startless-time time.early (ticks_to a.state.moment to) time.late)
+      (startless-readies signals.first) (startless-departures lets.departures) (startless-retires retires.children) starts.asked
+      (startless-takes takes.takes);
   last = last;
 }
 
@@ -242,6 +262,7 @@ breaks-early fault to slots a b early why =
       left = tt;
       book = b;
       acts = acts-spelled _ (round_events only) a b early.acts (simp append-nil);
+      asked = asked-silent 0 (gone_events early.gone) None a b early.acts (startless-gone early.gone);
       last = ends-idle fault b why;
     }
 

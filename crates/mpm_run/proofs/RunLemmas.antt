@@ -32,6 +32,7 @@ use Rattle.mpm_run.specs.Tells.{Receives, AllReceive}
 use Rattle.mpm_run.specs.FirstNumbers.{folded_by, opened_by}
 use Rattle.mpm_run.specs.declared.run_numbers.RunNumbers.{RunNumbers}
 use Rattle.mpm_run.specs.Listen.{HasClosedAll, HasNoLive, IsClosedDown, IsRunFrom, NeverFolded}
+use Rattle.mpm_run.specs.Started.{AreAskedFor}
 
 -- ## The history
 
@@ -40,18 +41,19 @@ pub never-folded : (n : RunNumbers) (b : SeenBook) → b.base ≡ opened_by n �
 never-folded n b opened unfolded passes = record { opened = opened; folded = unfolded ∙ ap opening_record passes }
 
 -- the history of a board that opened so is a run from there, each state of which is sound
-pub run-from : (n : RunNumbers) (b : SeenBoard) → AreOfPasses n.passes b.book.history
+pub run-from : (n : RunNumbers) (b : SeenBoard) → AreOfPasses n.passes b.book.history → AreAskedFor b.book.base b.book.history
     → ((s : State) (history : List Entry) → IsSound s → Run s history → StaysSound s history)
     → Run b.book.base b.book.history → IsInPassOrderFrom b.book.folded b.book.history → AreMade b.book.base b.book.folded b.book.history
     → EachHasItsOwn b.book.base (first_row b.book.folded) → after b.book.base b.book.history ≡ b.book.state → IsSound b.book.base
     → StopsByLoad b.book.history
     → TellsFullStop b.book.state.going b.book.history → Agrees b → IsRunFrom n b
-run-from n b few law run order made own state sound stops full agrees = record {
+run-from n b few asked law run order made own state sound stops full agrees = record {
   run = run;
   order = order;
   made = made;
   own = own;
   few = few;
+  asked = asked;
   state = state;
   stays_sound = law b.book.base b.book.history sound run;
   stops = stops;

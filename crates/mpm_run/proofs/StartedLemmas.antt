@@ -9,6 +9,7 @@ use Rattle.conn_machine.specs.declared.state.State.{State}
 use Rattle.board.specs.Book.{SeenBook}
 use Rattle.mpm_run.specs.FirstNumbersInside.{AreNumbers, opened_book}
 use Rattle.mpm_run.specs.ListenInside.{Follows, HasStopped, IsAtStart, IsInStep, IsInTime, WatchesAll, bound_of, waits_of}
+use Rattle.mpm_run.specs.Started.{AreAskedFor}
 use Rattle.mpm_run.specs.Times.{AreBehind, IsInformed, SignalsAre, TicksAre}
 use Rattle.mpm_run.specs.Watched.{AreClosedAtOnce, AreWatched, IsBoundOnce, IsHushed, IsOpenedAndHushed, link_watched}
 use Rattle.mpm_run.specs.declared.run_numbers.RunNumbers.{RunNumbers}
@@ -179,6 +180,10 @@ starts-opened n (Some t) calls b opened idle = record {
 -- no pass made an entry
 pub few-opened : (n : RunNumbers) (passes : ℕ) (b : SeenBook) → b ≡ opened_book n → AreOfPasses passes b.history
 few-opened n passes b opened = subst (λ (x : SeenBook). AreOfPasses passes x.history) (sym opened) (λ p above. refl)
+
+-- no child was started
+pub asked-opened : (n : RunNumbers) (b : SeenBook) → b ≡ opened_book n → AreAskedFor b.base b.history
+asked-opened n b opened = subst (λ (x : SeenBook). AreAskedFor x.base x.history) (sym opened) tt
 
 -- a front that wasn't asked didn't wait
 pub unwaited : (told : Option FrontTold) (calls : Option (List (ℕ × ℕ))) → IsIdle told calls → IfSome told (λ t. t.waits ≡ [])

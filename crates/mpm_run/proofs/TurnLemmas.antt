@@ -17,8 +17,10 @@ use Rattle.mpm_run.specs.declared.listen.Pause.{Pause}
 use Rattle.mpm_run.specs.declared.listen.Rest.{Rest}
 use Rattle.mpm_run.specs.Listen.{HasNoLive}
 use Rattle.mpm_run.specs.ListenInside.{AsksFor, Follows, HasGivenAll, HasNothingToCome, IsInStep, IsInTime, OnlyTakes, SeenListener, WatchesAll, bound_of, waits_of}
-use Rattle.mpm_run.specs.RoundInside.{BreaksOff, GoesRound, NoneHas, ServesSome, StartsSome}
+use Rattle.mpm_run.specs.RoundInside.{BreaksOff, GoesRound, NoneHas, ServesSome, StartsAsAsked, StartsSome}
+use Rattle.mpm_run.specs.Started.{AreAskedFor}
 use Rattle.mpm_run.specs.Times.{IsInformed, IsInformedSoFar, moment_for}
+use Rattle.mpm_run.proofs.AskedLemmas.{asked-served, asked-silent}
 use Rattle.mpm_run.proofs.BrokenLemmas.{ends-silently}
 use Rattle.mpm_run.proofs.EventLemmas.{silent-starts}
 use Rattle.mpm_run.proofs.FrontLemmas.{WaitsMore, all-taken, bound-kept, bound-wait, follows-same, follows-trans, follows-wait, rises-after, step-kept, step-wait, time-kept, time-wait, waits-after, waits-kept}
@@ -46,6 +48,7 @@ few-acts steps passes who es has a b less acts few p beyond =
 pub record IsBetween (tells : Type 0) (first now : SeenListener) : Type 0 where
   pub some : 1 < first.board.book.passes
   pub few : OfPasses first first → OfPasses first now
+  pub asked : StartsAsAsked first.board.book now.board.book
   pub base : now.board.book.base ≡ first.board.book.base
   pub passes : now.board.book.passes ≡ first.board.book.passes
   pub free : NoneHas now.board.book
@@ -66,6 +69,7 @@ between-started steps tells l m some free going step informed is starts same res
     (record {
       some = some;
       few = few-acts steps l.board.book.passes 0 _ None l.board.book m.board.book (omega (arith, some)) starts.acts;
+      asked = starts.asked;
       base = starts.acts.base;
       passes = starts.acts.passes;
       free = none-has steps 0 _ l.board.book m.board.book free starts.acts;
@@ -132,6 +136,7 @@ module _ (tells : Type 0) (rest : Rest) (pause : Pause) (first a w : SeenListene
       record {
         some = before.some;
         few = λ began. subst (λ (b : SeenBook). AreOfPasses first.board.book.passes b.history) (sym book) (before.few began);
+        asked = λ began. subst (λ (b : SeenBook). AreAskedFor b.base b.history) (sym book) (before.asked began);
         base = ap (λ (b : SeenBook). b.base) book ∙ before.base;
         passes = ap (λ (b : SeenBook). b.passes) book ∙ before.passes;
         free = subst NoneHas (sym book) before.free;
@@ -160,6 +165,7 @@ module _ (tells : Type 0) (rest : Rest) (pause : Pause) (first a w : SeenListene
         some = before.some;
         few =
             λ began. few-acts steps first.board.book.passes 0 _ None a.board.book b.board.book (omega (arith, before.some)) here.acts (before.few began);
+        asked = λ began. here.asked (before.asked began);
         base = here.acts.base ∙ before.base;
         passes = here.acts.passes ∙ before.passes;
         free = none-has steps 0 _ a.board.book b.board.book before.free here.acts;
@@ -220,6 +226,7 @@ between-failed tells rest pause first a w before waited is =
 -- what holds of a listener whose turns were broken off
 pub record HasBroken (tells : Type 0) (first now : SeenListener) : Type 0 where
   pub few : OfPasses first first → OfPasses first now
+  pub asked : StartsAsAsked first.board.book now.board.book
   pub base : now.board.book.base ≡ first.board.book.base
   pub passes : now.board.book.passes ≡ first.board.book.passes
   pub free : NoneHas now.board.book
@@ -234,6 +241,7 @@ pub record HasBroken (tells : Type 0) (first now : SeenListener) : Type 0 where
 pub broken-between : (tells : Type 0) (l m : SeenListener) → IsBetween tells l m → HasBroken tells l m
 broken-between tells l m between = record {
   few = between.few;
+  asked = between.asked;
   base = between.base;
   passes = between.passes;
   free = between.free;
@@ -259,6 +267,7 @@ broken-round steps fault tells rest pause first a w b before waited round up fol
       few =
           λ began. few-acts steps first.board.book.passes 0 ends.events None here.book b.board.book some ends.acts
           (few-acts steps first.board.book.passes 0 _ None a.board.book here.book some here.acts (before.few began));
+      asked = λ began. asked-silent 0 ends.events None here.book b.board.book ends.acts ends.startless (here.asked (before.asked began));
       base = ends.acts.base ∙ here.acts.base ∙ before.base;
       passes = ends.acts.passes ∙ here.acts.passes ∙ before.passes;
       free = none-has steps 0 ends.events here.book b.board.book (none-has steps 0 _ a.board.book here.book before.free here.acts) ends.acts;
@@ -303,6 +312,8 @@ between-served steps tells first a b before served =
     (record {
       some = before.some;
       few = λ began. few-acts steps first.board.book.passes 1 serves.events None a.board.book b.board.book before.some serves.acts (before.few began);
+      asked =
+          λ began. asked-served 1 serves.events None a.board.book b.board.book (λ (same : 1 ≡ 0). cc) serves.acts (before.asked began);
       base = serves.acts.base ∙ before.base;
       passes = serves.acts.passes ∙ before.passes;
       free = none-has steps 1 serves.events a.board.book b.board.book before.free serves.acts;
@@ -322,6 +333,8 @@ broken-served steps tells first a b before served =
     subst (HasBroken tells first) (sym served.others)
     (record {
       few = λ began. few-acts steps first.board.book.passes 1 serves.events None a.board.book b.board.book before.some serves.acts (before.few began);
+      asked =
+          λ began. asked-served 1 serves.events None a.board.book b.board.book (λ (same : 1 ≡ 0). cc) serves.acts (before.asked began);
       base = serves.acts.base ∙ before.base;
       passes = serves.acts.passes ∙ before.passes;
       free = none-has steps 1 serves.events a.board.book b.board.book before.free serves.acts;

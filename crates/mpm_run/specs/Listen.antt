@@ -12,6 +12,7 @@ use Rattle.conn_machine.specs.Passes.{EachHasItsOwn}
 use Rattle.board.specs.Book.{SeenBook, StopsByLoad, TellsFullStop}
 use Rattle.board.specs.Board.{SeenBoard, Agrees}
 use Rattle.mpm_run.specs.FirstNumbers.{folded_by, opened_by}
+use Rattle.mpm_run.specs.Started.{AreAskedFor}
 use Rattle.mpm_run.specs.declared.run_numbers.RunNumbers.{RunNumbers}
 
 -- ## How a run ends
@@ -31,17 +32,18 @@ pub record IsClosedDown (s : State) : Type 0 where
 
 -- ## A run
 
--- the history that is kept is one of the machine, from the state before it, in the order of its passes behind what was folded, and
--- each entry is one that its pass, one of so many, may make where it stands; before it each pass had a connection of its own, or none,
--- and each one that somebody had was some pass's; each state on its way is sound; a stop because the history is full stands only
--- where it is, and one for want of memory only where it isn't; the first is told by the state; and the connections agree with the
--- history
+-- the history that is kept is one of the machine, from the state before it, in the order of its passes behind what was folded; each
+-- entry is one that its pass, one of so many, may make where it stands, and each child that was started was asked for; before the first
+-- entry each pass had a connection of its own, or none, and each one that somebody had was some pass's; each state on its way is sound;
+-- a stop because the history is full stands only where it is, and one for want of memory only where it isn't; the first is told by the
+-- state; and the connections agree with the history
 pub record IsRunFrom (n : RunNumbers) (b : SeenBoard) : Type 0 where
   pub run : Run b.book.base b.book.history
   pub order : IsInPassOrderFrom b.book.folded b.book.history
   pub made : AreMade b.book.base b.book.folded b.book.history
   pub own : EachHasItsOwn b.book.base (first_row b.book.folded)
   pub few : AreOfPasses n.passes b.book.history
+  pub asked : AreAskedFor b.book.base b.book.history
   pub state : after b.book.base b.book.history ≡ b.book.state
   pub stays_sound : StaysSound b.book.base b.book.history
   pub stops : StopsByLoad b.book.history

@@ -29,16 +29,22 @@ use Rattle.mpm_run.specs.ListenInside.{IsInStep, SeenListener, why_of}
 use Rattle.mpm_run.specs.Patient.{NoneDue}
 use Rattle.mpm_run.specs.declared.listen.End.{End}
 use Rattle.conn_machine.specs.States.{is_halted}
+use Rattle.mpm_run.specs.Started.{AreAskedFor}
 use Rattle.mpm_run.specs.Times.{known_slots, ticks_to}
 
 -- no pass has a connection
 abbrev pub NoneHas : SeenBook → Type 0
 NoneHas b = (who : ℕ) → row_in who b ≡ None
 
--- children were started, and nothing else was done
+-- where each child that was started before was asked for, so was each one that was started since
+abbrev pub StartsAsAsked : SeenBook → SeenBook → Type 0
+StartsAsAsked old new = AreAskedFor old.base old.history → AreAskedFor new.base new.history
+
+-- children were started, each of which was asked for, and nothing else was done
 pub record StartsSome (old new : SeenBook) : Type 0 where
   pub children : List ℕ
   pub acts : Acts 0 (map event.StartChild children) None old new
+  pub asked : StartsAsAsked old new
 
 -- children were let go of, and nothing else was done
 pub record RetiresSome (old new : SeenBook) : Type 0 where
@@ -231,7 +237,7 @@ pub record SignalsFirst (slots : List ℕ) (old new : SeenBook) : Type 0 where
   pub acts : Acts 0 (map event.Ready first) None old new
 
 -- a round let time pass to the given moment, signalled each of the given slots that the table has, let go of connections and
--- children, and took connections
+-- children, started children that were asked for, and took connections
 pub record GoesRound (to : ℕ) (slots : List ℕ) (old new : SeenBook) : Type 0 where
   pub round : Round
   pub soon : NoneEarly old round.early
@@ -240,6 +246,7 @@ pub record GoesRound (to : ℕ) (slots : List ℕ) (old new : SeenBook) : Type 0
   pub ways : AreWays round
   pub left : AllLeft round.takes
   pub acts : Acts 0 (round_events round) None old new
+  pub asked : StartsAsAsked old new
 
 -- a round was broken off by a call that was refused for the fault: nothing was done then, or the connection in hand was given up
 abbrev pub EndsRound : BoardFault → SeenBook → SeenBook → Type 0
@@ -255,6 +262,7 @@ pub record BreaksOff (fault : BoardFault) (to : ℕ) (slots : List ℕ) (old new
   pub left : AllLeft round.takes
   pub book : SeenBook
   pub acts : Acts 0 (round_events round) None old book
+  pub asked : StartsAsAsked old book
   pub last : EndsRound fault book new
 
 -- ## The end

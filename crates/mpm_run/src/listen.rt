@@ -16,7 +16,7 @@ ghost use Rattle.board.specs.Book.{row_in};
 ghost use Rattle.worker_group.specs.Service.{IsUp, LeavesRest};
 ghost use Rattle.mpm_run.specs.ListenInside.{AsksFor, Follows, HandedOut, HandsOut, HasStarted, HasStopped, IsArrival, IsAtStart, IsInStep, IsInTime, IsOpening, IsRestful, IsWatching, MustStop, OnlyTakes, TookAll, TurnsEnd, asked_children, bound_of, waits_of, why_of};
 ghost use Rattle.mpm_run.specs.PatientInside.{IsPatientRun};
-ghost use Rattle.mpm_run.specs.RoundInside.{BreaksOff, EndsTaking, FailsTaking, GoesRound, IsTaking, NoneHas, ServesSome, StartsSome, TakesSome, TakesUntil};
+ghost use Rattle.mpm_run.specs.RoundInside.{BreaksOff, EndsTaking, FailsTaking, GoesRound, IsTaking, NoneHas, ServesSome, StartsAsAsked, StartsSome, TakesSome, TakesUntil};
 ghost use Rattle.mpm_run.specs.Started.{BeginsWithStarts};
 ghost use Rattle.mpm_run.specs.Times.{IsInformed, IsInformedSoFar, WasInformed, moment_for};
 ghost use Rattle.mpm_run.specs.Watched.{IsHushed};
@@ -125,6 +125,7 @@ impl<L: Link + Send, F: Front<L = L>, C: Clock, N: Known> Listener<L, F, C, N> {
         ensures base { self.new.board.book.base ≡ self.old.board.book.base }
         ensures passes { self.new.board.book.passes ≡ self.old.board.book.passes }
         ensures few { AreOfPasses self.old.board.book.passes self.old.board.book.history → AreOfPasses self.old.board.book.passes self.new.board.book.history }
+        ensures asked { StartsAsAsked self.old.board.book self.new.board.book }
         ensures stopped { HasStopped self.old.front self.new.front self.new.board.book.state }
         ensures follows { Follows self.old.front self.new.front }
         ensures bound { bound_of self.new.front.told ≡ bound_of self.old.front.told }
@@ -154,6 +155,7 @@ impl<L: Link + Send, F: Front<L = L>, C: Clock, N: Known> Listener<L, F, C, N> {
         requires informed { IsInformed (waits_of self.old.front.told) self.old.calls self.old.board.book }
         ensures base { self.new.board.book.base ≡ self.old.board.book.base }
         ensures few { AreOfPasses self.old.board.book.passes self.old.board.book.history → AreOfPasses self.old.board.book.passes self.new.board.book.history }
+        ensures asked { StartsAsAsked self.old.board.book self.new.board.book }
         ensures passes { self.new.board.book.passes ≡ self.old.board.book.passes }
         ensures free { NoneHas self.new.board.book }
         ensures up { IsUp self.new.board.book.state.going }

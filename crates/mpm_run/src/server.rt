@@ -12,7 +12,7 @@ ghost use Rattle.mpm_run.specs.Links.{EndsLinks, TakesLinks};
 ghost use Rattle.mpm_run.specs.Listen.{HasClosedAll, IsClosedDown, IsRunFrom, NeverFolded};
 ghost use Rattle.mpm_run.specs.ListenInside.{ComesBack, Follows, HasStopped, IsInTime, IsKnownOfFront, waits_of};
 ghost use Rattle.mpm_run.specs.PatientInside.{IsPatientRun};
-ghost use Rattle.mpm_run.specs.Started.{IsStartedFirst};
+ghost use Rattle.mpm_run.specs.Started.{AreAskedFor, IsStartedFirst};
 ghost use Rattle.mpm_run.specs.Times.{WasInformed};
 ghost use Rattle.mpm_run.specs.Watched.{AreWatched, IsOpenedAndHushed};
 
@@ -164,6 +164,7 @@ fn show_run<L: Link, N: Known>(board: &Board<L, N>, numbers: RunNumbers)
     requires base { board.now.book.base ≡ opened_by numbers }
     requires passes { board.now.book.passes ≡ numbers.passes }
     requires few { AreOfPasses numbers.passes board.now.book.history }
+    requires asked { AreAskedFor board.now.book.base board.now.book.history }
     ensures unfolded { NeverFolded numbers board.now.book }
     ensures run { IsRunFrom numbers board.now }
     ensures closed { IsClosedDown board.now.book.state → HasClosedAll board.now }

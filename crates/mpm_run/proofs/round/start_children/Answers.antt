@@ -4,6 +4,7 @@ use Rattle.board.specs.Board.{SeenBoard}
 use Rattle.board.specs.Faults.{IsRefusedFor}
 use Rattle.worker_group.specs.Service.{LeavesRest}
 use Rattle.mpm_run.specs.RoundInside.{StartsSome}
+use Rattle.mpm_run.proofs.AskedLemmas.{asked-start}
 use Rattle.mpm_run.proofs.ChildrenLemmas.{all-started, opens-in-order, starts-next}
 use Rattle.mpm_run.proofs.ListenLemmas.{may-start_child, fewer-gone}
 use Rattle.mpm_run.proofs.RoundLemmas.{acts-added, rest_same, rest_start, starts-more, starts-none}
@@ -30,11 +31,13 @@ loop-child-smaller g c =
 pub loop-child-preserved : goal.loop-child-preserved
 loop-child-preserved g c =
     let law = c.children_change_one_at_a_time.ensures in
+    let one =
+    acts-added c.passes_act_in_steps.ensures.acts (event.StartChild c.in-Some.child) None c.loop-child.board c.start_child.new.self c.in_ok-start_child.ensures.ok.new_is
+    c.start_child.ensures.entries (c.start_child.ensures.row ∙ c.loop-child.invariant.starts.acts.row) in
     record {
       starts =
-          starts-more c.passes_act_in_steps.ensures.acts c.in-Some.child c.args.board.now.book c.loop-child.board.book c.start_child.new.self.book c.loop-child.invariant.starts
-          (acts-added c.passes_act_in_steps.ensures.acts (event.StartChild c.in-Some.child) None c.loop-child.board c.start_child.new.self c.in_ok-start_child.ensures.ok.new_is
-          c.start_child.ensures.entries (c.start_child.ensures.row ∙ c.loop-child.invariant.starts.acts.row));
+          starts-more c.passes_act_in_steps.ensures.acts c.in-Some.child c.args.board.now.book c.loop-child.board.book c.start_child.new.self.book c.loop-child.invariant.starts one
+          (asked-start c.in-Some.child c.loop-child.board.book c.start_child.new.self.book one c.show.ensures.state (sym c.can_start.ensures ∙ c.in-Some.is));
       first =
           λ opening. starts-next (record { there = law.there; others = law.others; as_many = law.length }) c.args.board.now.book.base c.loop-child.board c.start_child.new.self c.in-Some.child (sym c.can_start.ensures ∙ c.in-Some.is)
           c.in_ok-start_child.ensures.ok.new_is (c.loop-child.invariant.first opening);

@@ -7,12 +7,12 @@ use Rattle.mpm_run.specs.FirstNumbers.{opened_by}
 use Rattle.mpm_run.specs.Links.{TakesLinks}
 use Rattle.mpm_run.specs.ListenInside.{Follows, HasStopped, IsOpening, SeenListener, IsInTime, WatchesAll, asked_children, waits_of}
 use Rattle.mpm_run.specs.PatientInside.{IsPatientRun}
-use Rattle.mpm_run.specs.Started.{BeginsWithStarts, IsStartedFirst}
+use Rattle.mpm_run.specs.Started.{AreAskedFor, BeginsWithStarts, IsStartedFirst}
 use Rattle.mpm_run.specs.Times.{WasInformed}
 use Rattle.mpm_run.specs.Watched.{AreWatched, IsOpenedAndHushed}
 use Rattle.mpm_run.proofs.ChildrenLemmas.{started-first}
 use Rattle.mpm_run.proofs.FrontLemmas.{follows-bind, follows-trans, named-follows}
-use Rattle.mpm_run.proofs.StartedLemmas.{are-watched, few-opened, idle-bound, informed-opened, opened-hushed, opens, starts-opened, step-opened, stopped-before, time-opened, unwaited, watching-opened}
+use Rattle.mpm_run.proofs.StartedLemmas.{are-watched, asked-opened, few-opened, idle-bound, informed-opened, opened-hushed, opens, starts-opened, step-opened, stopped-before, time-opened, unwaited, watching-opened}
 use Rattle.mpm_run.proofs.server.run_server.Goals as goal
 
 pub listen-requires-clause-step : goal.listen-requires-clause-step
@@ -89,6 +89,11 @@ show_run-requires-clause-few g c =
     let few = c.listen.ensures.few (few-opened c.args.numbers c.in-Ok-open_board.board.book.passes c.in-Ok-open_board.board.book c.in-Ok-open_board.ensures.book) in
     subst (λ (n : ℕ). AreOfPasses n c.listener.inside.board.book.history) passes
     (subst (λ (l : SeenListener). AreOfPasses c.in-Ok-open_board.board.book.passes l.board.book.history) (sym c.listener.view_is) few)
+
+pub show_run-requires-clause-asked : goal.show_run-requires-clause-asked
+show_run-requires-clause-asked g c =
+    subst (λ (l : SeenListener). AreAskedFor l.board.book.base l.board.book.history) (sym c.listener.view_is)
+    (c.listen.ensures.asked (asked-opened c.args.numbers c.in-Ok-open_board.board.book c.in-Ok-open_board.ensures.book))
 
 pub returns-clause-started : goal.returns-clause-started
 returns-clause-started g c =

@@ -7,7 +7,7 @@ returns-clause-unfolded g c =
 
 pub returns-clause-run : goal.returns-clause-run
 returns-clause-run g c =
-    run-from c.args.numbers c.args.board.now c.requires.few c.events_keep_states_sound.ensures.run c.show.ensures.run c.show.ensures.order
+    run-from c.args.numbers c.args.board.now c.requires.few c.requires.asked c.events_keep_states_sound.ensures.run c.show.ensures.run c.show.ensures.order
     c.show.ensures.made c.show.ensures.own c.show.ensures.state c.show.ensures.opened c.show.ensures.stops c.show.ensures.full c.show.ensures.agrees
 
 pub returns-clause-closed : goal.returns-clause-closed
@@ -16,7 +16,7 @@ returns-clause-closed g c down =
     let b = c.args.board.now in
     let never = never-folded n b.book c.requires.base c.show.ensures.unfolded c.requires.passes in
     let run =
-    run-from n b c.requires.few c.events_keep_states_sound.ensures.run c.show.ensures.run c.show.ensures.order c.show.ensures.made c.show.ensures.own c.show.ensures.state
+    run-from n b c.requires.few c.requires.asked c.events_keep_states_sound.ensures.run c.show.ensures.run c.show.ensures.order c.show.ensures.made c.show.ensures.own c.show.ensures.state
     c.show.ensures.opened c.show.ensures.stops c.show.ensures.full c.show.ensures.agrees in
     closed-all n b run never
     (c.accepted_connections_are_closed_or_live.ensures.closed_or_live n.slots n.children n.shape b.book.history (run-opened n b run never))
@@ -28,7 +28,7 @@ returns-clause-links g c down knows =
     let b = c.args.board.now in
     let never = never-folded n b.book c.requires.base c.show.ensures.unfolded c.requires.passes in
     let run =
-    run-from n b c.requires.few c.events_keep_states_sound.ensures.run c.show.ensures.run c.show.ensures.order c.show.ensures.made c.show.ensures.own c.show.ensures.state
+    run-from n b c.requires.few c.requires.asked c.events_keep_states_sound.ensures.run c.show.ensures.run c.show.ensures.order c.show.ensures.made c.show.ensures.own c.show.ensures.state
     c.show.ensures.opened c.show.ensures.stops c.show.ensures.full c.show.ensures.agrees in
     let closed =
     closed-all n b run never

@@ -1,7 +1,9 @@
 use Rattle.std.proofs.Common.{◌<◌, inl, inr, None, Option, List, ap, sym, subst, ◌∙◌, arith}
 use Rattle.mpm_base.specs.Front.{FrontSeen, WaitTold}
+use Rattle.conn_machine.specs.States.{is_halted}
 use Rattle.mpm_run.specs.ListenInside.{HaltsAs}
 use Rattle.mpm_run.specs.Times.{WasInformed}
+use Rattle.mpm_run.proofs.AskedLemmas.{asked-silent, startless-gone, startless-halts, startless-retires}
 use Rattle.mpm_run.proofs.ChildrenLemmas.{begins-down}
 use Rattle.mpm_run.proofs.FrontLemmas.{follows-hushed, follows-trans, waits-hushed}
 use Rattle.mpm_run.proofs.PaceLemmas.{patience-down}
@@ -76,6 +78,15 @@ returns-clause-few g c began =
     few-acts c.passes_act_in_steps.ensures.acts passes 0 _ None c.close_all.new.board.book c.retire_all.new.board.book some c.retire_all.ensures.retires.acts
     (few-acts c.passes_act_in_steps.ensures.acts passes 0 _ None c.halt.new.board.book c.close_all.new.board.book some c.close_all.ensures.gone.acts
     (few-acts c.passes_act_in_steps.ensures.acts passes 0 _ None c.self.inside.board.book c.halt.new.board.book some c.halt.ensures.acts (few began)))
+
+pub returns-clause-asked : goal.returns-clause-asked
+returns-clause-asked g c began =
+    let asked = rw (← c.self.view_is) at c.take_turns-turns.ensures.asked in
+    asked-silent 0 _ None c.close_all.new.board.book c.retire_all.new.board.book c.retire_all.ensures.retires.acts
+    (startless-retires c.retire_all.ensures.retires.children)
+    (asked-silent 0 _ None c.halt.new.board.book c.close_all.new.board.book c.close_all.ensures.gone.acts (startless-gone c.close_all.ensures.gone.gone)
+    (asked-silent 0 _ None c.self.inside.board.book c.halt.new.board.book c.halt.ensures.acts
+    (startless-halts (is_halted c.self.inside.board.book.state.going) c.self.inside.board.book c.take_turns-turns.result) (asked began)))
 
 pub returns-clause-started : goal.returns-clause-started
 returns-clause-started g c opening =

@@ -33,6 +33,11 @@ returns-in_err-first-clause-few g c =
     (between-started c.passes_act_in_steps.ensures.acts (is_some g.N.Known.known ≡ true) c.args.self.now c.start.new.self c.requires.passes c.requires.free c.requires.going c.requires.step c.requires.informed c.start.ensures.others
     c.start.ensures.starts c.start.ensures.going c.start.ensures.rest).few
 
+pub returns-in_err-first-clause-asked : goal.returns-in_err-first-clause-asked
+returns-in_err-first-clause-asked g c =
+    (between-started c.passes_act_in_steps.ensures.acts (is_some g.N.Known.known ≡ true) c.args.self.now c.start.new.self c.requires.passes c.requires.free c.requires.going c.requires.step c.requires.informed c.start.ensures.others
+    c.start.ensures.starts c.start.ensures.going c.start.ensures.rest).asked
+
 pub returns-in_err-first-clause-watched : goal.returns-in_err-first-clause-watched
 returns-in_err-first-clause-watched g c =
     (between-started c.passes_act_in_steps.ensures.acts (is_some g.N.Known.known ≡ true) c.args.self.now c.start.new.self c.requires.passes c.requires.free c.requires.going c.requires.step c.requires.informed c.start.ensures.others
@@ -84,6 +89,14 @@ returns-in-Ended-clause-few g c =
     c.take_pause-pause.ensures.waits c.take_pause-pause.ensures.asks in
     (between-ended (is_some g.N.Known.known ≡ true) c.loop.rest c.take_pause-pause.result c.args.self.now c.loop.self _ c.loop.invariant.between waited c.in-Ended.is).few
 
+pub returns-in-Ended-clause-asked : goal.returns-in-Ended-clause-asked
+returns-in-Ended-clause-asked g c =
+    let waited =
+    has-waited c.loop.rest c.take_pause-pause.result c.loop.self _ (g.F.Front.seen c.take_pause-pause.new.front) (g.C.Clock.told c.take_pause-pause.new.clock)
+    c.take_pause-pause.new.ready c.moment-present.result c.self.view_is c.show.ensures.after c.show.ensures.sound c.moment-present.ensures
+    c.take_pause-pause.ensures.waits c.take_pause-pause.ensures.asks in
+    (between-ended (is_some g.N.Known.known ≡ true) c.loop.rest c.take_pause-pause.result c.args.self.now c.loop.self _ c.loop.invariant.between waited c.in-Ended.is).asked
+
 pub returns-in-Ended-clause-watched : goal.returns-in-Ended-clause-watched
 returns-in-Ended-clause-watched g c =
     let waited =
@@ -131,6 +144,14 @@ returns-in-Failed-clause-few g c =
     c.take_pause-pause.new.ready c.moment-present.result c.self.view_is c.show.ensures.after c.show.ensures.sound c.moment-present.ensures
     c.take_pause-pause.ensures.waits c.take_pause-pause.ensures.asks in
     (between-failed (is_some g.N.Known.known ≡ true) c.loop.rest c.take_pause-pause.result c.args.self.now c.loop.self _ c.loop.invariant.between waited c.in-Failed.is).few
+
+pub returns-in-Failed-clause-asked : goal.returns-in-Failed-clause-asked
+returns-in-Failed-clause-asked g c =
+    let waited =
+    has-waited c.loop.rest c.take_pause-pause.result c.loop.self _ (g.F.Front.seen c.take_pause-pause.new.front) (g.C.Clock.told c.take_pause-pause.new.clock)
+    c.take_pause-pause.new.ready c.moment-present.result c.self.view_is c.show.ensures.after c.show.ensures.sound c.moment-present.ensures
+    c.take_pause-pause.ensures.waits c.take_pause-pause.ensures.asks in
+    (between-failed (is_some g.N.Known.known ≡ true) c.loop.rest c.take_pause-pause.result c.args.self.now c.loop.self _ c.loop.invariant.between waited c.in-Failed.is).asked
 
 pub returns-in-Failed-clause-watched : goal.returns-in-Failed-clause-watched
 returns-in-Failed-clause-watched g c =
@@ -190,6 +211,15 @@ returns-in_err-take_in-clause-few g c =
     c.take_pause-pause.ensures.waits c.take_pause-pause.ensures.asks in
     (broken-round c.passes_act_in_steps.ensures.acts _ (is_some g.N.Known.known ≡ true) c.loop.rest c.take_pause-pause.result c.args.self.now c.loop.self _ c.take_in.new.self c.loop.invariant.between waited
     c.in_err-take_in.ensures.broken c.take_in.ensures.up c.take_in.ensures.follows c.take_in.ensures.front c.take_in.ensures.watched c.take_in.ensures.calls).few
+
+pub returns-in_err-take_in-clause-asked : goal.returns-in_err-take_in-clause-asked
+returns-in_err-take_in-clause-asked g c =
+    let waited =
+    has-waited c.loop.rest c.take_pause-pause.result c.loop.self _ (g.F.Front.seen c.take_pause-pause.new.front) (g.C.Clock.told c.take_pause-pause.new.clock)
+    c.take_pause-pause.new.ready c.moment-present.result c.self.view_is c.show.ensures.after c.show.ensures.sound c.moment-present.ensures
+    c.take_pause-pause.ensures.waits c.take_pause-pause.ensures.asks in
+    (broken-round c.passes_act_in_steps.ensures.acts _ (is_some g.N.Known.known ≡ true) c.loop.rest c.take_pause-pause.result c.args.self.now c.loop.self _ c.take_in.new.self c.loop.invariant.between waited
+    c.in_err-take_in.ensures.broken c.take_in.ensures.up c.take_in.ensures.follows c.take_in.ensures.front c.take_in.ensures.watched c.take_in.ensures.calls).asked
 
 pub returns-in_err-take_in-clause-watched : goal.returns-in_err-take_in-clause-watched
 returns-in_err-take_in-clause-watched g c =
@@ -321,6 +351,20 @@ returns-in_err-rest-clause-few g c =
     let served : HasServed c.take_in.new.self c.serve.new.self =
     record { serves = c.serve.ensures.serves; rest = c.serve.ensures.rest; others = c.serve.ensures.others } in
     (broken-served c.passes_act_in_steps.ensures.acts (is_some g.N.Known.known ≡ true) c.args.self.now c.take_in.new.self c.serve.new.self between served).few
+
+pub returns-in_err-rest-clause-asked : goal.returns-in_err-rest-clause-asked
+returns-in_err-rest-clause-asked g c =
+    let waited =
+    has-waited c.loop.rest c.take_pause-pause.result c.loop.self _ (g.F.Front.seen c.take_pause-pause.new.front) (g.C.Clock.told c.take_pause-pause.new.clock)
+    c.take_pause-pause.new.ready c.moment-present.result c.self.view_is c.show.ensures.after c.show.ensures.sound c.moment-present.ensures
+    c.take_pause-pause.ensures.waits c.take_pause-pause.ensures.asks in
+    let between : IsBetween (is_some g.N.Known.known ≡ true) c.args.self.now c.take_in.new.self =
+    between-round (is_some g.N.Known.known ≡ true) c.loop.rest c.take_pause-pause.result c.args.self.now c.loop.self _ c.passes_act_in_steps.ensures.acts c.take_in.new.self c.loop.invariant.between waited
+    c.in_ok-take_in.ensures.round c.in_ok-take_in.ensures.moment c.in_ok-take_in.ensures.step c.take_in.ensures.up c.take_in.ensures.follows
+    c.take_in.ensures.front c.take_in.ensures.watched c.take_in.ensures.calls in
+    let served : HasServed c.take_in.new.self c.serve.new.self =
+    record { serves = c.serve.ensures.serves; rest = c.serve.ensures.rest; others = c.serve.ensures.others } in
+    (broken-served c.passes_act_in_steps.ensures.acts (is_some g.N.Known.known ≡ true) c.args.self.now c.take_in.new.self c.serve.new.self between served).asked
 
 pub returns-in_err-rest-clause-watched : goal.returns-in_err-rest-clause-watched
 returns-in_err-rest-clause-watched g c =
