@@ -17,7 +17,9 @@ use Rattle.http_conn.specs.declared.stage.Stage.{Stage}
 use Rattle.http_conn.specs.declared.stage.Stage.TheVariants as stage
 use Rattle.http_conn.specs.declared.turn.LastTurn.{LastTurn}
 use Rattle.http_conn.specs.declared.turn.LastTurn.TheVariants as turn
+use Rattle.http_conn.specs.declared.turn.LastLinger.TheVariants as linger
 use Rattle.http_conn.specs.Items.{Item, BeginsItem}
+use Rattle.http_conn.specs.Known.{KnownOutside}
 use Rattle.http_conn.specs.Replies.{IsNoteFor, IsFitting, IsResponse, AreReplies, first_part, item_ask}
 use Rattle.http_conn.specs.Rest.{StandsAs, is_awaited, is_whole}
 use Rattle.http_conn.specs.Reader.{SeenReader, StandsFor, item_kept}
@@ -27,6 +29,7 @@ use Rattle.http_conn.specs.Conn.{SeenConn, is_usable, Streams, StreamsWhile, Tur
 use Rattle.http_conn.specs.Turns.{IsNoteOf, LeavesItem, TakesNote}
 use Rattle.http_conn.specs.ConnInside.{IsPlanOf, IsPlanned, IsHeld}
 use Rattle.http_conn.proofs.ConnLemmas.{FollowsMay, usable-streams, sent-breaks}
+use Rattle.http_conn.proofs.OpenLemmas.{open-link, IsOnItsWay, still-open}
 
 -- what was asked, and the note for it
 pub record IsReady (c : SeenConn) (plan : Option Plan) (note : Note) : Type 0 where
@@ -36,24 +39,29 @@ pub record IsReady (c : SeenConn) (plan : Option Plan) (note : Note) : Type 0 wh
   pub noted : IsNoteFor ask note
   pub none_pending : c.pending ≡ []
   pub goes_on : says_last c.notes ≡ false
+  pub not_shut : c.linger ≡ linger.Open
 
 -- where the last turn asked, a note may come
 ready-at : (t : LastTurn) (c : SeenConn) (rest : List ℕ) (plan : Option Plan) (note : Note) → c.turn ≡ t → TurnFits t c rest → IsPlanned t c.site c.reader.stage plan → IsNoteOf t note
+    → c.linger ≡ linger.Open
     → IsReady c plan note
-ready-at (turn.Asked ask) c rest plan note is fits planned noted = record {
+ready-at (turn.Asked ask) c rest plan note is fits planned noted not_shut = record {
   usable = ap is_usable is;
   ask = ask;
   planned = planned;
   noted = noted;
   none_pending = fits.none_pending;
   goes_on = fits.goes_on;
+  not_shut = not_shut;
 }
-ready-at other c rest plan note is fits planned noted = absurd noted
+ready-at other c rest plan note is fits planned noted not_shut = absurd noted
 
 -- the same of a connection that holds
-pub ready : (c seen : SeenConn) (plan : Option Plan) (u : Unsent) (note : Note) → IsHeld c plan u → c ≡ seen → IsNoteOf seen.turn note → IsReady c plan note
-ready c seen plan u note held is noted =
+pub ready : (known : Option KnownOutside) (c seen : SeenConn) (plan : Option Plan) (u : Unsent) (note : Note) → IsHeld known c plan u → c ≡ seen → IsNoteOf seen.turn note
+    → seen.linger ≡ linger.Open → IsReady c plan note
+ready known c seen plan u note held is noted not_shut =
     ready-at c.turn c held.conn.rest plan note refl held.conn.turn_fits held.planned (subst (λ (x : SeenConn). IsNoteOf x.turn note) (sym is) noted)
+    (ap (λ (x : SeenConn). x.linger) is ∙ not_shut)
 
 -- what is served is of the site
 pub served-of : (site : SeenSite) (s : Stage) (ask : Ask) (plan : Option Plan) → IsPlanOf site s ask plan → IfSome plan (λ p. IsServedOf site p.served)
@@ -154,8 +162,8 @@ module _ (fitting : (site : SeenSite) (limits : Limits) (notes : List Note) (byt
       record {
         items = s.items ++ a.item ∷ [];
         replies = s.replies ++ (first_part a.item ++ response);
-        fitting = subst (λ l. IsFitting c.site l (c.notes ++ note ∷ []) t.received (s.items ++ a.item ∷ []) (drop leaves.size conn.rest)) (sym limits)
-            (fitting c.site c.reader.limits c.notes t.received s.items conn.rest a.item leaves.size note s.fitting ready.goes_on leaves.begins a.noted);
+        fitting = subst (λ l. IsFitting c.site l (c.notes ++ note ∷ []) t.before_shut (s.items ++ a.item ∷ []) (drop leaves.size conn.rest)) (sym limits)
+            (fitting c.site c.reader.limits c.notes t.before_shut s.items conn.rest a.item leaves.size note s.fitting ready.goes_on leaves.begins a.noted);
         are_replies = replies c.site s.items c.notes s.replies a.item note response s.are_replies a.is_response;
         stream = ap (λ xs. xs ++ response) sent ∙ append_assoc s.replies (first_part a.item) response
             ∙ sym (append-nil (s.replies ++ (first_part a.item ++ response))) ∙ ap (λ xs. (s.replies ++ (first_part a.item ++ response)) ++ xs) (sym none);
@@ -168,13 +176,17 @@ module _ (fitting : (site : SeenSite) (limits : Limits) (notes : List Note) (byt
 
   -- the connection holds with its response
   pub conn-answered : IsConn (conn_answered c note response r')
-  conn-answered = record {
-    rest = drop leaves.size conn.rest;
-    stands = leaves.stands;
-    turn_fits = bytes c.site a.item note response a.is_response;
-    ended = λ e. absurd (cc);
-    streams = told-answered c.told (usable-streams c conn.rest conn.streams ready.usable);
-  }
+  conn-answered =
+      let way = still-open c (conn_answered c note response r') conn ready.not_shut refl refl (open-link c conn ready.not_shut) in
+      record {
+        rest = drop leaves.size conn.rest;
+        stands = leaves.stands;
+        turn_fits = bytes c.site a.item note response a.is_response;
+        ended = λ e. absurd (cc);
+        linger_fits = way.fits;
+        link = way.link;
+        streams = told-answered c.told (usable-streams c conn.rest conn.streams ready.usable);
+      }
 
 -- ## Want of memory
 
@@ -195,18 +207,26 @@ told-lost may c rest (Some t) stands s =
       front = b.front;
     }
 
+-- its link is still open
+way-lost : (c : SeenConn) → IsConn c → c.linger ≡ linger.Open → IsOnItsWay (record c { turn = turn.NoMemory })
+way-lost c is not_shut = still-open c (record c { turn = turn.NoMemory }) is not_shut refl refl (open-link c is not_shut)
+
 -- where memory lacks for the response the connection holds, and can only be ended
-pub held-lost : FollowsMay → (c : SeenConn) (plan : Option Plan) (u : Unsent) (note : Note) → IsHeld c plan u → IsReady c plan note → IsHeld (record c { turn = turn.NoMemory }) plan u
-held-lost may c plan u note held ready = record {
+pub held-lost : FollowsMay → (known : Option KnownOutside) (c : SeenConn) (plan : Option Plan) (u : Unsent) (note : Note) → IsHeld known c plan u → IsReady c plan note
+    → IsHeld known (record c { turn = turn.NoMemory }) plan u
+held-lost may known c plan u note held ready = record {
   conn = record {
     rest = held.conn.rest;
     stands = held.conn.stands;
     turn_fits = tt;
     ended = λ e. absurd (cc);
+    linger_fits = (way-lost c held.conn ready.not_shut).fits;
+    link = (way-lost c held.conn ready.not_shut).link;
     streams = told-lost may c held.conn.rest c.told held.conn.stands (usable-streams c held.conn.rest held.conn.streams ready.usable);
   };
   planned = tt;
   unsent = held.unsent;
+  client = held.client;
 }
 
 -- ## The connection with its response
@@ -219,26 +239,27 @@ module _ (fitting : (site : SeenSite) (limits : Limits) (notes : List Note) (byt
     → AreReplies site (items ++ item ∷ []) (notes ++ note ∷ []) (replies ++ (first_part item ++ response)))
     (bytes : (site : SeenSite) (item : Item) (note : Note) (response : List ℕ) → IsResponse site item note response → 0 < length response)
     (first : (notes : List Note) (s : Stage) (item : Item) → item_kept s ≡ Some item → says_last notes ≡ false → what_follows notes s ≡ first_part item)
-    (c seen : SeenConn) (plan : Option Plan) (u u' : Unsent) (note : Note) (notes' : List Note) (r' : SeenReader) (held : IsHeld c plan u) (is : c ≡ seen)
-    (asked : IsNoteOf seen.turn note) (notes_are : notes' ≡ c.notes ++ note ∷ [])
+    (known : Option KnownOutside) (c seen : SeenConn) (plan : Option Plan) (u u' : Unsent) (note : Note) (notes' : List Note) (r' : SeenReader) (held : IsHeld known c plan u)
+    (is : c ≡ seen) (asked : IsNoteOf seen.turn note) (not_shut : seen.linger ≡ linger.Open) (notes_are : notes' ≡ c.notes ++ note ∷ [])
     (planned : (request : RequestParts) → plan ≡ Some (plan_for c.site request) → IsResponse c.site (inl request) note (pending_bytes c.site u'))
     (refused : plan ≡ None → (expected : Bool) → IsResponse c.site (inr (record { code = note.code; expected = expected })) note (pending_bytes c.site u'))
     (limits : r'.limits ≡ c.reader.limits)
     (leaves : (item : Item) (rest : List ℕ) → item_kept c.reader.stage ≡ Some item → StandsFor c.reader rest → LeavesItem item c.reader r' rest) where
   -- the item that was asked for, with its response
   here : IsAnswered c note (pending_bytes c.site u')
-  here = answered c plan note (pending_bytes c.site u') (ready c seen plan u note held is asked) planned refused
+  here = answered c plan note (pending_bytes c.site u') (ready known c seen plan u note held is asked not_shut) planned refused
 
   -- the connection holds
   pub held-answered : IsUnsentOf c.site u' → (is_awaited r'.stage ≡ true → is_whole c.reader.stage ≡ false)
-      → IsHeld (record c { notes = notes'; pending = pending_bytes c.site u'; reader = r'; turn = turn.Answered }) plan u'
+      → IsHeld known (record c { notes = notes'; pending = pending_bytes c.site u'; reader = r'; turn = turn.Answered }) plan u'
   held-answered of untold =
-      subst (λ ns. IsHeld (record c { notes = ns; pending = pending_bytes c.site u'; reader = r'; turn = turn.Answered }) plan u') (sym notes_are)
+      subst (λ ns. IsHeld known (record c { notes = ns; pending = pending_bytes c.site u'; reader = r'; turn = turn.Answered }) plan u') (sym notes_are)
       (record {
-        conn = conn-answered fitting replies bytes first c plan note (pending_bytes c.site u') r' held.conn (ready c seen plan u note held is asked) here limits
+        conn = conn-answered fitting replies bytes first c plan note (pending_bytes c.site u') r' held.conn (ready known c seen plan u note held is asked not_shut) here limits
             (leaves here.item held.conn.rest here.kept held.conn.stands) untold;
         planned = tt;
         unsent = of;
+        client = held.client;
       })
 
   -- the next item has its response

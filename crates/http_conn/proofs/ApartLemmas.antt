@@ -100,7 +100,7 @@ found-expects limits unread (stage.Refused code expected) rest h is = refused-ex
 -- ## Where no byte stands behind the answered requests
 
 -- no byte is a front of a head
-none-front : (limits : Limits) → IsHeadFront limits []
+pub none-front : (limits : Limits) → IsHeadFront limits []
 none-front limits = record {
   small = omega arith;
   unended = inl (record { blank = []; front = []; blank_lines = All-nil _; front_line = All-nil _; short = omega arith; bytes_are = refl });

@@ -21,16 +21,20 @@ use Rattle.http_conn.specs.declared.turn.ReadTurn.{ReadTurn}
 use Rattle.http_conn.specs.declared.turn.ReadTurn.TheVariants as read
 use Rattle.http_conn.specs.declared.turn.WriteTurn.{WriteTurn}
 use Rattle.http_conn.specs.declared.turn.WriteTurn.TheVariants as write
+use Rattle.http_conn.specs.declared.turn.LastLinger.TheVariants as linger
 use Rattle.http_conn.specs.Items.{Item}
-use Rattle.http_conn.specs.Replies.{IsAskedIn, AreNotesOf, IsFitting, AreReplies, MayFollow}
-use Rattle.http_conn.specs.Rest.{StandsAs, is_awaited, is_in_head}
+use Rattle.http_conn.specs.Replies.{IsAskedIn, IsFitting, AreReplies, MayFollow}
+use Rattle.http_conn.specs.Rest.{StandsAs, is_awaited}
 use Rattle.http_conn.specs.Reader.{SeenReader, StandsFor, IsReading, finds_waiting, finds_more, finds_end, finds_failure, AnswerFinds, KeepsAll, ReadsNext}
 use Rattle.http_conn.specs.Follows.{what_follows}
 use Rattle.http_conn.specs.Outgoing.{Unsent, IsUnsentOf, pending_bytes}
 use Rattle.http_conn.specs.Writing.{SendsOn, with_sent}
-use Rattle.http_conn.specs.Conn.{SeenConn, IsFresh, is_usable, Streams, BrokeOff, StreamsWhile, TurnFits, IsConn}
+use Rattle.http_conn.specs.Conn.{SeenConn, is_usable, LinkFits, Streams, BrokeOff, StreamsWhile, TurnFits, IsConn}
+use Rattle.http_conn.specs.Known.{KnownOutside}
 use Rattle.http_conn.specs.Turns.{after_reading, after_writing, is_interim, is_more, is_gone, is_read_failure, pending_after, KeepsRead, FindsClient, ReadFinds, ReadsOn}
 use Rattle.http_conn.specs.ConnInside.{IsPlanOf, IsTurnOf, unsent_after, TakesIn, IsPlanned, IsHeld}
+use Rattle.http_conn.proofs.KnownLemmas.{client-received, client-sent}
+use Rattle.http_conn.proofs.OpenLemmas.{before-open, told-open_received, told-open_sent, open-link, IsOnItsWay, still-open}
 use Rattle.http_conn.proofs.ReaderLemmas.{KeepsKept, or-nothing}
 
 -- the first items of the bytes stay the first, with their notes
@@ -47,13 +51,14 @@ FollowsMay = (limits : Limits) (notes : List Note) (unread : List ℕ) (s : Stag
 
 module _ (stays : Stays) (goes_on : KeepsKept) (may : FollowsMay) (c c' : SeenConn) (rest got : List ℕ) (t : LinkTold)
     (site : c'.site ≡ c.site) (limits : c'.reader.limits ≡ c.reader.limits) (notes : c'.notes ≡ c.notes)
-    (stands : StandsFor c.reader rest) (none : c.pending ≡ []) (comes : got ≡ take (length got) t.coming) (s : Streams c rest t) where
+    (stands : StandsFor c.reader rest) (none : c.pending ≡ []) (not_shut : t.shuts ≡ 0) (comes : got ≡ take (length got) t.coming) (s : Streams c rest t) where
   -- the items are the first of what was received then
-  fitting-read : IsFitting c'.site c'.reader.limits c'.notes (with_received (length got) t).received s.items (rest ++ got)
+  fitting-read : IsFitting c'.site c'.reader.limits c'.notes (with_received (length got) t).before_shut s.items (rest ++ got)
   fitting-read =
       rw (site, limits, notes)
-      (subst (λ xs. IsFitting c.site c.reader.limits c.notes (t.received ++ xs) s.items (rest ++ got)) comes
-      (stays c.site c.reader.limits c.notes t.received s.items rest got s.fitting))
+      (subst (λ xs. IsFitting c.site c.reader.limits c.notes xs s.items (rest ++ got))
+      (ap (λ xs. t.before_shut ++ xs) comes ∙ sym (before-open (length got) t not_shut))
+      (stays c.site c.reader.limits c.notes t.before_shut s.items rest got s.fitting))
 
   -- the replies are the same
   replies-read : AreReplies c'.site s.items c'.notes s.replies
@@ -101,7 +106,7 @@ follows-told notes s s' more before after goes_on told =
     ∙ ap (λ b. (if b && not (says_last notes) then continue_text else []) ++ more) (sym before)
 
 -- a count that rose isn't 0
-rises-some : (old new : ℕ) → Rises old new → 0 < new
+pub rises-some : (old new : ℕ) → Rises old new → 0 < new
 rises-some old new rises = grind (arith, rises.0, rises.1)
 
 -- the reply stream of a connection that is usable
@@ -146,35 +151,42 @@ conn_after c link' pending' r' turn' = record c { told = link'.told; counts = li
 module _ (stays : Stays) (goes_on : KeepsKept) (may : FollowsMay) (c : SeenConn) (link' : LinkSeen) (pending' : List ℕ) (r' : SeenReader) (turn' : LastTurn)
     (rest got : List ℕ) (limits : r'.limits ≡ c.reader.limits) (stands : StandsFor c.reader rest) (none : c.pending ≡ [])
     (told_is : link'.told ≡ option_map (with_received (length got)) c.told) (gives : IfSome c.told (λ t. got ≡ take (length got) t.coming))
-    (s : IfSome c.told (Streams c rest)) where
+    (link : IfSome c.told (LinkFits linger.Open 0)) (s : IfSome c.told (Streams c rest)) where
   -- the stream of a link that may tell goes on
   pub told-goes : what_follows c.notes r'.stage ≡ what_follows c.notes c.reader.stage ++ pending' → IfSome link'.told (Streams (conn_after c link' pending' r' turn') (rest ++ got))
-  told-goes further = subst (λ o. IfSome o (Streams (conn_after c link' pending' r' turn') (rest ++ got))) (sym told_is) (each c.told gives s)
+  told-goes further = subst (λ o. IfSome o (Streams (conn_after c link' pending' r' turn') (rest ++ got))) (sym told_is) (each c.told gives link s)
     where
       -- of one that tells, and of one that doesn't
-      each : (told : Option LinkTold) → IfSome told (λ t. got ≡ take (length got) t.coming) → IfSome told (Streams c rest)
+      each : (told : Option LinkTold) → IfSome told (λ t. got ≡ take (length got) t.coming) → IfSome told (LinkFits linger.Open 0) → IfSome told (Streams c rest)
           → IfSome (option_map (with_received (length got)) told) (Streams (conn_after c link' pending' r' turn') (rest ++ got))
-      each None comes streams = tt
-      each (Some t) comes streams =
-          stream-read stays goes_on may c (conn_after c link' pending' r' turn') rest got t refl limits refl stands none comes streams further
+      each None comes still streams = tt
+      each (Some t) comes still streams =
+          stream-read stays goes_on may c (conn_after c link' pending' r' turn') rest got t refl limits refl stands none still.shuts comes streams further
 
   -- or it breaks off
   pub told-breaks : IfSome link'.told (BrokeOff (conn_after c link' pending' r' turn'))
-  told-breaks = subst (λ o. IfSome o (BrokeOff (conn_after c link' pending' r' turn'))) (sym told_is) (each c.told gives s)
+  told-breaks = subst (λ o. IfSome o (BrokeOff (conn_after c link' pending' r' turn'))) (sym told_is) (each c.told gives link s)
     where
       -- of one that tells, and of one that doesn't
-      each : (told : Option LinkTold) → IfSome told (λ t. got ≡ take (length got) t.coming) → IfSome told (Streams c rest)
+      each : (told : Option LinkTold) → IfSome told (λ t. got ≡ take (length got) t.coming) → IfSome told (LinkFits linger.Open 0) → IfSome told (Streams c rest)
           → IfSome (option_map (with_received (length got)) told) (BrokeOff (conn_after c link' pending' r' turn'))
-      each None comes streams = tt
-      each (Some t) comes streams =
-          stream-breaks stays goes_on may c (conn_after c link' pending' r' turn') rest got t refl limits refl stands none comes streams
+      each None comes still streams = tt
+      each (Some t) comes still streams =
+          stream-breaks stays goes_on may c (conn_after c link' pending' r' turn') rest got t refl limits refl stands none still.shuts comes streams
 
 -- what tells the client to send the body isn't empty
 some-continue : 0 < length continue_text
 some-continue = omega arith
 
 module _ (stays : Stays) (goes_on : KeepsKept) (may : FollowsMay) (c : SeenConn) (link' : LinkSeen) (pending' : List ℕ) (r' : SeenReader) (plan' : Option Plan)
-    (conn : IsConn c) (usable : is_usable c.turn ≡ true) (none : c.pending ≡ []) (open_still : says_last c.notes ≡ false) (reading : IsReading r') where
+    (conn : IsConn c) (usable : is_usable c.turn ≡ true) (none : c.pending ≡ []) (open_still : says_last c.notes ≡ false) (not_shut : c.linger ≡ linger.Open)
+    (reading : IsReading r') where
+  -- its link is still open
+  way-read : (turn' : LastTurn) (got : List ℕ) → link'.told ≡ option_map (with_received (length got)) c.told → IsOnItsWay (conn_after c link' pending' r' turn')
+  way-read turn' got is =
+      still-open c (conn_after c link' pending' r' turn') conn not_shut refl refl
+      (subst (λ o. IfSome o (LinkFits linger.Open 0)) (sym is) (told-open_received (length got) c.told (open-link c conn not_shut)))
+
   -- what holds of the connection after a turn of reading
   conn-read : (answer : ReadTurn) (given : RequestAnswer) → ReadsNext (record { told = c.told; counts = c.counts }) link' c.reader r' given
       → IsTurnOf c.site given r'.stage answer plan' → pending' ≡ pending_after answer c.pending → IsConn (conn_after c link' pending' r' (after_reading answer))
@@ -189,8 +201,10 @@ module _ (stays : Stays) (goes_on : KeepsKept) (may : FollowsMay) (c : SeenConn)
           goes_on = open_still;
         };
         ended = λ e. absurd (cc);
+        linger_fits = (way-read (turn.Asked ask) n.got n.told_is).fits;
+        link = (way-read (turn.Asked ask) n.got n.told_is).link;
         streams = told-goes stays goes_on may c link' pending' r' (turn.Asked ask) conn.rest n.got n.same_limits conn.stands none n.told_is n.gives
-            (usable-streams c conn.rest conn.streams usable)
+            (open-link c conn not_shut) (usable-streams c conn.rest conn.streams usable)
             (follows-same c.notes c.reader.stage r'.stage pending' (n.told_once ∙ or-nothing (is_awaited c.reader.stage) false refl) (left ∙ none));
       }
   conn-read read.Interim given reads of left =
@@ -200,8 +214,10 @@ module _ (stays : Stays) (goes_on : KeepsKept) (may : FollowsMay) (c : SeenConn)
         stands = n.stands conn.rest conn.stands;
         turn_fits = subst (λ xs. 0 < length xs) (sym left) some-continue;
         ended = λ e. absurd (cc);
+        linger_fits = (way-read turn.Interim n.got n.told_is).fits;
+        link = (way-read turn.Interim n.got n.told_is).link;
         streams = told-goes stays goes_on may c link' pending' r' turn.Interim conn.rest n.got n.same_limits conn.stands none n.told_is n.gives
-            (usable-streams c conn.rest conn.streams usable)
+            (open-link c conn not_shut) (usable-streams c conn.rest conn.streams usable)
             (follows-told c.notes c.reader.stage r'.stage pending' (n.not_twice refl) (n.finds conn.rest conn.stands) open_still left);
       }
   conn-read read.More given reads of left =
@@ -211,8 +227,10 @@ module _ (stays : Stays) (goes_on : KeepsKept) (may : FollowsMay) (c : SeenConn)
         stands = n.stands conn.rest conn.stands;
         turn_fits = record { none_pending = left ∙ none; none_whole = n.finds conn.rest conn.stands; goes_on = open_still };
         ended = λ e. absurd (cc);
+        linger_fits = (way-read turn.More n.got n.told_is).fits;
+        link = (way-read turn.More n.got n.told_is).link;
         streams = told-goes stays goes_on may c link' pending' r' turn.More conn.rest n.got n.same_limits conn.stands none n.told_is n.gives
-            (usable-streams c conn.rest conn.streams usable)
+            (open-link c conn not_shut) (usable-streams c conn.rest conn.streams usable)
             (follows-same c.notes c.reader.stage r'.stage pending' (n.told_once ∙ or-nothing (is_awaited c.reader.stage) false refl) (left ∙ none));
       }
   conn-read read.Gone given reads of left =
@@ -222,8 +240,10 @@ module _ (stays : Stays) (goes_on : KeepsKept) (may : FollowsMay) (c : SeenConn)
         stands = n.stands conn.rest conn.stands;
         turn_fits = record { none_pending = left ∙ none; none_whole = n.finds conn.rest conn.stands; goes_on = open_still };
         ended = λ e. record { found = rises-some c.counts.ends link'.counts.ends n.ends; all_came = n.none_comes refl };
+        linger_fits = (way-read turn.Gone n.got n.told_is).fits;
+        link = (way-read turn.Gone n.got n.told_is).link;
         streams = told-goes stays goes_on may c link' pending' r' turn.Gone conn.rest n.got n.same_limits conn.stands none n.told_is n.gives
-            (usable-streams c conn.rest conn.streams usable)
+            (open-link c conn not_shut) (usable-streams c conn.rest conn.streams usable)
             (follows-same c.notes c.reader.stage r'.stage pending' (n.told_once ∙ or-nothing (is_awaited c.reader.stage) false refl) (left ∙ none));
       }
   conn-read read.LinkFailed given reads of left =
@@ -233,16 +253,20 @@ module _ (stays : Stays) (goes_on : KeepsKept) (may : FollowsMay) (c : SeenConn)
         stands = n.stands conn.rest conn.stands;
         turn_fits = rises-some c.counts.faults link'.counts.faults n.faults;
         ended = λ e. absurd (cc);
+        linger_fits = (way-read turn.LinkFailed n.got n.told_is).fits;
+        link = (way-read turn.LinkFailed n.got n.told_is).link;
         streams = told-breaks stays goes_on may c link' pending' r' turn.LinkFailed conn.rest n.got n.same_limits conn.stands none n.told_is n.gives
-            (usable-streams c conn.rest conn.streams usable);
+            (open-link c conn not_shut) (usable-streams c conn.rest conn.streams usable);
       }
   conn-read read.NoMemory given reads of left = record {
     rest = reading.0;
     stands = reading.1;
     turn_fits = tt;
     ended = λ e. absurd (cc);
+    linger_fits = (way-read turn.NoMemory reads.got reads.told_is).fits;
+    link = (way-read turn.NoMemory reads.got reads.told_is).link;
     streams = told-breaks stays goes_on may c link' pending' r' turn.NoMemory conn.rest reads.got reads.same_limits conn.stands none reads.told_is reads.gives
-        (usable-streams c conn.rest conn.streams usable);
+        (open-link c conn not_shut) (usable-streams c conn.rest conn.streams usable);
   }
 
 -- the plan is that of what was asked
@@ -255,18 +279,21 @@ planned-read read.LinkFailed site given s plan of = tt
 planned-read read.NoMemory site given s plan of = tt
 
 -- a connection holds after a turn of reading
-pub held-read : Stays → KeepsKept → FollowsMay → (c seen : SeenConn) (plan plan' : Option Plan) (u u' : Unsent) (link' : LinkSeen) (r' : SeenReader) (answer : ReadTurn) (turn' : LastTurn)
-    → IsHeld c plan u → c ≡ seen → c.pending ≡ pending_bytes c.site u → is_usable seen.turn ≡ true → seen.pending ≡ [] → says_last seen.notes ≡ false
+pub held-read : Stays → KeepsKept → FollowsMay → (known : Option KnownOutside) (c seen : SeenConn) (plan plan' : Option Plan) (u u' : Unsent) (link' : LinkSeen) (r' : SeenReader) (answer : ReadTurn) (turn' : LastTurn)
+    → IsHeld known c plan u → c ≡ seen → c.pending ≡ pending_bytes c.site u → is_usable seen.turn ≡ true → seen.pending ≡ [] → says_last seen.notes ≡ false
+    → seen.linger ≡ linger.Open
     → TakesIn (record { told = c.told; counts = c.counts }) link' c.site c.reader r' u u' answer plan' → turn' ≡ after_reading answer
-    → IsHeld (conn_after c link' (pending_bytes c.site u') r' turn') plan' u'
-held-read stays goes_on may c seen plan plan' u u' link' r' answer turn' held is pending usable sent open_still takes turn_is =
-    subst (λ (x : LastTurn). IsHeld (conn_after c link' (pending_bytes c.site u') r' x) plan' u') (sym turn_is)
+    → IsHeld known (conn_after c link' (pending_bytes c.site u') r' turn') plan' u'
+held-read stays goes_on may known c seen plan plan' u u' link' r' answer turn' held is pending usable sent open_still not_shut takes turn_is =
+    subst (λ (x : LastTurn). IsHeld known (conn_after c link' (pending_bytes c.site u') r' x) plan' u') (sym turn_is)
     (record {
       conn = conn-read stays goes_on may c link' (pending_bytes c.site u') r' plan' held.conn (ap (λ (x : SeenConn). is_usable x.turn) is ∙ usable)
-          (ap (λ (x : SeenConn). x.pending) is ∙ sent) (ap (λ (x : SeenConn). says_last x.notes) is ∙ open_still) takes.reading answer takes.given takes.reads takes.turn_of
+          (ap (λ (x : SeenConn). x.pending) is ∙ sent) (ap (λ (x : SeenConn). says_last x.notes) is ∙ open_still)
+          (ap (λ (x : SeenConn). x.linger) is ∙ not_shut) takes.reading answer takes.given takes.reads takes.turn_of
           (pending-read answer c.site u u' takes.unsent_is ∙ ap (pending_after answer) (sym pending));
       planned = planned-read answer c.site takes.given r'.stage plan' takes.turn_of;
       unsent = unsent-read answer c.site u u' takes.unsent_is held.unsent;
+      client = client-received known c.told link'.told (length takes.reads.got) takes.reads.told_is held.client;
     })
 
 -- ## What a turn of reading says
@@ -351,6 +378,8 @@ reads-on c seen plan' u u' link' r' answer turn' is pending takes turn_is =
       notes = refl;
       pending = pending-read answer c.site u u' takes.unsent_is ∙ ap (pending_after answer) (sym pending);
       turn = turn_is;
+      linger = refl;
+      dropped = refl;
       got = reads.got;
       told = reads.told_is;
       gives = reads.gives;
@@ -428,65 +457,29 @@ planned-written write.NotReady site s plan = tt
 planned-written write.LinkFailed site s plan = tt
 
 -- a connection holds after a turn of writing
-pub held-written : FollowsMay → (c seen : SeenConn) (plan : Option Plan) (u u' : Unsent) (link' : LinkSeen) (answer : WriteTurn) (turn' : LastTurn)
-    → IsHeld c plan u → c ≡ seen → is_usable seen.turn ≡ true → SendsOn c.told link'.told c.counts link'.counts c.pending (pending_bytes c.site u') answer
-    → IsUnsentOf c.site u' → turn' ≡ after_writing answer → IsHeld (conn_after c link' (pending_bytes c.site u') c.reader turn') plan u'
-held-written may c seen plan u u' link' answer turn' held is usable sends of turn_is =
+pub held-written : FollowsMay → (known : Option KnownOutside) (c seen : SeenConn) (plan : Option Plan) (u u' : Unsent) (link' : LinkSeen) (answer : WriteTurn) (turn' : LastTurn)
+    → IsHeld known c plan u → c ≡ seen → is_usable seen.turn ≡ true → seen.linger ≡ linger.Open
+    → SendsOn c.told link'.told c.counts link'.counts c.pending (pending_bytes c.site u') answer
+    → IsUnsentOf c.site u' → turn' ≡ after_writing answer → IsHeld known (conn_after c link' (pending_bytes c.site u') c.reader turn') plan u'
+held-written may known c seen plan u u' link' answer turn' held is usable not_shut sends of turn_is =
     let usable' : is_usable c.turn ≡ true = ap (λ (x : SeenConn). is_usable x.turn) is ∙ usable in
+    let not_shut' : c.linger ≡ linger.Open = ap (λ (x : SeenConn). x.linger) is ∙ not_shut in
     let streams = usable-streams c held.conn.rest held.conn.streams usable' in
-    subst (λ (x : LastTurn). IsHeld (conn_after c link' (pending_bytes c.site u') c.reader x) plan u') (sym turn_is)
+    let way = still-open c (conn_after c link' (pending_bytes c.site u') c.reader (after_writing answer)) held.conn not_shut' refl refl
+    (subst (λ o. IfSome o (LinkFits linger.Open 0)) (sym sends.told_is) (told-open_sent sends.sent c.told (open-link c held.conn not_shut'))) in
+    subst (λ (x : LastTurn). IsHeld known (conn_after c link' (pending_bytes c.site u') c.reader x) plan u') (sym turn_is)
     (record {
       conn = record {
         rest = held.conn.rest;
         stands = held.conn.stands;
         turn_fits = fits-written answer c link' (pending_bytes c.site u') held.conn.rest sends;
         ended = λ e. absurd (gone-written answer e);
+        linger_fits = way.fits;
+        link = way.link;
         streams = subst (λ o. IfSome o (StreamsWhile (is_usable (after_writing answer)) (conn_after c link' (pending_bytes c.site u') c.reader (after_writing answer)) held.conn.rest))
             (sym sends.told_is) (told-written may answer c link' (pending_bytes c.site u') sends.sent held.conn.rest c.told held.conn.stands streams sends.front);
       };
       planned = planned-written answer c.site c.reader.stage plan;
       unsent = of;
+      client = client-sent known c.told link'.told sends.sent sends.told_is held.client;
     })
-
--- ## A new connection
-
--- where the head isn't whole no client was found that waits
-head-unawaited : (s : Stage) → is_in_head s ≡ true → is_awaited s ≡ false
-head-unawaited (stage.Head reader) is = refl
-head-unawaited (stage.Body request reader) is = absurd (false≢true is)
-head-unawaited (stage.Whole request) is = absurd (false≢true is)
-head-unawaited (stage.Refused code expected) is = absurd (false≢true is)
-
--- its stream
-fresh-streams : (c : SeenConn) (t : LinkTold) → c.notes ≡ [] → c.pending ≡ [] → is_in_head c.reader.stage ≡ true → IsFresh t → Streams c [] t
-fresh-streams c t none_noted none_pending in_head fresh = record {
-  items = [];
-  replies = [];
-  fitting = record {
-    first = record { requests = []; refusal = None; items_are = refl; spelled = sym (ap (λ (x : LinkTold). x.received) fresh); refused = tt };
-    noted = subst (AreNotesOf c.site []) (sym none_noted) tt;
-  };
-  are_replies = subst (λ notes. AreReplies c.site [] notes []) (sym none_noted) refl;
-  stream = ap (λ xs. t.sent ++ xs) none_pending ∙ append-nil t.sent ∙ ap (λ (x : LinkTold). x.sent) fresh
-      ∙ ap (λ b. if b && not (says_last c.notes) then continue_text else []) (sym (head-unawaited c.reader.stage in_head));
-}
-
--- the same of a link that may tell
-told-fresh : (c : SeenConn) (told : Option LinkTold) → c.notes ≡ [] → c.pending ≡ [] → is_in_head c.reader.stage ≡ true → IfSome told IsFresh → IfSome told (Streams c [])
-told-fresh c None none_noted none_pending in_head fresh = tt
-told-fresh c (Some t) none_noted none_pending in_head fresh = fresh-streams c t none_noted none_pending in_head fresh
-
--- a new connection holds
-pub held-new : (c : SeenConn) (u : Unsent) → c.turn ≡ turn.New → c.notes ≡ [] → c.pending ≡ [] → StandsFor c.reader [] → is_in_head c.reader.stage ≡ true
-    → IfSome c.told IsFresh → IsUnsentOf c.site u → IsHeld c None u
-held-new c u is_new none_noted none_pending stands in_head fresh of = record {
-  conn = record {
-    rest = [];
-    stands = stands;
-    turn_fits = subst (λ (x : LastTurn). TurnFits x c []) (sym is_new) (record { none_pending = none_pending; none_read = refl; none_noted = none_noted });
-    ended = λ e. absurd (let same : turn.New ≡ turn.Gone = sym is_new ∙ e in cc);
-    streams = subst (λ (x : LastTurn). IfSome c.told (StreamsWhile (is_usable x) c [])) (sym is_new) (told-fresh c c.told none_noted none_pending in_head fresh);
-  };
-  planned = subst (λ (x : LastTurn). IsPlanned x c.site c.reader.stage None) (sym is_new) tt;
-  unsent = of;
-}

@@ -18,6 +18,7 @@ use Rattle.http_conn.specs.declared.turn.ReadTurn.TheVariants as read
 use Rattle.http_conn.specs.Replies.{refusal_ask}
 use Rattle.http_conn.specs.Reader.{SeenReader, IsReading, ReadsNext}
 use Rattle.http_conn.specs.Outgoing.{Unsent, IsUnsentOf}
+use Rattle.http_conn.specs.Known.{KnownOutside, IsOfClient}
 use Rattle.http_conn.specs.Conn.{SeenConn, IsConn}
 
 -- the plan is that of the request
@@ -82,8 +83,9 @@ IsPlanned turn.NotReady site s plan = ⊤
 IsPlanned turn.LinkFailed site s plan = ⊤
 IsPlanned turn.NoMemory site s plan = ⊤
 
--- what holds of a connection, of the plan of its next response, and of what is left to send
-pub record IsHeld (c : SeenConn) (plan : Option Plan) (u : Unsent) : Type 0 where
+-- what holds of a connection whose type knows this, of the plan of its next response, and of what is left to send
+pub record IsHeld (known : Option KnownOutside) (c : SeenConn) (plan : Option Plan) (u : Unsent) : Type 0 where
   pub conn : IsConn c
   pub planned : IsPlanned c.turn c.site c.reader.stage plan
   pub unsent : IsUnsentOf c.site u
+  pub client : IsOfClient known c.told

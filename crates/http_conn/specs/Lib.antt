@@ -1,7 +1,10 @@
+pub mod Answered
 pub mod Conn
 pub mod ConnInside
 pub mod Follows
 pub mod Items
+pub mod Known
+pub mod LingerInside
 pub mod Outgoing
 pub mod OutgoingInside
 pub mod Reader

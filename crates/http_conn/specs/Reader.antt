@@ -1,5 +1,5 @@
 -- A reader of the requests that come over a link: what it keeps, and what a turn of reading takes and finds.
-use Rattle.std.specs.Prelude.{◌≡◌, ◌⊎◌, ℕ, ◌≤◌, Bool, true, false, ◌||◌, List, [], ◌++◌, take, length, Option, Some, None, option_map, is_some, IfSome, ⊤}
+use Rattle.std.specs.Prelude.{◌≡◌, ◌==◌, ◌⊎◌, ℕ, ◌≤◌, Bool, true, false, ◌&&◌, ◌||◌, List, [], ◌++◌, take, length, Option, Some, None, option_map, is_some, IfSome, ⊤}
 use Rattle.std.proofs.Common.{inl, inr}
 use Rattle.mpm_base.specs.Count.{RisesWhere, RisesExactlyWhere}
 use Rattle.mpm_base.specs.Link.{LinkSeen, with_received}
@@ -26,6 +26,10 @@ StandsFor r rest = StandsAs r.limits r.unread r.stage rest
 -- what the reader keeps stands for some bytes
 abbrev pub IsReading : SeenReader → Type 0
 IsReading r = (rest : List ℕ) × StandsFor r rest
+
+-- the reader keeps no byte, and no head is accepted
+abbrev pub keeps_none : SeenReader → Bool
+keeps_none r = is_in_head r.stage && (length r.unread == 0)
 
 -- the item that was read
 abbrev pub item_kept : Stage → Option Item

@@ -1,7 +1,7 @@
 -- What each turn of a connection leaves of it.
-use Rattle.std.specs.Prelude.{◌≡◌, ℕ, Bool, true, false, ◌||◌, List, [], ◌∷◌, ◌++◌, take, drop, length, option_map, IfSome, ⊤}
+use Rattle.std.specs.Prelude.{◌≡◌, ◌==◌, ℕ, ◌+◌, Bool, true, false, not, ◌||◌, List, [], ◌∷◌, ◌++◌, take, drop, length, option_map, IfSome, ⊤}
 use Rattle.mpm_base.specs.Count.{RisesWhere, RisesExactlyWhere}
-use Rattle.mpm_base.specs.Link.{with_received}
+use Rattle.mpm_base.specs.Link.{OnlyFaults, with_received, after_shut}
 use Rattle.mpm_base.specs.declared.note.Note.{Note}
 use Rattle.http_core.specs.Code.{continue_text}
 use Rattle.http_conn.specs.declared.turn.LastTurn.{LastTurn}
@@ -10,6 +10,10 @@ use Rattle.http_conn.specs.declared.turn.ReadTurn.{ReadTurn}
 use Rattle.http_conn.specs.declared.turn.ReadTurn.TheVariants as read
 use Rattle.http_conn.specs.declared.turn.WriteTurn.{WriteTurn}
 use Rattle.http_conn.specs.declared.turn.WriteTurn.TheVariants as write
+use Rattle.http_conn.specs.declared.turn.LingerTurn.{LingerTurn}
+use Rattle.http_conn.specs.declared.turn.LingerTurn.TheVariants as left
+use Rattle.http_conn.specs.declared.turn.LastLinger.{LastLinger}
+use Rattle.http_conn.specs.declared.turn.LastLinger.TheVariants as linger
 use Rattle.http_conn.specs.Items.{Item, BeginsItem}
 use Rattle.http_conn.specs.Replies.{IsAskedIn, IsNoteFor, IsResponse}
 use Rattle.http_conn.specs.Rest.{is_awaited}
@@ -82,6 +86,8 @@ pub record ReadsOn (old new : SeenConn) (answer : ReadTurn) : Type 0 where
   pub notes : new.notes ≡ old.notes
   pub pending : new.pending ≡ pending_after answer old.pending
   pub turn : new.turn ≡ after_reading answer
+  pub linger : new.linger ≡ old.linger
+  pub dropped : new.dropped ≡ old.dropped
   pub got : List ℕ
   pub told : new.told ≡ option_map (with_received (length got)) old.told
   pub gives : IfSome old.told (λ t. got ≡ take (length got) t.coming)
@@ -139,6 +145,8 @@ pub record WritesOn (old new : SeenConn) (answer : WriteTurn) : Type 0 where
   pub notes : new.notes ≡ old.notes
   pub reader : new.reader ≡ old.reader
   pub turn : new.turn ≡ after_writing answer
+  pub linger : new.linger ≡ old.linger
+  pub dropped : new.dropped ≡ old.dropped
   pub sent : List ℕ
   pub front : old.pending ≡ sent ++ new.pending
   pub told : new.told ≡ option_map (with_sent sent) old.told
@@ -147,3 +155,81 @@ pub record WritesOn (old new : SeenConn) (answer : WriteTurn) : Type 0 where
   pub late_writes : RisesExactlyWhere (is_not_ready answer) old.counts.late_writes new.counts.late_writes
   pub late_reads : new.counts.late_reads ≡ old.counts.late_reads
   pub ends : new.counts.ends ≡ old.counts.ends
+
+-- ## The way out
+
+-- the connection after a half-close that was made, or failed
+abbrev pub after_half_close : Bool → LastLinger
+after_half_close true = linger.Shut
+after_half_close false = linger.ShutFailed
+
+-- the link was half-closed, or the call failed
+pub record ShutsOn (old new : SeenConn) (answer : Bool) : Type 0 where
+  pub name : new.name ≡ old.name
+  pub child : new.child ≡ old.child
+  pub generation : new.generation ≡ old.generation
+  pub site : new.site ≡ old.site
+  pub notes : new.notes ≡ old.notes
+  pub pending : new.pending ≡ old.pending
+  pub reader : new.reader ≡ old.reader
+  pub turn : new.turn ≡ old.turn
+  pub linger : new.linger ≡ after_half_close answer
+  pub dropped : new.dropped ≡ old.dropped
+  pub told : new.told ≡ option_map (after_shut answer) old.told
+  pub counts : OnlyFaults (not answer) old.counts new.counts
+
+-- the connection after a linger turn that answered so
+abbrev pub after_linger : LingerTurn → LastLinger
+after_linger left.Drained = linger.Drained
+after_linger left.Sated = linger.Sated
+after_linger left.NotReady = linger.NotReady
+after_linger left.LinkFailed = linger.LinkFailed
+
+-- the turn found that the client closed its side
+abbrev pub is_drained : LingerTurn → Bool
+is_drained left.Drained = true
+is_drained left.Sated = false
+is_drained left.NotReady = false
+is_drained left.LinkFailed = false
+
+-- all was dropped that may be
+abbrev pub is_sated : LingerTurn → Bool
+is_sated left.Drained = false
+is_sated left.Sated = true
+is_sated left.NotReady = false
+is_sated left.LinkFailed = false
+
+-- the turn found that more may come
+abbrev pub is_linger_late : LingerTurn → Bool
+is_linger_late left.Drained = false
+is_linger_late left.Sated = false
+is_linger_late left.NotReady = true
+is_linger_late left.LinkFailed = false
+
+-- a read of the turn failed
+abbrev pub is_linger_failure : LingerTurn → Bool
+is_linger_failure left.Drained = false
+is_linger_failure left.Sated = false
+is_linger_failure left.NotReady = false
+is_linger_failure left.LinkFailed = true
+
+-- a linger turn drops what the link gives, at most 1,048,576 bytes with all that was dropped before
+pub record LingersOn (old new : SeenConn) (answer : LingerTurn) : Type 0 where
+  pub name : new.name ≡ old.name
+  pub child : new.child ≡ old.child
+  pub generation : new.generation ≡ old.generation
+  pub site : new.site ≡ old.site
+  pub notes : new.notes ≡ old.notes
+  pub pending : new.pending ≡ old.pending
+  pub reader : new.reader ≡ old.reader
+  pub turn : new.turn ≡ old.turn
+  pub linger : new.linger ≡ after_linger answer
+  pub got : List ℕ
+  pub told : new.told ≡ option_map (with_received (length got)) old.told
+  pub gives : IfSome old.told (λ t. got ≡ take (length got) t.coming)
+  pub dropped : new.dropped ≡ old.dropped + length got
+  pub sated : is_sated answer ≡ (new.dropped == 1048576)
+  pub faults : RisesWhere (is_linger_failure answer) old.counts.faults new.counts.faults
+  pub late_reads : RisesExactlyWhere (is_linger_late answer) old.counts.late_reads new.counts.late_reads
+  pub ends : RisesExactlyWhere (is_drained answer) old.counts.ends new.counts.ends
+  pub late_writes : new.counts.late_writes ≡ old.counts.late_writes

@@ -1,5 +1,5 @@
 //! One connection over its link.
-ghost use Rattle.std.specs.Prelude.{◌≡◌, ℕ, List, ◌==◌, ◌&&◌, ◌<◌, true, false, not, Bool, [], ◌∷◌, ◌++◌, length, Some, None, IfSome, IfOk, OnOk, OnErr};
+ghost use Rattle.std.specs.Prelude.{◌≡◌, ℕ, List, ◌==◌, ◌<◌, true, false, not, Bool, [], ◌∷◌, ◌++◌, length, Some, None, IfSome, IfOk, OnOk, OnErr};
 ghost use Rattle.std.proofs.Common.{inl, inr};
 ghost use Rattle.mpm_base.specs.Moment.{IsSecond};
 ghost use Rattle.mpm_base.specs.Notes.{says_last};
@@ -9,31 +9,39 @@ ghost use Rattle.http_core.specs.Code.{refuses_head};
 ghost use Rattle.http_conn.specs.Replies.{IsResponse};
 ghost use Rattle.http_conn.specs.Outgoing.{IsUnsentOf, pending_bytes};
 ghost use Rattle.http_conn.specs.declared.turn.LastTurn.TheVariants as turn;
-ghost use Rattle.http_conn.specs.Rest.{is_in_head};
-ghost use Rattle.http_conn.specs.Reader.{IsAnswerable, StandsFor};
-ghost use Rattle.http_conn.specs.Conn.{IsConn, IsFresh, is_usable};
-ghost use Rattle.http_conn.specs.Turns.{AsksNothing, IsNoteOf, ReadsOn, TakesNote, WritesOn};
+ghost use Rattle.http_conn.specs.declared.turn.LastLinger.TheVariants as linger;
+ghost use Rattle.http_conn.specs.Reader.{IsAnswerable, StandsFor, keeps_none};
+ghost use Rattle.http_conn.specs.Known.{IsOfClient};
+ghost use Rattle.http_conn.specs.Conn.{IsConn, IsFresh, is_usable, lingers};
+ghost use Rattle.http_conn.specs.Turns.{AsksNothing, IsNoteOf, LingersOn, ReadsOn, ShutsOn, TakesNote, WritesOn};
+ghost use Rattle.http_conn.specs.Answered.{IsEnded, IsEndOf, IsShown};
 
+use crate::ended::Ended;
 use crate::exchange::{ReadAnswer, read_item};
+use crate::known::{Known, Nothing};
 use crate::laws::{
     answered_items_go_on, answered_items_stay, follows_what_was_read, kept_bytes_go_on,
     kept_bytes_show_empty_rests, refusals_have_their_codes, replies_go_on, responses_have_bytes,
+    steps_wait_for_requests,
 };
+use crate::linger::drop_rest;
 use crate::outgoing::{Outgoing, WritesPairs, send};
 use crate::reader::RequestReader;
 use crate::responses::{refuse, respond};
-use crate::turn::{LastTurn, ReadTurn, WriteTurn};
+use crate::turn::{LastLinger, LastTurn, LingerTurn, ReadTurn, WriteTurn};
 use file_table::Site;
 use http_core::Plan;
 use http_read::Limits;
-use mpm_base::{ConnName, NoMemory, Note, Notes, Octets};
+use mpm_base::{Cause, ConnName, NoMemory, Note, Notes, Octets, Tail};
 use std::alloc::Global;
-use std::marker::Model;
+use std::marker::{Model, PhantomData};
+use std::snapshot::Snapshot;
 use std::sync::Arc;
 
-/// A connection over a link, served of the site of its generation.
+/// A connection over a link, served of the site of its generation. Where `N` knows what the clients send, the link is that of one
+/// of them.
 #[derive(Drop)]
-pub struct Conn<L: WritesPairs> {
+pub struct Conn<L: WritesPairs, N: Known> {
     alloc: Global,
     name: ConnName,
     child: u32,
@@ -46,9 +54,13 @@ pub struct Conn<L: WritesPairs> {
     turn: LastTurn,
     // The plan of the response to what the last turn asked; a refusal has none.
     plan: Option<Plan>,
+    linger: LastLinger,
+    // How many bytes were dropped while it lingered.
+    dropped: usize,
+    of: PhantomData<N>,
 }
 
-impl<L: WritesPairs> Model for Conn<L> {
+impl<L: WritesPairs, N: Known> Model for Conn<L, N> {
     ghost use Rattle.http_conn.specs.Conn.{SeenConn};
     ghost use Rattle.http_conn.specs.ConnInside.{IsHeld};
     ghost use Rattle.http_conn.specs.Outgoing.{pending_bytes};
@@ -66,9 +78,11 @@ impl<L: WritesPairs> Model for Conn<L> {
       pending = pending_bytes c.site.value c.unsent;
       reader = c.reader;
       turn = c.turn;
+      linger = c.linger;
+      dropped = c.dropped;
     } };
 
-    ghost invariant = { λ c. IsHeld (record {
+    ghost invariant = { λ c. IsHeld N.known (record {
       told = (L.seen c.link).told;
       counts = (L.seen c.link).counts;
       name = c.name;
@@ -79,10 +93,12 @@ impl<L: WritesPairs> Model for Conn<L> {
       pending = pending_bytes c.site.value c.unsent;
       reader = c.reader;
       turn = c.turn;
+      linger = c.linger;
+      dropped = c.dropped;
     }) c.plan c.unsent };
 }
 
-impl<L: WritesPairs> Conn<L> {
+impl<L: WritesPairs, N: Known> Conn<L, N> {
     /// A connection of that name over a link of which nothing was read, and to which nothing was written. Takes no memory.
     pub fn new(
         alloc: Global,
@@ -92,8 +108,9 @@ impl<L: WritesPairs> Conn<L> {
         limits: Limits,
         site: Arc<Site>,
         link: L,
-    ) -> Conn<L>
+    ) -> Conn<L, N>
         requires fresh { IfSome (L.seen link).told IsFresh }
+        requires client { IsOfClient N.known (L.seen link).told }
         ensures told { result.told ≡ (L.seen link).told }
         ensures counts { result.counts ≡ (L.seen link).counts }
         ensures name { result.name ≡ name }
@@ -105,6 +122,8 @@ impl<L: WritesPairs> Conn<L> {
         ensures pending { result.pending ≡ [] }
         ensures stands { StandsFor result.reader [] }
         ensures turn { result.turn ≡ turn.New }
+        ensures linger { result.linger ≡ linger.Open }
+        ensures dropped { result.dropped ≡ 0 }
     {
         Conn {
             alloc,
@@ -118,12 +137,46 @@ impl<L: WritesPairs> Conn<L> {
             reader: RequestReader::new(alloc, limits),
             turn: LastTurn::New,
             plan: None,
+            linger: LastLinger::Open,
+            dropped: 0,
+            of: PhantomData,
         }
     }
 
-    /// Shows what holds of each connection. Does nothing.
+    /// The same connection, of a type that knows this of its link.
+    pub fn known_as<M: Known>(self) -> Conn<L, M>
+        requires client { IsOfClient M.known self.told }
+        ensures same { result ≡ self }
+    {
+        Conn {
+            alloc: self.alloc,
+            name: self.name,
+            child: self.child,
+            generation: self.generation,
+            site: self.site,
+            link: self.link,
+            notes: self.notes,
+            unsent: self.unsent,
+            reader: self.reader,
+            turn: self.turn,
+            plan: self.plan,
+            linger: self.linger,
+            dropped: self.dropped,
+            of: PhantomData,
+        }
+    }
+
+    /// The same connection, of a type that knows nothing of the outside.
+    pub fn forget(self) -> Conn<L, Nothing>
+        ensures same { result ≡ self }
+    {
+        self.known_as()
+    }
+
+    /// Shows what holds of each connection, and what its type knows of its link. Does nothing.
     pub fn show(&self)
-        ensures { IsConn self.now }
+        ensures conn { IsConn self.now }
+        ensures client { IsOfClient N.known self.now.told }
     {
         let _ = &self.turn;
     }
@@ -151,7 +204,7 @@ impl<L: WritesPairs> Conn<L> {
 
     /// Whether each byte that was read is one of an answered request.
     pub fn rest_empty(&self) -> bool
-        ensures kept { result ≡ (is_in_head self.now.reader.stage && (length self.now.reader.unread == 0)) }
+        ensures kept { result ≡ keeps_none self.now.reader }
         ensures rest { (rest : List ℕ) → StandsFor self.now.reader rest → result ≡ (length rest == 0) }
     {
         kept_bytes_show_empty_rests();
@@ -178,6 +231,7 @@ impl<L: WritesPairs> Conn<L> {
         requires usable { is_usable self.old.turn ≡ true }
         requires sent { self.old.pending ≡ [] }
         requires open { says_last self.old.notes ≡ false }
+        requires not_shut { self.old.linger ≡ linger.Open }
         ensures reads { ReadsOn self.old self.new result }
         ensures still { (rest : List ℕ) → StandsFor self.old.reader rest → IsAnswerable self.old.reader rest → AsksNothing self.old self.new }
     {
@@ -201,6 +255,7 @@ impl<L: WritesPairs> Conn<L> {
     pub fn answer(&mut self, note: Note) -> Result<(), NoMemory>
         requires asked { IsNoteOf self.old.turn note }
         requires date { IsSecond note.date }
+        requires not_shut { self.old.linger ≡ linger.Open }
         ensures ok { OnOk result (TakesNote note self.old self.new) }
         ensures err { OnErr result (self.new ≡ record self.old { turn = turn.NoMemory }) }
     {
@@ -226,12 +281,76 @@ impl<L: WritesPairs> Conn<L> {
     /// Sends what is pending, until the link has no room. Takes no memory, and holds none for what is pending where nothing is.
     pub fn write_turn(&mut self) -> WriteTurn
         requires usable { is_usable self.old.turn ≡ true }
+        requires not_shut { self.old.linger ≡ linger.Open }
         ensures { WritesOn self.old self.new result }
     {
         follows_what_was_read();
         let turn = send(self.alloc, &mut self.link, &self.site, &mut self.unsent);
         self.turn = turn.leaves();
         turn
+    }
+
+    /// Half-closes the link: the client is told that no more comes. False where the call failed. Takes no memory.
+    pub fn shut(&mut self) -> bool
+        requires not_shut { self.old.linger ≡ linger.Open }
+        ensures { ShutsOn self.old self.new result }
+    {
+        let half_closed = self.link.shut();
+        self.linger = LastLinger::after_half_close(half_closed);
+        half_closed
+    }
+
+    /// Reads and drops what still comes, until the link gives no more, or 1,048,576 bytes were dropped in all turns. Takes no
+    /// memory.
+    pub fn linger_turn(&mut self) -> LingerTurn
+        requires lingers { lingers self.old.linger ≡ true }
+        ensures { LingersOn self.old self.new result }
+    {
+        let turn = drop_rest(&mut self.link, &mut self.dropped);
+        self.linger = turn.leaves();
+        turn
+    }
+
+    /// Closes the link. Takes no memory.
+    pub fn end(self, cause: Cause, tail: Tail) -> Ended<L>
+        requires shown { IsShown cause tail self }
+        ensures ends { IsEndOf self cause tail result }
+        ensures ended { IsEnded result }
+        ensures client { IsOfClient N.known result.told }
+    {
+        follows_what_was_read();
+        steps_wait_for_requests();
+        kept_bytes_show_empty_rests();
+        let Conn {
+            alloc: _,
+            name,
+            child,
+            generation,
+            site,
+            mut link,
+            notes,
+            unsent: _,
+            reader,
+            turn,
+            plan: _,
+            linger,
+            dropped: _,
+            of: _,
+        } = self;
+        link.close();
+        Ended {
+            name,
+            child,
+            generation,
+            notes,
+            cause,
+            tail,
+            link,
+            site: Snapshot::of(&*site),
+            limits: Snapshot::of(&reader.limits()),
+            turn: Snapshot::of(&turn),
+            linger: Snapshot::of(&linger),
+        }
     }
 }
 

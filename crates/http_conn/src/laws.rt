@@ -1,7 +1,9 @@
-//! Laws of the items of a connection's bytes and of the replies to them. Each is the contract of a function that does nothing.
-ghost use Rattle.std.specs.Prelude.{◌≡◌, ◌==◌, ◌&&◌, ℕ, ◌<◌, Bool, true, false, List, [], ◌∷◌, ◌++◌, drop, length, Some};
+//! Laws of the items of a connection's bytes, of the replies to them, and of connections that linger or may. Each is the contract of a function that does nothing.
+ghost use Rattle.std.specs.Prelude.{◌≡◌, ◌==◌, ◌&&◌, ℕ, ◌<◌, Bool, true, false, List, [], ◌∷◌, ◌++◌, drop, length, Some, IfSome};
 ghost use Rattle.std.proofs.Common.{inl, inr};
 ghost use Rattle.mpm_base.specs.Notes.{says_last};
+ghost use Rattle.mpm_base.specs.declared.conn.Cause.{Cause};
+ghost use Rattle.mpm_base.specs.declared.conn.Cause.TheVariants.{ReadLate};
 ghost use Rattle.mpm_base.specs.declared.note.Note.{Note};
 ghost use Rattle.http_read.specs.declared.request.Limits.{Limits};
 ghost use Rattle.http_read.specs.RequestParts.{RequestParts};
@@ -15,6 +17,11 @@ ghost use Rattle.http_conn.specs.Follows.{what_follows};
 ghost use Rattle.http_conn.specs.Rest.{StandsAs, is_awaited, is_in_head};
 ghost use Rattle.http_conn.specs.Steps.{IsReadable, WaitsIn};
 ghost use Rattle.http_conn.specs.declared.stage.Stage.{Stage};
+ghost use Rattle.http_conn.specs.declared.turn.LastTurn.TheVariants as turn;
+ghost use Rattle.http_conn.specs.declared.turn.LingerTurn.{LingerTurn};
+ghost use Rattle.http_conn.specs.Conn.{SeenConn, IsConn, is_half_closed};
+ghost use Rattle.http_conn.specs.Turns.{ShutsOn, LingersOn};
+ghost use Rattle.http_conn.specs.Answered.{HasAnswered, MayLinger};
 
 use http_read::{keeps_answer, keeps_spelling, one_answer, one_form};
 
@@ -136,4 +143,26 @@ pub fn kept_items_begin()
         → (size : ℕ) × BeginsItem limits rest (inl request) size × (unread ≡ drop size rest) }
     ensures refused { (limits : Limits) (unread : List ℕ) (code : ℕ) (expected : Bool) (rest : List ℕ) → StandsAs limits unread (Stage.Refused code expected) rest
         → BeginsItem limits rest (inr (record { code = code; expected = expected })) 0 }
+{}
+
+/// Each connection that lingers was answered for its cause, and its link was half-closed once and isn't closed.
+pub fn lingering_connections_are_answered()
+    ensures answered { (c : SeenConn) (why : Cause) → IsConn c → MayLinger why c → IfSome c.told (HasAnswered why c.site c.reader.limits c.notes) }
+    ensures half_closed { (c : SeenConn) → IsConn c → is_half_closed c.linger ≡ true → IfSome c.told (λ t. t.shuts ≡ 1) }
+    ensures not_closed { (c : SeenConn) → IsConn c → IfSome c.told (λ t. t.closes ≡ 0) }
+{
+    follows_what_was_read();
+    steps_wait_for_requests();
+    kept_bytes_show_empty_rests();
+}
+
+/// What a connection shows for a cause with which it lingers stays so over the half-close and over each turn of lingering.
+pub fn lingering_connections_keep_their_cause()
+    ensures half_close { (old new : SeenConn) (made : Bool) (why : Cause) → ShutsOn old new made → MayLinger why old → MayLinger why new }
+    ensures linger_turn { (old new : SeenConn) (answer : LingerTurn) (why : Cause) → LingersOn old new answer → MayLinger why old → MayLinger why new }
+{}
+
+/// A connection of which nothing was read shows what one shows that is late with its request.
+pub fn untouched_connections_may_be_late()
+    ensures { (c : SeenConn) → c.turn ≡ turn.New → MayLinger ReadLate c }
 {}

@@ -1,8 +1,10 @@
-//! One connection over its link, for whole HTTP: requests with their bodies, and the responses that are decided. In the making:
-//! half-close, linger and end are to come. It is to take the place of `conn_state`.
+//! One connection over its link, for whole HTTP: requests with their bodies, and the responses that are decided. It is to take the
+//! place of `conn_state`.
 //!
 //! `Conn` is a connection. What it keeps at every turn stands in `specs/Conn.antt`: what was sent and what is pending are the
-//! replies to the first items that were received, and what follows them. What each turn does stands in `specs/Turns.antt`.
+//! replies to the first items that were received, and what follows them. What each turn does stands in `specs/Turns.antt`. Behind the
+//! half-close a connection lingers: it drops what still comes, and keeps all else. What an ended connection (`Ended`) shows
+//! stands in `specs/Answered.antt`. The type of a connection says what is known of the outside, which stands in `specs/Known.antt`.
 //!
 //! `read_on` reads the next request by the bytes that are there (`specs/Steps.antt`), and keeps those of a head, but of a
 //! body only a line that isn't whole. Which bytes that stands for is a relation (`specs/Rest.antt`). `RequestReader` does so over
@@ -16,8 +18,11 @@
 #![tactic(auto)]
 
 mod conn;
+mod ended;
 mod exchange;
+mod known;
 pub mod laws;
+mod linger;
 mod outgoing;
 mod reader;
 mod received;
@@ -27,10 +32,12 @@ mod steps;
 mod turn;
 
 pub use conn::Conn;
+pub use ended::Ended;
+pub use known::{Known, Nothing};
 pub use outgoing::{FileRange, Outgoing, WritesPairs, send};
 pub use reader::{RequestAnswer, RequestReader};
 pub use received::Received;
 pub use responses::{refuse, respond, tell_to_send};
 pub use stage::Stage;
 pub use steps::{StepAnswer, read_on};
-pub use turn::{LastTurn, ReadTurn, WriteTurn};
+pub use turn::{LastLinger, LastTurn, LingerTurn, ReadTurn, WriteTurn};

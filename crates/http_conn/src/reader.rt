@@ -1,10 +1,10 @@
 //! The reading side of a connection.
-ghost use Rattle.std.specs.Prelude.{◌≡◌, ◌==◌, ◌&&◌, ◌<◌, ◌≤◌, ℕ, true, List, [], ◌++◌, length, false, Some, None, OnOk, OnErr};
+ghost use Rattle.std.specs.Prelude.{◌≡◌, ◌<◌, ◌≤◌, ℕ, true, List, [], ◌++◌, length, false, Some, None, OnOk, OnErr};
 ghost use Rattle.http_conn.specs.Rest.{is_awaited, is_in_head, is_whole};
 ghost use Rattle.http_conn.specs.Steps.{Steps, IsShortIn};
 ghost use Rattle.http_conn.specs.Items.{Item};
 ghost use Rattle.http_conn.specs.Turns.{LeavesItem};
-ghost use Rattle.http_conn.specs.Reader.{item_kept, StandsFor, IsAnswerable, IsReading, LeavesRequest, ReadsNext};
+ghost use Rattle.http_conn.specs.Reader.{item_kept, keeps_none, StandsFor, IsAnswerable, IsReading, LeavesRequest, ReadsNext};
 ghost use Rattle.http_conn.specs.ReaderInside.{TakesPiece};
 
 use crate::laws::{
@@ -86,6 +86,13 @@ impl RequestReader {
         let _ = &self.limits;
     }
 
+    /// The limits of heads.
+    pub fn limits(&self) -> Limits
+        ensures { result ≡ self.now.limits }
+    {
+        self.limits
+    }
+
     /// How far the next request was read.
     pub fn stage(&self) -> &Stage
         ensures { result.now ≡ self.now.stage }
@@ -95,7 +102,7 @@ impl RequestReader {
 
     /// Whether no byte of a request is kept.
     pub fn is_empty(&self) -> bool
-        ensures { result ≡ (is_in_head self.now.stage && (length self.now.unread == 0)) }
+        ensures { result ≡ keeps_none self.now }
     {
         match &self.stage {
             Stage::Head(_) => self.unread.is_empty(),

@@ -1,6 +1,6 @@
 //! What the turns of a connection answer.
 ghost use Rattle.std.specs.Prelude.{◌≡◌};
-ghost use Rattle.http_conn.specs.Turns.{after_reading, after_writing};
+ghost use Rattle.http_conn.specs.Turns.{after_half_close, after_linger, after_reading, after_writing};
 
 use mpm_base::Ask;
 
@@ -57,6 +57,38 @@ pub enum LastTurn {
     NoMemory,
 }
 
+/// What a turn of lingering found.
+#[derive(Clone, Copy, Debug, PartialEq, Eq)]
+pub enum LingerTurn {
+    /// The client closed its side.
+    Drained,
+    /// All the bytes were dropped that a linger drops: 1,048,576.
+    Sated,
+    /// The link has nothing more at this moment.
+    NotReady,
+    /// A call of the link failed.
+    LinkFailed,
+}
+
+/// How far a connection is on its way out.
+#[derive(Clone, Copy, Debug, PartialEq, Eq)]
+pub enum LastLinger {
+    /// Its link was not half-closed yet.
+    Open,
+    /// The half-close of its link failed.
+    ShutFailed,
+    /// Its link was half-closed, and there was no turn of lingering.
+    Shut,
+    /// The last turn of lingering found that the client closed its side.
+    Drained,
+    /// The last turn of lingering dropped all that a linger drops.
+    Sated,
+    /// The last turn of lingering found that the link has nothing more at that moment.
+    NotReady,
+    /// A call of the link failed in the last turn of lingering.
+    LinkFailed,
+}
+
 impl ReadTurn {
     /// The last turn, where a turn of reading answered so.
     pub(crate) fn leaves(self) -> LastTurn
@@ -82,6 +114,33 @@ impl WriteTurn {
             WriteTurn::Done => LastTurn::Done,
             WriteTurn::NotReady => LastTurn::NotReady,
             WriteTurn::LinkFailed => LastTurn::LinkFailed,
+        }
+    }
+}
+
+impl LingerTurn {
+    /// How far a connection is on its way out, where a turn of lingering answered so.
+    pub(crate) fn leaves(self) -> LastLinger
+        ensures { result ≡ after_linger self }
+    {
+        match self {
+            LingerTurn::Drained => LastLinger::Drained,
+            LingerTurn::Sated => LastLinger::Sated,
+            LingerTurn::NotReady => LastLinger::NotReady,
+            LingerTurn::LinkFailed => LastLinger::LinkFailed,
+        }
+    }
+}
+
+impl LastLinger {
+    /// How far a connection is on its way out, where the half-close was made, or failed.
+    pub(crate) fn after_half_close(made: bool) -> LastLinger
+        ensures { result ≡ after_half_close made }
+    {
+        if made {
+            LastLinger::Shut
+        } else {
+            LastLinger::ShutFailed
         }
     }
 }

@@ -15,8 +15,8 @@ invariant_of-self g c =
     let refused = subst (λ st. c.self.inside.plan ≡ None → (expected : Bool)
     → IsResponse st (inr (record { code = c.args.note.code; expected = expected })) c.args.note (pending_bytes st unsent)) c.deref.ensures taken.refused in
     held-answered c.answered_items_go_on.ensures c.replies_go_on.ensures c.responses_have_bytes.ensures c.follows_what_was_read.ensures.first
-    _ c.args.self.now c.self.inside.plan c.self.inside.unsent unsent c.args.note c.take_note.new.notes c.leave_item.new.self c.self.invariant c.self.view_is c.requires.asked
-    taken.ok planned refused c.leave_item.ensures.limits c.leave_item.ensures.leaves (subst (λ st. IsUnsentOf st unsent) c.deref.ensures taken.of) c.leave_item.ensures.untold
+    _ _ c.args.self.now c.self.inside.plan c.self.inside.unsent unsent c.args.note c.take_note.new.notes c.leave_item.new.self c.self.invariant c.self.view_is c.requires.asked
+    c.requires.not_shut taken.ok planned refused c.leave_item.ensures.limits c.leave_item.ensures.leaves (subst (λ st. IsUnsentOf st unsent) c.deref.ensures taken.of) c.leave_item.ensures.untold
 
 pub returns-in-Ok-clause-ok : goal.returns-in-Ok-clause-ok
 returns-in-Ok-clause-ok g c =
@@ -27,5 +27,5 @@ returns-in-Ok-clause-ok g c =
     let refused = subst (λ st. c.self.inside.plan ≡ None → (expected : Bool)
     → IsResponse st (inr (record { code = c.args.note.code; expected = expected })) c.args.note (pending_bytes st unsent)) c.deref.ensures taken.refused in
     takes-note c.answered_items_go_on.ensures c.replies_go_on.ensures c.responses_have_bytes.ensures c.follows_what_was_read.ensures.first
-    _ c.args.self.now c.self.inside.plan c.self.inside.unsent unsent c.args.note c.take_note.new.notes c.leave_item.new.self c.self.invariant c.self.view_is c.requires.asked
-    taken.ok planned refused c.leave_item.ensures.limits c.leave_item.ensures.leaves
+    _ _ c.args.self.now c.self.inside.plan c.self.inside.unsent unsent c.args.note c.take_note.new.notes c.leave_item.new.self c.self.invariant c.self.view_is c.requires.asked
+    c.requires.not_shut taken.ok planned refused c.leave_item.ensures.limits c.leave_item.ensures.leaves

@@ -12,9 +12,9 @@ invariant_of-self g c =
     let reading = c.read_item-turn in
     let takes = subst (λ st. TakesIn (g.L.Link.seen c.self.inside.link) (g.L.Link.seen reading.new.link) st c.self.inside.reader reading.new.reader
     c.self.inside.unsent reading.new.unsent reading.result.turn reading.result.plan) c.deref.ensures reading.ensures.takes in
-    held-read c.answered_items_stay.ensures c.kept_bytes_go_on.ensures c.follows_what_was_read.ensures.may _ c.args.self.now c.self.inside.plan reading.result.plan
+    held-read c.answered_items_stay.ensures c.kept_bytes_go_on.ensures c.follows_what_was_read.ensures.may _ _ c.args.self.now c.self.inside.plan reading.result.plan
     c.self.inside.unsent reading.new.unsent (g.L.Link.seen reading.new.link) reading.new.reader reading.result.turn c.leaves-self-inside.result
-    c.self.invariant c.self.view_is refl c.requires.usable c.requires.sent c.requires.«open» takes c.leaves-self-inside.ensures
+    c.self.invariant c.self.view_is refl c.requires.usable c.requires.sent c.requires.«open» c.requires.not_shut takes c.leaves-self-inside.ensures
 
 pub returns-clause-reads : goal.returns-clause-reads
 returns-clause-reads g c =
@@ -32,6 +32,8 @@ returns-clause-reads g c =
       pending = pending_bytes c.self.inside.site.value c.self.inside.unsent;
       reader = c.self.inside.reader;
       turn = c.self.inside.turn;
+      linger = c.self.inside.linger;
+      dropped = c.self.inside.dropped;
     }) c.args.self.now reading.result.plan c.self.inside.unsent reading.new.unsent (g.L.Link.seen reading.new.link) reading.new.reader reading.result.turn
     c.leaves-self-inside.result c.self.view_is refl takes c.leaves-self-inside.ensures
 

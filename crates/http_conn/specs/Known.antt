@@ -1,0 +1,29 @@
+-- What a type knows of the outside, and what that says of a link.
+use Rattle.std.specs.Prelude.{◌≡◌, ℕ, ◌<◌, List, ◌++◌, length, Option, Some, IfSome}
+use Rattle.mpm_base.specs.Front.{client_at}
+use Rattle.mpm_base.specs.Link.{LinkTold}
+use Rattle.http_read.specs.declared.request.Limits.{Limits}
+use Rattle.file_table.specs.Site.{SeenSite}
+
+-- what a server may serve by: the limits of heads, and the site
+pub record KnownEdition : Type 0 where
+  pub limits : Limits
+  pub site : SeenSite
+
+-- what a type knows of the outside: what each client sends, in the order of arrival, and the limits and the site of each edition of
+-- the configuration
+pub record KnownOutside : Type 0 where
+  pub clients : List (List ℕ)
+  pub editions : List KnownEdition
+
+-- the link tells, and is that of one of these clients: what it received, and what still comes behind it, are what that
+-- client sends
+pub record TellsFrom (clients : List (List ℕ)) (told : Option LinkTold) : Type 0 where
+  pub t : LinkTold
+  pub told_is : told ≡ Some t
+  pub known : t.rank < length clients
+  pub offered : t.received ++ t.coming ≡ client_at clients t.rank
+
+-- where the type knows the outside, the link is that of one of the known clients
+abbrev pub IsOfClient : Option KnownOutside → Option LinkTold → Type 0
+IsOfClient known told = IfSome known (λ k. TellsFrom k.clients told)
