@@ -1,5 +1,5 @@
 //! A link that gives and takes in pieces, may refuse its half-close, and counts its calls.
-ghost use Rattle.std.specs.Prelude.{◌≡◌, Some};
+ghost use Rattle.std.specs.Prelude.{◌≡◌, Some, ◌++◌};
 ghost use Rattle.mpm_base.specs.Link.{Reads, Writes, Shuts, Closes, telling_link};
 
 use mpm_base::{Got, Link, Sent};
@@ -155,6 +155,16 @@ impl Link for CutLink {
                 Sent::NotReady
             }
             Room::Wide => self.put(bytes),
+        }
+    }
+
+    fn write_pair(&mut self, first: &[u8], second: &[u8]) -> Sent
+        ensures link { Writes (telling_link self.old.inner.told (record self.old.inner.counts { faults = self.old.failures; late_writes = self.old.late })) (telling_link self.new.inner.told (record self.new.inner.counts { faults = self.new.failures; late_writes = self.new.late })) result (first.now ++ second.now) }
+    {
+        if first.is_empty() {
+            self.write(second)
+        } else {
+            self.write(first)
         }
     }
 

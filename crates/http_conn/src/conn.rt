@@ -25,14 +25,14 @@ use crate::laws::{
     steps_wait_for_requests,
 };
 use crate::linger::drop_rest;
-use crate::outgoing::{Outgoing, WritesPairs, send};
+use crate::outgoing::{Outgoing, send};
 use crate::reader::RequestReader;
 use crate::responses::{refuse, respond};
 use crate::turn::{LastLinger, LastTurn, LingerTurn, ReadTurn, WriteTurn};
 use file_table::Site;
 use http_core::Plan;
 use http_read::Limits;
-use mpm_base::{Cause, ConnName, NoMemory, Note, Notes, Octets, Tail};
+use mpm_base::{Cause, ConnName, Link, NoMemory, Note, Notes, Octets, Tail};
 use std::alloc::Global;
 use std::marker::{Model, PhantomData};
 use std::snapshot::Snapshot;
@@ -41,7 +41,7 @@ use std::sync::Arc;
 /// A connection over a link, served of the site of its generation. Where `N` knows what the clients send, the link is that of one
 /// of them.
 #[derive(Drop)]
-pub struct Conn<L: WritesPairs, N: Known> {
+pub struct Conn<L: Link, N: Known> {
     alloc: Global,
     name: ConnName,
     child: u32,
@@ -60,7 +60,7 @@ pub struct Conn<L: WritesPairs, N: Known> {
     of: PhantomData<N>,
 }
 
-impl<L: WritesPairs, N: Known> Model for Conn<L, N> {
+impl<L: Link, N: Known> Model for Conn<L, N> {
     ghost use Rattle.http_conn.specs.Conn.{SeenConn};
     ghost use Rattle.http_conn.specs.ConnInside.{IsHeld};
     ghost use Rattle.http_conn.specs.Outgoing.{pending_bytes};
@@ -98,7 +98,7 @@ impl<L: WritesPairs, N: Known> Model for Conn<L, N> {
     }) c.plan c.unsent };
 }
 
-impl<L: WritesPairs, N: Known> Conn<L, N> {
+impl<L: Link, N: Known> Conn<L, N> {
     /// A connection of that name over a link of which nothing was read, and to which nothing was written. Takes no memory.
     pub fn new(
         alloc: Global,

@@ -34,7 +34,7 @@ mod turn;
 pub use conn::Conn;
 pub use ended::Ended;
 pub use known::{Known, Nothing};
-pub use outgoing::{FileRange, Outgoing, WritesPairs, send};
+pub use outgoing::{FileRange, Outgoing, send};
 pub use reader::{RequestAnswer, RequestReader};
 pub use received::Received;
 pub use responses::{refuse, respond, tell_to_send};

@@ -1,6 +1,5 @@
 //! The writing side of a connection.
 ghost use Rattle.std.specs.Prelude.{◌≡◌, ◌==◌, ◌+◌, ◌≤◌, [], ◌++◌, length, take, None, IfSome};
-ghost use Rattle.mpm_base.specs.Link.{Writes};
 ghost use Rattle.http_conn.specs.Outgoing.{IsRangeOf, IsUnsentOf, range_bytes, pending_bytes, range_len};
 ghost use Rattle.http_conn.specs.OutgoingInside.{unsent_behind};
 ghost use Rattle.http_conn.specs.Writing.{SendsOn};
@@ -13,13 +12,6 @@ use std::marker::Model;
 
 /// How many bytes of a body a link is offered at once.
 const PIECE: u64 = 65_536;
-
-/// A link to which two pieces are written by one call.
-pub trait WritesPairs: Link {
-    /// Writes from the front of the one piece followed by the other.
-    fn write_pair(&mut self, first: &[u8], second: &[u8]) -> Sent
-        ensures { Writes (Self.seen self.old) (Self.seen self.new) result (first.now ++ second.now) };
-}
 
 /// Bytes of a file of the site: from the one place up to the other, which isn't one of them.
 #[derive(Clone, Copy, Debug, PartialEq, Eq)]
@@ -125,12 +117,7 @@ fn piece_of(site: &Site, range: FileRange) -> &[u8]
 
 /// Sends what is left, until the link has no room. Each call of the link is offered what is left of the head, and behind it a
 /// piece of the body. Where nothing is left, no memory is held for it then.
-pub fn send<L: WritesPairs>(
-    alloc: Global,
-    link: &mut L,
-    site: &Site,
-    unsent: &mut Outgoing,
-) -> WriteTurn
+pub fn send<L: Link>(alloc: Global, link: &mut L, site: &Site, unsent: &mut Outgoing) -> WriteTurn
     requires { IsUnsentOf site.now unsent.old }
     ensures sends { SendsOn (L.seen link.old).told (L.seen link.new).told (L.seen link.old).counts (L.seen link.new).counts
         (pending_bytes site.now unsent.old) (pending_bytes site.now unsent.new) result }

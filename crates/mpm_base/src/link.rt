@@ -29,6 +29,7 @@ pub enum Sent {
 /// What a link tells of itself (`told`) is there only where the object tells it: the links of a script do,
 /// a real socket does not. Its counts are there for every link.
 pub trait Link: Drop {
+    ghost use Rattle.std.specs.Prelude.{◌++◌};
     ghost use Rattle.mpm_base.specs.Link.{LinkSeen, Reads, Writes, Shuts, Closes};
 
     /// What it tells: what was received and sent, and whether it was half-closed or closed; and its counts of faults, of calls
@@ -42,6 +43,10 @@ pub trait Link: Drop {
     /// Writes from the front of the piece.
     fn write(&mut self, bytes: &[u8]) -> Sent
         ensures { Writes (seen self.old) (seen self.new) result bytes.now };
+
+    /// Writes from the front of the one piece followed by the other, by one call.
+    fn write_pair(&mut self, first: &[u8], second: &[u8]) -> Sent
+        ensures { Writes (seen self.old) (seen self.new) result (first.now ++ second.now) };
 
     /// Half-closes the link: the client is told that no more comes. False where the call failed.
     fn shut(&mut self) -> bool

@@ -31,6 +31,20 @@ impl Sequence<u8> {
         }
     }
 
+    /// Puts the bytes of both pieces at the end, the one behind the other. Where memory lacks nothing changes.
+    pub fn add_pair(&mut self, first: &[u8], second: &[u8]) -> Result<(), NoMemory>
+        ensures ok { OnOk result (self.new ≡ self.old ++ first.now ++ second.now) }
+        ensures err { OnErr result (self.new ≡ self.old) }
+    {
+        let before = self.items.len();
+        self.add(first)?;
+        if self.add(second).is_ok() {
+            return Ok(());
+        }
+        self.items.truncate(before);
+        Err(NoMemory)
+    }
+
     /// Puts the decimal digits of the number at the end. Where memory lacks nothing changes.
     pub fn add_number(&mut self, number: u64) -> Result<(), NoMemory>
         ensures ok { OnOk result (self.new ≡ self.old ++ decimal number) }

@@ -193,6 +193,22 @@ impl Link for PlainLink {
         }
     }
 
+    /// Takes the whole of both pieces, or answers NotReady where memory for it lacks.
+    fn write_pair(&mut self, first: &[u8], second: &[u8]) -> Sent
+        ensures link { Writes (telling_link self.old.told self.old.counts) (telling_link self.new.told self.new.counts) result (first.now ++ second.now) }
+        ensures answer { TakesWhole result (length (first.now ++ second.now)) }
+        ensures state { self.new ≡ link_after_write result (first.now ++ second.now) self.old }
+    {
+        let before = self.taken.len();
+        match self.taken.add_pair(first, second) {
+            Ok(()) => Sent::Put((self.taken.len() - before) as u64),
+            Err(_) => {
+                self.not_ready_writes = self.not_ready_writes.saturating_add(1);
+                Sent::NotReady
+            }
+        }
+    }
+
     fn shut(&mut self) -> bool
         ensures link { Shuts (telling_link self.old.told self.old.counts) (telling_link self.new.told self.new.counts) result }
         ensures answer { result ≡ true }

@@ -1,5 +1,5 @@
 //! A link in memory some of whose calls fail, and whose bytes may come little by little.
-ghost use Rattle.std.specs.Prelude.{◌≡◌, ◌≤◌, true, false, Some, length, is_some};
+ghost use Rattle.std.specs.Prelude.{◌≡◌, ◌≤◌, true, false, Some, ◌++◌, length, is_some};
 ghost use Rattle.mpm_base.specs.Link.{Reads, Writes, Shuts, Closes, GivesNext, FitsBuffer, FitsPiece, read_failed, after_read, after_write, after_close, telling_link};
 ghost use Rattle.stand_ins.specs.Calls.{is_listed, next_is_listed};
 ghost use Rattle.stand_ins.specs.PlainLink.{buffer_after_read, read_answer};
@@ -268,6 +268,34 @@ fn write_by(inner: &mut PlainLink, wire: &Option<Arc<Wire>>, bytes: &[u8]) -> Se
     Sent::Failed
 }
 
+/// Writes as much of the one piece followed by the other as there is room for. Answers Failed only where memory for it lacks.
+fn write_pair_by(
+    inner: &mut PlainLink,
+    wire: &Option<Arc<Wire>>,
+    first: &[u8],
+    second: &[u8],
+) -> Sent
+    ensures told { inner.new.told ≡ after_write result (first.now ++ second.now) inner.old.told }
+    ensures ends { inner.new.ends ≡ inner.old.ends }
+    ensures fits { FitsPiece result (length (first.now ++ second.now)) }
+    ensures answer { is_some wire.now ≡ false → TakesWholeUnless false result (length (first.now ++ second.now)) }
+{
+    let taken = inner.sent().len();
+    let of_first = room_for(wire, taken, first.len());
+    if of_first < first.len() {
+        return write_by(inner, wire, first);
+    }
+    let of_second = room_for(wire, taken.saturating_add(of_first), second.len());
+    if of_first == 0 && of_second == 0 && !second.is_empty() {
+        return Sent::NotReady;
+    }
+    if let Sent::Put(count) = inner.write_pair(first, &second[..of_second]) {
+        tell_taken(wire, inner.sent().len());
+        return Sent::Put(count);
+    }
+    Sent::Failed
+}
+
 impl Link for ScriptLink {
     ghost seen = { λ l. telling_link l.told l.counts };
 
@@ -305,6 +333,23 @@ impl Link for ScriptLink {
             return Sent::Failed;
         }
         let answer = write_by(&mut self.inner, &self.wire, bytes);
+        self.counters.write(answer);
+        answer
+    }
+
+    /// Takes as much of the one piece followed by the other as there is room for, by one write, as `write` takes of one piece.
+    fn write_pair(&mut self, first: &[u8], second: &[u8]) -> Sent
+        ensures link { Writes (telling_link self.old.told self.old.counts) (telling_link self.new.told self.new.counts) result (first.now ++ second.now) }
+        ensures answer { self.old.paced ≡ false → TakesWholeUnless (next_is_listed self.old.fail_writes self.old.writes) result (length (first.now ++ second.now)) }
+        ensures state { self.new ≡ script_link_after_write result (first.now ++ second.now) self.old }
+    {
+        let fails = self.write_fails();
+        self.write_calls = self.write_calls.saturating_add(1);
+        if fails {
+            self.counters.write(Sent::Failed);
+            return Sent::Failed;
+        }
+        let answer = write_pair_by(&mut self.inner, &self.wire, first, second);
         self.counters.write(answer);
         answer
     }
