@@ -11,12 +11,14 @@ use Rattle.conn_machine.specs.Rows.{is_live, is_live_as, live_row, lives_and}
 use Rattle.conn_machine.specs.States.{is_halted}
 use Rattle.conn_machine.specs.Table.{is_allowed}
 use Rattle.timeout_queues.specs.Waiting.{ParkedName}
+use Rattle.conn_slots.specs.Slots.{Slot}
 use Rattle.conn_state.specs.Conn.{SeenConn}
 use Rattle.conn_state.specs.Answered.{SeenEnded}
 use Rattle.conn_state.specs.Known.{KnownOutside}
 use Rattle.board.specs.Book.{SeenBook}
 use Rattle.board.specs.Board.{SeenBoard, IsHome, AreHome, conn_at}
 use Rattle.board.specs.BoardInside.{IsBoard}
+use Rattle.board.specs.Layout.{conns_in}
 use Rattle.board.specs.QueuesInside.{waits_in, queues_of}
 use Rattle.board.specs.RowsInside.{RowsChangeAlone}
 use Rattle.board.proofs.QueueLemmas.{queued-set}
@@ -103,9 +105,10 @@ pub record AreThere (rows : List Row) (conns : List (Option SeenConn)) (queues :
   pub has_room : ended + count_by is_live rows ≤ room
 
 -- a board has its connections so
-pub there_of : (known : Option KnownOutside) (book : SeenBook) (conns : List (Option SeenConn)) (ended : List SeenEnded) (queues : List (Option ParkedName)) (room : ℕ)
-    → IsBoard known (record { book = book; conns = conns; ended = ended }) queues room → AreThere book.state.rows conns queues (length ended) room
-there_of known book conns ended queues room is = record { waiting = is.agrees.waiting; queued = is.queued; has_room = is.has_room }
+pub there_of : (known : Option KnownOutside) (book : SeenBook) (slots : List (Slot (Option SeenConn))) (ended : List SeenEnded) (queues : List (Option ParkedName)) (room : ℕ)
+    → IsBoard known (record { book = book; conns = conns_in slots; ended = ended }) slots queues room
+    → AreThere book.state.rows (conns_in slots) queues (length ended) room
+there_of known book slots ended queues room is = record { waiting = is.agrees.waiting; queued = is.queued; has_room = is.has_room }
 
 -- the connection of a slot, once that of this slot was set
 homes_by : RowsChangeAlone → (rows : List Row) (conns : List (Option SeenConn)) (slot : ℕ) (r : Row) (change : Row → Row) (c : Option SeenConn)

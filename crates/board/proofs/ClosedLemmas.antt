@@ -1,5 +1,5 @@
 -- The connections that ended, where a history goes on by one entry, and the board that goes on with it.
-use Rattle.std.proofs.Common.{◌≡◌, ℕ, ◌+◌, ◌≤◌, List, [], ◌∷◌, ◌++◌, length, replicate, Option, None, refl, sym, subst, length-append, arith}
+use Rattle.std.proofs.Common.{◌≡◌, ℕ, ◌+◌, ◌≤◌, List, [], ◌∷◌, ◌++◌, length, replicate, Option, None, refl, sym, ap, subst, ◌∙◌, length-append, arith}
 use Rattle.std.proofs.lemmas.List.{append-nil}
 use Rattle.conn_machine.specs.declared.event.Event.{Event}
 use Rattle.conn_machine.specs.declared.event.Event.TheVariants as event
@@ -10,6 +10,7 @@ use Rattle.conn_machine.specs.States.{unused_row}
 use Rattle.conn_machine.specs.Table.{next}
 use Rattle.conn_machine.specs.Runs.{after}
 use Rattle.timeout_queues.specs.Waiting.{ParkedName}
+use Rattle.conn_slots.specs.Slots.{Slot, unused_slot}
 use Rattle.conn_state.specs.Conn.{SeenConn}
 use Rattle.conn_state.specs.Answered.{SeenEnded, IsEnded}
 use Rattle.conn_state.specs.Known.{KnownOutside, IsOfClient}
@@ -17,9 +18,12 @@ use Rattle.board.specs.Book.{SeenBook, entry_of, book_with_entry}
 use Rattle.board.specs.Fits.{IsClosing}
 use Rattle.board.specs.Board.{SeenBoard, AreClosed, AreEnded, ClosesFirst, WaitForClients}
 use Rattle.board.specs.BoardInside.{IsBoard}
+use Rattle.board.specs.Layout.{conns_in}
+use Rattle.board.specs.SlotsInside.{AreUsedAlike}
 use Rattle.board.proofs.BoardLemmas.{AreThere}
 use Rattle.board.proofs.EventLemmas.{opening-there}
 use Rattle.board.proofs.ClientLemmas.{clients_first, ended_clients, ended_unknown}
+use Rattle.board.proofs.UseLemmas.{conns-first, first-used}
 
 -- ## One entry more
 
@@ -47,32 +51,38 @@ ended_more (y ∷ ended) x are is = (are.0, ended_more ended x are.1 is)
 -- ## The board
 
 -- a board goes on by an event that closes nothing
-pub board_on : (known : Option KnownOutside) (book : SeenBook) (conns conns' : List (Option SeenConn)) (ended : List SeenEnded) (queues queues' : List (Option ParkedName)) (room room' who : ℕ) (e : Event)
-    → IsBoard known (record { book = book; conns = conns; ended = ended }) queues room → ((s : State) → ClosesFirst s e (λ others. others ≡ []) [])
+pub board_on : (known : Option KnownOutside) (book : SeenBook) (slots slots' : List (Slot (Option SeenConn))) (conns' : List (Option SeenConn)) (ended : List SeenEnded) (queues queues' : List (Option ParkedName)) (room room' who : ℕ) (e : Event)
+    → IsBoard known (record { book = book; conns = conns_in slots; ended = ended }) slots queues room → ((s : State) → ClosesFirst s e (λ others. others ≡ []) [])
     → AreThere (next book.state e).rows conns' queues' (length ended) room' → WaitForClients known conns'
-    → IsBoard known (record { book = book_with_entry who e book; conns = conns'; ended = ended }) queues' room'
-board_on known book conns conns' ended queues queues' room room' who e is closes there clients = record {
-  agrees = record {
-    waiting = there.waiting;
-    closed = subst (AreClosed book.base (book.history ++ entry_of who e book ∷ [])) (append-nil ended)
-        (closed_more book.base book.history (entry_of who e book) ended [] is.agrees.closed (closes (after book.base book.history)));
-    answered = is.agrees.answered;
-  };
-  clients = record { conns = clients; ended = is.clients.ended };
-  queued = there.queued;
-  has_room = there.has_room;
-}
+    → conns_in slots' ≡ conns' → AreUsedAlike slots' (next book.state e).rows
+    → IsBoard known (record { book = book_with_entry who e book; conns = conns_in slots'; ended = ended }) slots' queues' room'
+board_on known book slots slots' conns' ended queues queues' room room' who e is closes there clients same used =
+    subst (λ (cs : List (Option SeenConn)). IsBoard known (record { book = book_with_entry who e book; conns = cs; ended = ended }) slots' queues' room') (sym same)
+    (record {
+      agrees = record {
+        waiting = there.waiting;
+        closed = subst (AreClosed book.base (book.history ++ entry_of who e book ∷ [])) (append-nil ended)
+            (closed_more book.base book.history (entry_of who e book) ended [] is.agrees.closed (closes (after book.base book.history)));
+        answered = is.agrees.answered;
+      };
+      clients = record { conns = clients; ended = is.clients.ended };
+      used = used;
+      queued = there.queued;
+      has_room = there.has_room;
+    })
 
 -- a board goes on by an event that closes a connection, which is the last that ended
-pub board_closed : (known : Option KnownOutside) (book : SeenBook) (conns : List (Option SeenConn)) (ended : List SeenEnded) (x : SeenEnded) (queues : List (Option ParkedName)) (room room' who : ℕ)
-    → IsBoard known (record { book = book; conns = conns; ended = ended }) queues room → after book.base book.history ≡ book.state
+pub board_closed : (known : Option KnownOutside) (book : SeenBook) (slots slots' : List (Slot (Option SeenConn))) (ended : List SeenEnded) (x : SeenEnded) (queues : List (Option ParkedName)) (room room' who : ℕ)
+    → IsBoard known (record { book = book; conns = conns_in slots; ended = ended }) slots queues room → after book.base book.history ≡ book.state
     → IsClosing book.state x.name x.cause x.tail x → IsEnded x → IsOfClient known x.told
-    → AreThere (next book.state (event.Close x.name x.cause x.tail)).rows conns queues (length ended + 1) room'
-    → IsBoard known (record { book = book_with_entry who (event.Close x.name x.cause x.tail) book; conns = conns; ended = ended ++ x ∷ [] }) queues room'
-board_closed known book conns ended x queues room room' who is state_is closing shown client there =
+    → AreThere (next book.state (event.Close x.name x.cause x.tail)).rows (conns_in slots) queues (length ended + 1) room'
+    → conns_in slots' ≡ conns_in slots → AreUsedAlike slots' (next book.state (event.Close x.name x.cause x.tail)).rows
+    → IsBoard known (record { book = book_with_entry who (event.Close x.name x.cause x.tail) book; conns = conns_in slots'; ended = ended ++ x ∷ [] }) slots' queues room'
+board_closed known book slots slots' ended x queues room room' who is state_is closing shown client there same used =
     let e = event.Close x.name x.cause x.tail in
     let len : length (ended ++ x ∷ []) ≡ length ended + 1 = length-append ended (x ∷ []) in
-    record {
+    subst (λ (cs : List (Option SeenConn)). IsBoard known (record { book = book_with_entry who e book; conns = cs; ended = ended ++ x ∷ [] }) slots' queues room') (sym same)
+    (record {
       agrees = record {
         waiting = there.waiting;
         closed = closed_more book.base book.history (entry_of who e book) ended (x ∷ []) is.agrees.closed
@@ -80,50 +90,59 @@ board_closed known book conns ended x queues room room' who is state_is closing 
         answered = ended_more ended x is.agrees.answered shown;
       };
       clients = record { conns = is.clients.conns; ended = ended_clients known ended x is.clients.ended client };
+      used = used;
       queued = there.queued;
       has_room = omega (arith, len, there.has_room);
-    }
-
--- a board goes on by an event that changes no row
-pub board_same : (known : Option KnownOutside) (book : SeenBook) (conns : List (Option SeenConn)) (ended : List SeenEnded) (queues : List (Option ParkedName)) (room who : ℕ) (e : Event)
-    → IsBoard known (record { book = book; conns = conns; ended = ended }) queues room → ((s : State) → ClosesFirst s e (λ others. others ≡ []) [])
-    → (next book.state e).rows ≡ book.state.rows
-    → IsBoard known (record { book = book_with_entry who e book; conns = conns; ended = ended }) queues room
-board_same known book conns ended queues room who e is closes same =
-    board_on known book conns conns ended queues queues room room who e is closes
-    (subst (λ (rows : List Row). AreThere rows conns queues (length ended) room) (sym same)
-    (record { waiting = is.agrees.waiting; queued = is.queued; has_room = is.has_room })) is.clients.conns
-
--- a board begins without connections, in a state without any
-pub board_first : (known : Option KnownOutside) (book : SeenBook) (conns : List (Option SeenConn)) (ended : List SeenEnded) (queues : List (Option ParkedName)) (slots room : ℕ)
-    → book.history ≡ [] → book.state.rows ≡ replicate slots unused_row → conns ≡ replicate slots None → ended ≡ []
-    → queues ≡ replicate slots None → IsBoard known (record { book = book; conns = conns; ended = ended }) queues room
-board_first known book conns ended queues slots room history_is rows_is conns_is ended_is queues_is =
-    let there : AreThere book.state.rows conns queues 0 room = rw (rows_is, conns_is, queues_is) (opening-there slots room) in
-    rw ended_is
-    (record {
-      agrees = record { waiting = there.waiting; closed = rw history_is refl; answered = tt };
-      clients = record { conns = rw conns_is (clients_first known slots); ended = tt };
-      queued = there.queued;
-      has_room = there.has_room;
     })
 
+-- a board goes on by an event that changes no row
+pub board_same : (known : Option KnownOutside) (book : SeenBook) (slots : List (Slot (Option SeenConn))) (ended : List SeenEnded) (queues : List (Option ParkedName)) (room who : ℕ) (e : Event)
+    → IsBoard known (record { book = book; conns = conns_in slots; ended = ended }) slots queues room → ((s : State) → ClosesFirst s e (λ others. others ≡ []) [])
+    → (next book.state e).rows ≡ book.state.rows
+    → IsBoard known (record { book = book_with_entry who e book; conns = conns_in slots; ended = ended }) slots queues room
+board_same known book slots ended queues room who e is closes same =
+    board_on known book slots slots (conns_in slots) ended queues queues room room who e is closes
+    (subst (λ (rows : List Row). AreThere rows (conns_in slots) queues (length ended) room) (sym same)
+    (record { waiting = is.agrees.waiting; queued = is.queued; has_room = is.has_room })) is.clients.conns refl
+    (subst (λ (rows : List Row). AreUsedAlike slots rows) (sym same) is.used)
+
+-- a board begins without connections, in a state without any
+pub board_first : (known : Option KnownOutside) (book : SeenBook) (slots : List (Slot (Option SeenConn))) (ended : List SeenEnded) (queues : List (Option ParkedName)) (n room : ℕ)
+    → book.history ≡ [] → book.state.rows ≡ replicate n unused_row → slots ≡ unused_slot n → ended ≡ []
+    → queues ≡ replicate n None → IsBoard known (record { book = book; conns = conns_in slots; ended = ended }) slots queues room
+board_first known book slots ended queues n room history_is rows_is slots_is ended_is queues_is =
+    let none : conns_in slots ≡ replicate n None = ap conns_in slots_is ∙ conns-first n in
+    let there : AreThere book.state.rows (replicate n None) queues 0 room = rw (rows_is, queues_is) (opening-there n room) in
+    let used : AreUsedAlike slots book.state.rows = rw (rows_is, slots_is) (first-used (Option SeenConn) n) in
+    subst (λ (cs : List (Option SeenConn)). IsBoard known (record { book = book; conns = cs; ended = ended }) slots queues room) (sym none)
+    (rw ended_is
+    (record {
+      agrees = record { waiting = there.waiting; closed = rw history_is refl; answered = tt };
+      clients = record { conns = clients_first known n; ended = tt };
+      used = used;
+      queued = there.queued;
+      has_room = there.has_room;
+    }))
+
 -- a board is one too of a type that knows nothing
-pub board_forgotten : (known : Option KnownOutside) (b : SeenBoard) (queues : List (Option ParkedName)) (room : ℕ) → IsBoard known b queues room → IsBoard None b queues room
-board_forgotten known b queues room is = record {
+pub board_forgotten : (known : Option KnownOutside) (b : SeenBoard) (slots : List (Slot (Option SeenConn))) (queues : List (Option ParkedName)) (room : ℕ)
+    → IsBoard known b slots queues room → IsBoard None b slots queues room
+board_forgotten known b slots queues room is = record {
   agrees = is.agrees;
   clients = record { conns = λ slot c has. tt; ended = ended_unknown b.ended };
+  used = is.used;
   queued = is.queued;
   has_room = is.has_room;
 }
 
 -- more room was taken for those that end
-pub board_roomier : (known : Option KnownOutside) (b : SeenBoard) (ended : List SeenEnded) (queues : List (Option ParkedName)) (room room' : ℕ) → ended ≡ b.ended → room ≤ room'
-    → IsBoard known b queues room → IsBoard known (record b { ended = ended }) queues room'
-board_roomier known b ended queues room room' same more is =
-    subst (λ (es : List SeenEnded). IsBoard known (record b { ended = es }) queues room') (sym same) (record {
+pub board_roomier : (known : Option KnownOutside) (b : SeenBoard) (ended : List SeenEnded) (slots : List (Slot (Option SeenConn))) (queues : List (Option ParkedName)) (room room' : ℕ)
+    → ended ≡ b.ended → room ≤ room' → IsBoard known b slots queues room → IsBoard known (record b { ended = ended }) slots queues room'
+board_roomier known b ended slots queues room room' same more is =
+    subst (λ (es : List SeenEnded). IsBoard known (record b { ended = es }) slots queues room') (sym same) (record {
       agrees = is.agrees;
       clients = is.clients;
+      used = is.used;
       queued = is.queued;
       has_room = omega (arith, more, is.has_room);
     })

@@ -135,11 +135,11 @@ there_away law rows conns queues slot r change ended ended' room room' there at 
     (there_set law rows conns queues slot r change None None ended ended' room room' there at away' (away-waits (change r).place (change r) away') space))
 
 -- what a row counts for
-abbrev weight : Bool → ℕ
+abbrev pub weight : Bool → ℕ
 weight b = cond b 1 0
 
 -- one, where it passes
-weight-true : (b : Bool) → b ≡ true → weight b ≡ 1
+pub weight-true : (b : Bool) → b ≡ true → weight b ≡ 1
 weight-true true e = refl
 weight-true false e = absurd (cc)
 
@@ -169,7 +169,7 @@ live-less rows slot r change at live dead =
 -- ## The events
 
 -- a slot whose row passes a test has a row
-row_at : (test : Row → Bool) (o : Option Row) → option_map_or test o false ≡ true → (r : Row) × (o ≡ Some r) × (test r ≡ true)
+pub row_at : (test : Row → Bool) (o : Option Row) → option_map_or test o false ≡ true → (r : Row) × (o ≡ Some r) × (test r ≡ true)
 row_at test None passes = absurd (cc)
 row_at test (Some r) passes = (r, refl, passes)
 
@@ -305,6 +305,15 @@ close-there law s name why how conns queues ended room room' may there more =
     there_away law s.rows conns queues name.slot r closed_row ended (ended + 1) room room' there lives.at (in_hand-away r.place in_hand)
     dead.0 (omega (arith, count, there.has_room, more))
 
+-- the board has no connection of a row that may be closed
+pub close-away : (s : State) (name : ConnName) (why : Cause) (how : Tail) (conns : List (Option SeenConn))
+    → is_allowed s (event.Close name why how) ≡ true → AreHome s.rows conns → conn_at conns name.slot ≡ None
+close-away s name why how conns may are =
+    let lives = lives_as s.rows name (λ (r : Row). (is_held r.place || is_working r.place) && end_fits s why how r) may in
+    let r = lives.row in
+    let in_hand = (and_parts (is_held r.place || is_working r.place) (end_fits s why how r) lives.passes).0 in
+    homeless name.slot r (conn_at conns name.slot) (are.homes name.slot r lives.at) (in_hand-away r.place in_hand)
+
 -- before a close there is room for the one that ends
 pub close-room : (s : State) (name : ConnName) (why : Cause) (how : Tail) (conns : List (Option SeenConn)) (queues : List (Option ParkedName)) (ended room : ℕ)
     → is_allowed s (event.Close name why how) ≡ true → AreThere s.rows conns queues ended room → ended < room
@@ -316,13 +325,13 @@ close-room s name why how conns queues ended room may there =
 -- ## The opening state
 
 -- each item of a list of one item is that item
-get-replicate : {X : Type 0} (n i : ℕ) (x y : X) → slice_get (replicate n x) i ≡ Some y → x ≡ y
+pub get-replicate : {X : Type 0} (n i : ℕ) (x y : X) → slice_get (replicate n x) i ≡ Some y → x ≡ y
 get-replicate zero i x y at = absurd (cc)
 get-replicate (suc n) zero x y at = cc
 get-replicate (suc n) (suc i) x y at = get-replicate n i x y at
 
 -- so is what is read of it, past its end too
-get_or-alike : {X : Type 0} (n i : ℕ) (x : X) → get_or (replicate n x) i x ≡ x
+pub get_or-alike : {X : Type 0} (n i : ℕ) (x : X) → get_or (replicate n x) i x ≡ x
 get_or-alike zero i x = refl
 get_or-alike (suc n) zero x = refl
 get_or-alike (suc n) (suc i) x = get_or-alike n i x

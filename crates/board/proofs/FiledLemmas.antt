@@ -1,5 +1,5 @@
 -- The rings in which slots stand: what an event changes of them, and what stands in each.
-use Rattle.std.proofs.Common.{◌≡◌, ◌≢◌, ◌==◌, inl, inr, ℕ, zero, suc, ◌+◌, ◌<◌, ◌≤◌, Bool, true, false, not, ◌&&◌, nat_lt, List, [], ◌∷◌, length, Option, None, Some, IfNone, IfSome, slice_get, get_or, replicate, refl, sym, ap, subst, ◌∙◌, eqb-true, eq-eqb, get_or-set_other, arith}
+use Rattle.std.proofs.Common.{◌≡◌, ◌≢◌, ◌==◌, inl, inr, ℕ, zero, suc, ◌+◌, ◌<◌, ◌≤◌, Bool, true, false, not, ◌&&◌, nat_lt, List, [], ◌∷◌, length, Option, None, Some, slice_get, get_or, replicate, refl, sym, ap, subst, ◌∙◌, eqb-true, eq-eqb, get_or-set_other, arith}
 use Rattle.std.proofs.Math.ListN.{set, length-set}
 use Rattle.std.proofs.lemmas.Bool.{and_from, and_parts, cases_lt, lt-ltb, ltb-true, not-true, not_from_false}
 use Rattle.std.proofs.lemmas.List.{get_or_past, length-replicate}
@@ -17,14 +17,14 @@ use Rattle.conn_machine.specs.declared.row.Row.{Row}
 use Rattle.conn_machine.specs.declared.state.State.{State}
 use Rattle.conn_machine.specs.Children.{child_at, is_stopping, no_child}
 use Rattle.conn_machine.specs.Lists.{update}
-use Rattle.conn_machine.specs.Rows.{carried_count, is_from, is_lingering, is_live, is_live_as, is_parked, is_vacant, lives_and}
+use Rattle.conn_machine.specs.Rows.{carried_count, is_from, is_lingering, is_live, is_live_as, is_parked, lives_and}
 use Rattle.conn_machine.specs.States.{child_of, is_signalled, opening_state, unused_row}
-use Rattle.conn_machine.specs.Table.{is_vacant_at, may_be_queued, next, taken_row, parked_row, held_row, queued_row, served_row, answered_row, lingering_row, closed_row}
+use Rattle.conn_machine.specs.Table.{may_be_queued, next, taken_row, parked_row, held_row, queued_row, served_row, answered_row, lingering_row, closed_row}
 use Rattle.timeout_queues.specs.Filed.{StandsIn}
-use Rattle.board.specs.FaultsInside.{FindsVacant}
-use Rattle.board.specs.FiledInside.{AreAllVacant, AreFiled, FindsInChild, FindsInRing, refiled_rings, refiled_by, ring_of_child, ring_of_row, slot_of_event}
+use Rattle.board.specs.FiledInside.{AreFiled, FindsInChild, FindsInRing, refiled_rings, refiled_by, ring_of_child, ring_of_row, slot_of_event}
 use Rattle.board.specs.Finds.{FindsRow, has_to_be_drained, is_due, is_let_go}
 use Rattle.board.specs.RowsInside.{RowsChangeAlone}
+use Rattle.board.proofs.EventLemmas.{get-replicate, get_or-alike}
 
 -- ## One item
 
@@ -152,48 +152,18 @@ filed_on law s s' e rings rings' touched are state_is sizes slot_is rings_is =
 
 -- ## The opening state
 
--- each item of a list of one item is that item
-one_of_same : {X : Type 0} (n i : ℕ) (x y : X) → slice_get (replicate n x) i ≡ Some y → x ≡ y
-one_of_same zero i x y at = absurd (cc)
-one_of_same (suc n) zero x y at = cc
-one_of_same (suc n) (suc i) x y at = one_of_same n i x y at
-
--- at first each slot is vacant
-pub filed_first : (slots children : ℕ) (shape : Shape) (rings : List (Option ℕ)) → AreAllVacant slots rings → AreFiled (opening_state slots children shape) rings
+-- at first no row waits, so no slot stands in a ring
+pub filed_first : (slots children : ℕ) (shape : Shape) (rings : List (Option ℕ)) → rings ≡ replicate slots None → AreFiled (opening_state slots children shape) rings
 filed_first slots children shape rings are = record {
-  slots = are.few ∙ sym (length-replicate slots unused_row);
+  slots = ap length are ∙ length-replicate slots None ∙ sym (length-replicate slots unused_row);
   filed = λ j r at.
-      let same : unused_row ≡ r = one_of_same slots j unused_row r at in
-      let below : j < slots = omega (arith, slice_get_within (replicate slots unused_row) j r at, length-replicate slots unused_row) in
-      are.each j below
+      let same : unused_row ≡ r = get-replicate slots j unused_row r at in
+      let none : List (Option ℕ) = replicate slots None in
+      let below : j < length none =
+      omega (arith, slice_get_within (replicate slots unused_row) j r at, length-replicate slots unused_row, length-replicate {A = Option ℕ} slots None) in
+      ap (λ (os : List (Option ℕ)). slice_get os j) are ∙ slice_get-get_or none j None below ∙ ap Some (get_or-alike {X = Option ℕ} slots j None)
       ∙ ap (λ (x : Row). Some (ring_of_row (is_signalled (opening_state slots children shape) j) x)) same;
 }
-
--- the slots from n on stand in the ring of the vacant ones
-pub record AreVacantFrom (slots n : ℕ) (rings : List (Option ℕ)) : Type 0 where
-  pub few : length rings ≡ slots
-  pub each : (slot : ℕ) → n ≤ slot → slot < slots → slice_get rings slot ≡ Some (Some 65)
-
--- one more, once it was put there
-vacant_by : (slots n : ℕ) (rings : List (Option ℕ)) (j : ℕ) (same : Bool) → AreVacantFrom slots (n + 1) rings → n < slots → (j == n) ≡ same
-    → n ≤ j → j < slots → slice_get (set rings n (Some 65)) j ≡ Some (Some 65)
-vacant_by slots n rings j true are below is_same above within =
-    let e : j ≡ n = eqb-true j n is_same in
-    subst (λ (k : ℕ). slice_get (set rings n (Some 65)) k ≡ Some (Some 65)) (sym e)
-    (get-set_same rings n (Some 65) (omega (arith, are.few)))
-vacant_by slots n rings j false are below other above within =
-    let differs : j ≢ n = (λ (e : j ≡ n). let eq : (j == n) ≡ true = eq-eqb j n e in cc) in
-    get-set_other rings n j (Some 65) differs ∙ are.each j (omega (arith, differs)) within
-
--- so they do, once one more was put there
-pub vacant_more : (slots n : ℕ) (rings rings' : List (Option ℕ)) → AreVacantFrom slots (n + 1) rings → n < slots → rings' ≡ set rings n (Some 65)
-    → AreVacantFrom slots n rings'
-vacant_more slots n rings rings' are below is =
-    subst (AreVacantFrom slots n) (sym is)
-    (record {
-      few = length-set rings n (Some 65) ∙ are.few;
-      each = λ j above within. vacant_by slots n rings j (j == n) are below refl above within;
-    })
 
 -- ## What stands in a ring
 
@@ -202,12 +172,7 @@ not_so : (b : Bool) → (b ≡ true → ⊥) → b ≡ false
 not_so true never = absurd (never refl)
 not_so false never = refl
 
--- a place where a connection waits isn't vacant
-parked-taken : (p : Place) → is_parked p ≡ true → is_vacant p ≡ false
-parked-taken (Parked kind) parked = refl
-parked-taken p parked = absurd (cc)
-
--- and has a connection
+-- a place where a connection waits has a connection
 parked-live : (r : Row) (p : Place) → r.place ≡ p → is_parked p ≡ true → is_live r ≡ true
 parked-live r (Parked kind) at parked = rw at refl
 parked-live r p at parked = absurd (cc)
@@ -215,22 +180,19 @@ parked-live r p at parked = absurd (cc)
 -- the ring of a row that waits for service, and is signalled
 ring-for_service : (r : Row) (k : ℕ) → k < 32 → is_parked r.place ≡ true → is_lingering r ≡ false → r.child ≡ k → ring_of_row true r ≡ Some (0 + k)
 ring-for_service r k few parked stays own =
-    let taken = parked-taken r.place parked in
     let below : nat_lt r.child 32 ≡ true = lt-ltb r.child 32 (omega (arith, few, own)) in
-    rw (taken, parked, stays, below) (ap (λ (n : ℕ). Some (0 + n)) own)
+    rw (parked, stays, below) (ap (λ (n : ℕ). Some (0 + n)) own)
 
 -- the ring of a row that waits for a further request, and isn't signalled
 ring-for_more : (r : Row) (k : ℕ) → k < 32 → is_parked r.place ≡ true → is_from KeepAlive r ≡ true → r.child ≡ k → ring_of_row false r ≡ Some (32 + k)
 ring-for_more r k few parked from own =
-    let taken = parked-taken r.place parked in
     let below : nat_lt r.child 32 ≡ true = lt-ltb r.child 32 (omega (arith, few, own)) in
-    rw (taken, parked, from, below) (ap (λ (n : ℕ). Some (32 + n)) own)
+    rw (parked, from, below) (ap (λ (n : ℕ). Some (32 + n)) own)
 
 -- the ring of a lingering row that is signalled
 ring-to_drain : (r : Row) → is_parked r.place ≡ true → is_lingering r ≡ true → ring_of_row true r ≡ Some 64
 ring-to_drain r parked lingers =
-    let taken = parked-taken r.place parked in
-    rw (taken, parked, lingers) refl
+    rw (parked, lingers) refl
 
 -- the ring of a child, where it is this
 child_ring : (first k ring : ℕ) (below : Bool) → nat_lt k 32 ≡ below → ring_of_child first k ≡ Some ring → (k < 32) × (ring ≡ first + k)
@@ -241,10 +203,9 @@ child_ring first k ring false is at =
     let e : None ≡ Some ring = rw is at at in
     absurd (none-some ring e)
 
--- what is known of a row by its ring: it is vacant, or waits
+-- what is known of a row by its ring: it waits
 pub record IsOfRing (b : Bool) (r : Row) (ring : ℕ) : Type 0 where
-  pub vacant : ring ≡ 65 → is_vacant r.place ≡ true
-  pub parked : ring < 65 → is_parked r.place ≡ true
+  pub parked : is_parked r.place ≡ true
   pub signalled : (ring < 32 → b ≡ true) × (ring ≡ 64 → b ≡ true)
   pub unsignalled : 32 ≤ ring → ring < 64 → b ≡ false
   pub stays : ring < 32 → is_lingering r ≡ false
@@ -254,31 +215,16 @@ pub record IsOfRing (b : Bool) (r : Row) (ring : ℕ) : Type 0 where
   pub own_more : 32 ≤ ring → ring < 64 → r.child + 32 ≡ ring
 
 -- so it is, whatever of it holds
-of_ring_by : (b : Bool) (r : Row) (ring : ℕ) (v p l f : Bool) → is_vacant r.place ≡ v → is_parked r.place ≡ p → is_lingering r ≡ l
+of_ring_by : (b : Bool) (r : Row) (ring : ℕ) (p l f : Bool) → is_parked r.place ≡ p → is_lingering r ≡ l
     → is_from KeepAlive r ≡ f → ring_of_row b r ≡ Some ring → IsOfRing b r ring
-of_ring_by b r ring true p l f is_v is_p is_l is_f at =
-    let e : Some 65 ≡ Some ring = rw is_v at at in
-    let is : 65 ≡ ring = same_Some 65 ring e in
-    record {
-      vacant = λ at. is_v;
-      parked = λ low. absurd (omega (arith, is, low));
-      signalled = (λ low. absurd (omega (arith, is, low)), λ other. absurd (omega (arith, is, other)));
-      unsignalled = λ low high. absurd (omega (arith, is, high));
-      stays = λ low. absurd (omega (arith, is, low));
-      lingers = λ other. absurd (omega (arith, is, other));
-      from = λ low high. absurd (omega (arith, is, high));
-      own = λ low. absurd (omega (arith, is, low));
-      own_more = λ low high. absurd (omega (arith, is, high));
-    }
-of_ring_by b r ring false false l f is_v is_p is_l is_f at =
-    let e : None ≡ Some ring = rw is_p at (rw is_v at at) in
+of_ring_by b r ring false l f is_p is_l is_f at =
+    let e : None ≡ Some ring = rw is_p at at in
     absurd (none-some ring e)
-of_ring_by true r ring false true true f is_v is_p is_l is_f at =
-    let e : Some 64 ≡ Some ring = rw is_l at (rw is_p at (rw is_v at at)) in
+of_ring_by true r ring true true f is_p is_l is_f at =
+    let e : Some 64 ≡ Some ring = rw is_l at (rw is_p at at) in
     let is : 64 ≡ ring = same_Some 64 ring e in
     record {
-      vacant = λ other. absurd (omega (arith, is, other));
-      parked = λ low. is_p;
+      parked = is_p;
       signalled = (λ low. refl, λ same. refl);
       unsignalled = λ low high. absurd (omega (arith, is, high));
       stays = λ low. absurd (omega (arith, is, low));
@@ -287,14 +233,13 @@ of_ring_by true r ring false true true f is_v is_p is_l is_f at =
       own = λ low. absurd (omega (arith, is, low));
       own_more = λ low high. absurd (omega (arith, is, high));
     }
-of_ring_by true r ring false true false f is_v is_p is_l is_f at =
-    let e : ring_of_child 0 r.child ≡ Some ring = rw is_l at (rw is_p at (rw is_v at at)) in
+of_ring_by true r ring true false f is_p is_l is_f at =
+    let e : ring_of_child 0 r.child ≡ Some ring = rw is_l at (rw is_p at at) in
     let child = child_ring 0 r.child ring (nat_lt r.child 32) refl e in
     let few : r.child < 32 = child.0 in
     let is : ring ≡ 0 + r.child = child.1 in
     record {
-      vacant = λ other. absurd (omega (arith, few, is, other));
-      parked = λ low. is_p;
+      parked = is_p;
       signalled = (λ low. refl, λ same. refl);
       unsignalled = λ low high. absurd (omega (arith, few, is, low));
       stays = λ low. is_l;
@@ -303,14 +248,13 @@ of_ring_by true r ring false true false f is_v is_p is_l is_f at =
       own = λ low. omega (arith, is);
       own_more = λ low high. absurd (omega (arith, few, is, low));
     }
-of_ring_by false r ring false true l true is_v is_p is_l is_f at =
-    let e : ring_of_child 32 r.child ≡ Some ring = rw is_f at (rw is_p at (rw is_v at at)) in
+of_ring_by false r ring true l true is_p is_l is_f at =
+    let e : ring_of_child 32 r.child ≡ Some ring = rw is_f at (rw is_p at at) in
     let child = child_ring 32 r.child ring (nat_lt r.child 32) refl e in
     let few : r.child < 32 = child.0 in
     let is : ring ≡ 32 + r.child = child.1 in
     record {
-      vacant = λ other. absurd (omega (arith, few, is, other));
-      parked = λ low. is_p;
+      parked = is_p;
       signalled = (λ low. absurd (omega (arith, is, low)), λ other. absurd (omega (arith, few, is, other)));
       unsignalled = λ low high. refl;
       stays = λ low. absurd (omega (arith, is, low));
@@ -319,14 +263,14 @@ of_ring_by false r ring false true l true is_v is_p is_l is_f at =
       own = λ low. absurd (omega (arith, is, low));
       own_more = λ low high. omega (arith, is);
     }
-of_ring_by false r ring false true l false is_v is_p is_l is_f at =
-    let e : None ≡ Some ring = rw is_f at (rw is_p at (rw is_v at at)) in
+of_ring_by false r ring true l false is_p is_l is_f at =
+    let e : None ≡ Some ring = rw is_f at (rw is_p at at) in
     absurd (none-some ring e)
 
 -- what is known of a row by its ring
 of_ring : (b : Bool) (r : Row) (ring : ℕ) → ring_of_row b r ≡ Some ring → IsOfRing b r ring
 of_ring b r ring at =
-    of_ring_by b r ring (is_vacant r.place) (is_parked r.place) (is_lingering r) (is_from KeepAlive r) refl refl refl refl at
+    of_ring_by b r ring (is_parked r.place) (is_lingering r) (is_from KeepAlive r) refl refl refl at
 
 -- ## A slot that is found
 
@@ -343,30 +287,6 @@ row_standing s rings ring slot are stands =
 pub none_of_ring : (s : State) (rings : List (Option ℕ)) (ring : ℕ) → AreFiled s rings → ((slot : ℕ) → StandsIn rings ring slot → ⊥)
     → FindsInRing s ring None
 none_of_ring s rings ring are none slot r at is = none slot (are.filed slot r at ∙ ap Some is)
-
--- a slot that is vacant
-pub vacant_found : (s : State) (rings : List (Option ℕ)) (slot : ℕ) → AreFiled s rings → StandsIn rings 65 slot → is_vacant_at s slot ≡ true
-vacant_found s rings slot are stands =
-    let row = row_standing s rings 65 slot are stands in
-    rw (row.1) ((of_ring (is_signalled s slot) row.0 65 row.2).vacant refl)
-
--- no slot is vacant, by its row
-vacant_none_by : (s : State) (slot : ℕ) (o : Option Row) → slice_get s.rows slot ≡ o
-    → ((r : Row) → slice_get s.rows slot ≡ Some r → ring_of_row (is_signalled s slot) r ≡ Some 65 → ⊥) → is_vacant_at s slot ≡ false
-vacant_none_by s slot None at none = rw at refl
-vacant_none_by s slot (Some r) at none = rw at (not_so (is_vacant r.place) (λ vacant. none r at (rw vacant refl)))
-
--- no slot is vacant, where none stands in the ring of those that are
-pub vacant_none : (s : State) (rings : List (Option ℕ)) → AreFiled s rings → ((slot : ℕ) → StandsIn rings 65 slot → ⊥)
-    → (slot : ℕ) → is_vacant_at s slot ≡ false
-vacant_none s rings are none slot =
-    vacant_none_by s slot (slice_get s.rows slot) refl (λ r at is. none slot (are.filed slot r at ∙ ap Some is))
-
--- what is found of the slots that are vacant
-pub vacant_finds : (s : State) (rings : List (Option ℕ)) (o : Option ℕ) → AreFiled s rings → IfSome o (StandsIn rings 65)
-    → IfNone o ((slot : ℕ) → StandsIn rings 65 slot → ⊥) → FindsVacant s o
-vacant_finds s rings None are stands none = vacant_none s rings are none
-vacant_finds s rings (Some slot) are stands none = vacant_found s rings slot are stands
 
 -- ## A connection that is found
 
@@ -418,7 +338,7 @@ due_found s k None few free none = λ slot r at own.
 due_found s k (Some name) few free is =
     let of = of_ring (is_signalled s name.slot) is.row (0 + k) is.ring_is in
     let low : 0 + k < 32 = omega (arith, few) in
-    let parked = of.parked (omega (arith, few)) in
+    let parked = of.parked in
     let own : is.row.child ≡ k = of.own low ∙ omega arith in
     let free' : nat_lt (carried_count s.rows is.row.child) (child_of s is.row).shape.threads ≡ true =
     subst (λ (j : ℕ). nat_lt (carried_count s.rows j) (child_at s.children j).shape.threads ≡ true) (sym own)
@@ -439,7 +359,7 @@ go_found s k (Some name) few stops is =
     let of = of_ring (is_signalled s name.slot) is.row (32 + k) is.ring_is in
     let low : 32 ≤ 32 + k = omega arith in
     let high : 32 + k < 64 = omega (arith, few) in
-    let parked = of.parked (omega (arith, few)) in
+    let parked = of.parked in
     let own : is.row.child ≡ k = omega (arith, of.own_more low high) in
     let stops' : is_stopping (child_of s is.row).phase ≡ true =
     subst (λ (j : ℕ). is_stopping (child_at s.children j).phase ≡ true) (sym own) stops in
@@ -459,7 +379,7 @@ drain_found s None none = λ slot r at.
 drain_found s (Some name) is =
     let r = is.row in
     let of = of_ring (is_signalled s name.slot) r 64 is.ring_is in
-    let parked = of.parked (omega arith) in
+    let parked = of.parked in
     waiting_lives s.rows name is.row (has_to_be_drained s name.slot) is.found is.life parked
     (and_from (is_parked is.row.place && is_lingering is.row) (is_signalled s name.slot)
     (and_from (is_parked is.row.place) (is_lingering is.row) parked (of.lingers refl)) (of.signalled.1 refl))

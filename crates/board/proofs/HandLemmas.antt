@@ -1,10 +1,9 @@
 -- The connections that leave the board, and what a call needs and tells of one.
-use Rattle.std.proofs.Common.{◌≡◌, ◌⊎◌, inl, inr, ℕ, zero, suc, ◌<◌, Bool, true, false, not, ◌&&◌, ◌||◌, ◌==◌, nat_le, nat_lt, List, [], ◌∷◌, length, Option, None, Some, is_some, option_and_then, slice_get, get_or, eq-eqb, eqb-true, refl, sym, ap, subst, ◌∙◌, arith}
+use Rattle.std.proofs.Common.{◌≡◌, ◌⊎◌, inl, inr, ℕ, ◌<◌, Bool, true, false, not, ◌&&◌, ◌||◌, ◌==◌, nat_le, nat_lt, List, length, Option, None, Some, is_some, option_and_then, slice_get, eq-eqb, eqb-true, refl, sym, ap, subst, ◌∙◌, arith}
 use Rattle.std.specs.Bool.{OnTrue}
 use Rattle.std.specs.Option.{option_map_or}
 use Rattle.std.proofs.Math.ListN.{set}
 use Rattle.std.proofs.lemmas.Bool.{and_parts}
-use Rattle.std.proofs.lemmas.List.{get_or_default}
 use Rattle.mpm_base.specs.declared.conn.ConnName.{ConnName}
 use Rattle.mpm_base.specs.declared.conn.Cause.{Cause}
 use Rattle.mpm_base.specs.declared.conn.Cause.TheVariants as cause
@@ -78,17 +77,6 @@ given law s s' conns name r change x are at life has home rows_is live life' fit
         settled = settled;
       };
     }
-
--- a slot that has a connection stands below the length
-pub at-below : (conns : List (Option SeenConn)) (slot : ℕ) (x : SeenConn) → conn_at conns slot ≡ Some x → slot < length conns
-at-below [] slot x is = absurd (cc)
-at-below (c ∷ conns) zero x is = omega arith
-at-below (c ∷ conns) (suc slot) x is = let h : slot < length conns = at-below conns slot x is in omega arith
-
--- what was taken out of the slot is the connection that it had
-pub taken_is : (conns : List (Option SeenConn)) (slot : ℕ) (found : Option SeenConn) (x : SeenConn) → slot < length conns
-    → found ≡ get_or conns slot found → found ≡ Some x → conn_at conns slot ≡ Some x
-taken_is conns slot found x below at is = get_or_default {X = Option SeenConn} conns slot None found below ∙ sym at ∙ is
 
 -- so the connection that is given is that one
 pub given_is : (s s' : State) (conns : List (Option SeenConn)) (name : ConnName) (x : SeenConn) → (given : IsGiven s s' conns name)
@@ -307,19 +295,7 @@ start-taken law s name c may taken =
       | inr other ↦ record { row = taken.row; found = other; fits = taken.fits; settled = taken.settled }
     ]
 
--- ## A live connection
-
--- the row of a live connection stands below the length
-slot_of-live : (rows : List Row) (name : ConnName) (r : Row) (o : Option Row) → slice_get rows name.slot ≡ o
-    → row_where (is_live_as name) o ≡ Some r → name.slot < length rows
-slot_of-live rows name r None at found = absurd (cc)
-slot_of-live rows name r (Some x) at found = get-below rows name.slot x at
-
--- a live connection has a slot of the board
-pub live-below : (rows : List Row) (conns : List (Option SeenConn)) (name : ConnName) (r : Row)
-    → AreHome rows conns → live_row rows name ≡ Some r → name.slot < length conns
-live-below rows conns name r are found =
-    omega (arith, slot_of-live rows name r (slice_get rows name.slot) refl found, are.slots)
+-- ## A response
 
 -- the note that is answered is that of the row
 pub answer-note : (s : State) (name : ConnName) (ask : Ask) (last : Bool) (moment : ℕ) → is_allowed s (event.Answer name ask) ≡ true

@@ -13,3 +13,4 @@ pub mod RankLemmas
 pub mod RoomLemmas
 pub mod SlotLemmas
 pub mod StopLemmas
+pub mod UseLemmas

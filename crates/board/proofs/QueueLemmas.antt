@@ -30,7 +30,7 @@ map-update {X} f (y ∷ xs) zero x change at =
 map-update {X} {Y} f (y ∷ xs) (suc i) x change at = ap (λ (zs : List Y). f y ∷ zs) (map-update f xs i x change at)
 
 -- an item of a list that is mapped
-get-map : {X Y : Type 0} (f : X → Y) (xs : List X) (i : ℕ) (x : X) → slice_get xs i ≡ Some x → slice_get (map f xs) i ≡ Some (f x)
+pub get-map : {X Y : Type 0} (f : X → Y) (xs : List X) (i : ℕ) (x : X) → slice_get xs i ≡ Some x → slice_get (map f xs) i ≡ Some (f x)
 get-map f [] i x at = absurd (cc)
 get-map {X} f (y ∷ xs) zero x at =
     let e : y ≡ x = cc in
@@ -38,7 +38,7 @@ get-map {X} f (y ∷ xs) zero x at =
 get-map f (y ∷ xs) (suc i) x at = get-map f xs i x at
 
 -- an item that is put where it stands changes nothing
-map-same : {X Y : Type 0} (f : X → Y) (xs : List X) (i : ℕ) (x : X) → slice_get xs i ≡ Some x → set (map f xs) i (f x) ≡ map f xs
+pub map-same : {X Y : Type 0} (f : X → Y) (xs : List X) (i : ℕ) (x : X) → slice_get xs i ≡ Some x → set (map f xs) i (f x) ≡ map f xs
 map-same f [] i x at = absurd (cc)
 map-same {X} f (y ∷ xs) zero x at =
     let e : y ≡ x = cc in

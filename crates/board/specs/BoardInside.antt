@@ -2,14 +2,18 @@
 use Rattle.std.specs.Prelude.{◌≡◌, ℕ, ◌+◌, ◌≤◌, List, length, count_by, Option}
 use Rattle.conn_machine.specs.Rows.{is_live}
 use Rattle.timeout_queues.specs.Waiting.{ParkedName}
+use Rattle.conn_slots.specs.Slots.{Slot}
+use Rattle.conn_state.specs.Conn.{SeenConn}
 use Rattle.conn_state.specs.Known.{KnownOutside}
 use Rattle.board.specs.QueuesInside.{queues_of}
+use Rattle.board.specs.SlotsInside.{AreUsedAlike}
 use Rattle.board.specs.Board.{Agrees, AreOfClients, SeenBoard}
 
--- a board whose type knows this agrees with its history, its links are those of clients, its timeout queues have the rows that
--- wait, and each live connection finds room among those that ended
-pub record IsBoard (known : Option KnownOutside) (b : SeenBoard) (queues : List (Option ParkedName)) (room : ℕ) : Type 0 where
+-- a board whose type knows this agrees with its history, its links are those of clients, its slots are used as its rows are, its
+-- timeout queues have the rows that wait, and each live connection finds room among those that ended
+pub record IsBoard (known : Option KnownOutside) (b : SeenBoard) (slots : List (Slot (Option SeenConn))) (queues : List (Option ParkedName)) (room : ℕ) : Type 0 where
   pub agrees : Agrees b
   pub clients : AreOfClients known b
+  pub used : AreUsedAlike slots b.book.state.rows
   pub queued : queues ≡ queues_of b.book.state.rows
   pub has_room : length b.ended + count_by is_live b.book.state.rows ≤ room

@@ -1,12 +1,12 @@
 -- In which ring each slot of a book stands, so that a row with which something is to be done is found without a walk over the rows.
-use Rattle.std.specs.Prelude.{◌≡◌, ◌≢◌, ℕ, ◌+◌, ◌<◌, Bool, true, false, List, length, nat_lt, Option, None, Some, slice_get, slice_set, if◌then◌else◌}
+use Rattle.std.specs.Prelude.{◌≡◌, ◌≢◌, ℕ, ◌+◌, Bool, true, false, List, length, nat_lt, Option, None, Some, slice_get, slice_set, if◌then◌else◌}
 use Rattle.mpm_base.specs.declared.conn.ConnName.{ConnName}
 use Rattle.mpm_base.specs.declared.conn.Kind.TheVariants.{KeepAlive}
 use Rattle.conn_machine.specs.declared.row.Row.{Row}
 use Rattle.conn_machine.specs.declared.event.Event.{Event}
 use Rattle.conn_machine.specs.declared.event.Event.TheVariants as event
 use Rattle.conn_machine.specs.declared.state.State.{State}
-use Rattle.conn_machine.specs.Rows.{is_vacant, is_parked, is_from, is_lingering, lives_and}
+use Rattle.conn_machine.specs.Rows.{is_parked, is_from, is_lingering, lives_and}
 use Rattle.conn_machine.specs.States.{is_signalled}
 
 -- ## The ring of a row
@@ -20,20 +20,14 @@ abbrev pub ring_of_waiting : Bool → Row → Option ℕ
 ring_of_waiting true r = if is_lingering r then Some 64 else ring_of_child 0 r.child
 ring_of_waiting false r = if is_from KeepAlive r then ring_of_child 32 r.child else None
 
--- the ring of a row, signalled or not: where it is vacant the one of the vacant slots, where it waits one of those above
+-- the ring of a row, signalled or not: where it waits one of those above, else none
 abbrev pub ring_of_row : Bool → Row → Option ℕ
-ring_of_row signalled r =
-    if is_vacant r.place then Some 65 else (if is_parked r.place then ring_of_waiting signalled r else None)
+ring_of_row signalled r = if is_parked r.place then ring_of_waiting signalled r else None
 
 -- each slot stands in the ring of its row
 pub record AreFiled (s : State) (rings : List (Option ℕ)) : Type 0 where
   pub slots : length rings ≡ length s.rows
   pub filed : (slot : ℕ) (r : Row) → slice_get s.rows slot ≡ Some r → slice_get rings slot ≡ Some (ring_of_row (is_signalled s slot) r)
-
--- each of so many slots stands in the ring of the vacant ones
-pub record AreAllVacant (slots : ℕ) (rings : List (Option ℕ)) : Type 0 where
-  pub few : length rings ≡ slots
-  pub each : (slot : ℕ) → slot < slots → slice_get rings slot ≡ Some (Some 65)
 
 -- ## What an event changes
 

@@ -9,9 +9,11 @@ pub mod FaultsInside
 pub mod Finds
 pub mod FiledInside
 pub mod Fits
+pub mod Layout
 pub mod Ledger
 pub mod QueuesInside
 pub mod Ranks
 pub mod ReportLine
 pub mod RoomInside
 pub mod RowsInside
+pub mod SlotsInside

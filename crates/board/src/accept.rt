@@ -1,17 +1,25 @@
 //! The slot that the next connection is taken into.
-ghost use Rattle.std.specs.Prelude.{◌≡◌, true, IfOk, IfErr, OnOk};
+ghost use Rattle.std.specs.Prelude.{◌≡◌, ◌≢◌, Some, true, IfOk, IfErr, OnOk};
+ghost use Rattle.conn_slots.specs.Slots.{IsNextName, next_name, vacant_count};
 ghost use Rattle.conn_machine.specs.Table.{is_allowed};
 ghost use Rattle.conn_machine.specs.declared.event.Event.TheVariants as event;
 ghost use Rattle.board.specs.Faults.{IsNotTakenFor, IsOpen};
+ghost use Rattle.board.specs.SlotsInside.{AreUsedAlike};
 
 use crate::book::Book;
 use crate::faults::AcceptFault;
 use conn_machine::laws::connections_go_to_the_chosen_child;
+use conn_slots::Slots;
+use mpm_base::ConnName;
 
-/// A vacant slot for the next connection, where one may be taken. Wants no memory.
-pub(crate) fn slot_for_accept(book: &Book) -> Result<u32, AcceptFault>
+/// The name that the next connection is given, where one may be taken: that of a vacant slot. Wants no memory.
+pub(crate) fn slot_for_accept<T>(book: &Book, slots: &Slots<T>) -> Result<ConnName, AcceptFault>
+    requires { AreUsedAlike slots.now.slots book.now.state.rows }
     ensures ok { OnOk result (IsOpen book.now) }
-    ensures allowed { IfOk result (λ slot. is_allowed book.now.state (event.Accept slot) ≡ true) }
+    ensures allowed { IfOk result (λ name. is_allowed book.now.state (event.Accept name.slot) ≡ true) }
+    ensures next { IfOk result (λ name. next_name slots.now ≡ Some name) }
+    ensures unused { IfOk result (λ name. IsNextName slots.now.slots name) }
+    ensures vacant { OnOk result (vacant_count slots.now.slots ≢ 0) }
     ensures why { IfErr result (λ fault. IsNotTakenFor fault book.now) }
 {
     connections_go_to_the_chosen_child();
@@ -26,8 +34,8 @@ pub(crate) fn slot_for_accept(book: &Book) -> Result<u32, AcceptFault>
     if state.pick_child().is_none() {
         return Err(AcceptFault::NoChild);
     }
-    match book.filed().vacant_slot() {
-        Some(slot) => Ok(slot),
+    match slots.next() {
+        Some(name) => Ok(name),
         None => Err(AcceptFault::NoSlot),
     }
 }

@@ -18,8 +18,10 @@ ghost use Rattle.conn_state.specs.declared.turn.LastLinger.TheVariants as linger
 ghost use Rattle.conn_state.specs.Answered.{IsEnded, MayLinger};
 ghost use Rattle.conn_state.specs.Conn.{SeenConn};
 ghost use Rattle.conn_state.specs.Known.{IsOfClient};
+ghost use Rattle.conn_slots.specs.Slots.{IsLive, with_item};
 ghost use Rattle.board.specs.Book.{AddsOnly, StopsByLoad, TellsFullStop, book_with_entry, row_in};
 ghost use Rattle.board.specs.Board.{Agrees, AreOfClients, WaitForClients, conn_at};
+ghost use Rattle.board.specs.Layout.{conns_in};
 ghost use Rattle.board.specs.Events.{IsAdded, IsDecided, IsTaken, with_recorded};
 ghost use Rattle.board.specs.EventsInside.{decided_note};
 ghost use Rattle.board.specs.Faults.{IsNotTakenFor, IsRefusedFor};
@@ -32,6 +34,7 @@ use crate::faults::{AcceptFault, BoardFault};
 use crate::laws::one_row_changes;
 use crate::waits::wait_in_queue;
 use conn_machine::{Commanded, Entry, Event, Kept, Reply, State, Why};
+use conn_slots::Slots;
 use conn_state::{Conn, Ended, Known, Nothing};
 use mpm_base::{Ask, Cause, ConnName, Kind, Link, Moment, NoMemory, Note, Shape};
 use std::alloc::Global;
@@ -54,8 +57,9 @@ pub struct Taken {
 #[derive(Drop)]
 pub struct Board<L: Link, N: Known> {
     pub(crate) book: Book,
-    // What `N` knows of them is kept by the board itself, so that a board forgets it without a move.
-    conns: Vec<Option<Conn<L, Nothing>>>,
+    // The slot of each live row is taken; its item is None while the connection is in hand. What `N` knows of the connections
+    // is kept by the board itself, so that a board forgets it without a move.
+    conns: Slots<Option<Conn<L, Nothing>>>,
     ended: Vec<Ended<L>>,
     // The rows that wait, so that the first of them to be late is found.
     pub(crate) queues: Queues,
@@ -65,13 +69,14 @@ pub struct Board<L: Link, N: Known> {
 impl<L: Link, N: Known> Model for Board<L, N> {
     ghost use Rattle.std.specs.Prelude.{vec_capacity};
     ghost use Rattle.board.specs.Board.{SeenBoard};
+    ghost use Rattle.board.specs.Layout.{conns_in};
     ghost use Rattle.board.specs.BoardInside.{IsBoard};
 
     ghost Value = { SeenBoard };
 
-    ghost view = { λ b. record { book = b.book; conns = b.conns.items; ended = b.ended.items } };
+    ghost view = { λ b. record { book = b.book; conns = conns_in b.conns.slots; ended = b.ended.items } };
 
-    ghost invariant = { λ b. IsBoard N.known (record { book = b.book; conns = b.conns.items; ended = b.ended.items }) b.queues (vec_capacity b.ended) };
+    ghost invariant = { λ b. IsBoard N.known (record { book = b.book; conns = conns_in b.conns.slots; ended = b.ended.items }) b.conns.slots b.queues (vec_capacity b.ended) };
 }
 
 impl<L: Link, N: Known> Kept for Board<L, N> {
@@ -107,18 +112,11 @@ impl<L: Link, N: Known> Board<L, N> {
         ensures ended { IfOk result (λ board. board.ended ≡ []) }
     {
         let book = Book::open(alloc, slots, children, passes, shape)?;
-        let queues = Queues::make(alloc, slots)?;
-        let mut conns = Vec::new(alloc);
-        for _ in 0..slots {
-            if conns.push(None).is_err() {
-                return Err(NoMemory);
-            }
-        }
         Ok(Board {
             book,
-            conns,
+            conns: Slots::make(alloc, slots)?,
             ended: Vec::new(alloc),
-            queues,
+            queues: Queues::make(alloc, slots)?,
             of: PhantomData,
         })
     }
@@ -202,18 +200,22 @@ impl<L: Link, N: Known> Board<L, N> {
         ensures row { IfOk result (λ taken. row_in who self.new.book ≡ Some taken.name) }
     {
         one_row_changes();
-        let slot = slot_for_accept(&self.book)?;
-        let slots = self.conns.len();
+        let next = slot_for_accept(&self.book, &self.conns)?;
+        let slots = self.book.state().rows.len();
         if self.ended.reserve(slots).is_err() {
             return Err(AcceptFault::NoMemory);
         }
-        let reply = match self.book.record(who, Event::Accept(slot)) {
+        let reply = match self.book.record(who, Event::Accept(next.slot)) {
             Ok(reply) => reply,
             Err(fault) => return Err(AcceptFault::of(fault)),
         };
         let Reply::Took(name, child, generation) = reply else {
             unreachable!()
         };
+        match self.conns.put(None) {
+            Ok(_) => (),
+            Err(_) => unreachable!(),
+        }
         Ok(Taken {
             name,
             child,
@@ -248,7 +250,7 @@ impl<L: Link, N: Known> Board<L, N> {
         match self.book.record(who, Event::Park(name, kind)) {
             Ok(_) => {
                 wait_in_queue(&mut self.queues, self.book.state(), name);
-                self.conns[name.slot as usize] = Some(conn.forget());
+                put_back(&mut self.conns, name, conn);
                 Ok(())
             }
             Err(fault) => Err((fault, conn)),
@@ -358,7 +360,7 @@ impl<L: Link, N: Known> Board<L, N> {
         let name = conn.name();
         let _ = self.book.record_sure(who, Event::Linger(name, cause));
         wait_in_queue(&mut self.queues, self.book.state(), name);
-        self.conns[name.slot as usize] = Some(conn.forget());
+        put_back(&mut self.conns, name, conn);
     }
 
     /// The connection ended. Takes no memory.
@@ -378,6 +380,7 @@ impl<L: Link, N: Known> Board<L, N> {
         let _ = self
             .book
             .record_sure(who, Event::Close(ended.name, ended.cause, ended.tail));
+        let _ = self.conns.take(ended.name);
         match self.ended.push(ended) {
             Ok(()) => (),
             Err(_) => unreachable!(),
@@ -457,20 +460,39 @@ impl<L: Link, N: Known> Board<L, N> {
     }
 }
 
-/// Takes the connection of that name out of its slot.
+/// Takes the connection of that name, which stays live, out of its slot.
 fn take_out<L: Link, N: Known>(
-    conns: &mut Vec<Option<Conn<L, Nothing>>>,
+    conns: &mut Slots<Option<Conn<L, Nothing>>>,
     name: ConnName,
 ) -> Conn<L, N>
-    requires there { (c : SeenConn) × (conn_at conns.old.items name.slot ≡ Some c) }
-    requires clients { WaitForClients N.known conns.old.items }
-    ensures conn { conn_at conns.old.items name.slot ≡ Some result }
-    ensures emptied { conns.new.items ≡ slice_set conns.old.items name.slot None }
+    requires live { IsLive conns.old.slots name }
+    requires there { (c : SeenConn) × (conn_at (conns_in conns.old.slots) name.slot ≡ Some c) }
+    requires clients { WaitForClients N.known (conns_in conns.old.slots) }
+    ensures conn { conn_at (conns_in conns.old.slots) name.slot ≡ Some result }
+    ensures emptied { conns.new.slots ≡ with_item conns.old.slots name None }
 {
-    match conns[name.slot as usize].take() {
+    let Some(place) = conns.get_mut(name) else {
+        unreachable!()
+    };
+    match place.take() {
         Some(conn) => conn.known_as(),
         None => unreachable!(),
     }
+}
+
+/// Puts the connection into the slot of that name, which is live.
+fn put_back<L: Link, N: Known>(
+    conns: &mut Slots<Option<Conn<L, Nothing>>>,
+    name: ConnName,
+    conn: Conn<L, N>,
+)
+    requires { IsLive conns.old.slots name }
+    ensures { conns.new.slots ≡ with_item conns.old.slots name (Some conn) }
+{
+    let Some(place) = conns.get_mut(name) else {
+        unreachable!()
+    };
+    *place = Some(conn.forget());
 }
 
 /// The note of a response that is decided now.

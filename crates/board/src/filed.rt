@@ -5,9 +5,8 @@ ghost use Rattle.conn_machine.specs.States.{opening_state};
 ghost use Rattle.conn_machine.specs.Table.{is_allowed, may_be_queued, next, reply, takes_memory};
 ghost use Rattle.conn_machine.specs.Sizes.{HasSizesOf, IsSized};
 ghost use Rattle.conn_machine.specs.Sound.{IsSound};
-ghost use Rattle.board.specs.FaultsInside.{FindsVacant};
 ghost use Rattle.board.specs.Finds.{FindsRow, has_to_be_drained, is_due, is_let_go};
-ghost use Rattle.board.specs.FiledInside.{AreAllVacant, FindsInChild, FindsInRing, refiled_rings, ring_of_child, ring_of_row, slot_of_event};
+ghost use Rattle.board.specs.FiledInside.{FindsInChild, FindsInRing, refiled_rings, ring_of_child, ring_of_row, slot_of_event};
 
 use crate::laws::one_row_changes;
 use conn_machine::{Event, Reply, Row, State};
@@ -27,9 +26,6 @@ const KEPT_ALIVE: u32 = 32;
 
 // The ring of the lingering rows for which something may have come.
 const TO_DRAIN: u32 = 64;
-
-// The ring of the vacant slots.
-const VACANT: u32 = 65;
 
 /// A state of the machine, as contracts see it.
 #[derive(Drop)]
@@ -62,7 +58,7 @@ impl FiledState {
     {
         Ok(FiledState {
             state: State::opening(alloc, slots, children, shape)?,
-            rings: all_vacant(alloc, slots)?,
+            rings: SlotRings::make(alloc, slots)?,
         })
     }
 
@@ -71,13 +67,6 @@ impl FiledState {
         ensures { result.now ≡ self.now }
     {
         &self.state
-    }
-
-    /// A vacant slot, where there is one: the one that was vacated last.
-    pub(crate) fn vacant_slot(&self) -> Option<u32>
-        ensures { FindsVacant self.now result }
-    {
-        self.rings.last(VACANT)
     }
 
     /// A connection that waits for service, for which something may have come and a worker of its child is free.
@@ -212,9 +201,7 @@ fn ring_of_row(signalled: bool, row: &Row) -> Option<u32>
     ensures is { result ≡ ring_of_row signalled row.now }
     ensures few { IfSome result (λ ring. ring < 128) }
 {
-    if row.place.is_vacant() {
-        Some(VACANT)
-    } else if !row.place.is_parked() {
+    if !row.place.is_parked() {
         None
     } else if signalled {
         if row.is_lingering() {
@@ -240,16 +227,4 @@ fn ring_of_child(first: u32, child: u32) -> Option<u32>
     } else {
         None
     }
-}
-
-/// Rings of so many slots, each of which is vacant, the lowest of them last.
-fn all_vacant(alloc: Global, slots: u32) -> Result<SlotRings, NoMemory>
-    requires { slots ≤ 8192 }
-    ensures { IfOk result (AreAllVacant slots) }
-{
-    let mut rings = SlotRings::make(alloc, slots)?;
-    for slot in (0..slots).rev() {
-        rings.file(slot, Some(VACANT));
-    }
-    Ok(rings)
 }

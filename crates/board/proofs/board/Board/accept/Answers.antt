@@ -1,26 +1,36 @@
-use Rattle.std.proofs.Common.{◌+◌, ◌≤◌, length, vec_capacity, refl, rules, arith}
+use Rattle.std.proofs.Common.{◌≡◌, ◌+◌, ◌≤◌, List, Option, None, length, vec_capacity, subst, sym, ap, ◌∙◌, refl, rules}
 use Rattle.conn_machine.specs.declared.event.Event.TheVariants as event
+use Rattle.conn_slots.specs.Slots.{with_item}
+use Rattle.conn_state.specs.Conn.{SeenConn}
+use Rattle.board.specs.Events.{IsAdded}
+use Rattle.board.specs.Layout.{conns_in}
 use Rattle.board.proofs.BoardLemmas.{there_of}
 use Rattle.board.proofs.ClosedLemmas.{board_on, board_roomier}
 use Rattle.board.proofs.EventLemmas.{accept-there}
 use Rattle.board.proofs.HandLemmas.{not_taken_for}
 use Rattle.board.proofs.PassLemmas.{adds_inside}
+use Rattle.board.proofs.UseLemmas.{accept-used, conns-put, put-slots}
 use Rattle.board.proofs.board.Board.accept.Goals as goal
 
 pub invariant_of-self-2 : goal.invariant_of-self-2
 invariant_of-self-2 g c =
     let inside = c.self.inside in
-    let conns = inside.conns.items in
+    let slots = inside.conns.slots in
+    let conns = conns_in slots in
     let ended = inside.ended.items in
     let room = vec_capacity inside.ended in
     let room' = vec_capacity c.reserve.new.self in
-    let slot = c.in_ok-slot.slot in
-    let space : length ended + length conns ≤ room' = search rules in
-    let slots = c.self.invariant.agrees.waiting.slots in
+    let name = c.in_ok-next.next in
+    let given = c.in_ok-next.ensures in
+    let space : length ended + length inside.book.state.rows ≤ room' = search rules in
+    let stored : c.put.new.self.slots ≡ with_item slots name None =
+    put-slots inside.conns c.put.new.self.slots name None c.put.result given.next given.vacant c.put.ensures.full.0 c.put.ensures.name c.put.ensures.stored in
     rw (c.in-Ok.ensures.ok.new_is, c.reserve.ensures.items)
-    (board_on _ inside.book conns conns ended inside.queues inside.queues room room' c.args.who (event.Accept slot) c.self.invariant (λ s. refl)
-    (accept-there c.one_row_changes.ensures inside.book.state slot conns inside.queues (length ended) room room' c.in_ok-slot.ensures.allowed
-    (there_of _ inside.book conns ended inside.queues room c.self.invariant) (omega (arith, space, slots))) c.self.invariant.clients.conns)
+    (board_on _ inside.book slots c.put.new.self.slots conns ended inside.queues inside.queues room room' c.args.who (event.Accept name.slot) c.self.invariant (λ s. refl)
+    (accept-there c.one_row_changes.ensures inside.book.state name.slot conns inside.queues (length ended) room room' given.allowed
+    (there_of _ inside.book slots ended inside.queues room c.self.invariant) space) c.self.invariant.clients.conns
+    (ap conns_in stored ∙ conns-put slots name given.unused)
+    (rw stored (accept-used inside.book.state slots name None given.allowed c.self.invariant.used given.unused)))
 
 pub returns-clause-entries : goal.returns-clause-entries
 returns-clause-entries g c = adds_inside c.args.who _ c.args.self.now _ c.self.view_is c.record.ensures.entries
@@ -28,14 +38,26 @@ returns-clause-entries g c = adds_inside c.args.who _ c.args.self.now _ c.self.v
 pub invariant_of-self : goal.invariant_of-self
 invariant_of-self g c =
     let more : vec_capacity c.self.inside.ended ≤ vec_capacity c.reserve.new.self = search rules in
-    board_roomier _ _ c.reserve.new.self.items _ (vec_capacity c.self.inside.ended) (vec_capacity c.reserve.new.self) c.reserve.ensures.items more c.self.invariant
+    board_roomier _ _ c.reserve.new.self.items _ _ (vec_capacity c.self.inside.ended) (vec_capacity c.reserve.new.self) c.reserve.ensures.items more c.self.invariant
 
 pub invariant_of-self-in-Err : goal.invariant_of-self-in-Err
 invariant_of-self-in-Err g c =
     let more : vec_capacity c.self.inside.ended ≤ vec_capacity c.reserve.new.self = search rules in
     rw (c.in-Err.ensures.err)
-    (board_roomier _ _ c.reserve.new.self.items _ (vec_capacity c.self.inside.ended) (vec_capacity c.reserve.new.self) c.reserve.ensures.items more c.self.invariant)
+    (board_roomier _ _ c.reserve.new.self.items _ _ (vec_capacity c.self.inside.ended) (vec_capacity c.reserve.new.self) c.reserve.ensures.items more c.self.invariant)
 
 pub returns-in-Err-clause-why : goal.returns-in-Err-clause-why
 returns-in-Err-clause-why g c =
     rw (c.of.ensures) (not_taken_for c.in-Err.fault _ c.args.self.now c.self.view_is c.in-Err.ensures.why)
+
+pub returns-clause-ok : goal.returns-clause-ok
+returns-clause-ok g c =
+    let slots = c.self.inside.conns.slots in
+    let given = c.in_ok-next.ensures in
+    let stored : c.put.new.self.slots ≡ with_item slots c.in_ok-next.next None =
+    put-slots c.self.inside.conns c.put.new.self.slots c.in_ok-next.next None c.put.result given.next given.vacant c.put.ensures.full.0 c.put.ensures.name c.put.ensures.stored in
+    let same : conns_in c.put.new.self.slots ≡ conns_in slots = ap conns_in stored ∙ conns-put slots c.in_ok-next.next given.unused in
+    let added : IsAdded c.args.who (event.Accept c.in-Took.name.slot) c.args.self.now
+    (record { book = c.record.new.self; conns = conns_in slots; ended = c.reserve.new.self.items }) = search rules in
+    subst (λ (conns : List (Option SeenConn)). IsAdded c.args.who (event.Accept c.in-Took.name.slot) c.args.self.now
+    (record { book = c.record.new.self; conns = conns; ended = c.reserve.new.self.items })) (sym same) added

@@ -5,12 +5,14 @@ use Rattle.conn_machine.specs.declared.event.Reply.TheVariants.{Noted}
 use Rattle.conn_machine.specs.declared.state.State.{State}
 use Rattle.board.specs.Book.{SeenBook}
 use Rattle.board.specs.Board.{SeenBoard}
+use Rattle.board.specs.Layout.{conns_in}
 use Rattle.board.specs.Events.{IsDecided}
 use Rattle.board.proofs.BoardLemmas.{may_while, there_of}
 use Rattle.board.proofs.ClosedLemmas.{board_on}
 use Rattle.board.proofs.EventLemmas.{answer-there}
 use Rattle.board.proofs.HandLemmas.{answer-note}
 use Rattle.board.proofs.PassLemmas.{adds_inside, has_inside}
+use Rattle.board.proofs.UseLemmas.{answer-used}
 use Rattle.board.proofs.board.Board.answer.Goals as goal
 
 pub record-requires-clause-allowed : goal.record-requires-clause-allowed
@@ -20,15 +22,17 @@ record-requires-clause-allowed g c =
 pub invariant_of-self-2 : goal.invariant_of-self-2
 invariant_of-self-2 g c =
     let inside = c.self.inside in
-    let conns = inside.conns.items in
+    let slots = inside.conns.slots in
+    let conns = conns_in slots in
     let ended = inside.ended.items in
     let room = vec_capacity inside.ended in
     let e = event.Answer c.args.name c.args.ask in
     let ok = c.in_ok-last.ensures.ok in
     let may = may_while _ c.args.self.now e c.self.view_is c.requires.allowed ok.was_open.going in
     rw (ok.new_is)
-    (board_on _ inside.book conns conns ended inside.queues inside.queues room room c.args.who e c.self.invariant (λ s. refl)
-    (answer-there c.one_row_changes.ensures inside.book.state c.args.name c.args.ask conns inside.queues (length ended) room may (there_of _ inside.book conns ended inside.queues room c.self.invariant)) c.self.invariant.clients.conns)
+    (board_on _ inside.book slots slots conns ended inside.queues inside.queues room room c.args.who e c.self.invariant (λ s. refl)
+    (answer-there c.one_row_changes.ensures inside.book.state c.args.name c.args.ask conns inside.queues (length ended) room may (there_of _ inside.book slots ended inside.queues room c.self.invariant)) c.self.invariant.clients.conns
+    refl (c.self.invariant.used ∙ sym (answer-used inside.book.state c.args.name c.args.ask may)))
 
 pub returns-clause-note : goal.returns-clause-note
 returns-clause-note g c =

@@ -9,7 +9,7 @@ pub invariant_of-self : goal.invariant_of-self
 invariant_of-self g c =
     let inside = c.self.inside in
     rw (c.record_sure.ensures.is)
-    (board_same _ inside.book inside.conns.items inside.ended.items inside.queues (vec_capacity inside.ended) c.args.who (event.Command (Stop c.args.why))
+    (board_same _ inside.book inside.conns.slots inside.ended.items inside.queues (vec_capacity inside.ended) c.args.who (event.Command (Stop c.args.why))
     c.self.invariant (λ s. refl) refl)
 
 pub returns-clause-entries : goal.returns-clause-entries

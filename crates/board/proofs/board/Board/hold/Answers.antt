@@ -1,53 +1,60 @@
-use Rattle.std.proofs.Common.{length, vec_capacity, subst, sym, ap, ◌∙◌, refl}
+use Rattle.std.proofs.Common.{◌≡◌, None, length, slice_set, vec_capacity, subst, sym, ap, ◌∙◌, refl}
 use Rattle.conn_machine.specs.declared.event.Event.TheVariants as event
+use Rattle.conn_machine.specs.States.{is_signalled}
+use Rattle.conn_machine.specs.Table.{may_be_held}
 use Rattle.conn_state.specs.Conn.{SeenConn}
 use Rattle.board.specs.Book.{SeenBook}
 use Rattle.board.specs.Finds.{cause_of}
 use Rattle.board.specs.Fits.{IsOnItsWay, IsTakenUp}
 use Rattle.board.specs.Board.{SeenBoard}
+use Rattle.board.specs.Layout.{conns_in}
 use Rattle.board.proofs.BoardLemmas.{may_inside, there_of}
 use Rattle.board.proofs.ClientLemmas.{clients_taken}
 use Rattle.board.proofs.ClosedLemmas.{board_on}
 use Rattle.board.proofs.EventLemmas.{hold-there}
 use Rattle.board.proofs.HandLemmas.{given_is, hold-given, hold-unparked, hold-way}
 use Rattle.board.proofs.PassLemmas.{adds_inside}
+use Rattle.board.proofs.UseLemmas.{conns-with, hold-used, live-item, written-used}
 use Rattle.board.proofs.board.Board.hold.Goals as goal
 
 pub take_out-requires-clause-there : goal.take_out-requires-clause-there
 take_out-requires-clause-there g c =
     let inside = c.self.inside in
     let may = may_inside _ c.args.self.now (event.Hold c.args.name) c.self.view_is c.requires.allowed in
-    let given = hold-given c.one_row_changes.ensures inside.book.state c.args.name inside.conns.items c.show.ensures.sound may c.self.invariant.agrees.waiting in
+    let given = hold-given c.one_row_changes.ensures inside.book.state c.args.name (conns_in inside.conns.slots) c.show.ensures.sound may c.self.invariant.agrees.waiting in
     (given.conn, given.has)
 
 pub invariant_of-self : goal.invariant_of-self
 invariant_of-self g c =
     let inside = c.self.inside in
     let may = may_inside _ c.args.self.now (event.Hold c.args.name) c.self.view_is c.requires.allowed in
-    let conns = inside.conns.items in
+    let slots = inside.conns.slots in
+    let conns = conns_in slots in
     let ended = inside.ended.items in
     let room = vec_capacity inside.ended in
     let unparked = hold-unparked inside.book.state c.args.name inside.queues c.unpark.new.self c.unpark.result may c.self.invariant.queued
     c.unpark.ensures.found c.unpark.ensures.unparked in
     rw (c.record_sure.ensures.is, c.take_out.ensures.emptied, unparked)
-    (board_on _ inside.book conns _ ended inside.queues _ room room c.args.who (event.Hold c.args.name) c.self.invariant (λ s. refl)
-    (hold-there c.one_row_changes.ensures inside.book.state c.args.name conns inside.queues (length ended) room may (there_of _ inside.book conns ended inside.queues room c.self.invariant))
-    (clients_taken _ conns c.args.name.slot c.self.invariant.clients.conns))
+    (board_on _ inside.book slots _ _ ended inside.queues _ room room c.args.who (event.Hold c.args.name) c.self.invariant (λ s. refl)
+    (hold-there c.one_row_changes.ensures inside.book.state c.args.name conns inside.queues (length ended) room may (there_of _ inside.book slots ended inside.queues room c.self.invariant))
+    (clients_taken _ conns c.args.name.slot c.self.invariant.clients.conns) (conns-with slots c.args.name None)
+    (written-used slots inside.book.state.rows c.args.name None (may_be_held inside.book.state (is_signalled inside.book.state c.args.name.slot)) c.self.invariant.used may
+    ∙ sym (hold-used inside.book.state c.args.name may)))
 
 pub returns-clause-name : goal.returns-clause-name
 returns-clause-name g c =
     let inside = c.self.inside in
     let may = may_inside _ c.args.self.now (event.Hold c.args.name) c.self.view_is c.requires.allowed in
-    let given = hold-given c.one_row_changes.ensures inside.book.state c.args.name inside.conns.items c.show.ensures.sound may c.self.invariant.agrees.waiting in
-    let same = given_is _ _ inside.conns.items c.args.name c.take_out.result given c.take_out.ensures.conn in
+    let given = hold-given c.one_row_changes.ensures inside.book.state c.args.name (conns_in inside.conns.slots) c.show.ensures.sound may c.self.invariant.agrees.waiting in
+    let same = given_is _ _ (conns_in inside.conns.slots) c.args.name c.take_out.result given c.take_out.ensures.conn in
     ap (λ (x : SeenConn). x.name) (sym same) ∙ given.name_is
 
 pub returns-clause-handed : goal.returns-clause-handed
 returns-clause-handed g c =
     let inside = c.self.inside in
     let may = may_inside _ c.args.self.now (event.Hold c.args.name) c.self.view_is c.requires.allowed in
-    let given = hold-given c.one_row_changes.ensures inside.book.state c.args.name inside.conns.items c.show.ensures.sound may c.self.invariant.agrees.waiting in
-    let same = given_is _ _ inside.conns.items c.args.name c.take_out.result given c.take_out.ensures.conn in
+    let given = hold-given c.one_row_changes.ensures inside.book.state c.args.name (conns_in inside.conns.slots) c.show.ensures.sound may c.self.invariant.agrees.waiting in
+    let same = given_is _ _ (conns_in inside.conns.slots) c.args.name c.take_out.result given c.take_out.ensures.conn in
     subst (λ (b : SeenBook). IsTakenUp b.state c.take_out.result) (sym c.record_sure.ensures.is)
     (subst (IsTakenUp _) same given.handed)
 
@@ -56,10 +63,23 @@ returns-clause-way g c =
     let inside = c.self.inside in
     let may = may_inside _ c.args.self.now (event.Hold c.args.name) c.self.view_is c.requires.allowed in
     subst (λ (v : SeenBoard). IsOnItsWay (cause_of v.book.state c.args.name) c.take_out.result) c.self.view_is
-    (hold-way inside.book.state c.args.name inside.conns.items c.take_out.result may c.self.invariant.agrees.waiting c.take_out.ensures.conn)
+    (hold-way inside.book.state c.args.name (conns_in inside.conns.slots) c.take_out.result may c.self.invariant.agrees.waiting c.take_out.ensures.conn)
 
 pub returns-clause-entries : goal.returns-clause-entries
 returns-clause-entries g c = adds_inside c.args.who _ c.args.self.now _ c.self.view_is c.record_sure.ensures.entries
 
 pub take_out-requires-clause-clients : goal.take_out-requires-clause-clients
 take_out-requires-clause-clients g c = c.self.invariant.clients.conns
+
+pub take_out-requires-clause-live : goal.take_out-requires-clause-live
+take_out-requires-clause-live g c =
+    let s = c.self.inside.book.state in
+    live-item c.self.inside.conns.slots s.rows c.args.name (may_be_held s (is_signalled s c.args.name.slot)) c.self.invariant.used
+    (may_inside _ c.args.self.now (event.Hold c.args.name) c.self.view_is c.requires.allowed)
+
+pub returns-clause-is : goal.returns-clause-is
+returns-clause-is g c =
+    let slots = c.self.inside.conns.slots in
+    let conns : conns_in c.take_out.new.conns.slots ≡ slice_set (conns_in slots) c.args.name.slot None =
+    ap conns_in c.take_out.ensures.emptied ∙ conns-with slots c.args.name None in
+    rw (conns, c.record_sure.ensures.is, ← c.self.view_is) refl

@@ -1,29 +1,34 @@
-use Rattle.std.proofs.Common.{◌≡◌, true, Some, Option, is_some, length, slice_set, vec_capacity, subst, sym, ap, refl, rules}
+use Rattle.std.proofs.Common.{◌≡◌, true, Some, Option, is_some, length, slice_set, vec_capacity, subst, sym, ap, ◌∙◌, refl, rules}
 use Rattle.mpm_base.specs.declared.conn.Cause.{Cause}
 use Rattle.mpm_base.specs.declared.conn.ConnName.{ConnName}
 use Rattle.conn_machine.specs.Rows.{live_row}
 use Rattle.conn_machine.specs.Runs.{has_row}
 use Rattle.board.specs.Book.{row_in}
-use Rattle.conn_machine.specs.Table.{is_allowed, next, parked_row}
+use Rattle.conn_machine.specs.Table.{is_allowed, next, may_wait, parked_row}
 use Rattle.conn_machine.specs.declared.event.Event.TheVariants as event
 use Rattle.board.specs.Finds.{cause_of}
 use Rattle.board.specs.Fits.{IsSettled}
+use Rattle.board.specs.Board.{SeenBoard}
+use Rattle.board.specs.Layout.{conns_in}
 use Rattle.board.specs.QueuesInside.{waits_in, waits_under}
 use Rattle.board.proofs.BoardLemmas.{may_while, there_of}
 use Rattle.board.proofs.ClientLemmas.{clients_put}
 use Rattle.board.proofs.ClosedLemmas.{board_on}
 use Rattle.board.proofs.EventLemmas.{park-there}
-use Rattle.board.proofs.HandLemmas.{cause-found, live-below, park-free, park-parked}
+use Rattle.board.proofs.HandLemmas.{cause-found, park-free, park-parked}
 use Rattle.board.proofs.PassLemmas.{adds_inside, has_inside}
+use Rattle.board.proofs.UseLemmas.{conns-with, live-item, park-lives, park-used, written-used}
 use Rattle.board.proofs.board.Board.park.Goals as goal
 
-pub index_mut-requires : goal.index_mut-requires
-index_mut-requires g c =
+pub put_back-requires : goal.put_back-requires
+put_back-requires g c =
     let inside = c.self.inside in
     let name = c.name-name.result in
-    let found : live_row inside.book.state.rows name ≡ Some c.requires.fits.row = search rules in
-    let below = live-below inside.book.state.rows inside.conns.items name c.requires.fits.row c.self.invariant.agrees.waiting found in
-    search (rules, below)
+    let may : is_allowed inside.book.state (event.Park name c.args.kind) ≡ true =
+    subst (λ (n : ConnName). is_allowed inside.book.state (event.Park n c.args.kind) ≡ true) (sym c.name-name.ensures)
+    (may_while _ c.args.self.now (event.Park c.args.conn.name c.args.kind) c.self.view_is c.requires.allowed c.in-Ok.ensures.ok.was_open.going) in
+    live-item inside.conns.slots inside.book.state.rows name (may_wait inside.book.state.moment c.args.kind) c.self.invariant.used
+    (park-lives inside.book.state name c.args.kind may)
 
 pub record-requires-clause-allowed : goal.record-requires-clause-allowed
 record-requires-clause-allowed g c going =
@@ -34,7 +39,8 @@ record-requires-clause-allowed g c going =
 pub invariant_of-self : goal.invariant_of-self
 invariant_of-self g c =
     let inside = c.self.inside in
-    let conns = inside.conns.items in
+    let slots = inside.conns.slots in
+    let conns = conns_in slots in
     let ended = inside.ended.items in
     let room = vec_capacity inside.ended in
     let name = c.name-name.result in
@@ -49,11 +55,13 @@ invariant_of-self g c =
     let settled = subst (λ (why : Option Cause). IsSettled c.args.kind why c.args.conn) cause_is c.requires.settled in
     let parked = park-parked c.one_row_changes.ensures inside.book.state name c.args.kind c.requires.fits.row may found in
     let queued : c.wait_in_queue.new.queues ≡ slice_set inside.queues name.slot (waits_in (parked_row inside.book.state c.args.kind c.requires.fits.row)) = search rules in
-    rw (ok.new_is, c.forget.ensures.same, queued)
-    (board_on _ inside.book conns _ ended inside.queues _ room room c.args.who e c.self.invariant (λ s. refl)
+    rw (ok.new_is, c.put_back.ensures, queued)
+    (board_on _ inside.book slots _ _ ended inside.queues _ room room c.args.who e c.self.invariant (λ s. refl)
     (park-there c.one_row_changes.ensures inside.book.state name c.args.kind conns inside.queues c.args.conn c.requires.fits.row (length ended) room may
-    (there_of _ inside.book conns ended inside.queues room c.self.invariant) found (sym c.name-name.ensures) c.requires.fits.fits settled)
-    (clients_put _ conns name.slot c.args.conn c.show.ensures.client c.self.invariant.clients.conns))
+    (there_of _ inside.book slots ended inside.queues room c.self.invariant) found (sym c.name-name.ensures) c.requires.fits.fits settled)
+    (clients_put _ conns name.slot c.args.conn c.show.ensures.client c.self.invariant.clients.conns) (conns-with slots name (Some c.args.conn))
+    (written-used slots inside.book.state.rows name (Some c.args.conn) (may_wait inside.book.state.moment c.args.kind) c.self.invariant.used
+    (park-lives inside.book.state name c.args.kind may) ∙ sym (park-used inside.book.state name c.args.kind may)))
 
 pub wait_in_queue-requires-clause-free : goal.wait_in_queue-requires-clause-free
 wait_in_queue-requires-clause-free g c =
@@ -83,3 +91,11 @@ record-requires-clause-role g c =
 
 pub returns-in-Ok-clause-entries : goal.returns-in-Ok-clause-entries
 returns-in-Ok-clause-entries g c = adds_inside c.args.who _ c.args.self.now _ c.self.view_is c.record.ensures.entries
+
+pub returns-in-Ok-clause-parked : goal.returns-in-Ok-clause-parked
+returns-in-Ok-clause-parked g c =
+    let slots = c.self.inside.conns.slots in
+    ap conns_in c.put_back.ensures
+    ∙ conns-with slots c.name-name.result (Some c.args.conn)
+    ∙ ap (λ (n : ConnName). slice_set (conns_in slots) n.slot (Some c.args.conn)) c.name-name.ensures
+    ∙ ap (λ (b : SeenBoard). slice_set b.conns c.args.conn.name.slot (Some c.args.conn)) c.self.view_is

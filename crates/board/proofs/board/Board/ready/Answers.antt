@@ -8,7 +8,7 @@ pub invariant_of-self-2 : goal.invariant_of-self-2
 invariant_of-self-2 g c =
     let inside = c.self.inside in
     rw (c.in_ok-record.ensures.ok.new_is)
-    (board_same _ inside.book inside.conns.items inside.ended.items inside.queues (vec_capacity inside.ended) c.args.who (event.Ready c.args.slot)
+    (board_same _ inside.book inside.conns.slots inside.ended.items inside.queues (vec_capacity inside.ended) c.args.who (event.Ready c.args.slot)
     c.self.invariant (λ s. refl) refl)
 
 pub returns-clause-entries : goal.returns-clause-entries

@@ -8,7 +8,7 @@ pub invariant_of-self : goal.invariant_of-self
 invariant_of-self g c =
     let inside = c.self.inside in
     rw (c.record_sure.ensures.is)
-    (board_same _ inside.book inside.conns.items inside.ended.items inside.queues (vec_capacity inside.ended) c.args.who (event.Retire c.args.child)
+    (board_same _ inside.book inside.conns.slots inside.ended.items inside.queues (vec_capacity inside.ended) c.args.who (event.Retire c.args.child)
     c.self.invariant (λ s. refl) refl)
 
 pub returns-clause-entries : goal.returns-clause-entries

@@ -1,13 +1,15 @@
-use Rattle.std.proofs.Common.{length, vec_capacity, subst, sym, refl}
+use Rattle.std.proofs.Common.{length, vec_capacity, subst, sym, ◌∙◌, refl}
 use Rattle.conn_machine.specs.declared.event.Event.TheVariants as event
 use Rattle.board.specs.Book.{SeenBook}
 use Rattle.board.specs.Fits.{IsTakenUp}
 use Rattle.board.specs.Board.{SeenBoard}
+use Rattle.board.specs.Layout.{conns_in}
 use Rattle.board.proofs.BoardLemmas.{may_inside, there_of}
 use Rattle.board.proofs.ClosedLemmas.{board_on}
 use Rattle.board.proofs.EventLemmas.{start-there}
 use Rattle.board.proofs.HandLemmas.{start-taken}
 use Rattle.board.proofs.PassLemmas.{adds_inside, has_inside}
+use Rattle.board.proofs.UseLemmas.{start-used}
 use Rattle.board.proofs.board.Board.start.Goals as goal
 
 pub record_sure-requires-clause-role : goal.record_sure-requires-clause-role
@@ -17,12 +19,14 @@ pub invariant_of-self : goal.invariant_of-self
 invariant_of-self g c =
     let inside = c.self.inside in
     let may = may_inside _ c.args.self.now (event.Start c.args.name) c.self.view_is c.requires.allowed in
-    let conns = inside.conns.items in
+    let slots = inside.conns.slots in
+    let conns = conns_in slots in
     let ended = inside.ended.items in
     let room = vec_capacity inside.ended in
     rw (c.record_sure.ensures.is)
-    (board_on _ inside.book conns conns ended inside.queues inside.queues room room c.args.who (event.Start c.args.name) c.self.invariant (λ s. refl)
-    (start-there c.one_row_changes.ensures inside.book.state c.args.name conns inside.queues (length ended) room may (there_of _ inside.book conns ended inside.queues room c.self.invariant)) c.self.invariant.clients.conns)
+    (board_on _ inside.book slots slots conns ended inside.queues inside.queues room room c.args.who (event.Start c.args.name) c.self.invariant (λ s. refl)
+    (start-there c.one_row_changes.ensures inside.book.state c.args.name conns inside.queues (length ended) room may (there_of _ inside.book slots ended inside.queues room c.self.invariant)) c.self.invariant.clients.conns
+    refl (c.self.invariant.used ∙ sym (start-used inside.book.state c.args.name may)))
 
 pub returns-clause-handed : goal.returns-clause-handed
 returns-clause-handed g c x taken =

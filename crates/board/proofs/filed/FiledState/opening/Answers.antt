@@ -4,4 +4,4 @@ use Rattle.board.proofs.filed.FiledState.opening.Goals as goal
 pub invariant_of-result : goal.invariant_of-result
 invariant_of-result c =
     rw c.in_ok-opening.ensures
-    (filed_first c.args.slots c.args.children c.args.shape c.in_ok-all_vacant.field-0 c.in_ok-all_vacant.ensures)
+    (filed_first c.args.slots c.args.children c.args.shape c.in_ok-make.field-0 c.in_ok-make.ensures)
