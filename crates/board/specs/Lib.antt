@@ -1,5 +1,6 @@
 pub mod Board
 pub mod BoardInside
+pub mod BoardParts
 pub mod Book
 pub mod BookInside
 pub mod Events

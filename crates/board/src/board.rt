@@ -18,10 +18,8 @@ ghost use Rattle.conn_state.specs.declared.turn.LastLinger.TheVariants as linger
 ghost use Rattle.conn_state.specs.Answered.{IsEnded, MayLinger};
 ghost use Rattle.conn_state.specs.Conn.{SeenConn};
 ghost use Rattle.conn_state.specs.Known.{IsOfClient};
-ghost use Rattle.conn_slots.specs.Slots.{IsLive, with_item};
 ghost use Rattle.board.specs.Book.{AddsOnly, StopsByLoad, TellsFullStop, book_with_entry, row_in};
-ghost use Rattle.board.specs.Board.{Agrees, AreOfClients, WaitForClients, conn_at};
-ghost use Rattle.board.specs.Layout.{conns_in};
+ghost use Rattle.board.specs.Board.{Agrees, AreOfClients, conn_at};
 ghost use Rattle.board.specs.Events.{IsAdded, IsDecided, IsTaken, with_recorded};
 ghost use Rattle.board.specs.EventsInside.{decided_note};
 ghost use Rattle.board.specs.Faults.{IsNotTakenFor, IsRefusedFor};
@@ -30,6 +28,7 @@ ghost use Rattle.board.specs.Fits.{FoundNoMore, IsClosing, IsOnItsWay, IsTakenUp
 
 use crate::accept::slot_for_accept;
 use crate::book::Book;
+use crate::conns::{put_back, take_out};
 use crate::faults::{AcceptFault, BoardFault};
 use crate::laws::one_row_changes;
 use crate::waits::wait_in_queue;
@@ -37,6 +36,7 @@ use conn_machine::{Commanded, Entry, Event, Kept, Reply, State, Why};
 use conn_slots::Slots;
 use conn_state::{Conn, Ended, Known, Nothing};
 use mpm_base::{Ask, Cause, ConnName, Kind, Link, Moment, NoMemory, Note, Shape};
+use stand_ins::PlainLink;
 use std::alloc::Global;
 use std::marker::{Model, PhantomData};
 use timeout_queues::Queues;
@@ -53,30 +53,39 @@ pub struct Taken {
 }
 
 /// The table of connections: its history, the connections that wait, and those that ended. Where `N` knows what the clients
-/// send, each link is that of one of them.
+/// send, each link is that of one of them. It is moved as one box.
 #[derive(Drop)]
 pub struct Board<L: Link, N: Known> {
+    // What `N` knows of the connections is kept by the board itself, so that a board forgets it without a move of its parts.
+    pub(crate) parts: Box<Parts<L>>,
+    of: PhantomData<N>,
+}
+
+/// What a board consists of.
+#[derive(Drop)]
+pub(crate) struct Parts<L: Link> {
     pub(crate) book: Book,
-    // The slot of each live row is taken; its item is None while the connection is in hand. What `N` knows of the connections
-    // is kept by the board itself, so that a board forgets it without a move.
+    // The slot of each live row is taken; its item is None while the connection is in hand.
     conns: Slots<Option<Conn<L, Nothing>>>,
     ended: Vec<Ended<L>>,
     // The rows that wait, so that the first of them to be late is found.
     pub(crate) queues: Queues,
-    of: PhantomData<N>,
 }
 
+// A board is moved in few bytes, whatever its links are.
+const _: () = prove!(size_of::<Board<PlainLink, Nothing>>() <= 100);
+
 impl<L: Link, N: Known> Model for Board<L, N> {
-    ghost use Rattle.std.specs.Prelude.{vec_capacity};
     ghost use Rattle.board.specs.Board.{SeenBoard};
-    ghost use Rattle.board.specs.Layout.{conns_in};
-    ghost use Rattle.board.specs.BoardInside.{IsBoard};
 
     ghost Value = { SeenBoard };
 
-    ghost view = { λ b. record { book = b.book; conns = conns_in b.conns.slots; ended = b.ended.items } };
+    ghost use Rattle.board.specs.BoardParts.{seen_board};
+    ghost use Rattle.board.specs.BoardInside.{AreParts};
 
-    ghost invariant = { λ b. IsBoard N.known (record { book = b.book; conns = conns_in b.conns.slots; ended = b.ended.items }) b.conns.slots b.queues (vec_capacity b.ended) };
+    ghost view = { λ b. seen_board b.parts.value };
+
+    ghost invariant = { λ b. AreParts N.known b.parts.value };
 }
 
 impl<L: Link, N: Known> Kept for Board<L, N> {
@@ -85,8 +94,8 @@ impl<L: Link, N: Known> Kept for Board<L, N> {
     ghost ledger = { ledger_of };
 
     fn length(&self) -> u64 {
-        self.book.show();
-        self.book.history().len() as u64
+        self.parts.book.show();
+        self.parts.book.history().len() as u64
     }
 }
 
@@ -112,11 +121,17 @@ impl<L: Link, N: Known> Board<L, N> {
         ensures ended { IfOk result (λ board. board.ended ≡ []) }
     {
         let book = Book::open(alloc, slots, children, passes, shape)?;
-        Ok(Board {
+        let parts = Parts {
             book,
             conns: Slots::make(alloc, slots)?,
             ended: Vec::new(alloc),
             queues: Queues::make(alloc, slots)?,
+        };
+        let Ok(parts) = Box::new(alloc, parts) else {
+            return Err(NoMemory);
+        };
+        Ok(Board {
+            parts,
             of: PhantomData,
         })
     }
@@ -126,18 +141,9 @@ impl<L: Link, N: Known> Board<L, N> {
         ensures same { result ≡ self }
         ensures clients { AreOfClients N.known self }
     {
-        let Board {
-            book,
-            conns,
-            ended,
-            queues,
-            of: _,
-        } = self;
+        let Board { parts, of: _ } = self;
         Board {
-            book,
-            conns,
-            ended,
-            queues,
+            parts,
             of: PhantomData,
         }
     }
@@ -146,21 +152,21 @@ impl<L: Link, N: Known> Board<L, N> {
     pub fn history(&self) -> &[Entry]
         ensures { result.now ≡ self.now.book.history }
     {
-        self.book.history()
+        self.parts.book.history()
     }
 
     /// The state after the history.
     pub fn state(&self) -> &State
         ensures { result.now ≡ self.now.book.state }
     {
-        self.book.state()
+        self.parts.book.state()
     }
 
     /// The connections that ended, in the order of their closes.
     pub fn ended(&self) -> &[Ended<L>]
         ensures { result.now ≡ self.now.ended }
     {
-        self.ended.as_slice()
+        self.parts.ended.as_slice()
     }
 
     /// What holds of every board: its history is one of the machine, from its base to its state, which are sound, in the order of
@@ -183,7 +189,7 @@ impl<L: Link, N: Known> Board<L, N> {
         ensures agrees { Agrees self.now }
         ensures clients { AreOfClients N.known self.now }
     {
-        self.book.show();
+        self.parts.book.show();
     }
 
     /// Takes a connection for the child that the rule of admission names, into a vacant slot. Takes the room that closing it
@@ -199,20 +205,21 @@ impl<L: Link, N: Known> Board<L, N> {
         ensures entries { AddsOnly who self.old.book self.new.book }
         ensures row { IfOk result (λ taken. row_in who self.new.book ≡ Some taken.name) }
     {
+        let parts = &mut *self.parts;
         one_row_changes();
-        let next = slot_for_accept(&self.book, &self.conns)?;
-        let slots = self.book.state().rows.len();
-        if self.ended.reserve(slots).is_err() {
+        let next = slot_for_accept(&parts.book, &parts.conns)?;
+        let slots = parts.book.state().rows.len();
+        if parts.ended.reserve(slots).is_err() {
             return Err(AcceptFault::NoMemory);
         }
-        let reply = match self.book.record(who, Event::Accept(next.slot)) {
+        let reply = match parts.book.record(who, Event::Accept(next.slot)) {
             Ok(reply) => reply,
             Err(fault) => return Err(AcceptFault::of(fault)),
         };
         let Reply::Took(name, child, generation) = reply else {
             unreachable!()
         };
-        match self.conns.put(None) {
+        match parts.conns.put(None) {
             Ok(_) => (),
             Err(_) => unreachable!(),
         }
@@ -244,17 +251,17 @@ impl<L: Link, N: Known> Board<L, N> {
         ensures entries { AddsOnly who self.old.book self.new.book }
         ensures row { OnOk result (row_in who self.new.book ≡ None) }
     {
+        let parts = &mut *self.parts;
         one_row_changes();
         conn.show();
         let name = conn.name();
-        match self.book.record(who, Event::Park(name, kind)) {
-            Ok(_) => {
-                wait_in_queue(&mut self.queues, self.book.state(), name);
-                put_back(&mut self.conns, name, conn);
-                Ok(())
-            }
-            Err(fault) => Err((fault, conn)),
+        match parts.book.record(who, Event::Park(name, kind)) {
+            Ok(_) => (),
+            Err(fault) => return Err((fault, conn)),
         }
+        wait_in_queue(&mut parts.queues, parts.book.state(), name);
+        put_back(&mut parts.conns, name, conn);
+        Ok(())
     }
 
     /// The listener takes a connection that waits. Takes no memory.
@@ -271,11 +278,12 @@ impl<L: Link, N: Known> Board<L, N> {
         ensures entries { AddsOnly who self.old.book self.new.book }
         ensures row { row_in who self.new.book ≡ Some name }
     {
+        let parts = &mut *self.parts;
         one_row_changes();
-        self.book.show();
-        let _ = self.book.record_sure(who, Event::Hold(name));
-        let _ = self.queues.unpark(name);
-        take_out(&mut self.conns, name)
+        parts.book.show();
+        let _ = parts.book.record_sure(who, Event::Hold(name));
+        let _ = parts.queues.unpark(name);
+        take_out(&mut parts.conns, name)
     }
 
     /// The connection is handed out, to a worker of its child. Takes the room that its start and its closing need. Where it is
@@ -295,11 +303,12 @@ impl<L: Link, N: Known> Board<L, N> {
         ensures entries { AddsOnly who self.old.book self.new.book }
         ensures row { OnOk result (row_in who self.new.book ≡ Some name) }
     {
+        let parts = &mut *self.parts;
         one_row_changes();
-        self.book.show();
-        self.book.record(who, Event::Queue(name))?;
-        let _ = self.queues.unpark(name);
-        Ok(take_out(&mut self.conns, name))
+        parts.book.show();
+        parts.book.record(who, Event::Queue(name))?;
+        let _ = parts.queues.unpark(name);
+        Ok(take_out(&mut parts.conns, name))
     }
 
     /// A worker begins to serve the connection: its cell. Takes no memory.
@@ -313,9 +322,10 @@ impl<L: Link, N: Known> Board<L, N> {
         ensures entries { AddsOnly who self.old.book self.new.book }
         ensures row { row_in who self.new.book ≡ Some name }
     {
+        let parts = &mut *self.parts;
         one_row_changes();
-        self.book.show();
-        let Reply::Cell(cell) = self.book.record_sure(who, Event::Start(name)) else {
+        parts.book.show();
+        let Reply::Cell(cell) = parts.book.record_sure(who, Event::Start(name)) else {
             unreachable!()
         };
         cell
@@ -334,12 +344,13 @@ impl<L: Link, N: Known> Board<L, N> {
         ensures entries { AddsOnly who self.old.book self.new.book }
         ensures row { row_in who self.new.book ≡ Some name }
     {
+        let parts = &mut *self.parts;
         one_row_changes();
-        self.book.show();
-        let Reply::Noted(last) = self.book.record(who, Event::Answer(name, ask))? else {
+        parts.book.show();
+        let Reply::Noted(last) = parts.book.record(who, Event::Answer(name, ask))? else {
             unreachable!()
         };
-        Ok(note_of(self.book.state(), &ask, last))
+        Ok(note_of(parts.book.state(), &ask, last))
     }
 
     /// The service of the connection ended: it lingers, in the queue of its kind, until its client has ended too or its time is
@@ -355,12 +366,13 @@ impl<L: Link, N: Known> Board<L, N> {
         ensures entries { AddsOnly who self.old.book self.new.book }
         ensures row { row_in who self.new.book ≡ None }
     {
+        let parts = &mut *self.parts;
         one_row_changes();
         conn.show();
         let name = conn.name();
-        let _ = self.book.record_sure(who, Event::Linger(name, cause));
-        wait_in_queue(&mut self.queues, self.book.state(), name);
-        put_back(&mut self.conns, name, conn);
+        let _ = parts.book.record_sure(who, Event::Linger(name, cause));
+        wait_in_queue(&mut parts.queues, parts.book.state(), name);
+        put_back(&mut parts.conns, name, conn);
     }
 
     /// The connection ended. Takes no memory.
@@ -375,13 +387,14 @@ impl<L: Link, N: Known> Board<L, N> {
         ensures entries { AddsOnly who self.old.book self.new.book }
         ensures row { row_in who self.new.book ≡ None }
     {
+        let parts = &mut *self.parts;
         one_row_changes();
-        self.book.show();
-        let _ = self
+        parts.book.show();
+        let _ = parts
             .book
             .record_sure(who, Event::Close(ended.name, ended.cause, ended.tail));
-        let _ = self.conns.take(ended.name);
-        match self.ended.push(ended) {
+        let _ = parts.conns.take(ended.name);
+        match parts.ended.push(ended) {
             Ok(()) => (),
             Err(_) => unreachable!(),
         }
@@ -398,7 +411,8 @@ impl<L: Link, N: Known> Board<L, N> {
         ensures entries { AddsOnly who self.old.book self.new.book }
         ensures row { row_in who self.new.book ≡ row_in who self.old.book }
     {
-        self.book.record(who, Event::Ready(slot))?;
+        let parts = &mut *self.parts;
+        parts.book.record(who, Event::Ready(slot))?;
         Ok(())
     }
 
@@ -413,7 +427,8 @@ impl<L: Link, N: Known> Board<L, N> {
         ensures entries { AddsOnly who self.old.book self.new.book }
         ensures row { row_in who self.new.book ≡ row_in who self.old.book }
     {
-        self.book.record(who, Event::Tick(moment))?;
+        let parts = &mut *self.parts;
+        parts.book.record(who, Event::Tick(moment))?;
         Ok(())
     }
 
@@ -428,7 +443,8 @@ impl<L: Link, N: Known> Board<L, N> {
         ensures entries { AddsOnly who self.old.book self.new.book }
         ensures row { row_in who self.new.book ≡ row_in who self.old.book }
     {
-        self.book.record(who, Event::StartChild(child))?;
+        let parts = &mut *self.parts;
+        parts.book.record(who, Event::StartChild(child))?;
         Ok(())
     }
 
@@ -442,7 +458,8 @@ impl<L: Link, N: Known> Board<L, N> {
         ensures entries { AddsOnly who self.old.book self.new.book }
         ensures row { row_in who self.new.book ≡ row_in who self.old.book }
     {
-        let _ = self
+        let parts = &mut *self.parts;
+        let _ = parts
             .book
             .record_sure(who, Event::Command(Commanded::Stop(why)));
     }
@@ -456,43 +473,9 @@ impl<L: Link, N: Known> Board<L, N> {
         ensures entries { AddsOnly who self.old.book self.new.book }
         ensures row { row_in who self.new.book ≡ row_in who self.old.book }
     {
-        let _ = self.book.record_sure(who, Event::Retire(child));
+        let parts = &mut *self.parts;
+        let _ = parts.book.record_sure(who, Event::Retire(child));
     }
-}
-
-/// Takes the connection of that name, which stays live, out of its slot.
-fn take_out<L: Link, N: Known>(
-    conns: &mut Slots<Option<Conn<L, Nothing>>>,
-    name: ConnName,
-) -> Conn<L, N>
-    requires live { IsLive conns.old.slots name }
-    requires there { (c : SeenConn) × (conn_at (conns_in conns.old.slots) name.slot ≡ Some c) }
-    requires clients { WaitForClients N.known (conns_in conns.old.slots) }
-    ensures conn { conn_at (conns_in conns.old.slots) name.slot ≡ Some result }
-    ensures emptied { conns.new.slots ≡ with_item conns.old.slots name None }
-{
-    let Some(place) = conns.get_mut(name) else {
-        unreachable!()
-    };
-    match place.take() {
-        Some(conn) => conn.known_as(),
-        None => unreachable!(),
-    }
-}
-
-/// Puts the connection into the slot of that name, which is live.
-fn put_back<L: Link, N: Known>(
-    conns: &mut Slots<Option<Conn<L, Nothing>>>,
-    name: ConnName,
-    conn: Conn<L, N>,
-)
-    requires { IsLive conns.old.slots name }
-    ensures { conns.new.slots ≡ with_item conns.old.slots name (Some conn) }
-{
-    let Some(place) = conns.get_mut(name) else {
-        unreachable!()
-    };
-    *place = Some(conn.forget());
 }
 
 /// The note of a response that is decided now.

@@ -16,24 +16,24 @@ impl<L: Link, N: Known> Board<L, N> {
     pub fn can_accept(&self) -> Option<u32>
         ensures { result ≡ acceptable self.now.book.state }
     {
-        self.book.show();
-        can_accept(self.book.state())
+        self.parts.book.show();
+        can_accept(self.parts.book.state())
     }
 
     /// The lowest child that is gone, while the server takes connections and fewer children run than should.
     pub fn can_start(&self) -> Option<u32>
         ensures { result ≡ startable self.now.book.state }
     {
-        self.book.show();
-        can_start(self.book.state())
+        self.parts.book.show();
+        can_start(self.parts.book.state())
     }
 
     /// A child that may be let go of.
     pub fn can_retire(&self) -> Option<u32>
         ensures { FindsRetirable self.now.book.state result }
     {
-        self.book.show();
-        can_retire(self.book.state())
+        self.parts.book.show();
+        can_retire(self.parts.book.state())
     }
 
     /// A connection that waits and is late; of those that wait none has an earlier deadline.
@@ -41,87 +41,90 @@ impl<L: Link, N: Known> Board<L, N> {
         ensures late { FindsRow (is_late self.now.book.state) self.now.book.state result }
         ensures first { IfSome result (IsFirstDue self.now.book.state) }
     {
-        self.queues.overdue(self.book.state().moment)
+        let parts = &*self.parts;
+        parts.queues.overdue(parts.book.state().moment)
     }
 
     /// A connection that waits for service, for which something may have come and a worker of its child is free.
     pub fn signalled(&self) -> Option<ConnName>
         ensures { FindsRow (is_due self.now.book.state) self.now.book.state result }
     {
-        self.book.show();
-        self.book.filed().signalled()
+        self.parts.book.show();
+        self.parts.book.filed().signalled()
     }
 
     /// A connection that waits for a further request, for which nothing came, of a child that stops.
     pub fn retiring(&self) -> Option<ConnName>
         ensures { FindsRow (is_let_go self.now.book.state) self.now.book.state result }
     {
-        self.book.show();
-        self.book.filed().retiring()
+        self.parts.book.show();
+        self.parts.book.filed().retiring()
     }
 
     /// A connection that lingers, for which something may have come.
     pub fn signalled_linger(&self) -> Option<ConnName>
         ensures { FindsRow (has_to_be_drained self.now.book.state) self.now.book.state result }
     {
-        self.book.filed().signalled_linger()
+        self.parts.book.filed().signalled_linger()
     }
 
     /// A connection that waits; none that waits has an earlier deadline.
     pub fn parked(&self) -> Option<ConnName>
         ensures { FindsRow is_waiting self.now.book.state result }
     {
-        self.book.show();
-        self.queues.overdue(GREATEST_MOMENT)
+        let parts = &*self.parts;
+        parts.book.show();
+        parts.queues.overdue(GREATEST_MOMENT)
     }
 
     /// What the connection of that name waits for, where it lives and waits.
     pub fn kind(&self, name: ConnName) -> Option<Kind>
         ensures { result ≡ waits_for self.now.book.state name }
     {
-        kind(self.book.state(), name)
+        kind(self.parts.book.state(), name)
     }
 
     /// Why the service of the connection of that name ended, where it lives and lingers.
     pub fn cause(&self, name: ConnName) -> Option<Cause>
         ensures { result ≡ cause_of self.now.book.state name }
     {
-        self.book.state().rows.live(name)?.cause
+        self.parts.book.state().rows.live(name)?.cause
     }
 
     /// The least deadline of a connection that waits; the moment at which the server stops counts too.
     pub fn next_deadline(&self) -> Option<Moment>
         ensures { result ≡ next_deadline_of self.now.book.state }
     {
-        least_with_ending(self.queues.next_deadline(), self.book.state().going)
+        let parts = &*self.parts;
+        least_with_ending(parts.queues.next_deadline(), parts.book.state().going)
     }
 
     /// Whether no connection is in hand: queued, served or held.
     pub fn quiet(&self) -> bool
         ensures { result ≡ is_quiet self.now.book.state }
     {
-        !self.book.state().rows.has_in_hand()
+        !self.parts.book.state().rows.has_in_hand()
     }
 
     /// Whether the history takes no more than what must follow it.
     pub fn is_full(&self) -> bool
         ensures { result ≡ nat_le full_load (load self.now.book.history) }
     {
-        self.book.is_full()
+        self.parts.book.is_full()
     }
 
     /// Whether the server takes connections, ends, or has stopped.
     pub fn going(&self) -> Going
         ensures { result ≡ self.now.book.state.going }
     {
-        self.book.state().going
+        self.parts.book.state().going
     }
 
     /// The present moment.
     pub fn moment(&self) -> Moment
         ensures { result ≡ self.now.book.state.moment }
     {
-        self.book.state().moment
+        self.parts.book.state().moment
     }
 }
 

@@ -14,6 +14,7 @@
 mod accept;
 mod board;
 mod book;
+mod conns;
 mod faults;
 mod filed;
 mod finds;

@@ -4,6 +4,8 @@ use Rattle.conn_slots.specs.Slots.{with_item}
 use Rattle.conn_state.specs.Conn.{SeenConn}
 use Rattle.board.specs.Events.{IsAdded}
 use Rattle.board.specs.Layout.{conns_in}
+use Rattle.board.specs.BoardInside.{AreParts}
+use Rattle.board.specs.BoardParts.{seen_board}
 use Rattle.board.proofs.BoardLemmas.{there_of}
 use Rattle.board.proofs.ClosedLemmas.{board_on, board_roomier}
 use Rattle.board.proofs.EventLemmas.{accept-there}
@@ -14,7 +16,9 @@ use Rattle.board.proofs.board.Board.accept.Goals as goal
 
 pub invariant_of-self-2 : goal.invariant_of-self-2
 invariant_of-self-2 g c =
-    let inside = c.self.inside in
+    let inside = c.deref_mut-parts.result.now in
+    let invariant : AreParts g.N.Known.known inside =
+    rw c.deref_mut-parts.ensures.value c.self.invariant in
     let slots = inside.conns.slots in
     let conns = conns_in slots in
     let ended = inside.ended.items in
@@ -26,36 +30,50 @@ invariant_of-self-2 g c =
     let stored : c.put.new.self.slots ≡ with_item slots name None =
     put-slots inside.conns c.put.new.self.slots name None c.put.result given.next given.vacant c.put.ensures.full.0 c.put.ensures.name c.put.ensures.stored in
     rw (c.in-Ok.ensures.ok.new_is, c.reserve.ensures.items)
-    (board_on _ inside.book slots c.put.new.self.slots conns ended inside.queues inside.queues room room' c.args.who (event.Accept name.slot) c.self.invariant (λ s. refl)
+    (board_on _ inside.book slots c.put.new.self.slots conns ended inside.queues inside.queues room room' c.args.who (event.Accept name.slot) invariant (λ s. refl)
     (accept-there c.one_row_changes.ensures inside.book.state name.slot conns inside.queues (length ended) room room' given.allowed
-    (there_of _ inside.book slots ended inside.queues room c.self.invariant) space) c.self.invariant.clients.conns
+    (there_of _ inside.book slots ended inside.queues room invariant) space) invariant.clients.conns
     (ap conns_in stored ∙ conns-put slots name given.unused)
-    (rw stored (accept-used inside.book.state slots name None given.allowed c.self.invariant.used given.unused)))
+    (rw stored (accept-used inside.book.state slots name None given.allowed invariant.used given.unused)))
 
 pub returns-clause-entries : goal.returns-clause-entries
-returns-clause-entries g c = adds_inside c.args.who _ c.args.self.now _ c.self.view_is c.record.ensures.entries
+returns-clause-entries g c =
+    let inside = c.deref_mut-parts.result.now in
+    let view_is : seen_board inside ≡ c.args.self.now =
+    rw c.deref_mut-parts.ensures.value c.self.view_is in
+    adds_inside c.args.who _ c.args.self.now _ view_is c.record.ensures.entries
 
-pub invariant_of-self : goal.invariant_of-self
-invariant_of-self g c =
-    let more : vec_capacity c.self.inside.ended ≤ vec_capacity c.reserve.new.self = search rules in
-    board_roomier _ _ c.reserve.new.self.items _ _ (vec_capacity c.self.inside.ended) (vec_capacity c.reserve.new.self) c.reserve.ensures.items more c.self.invariant
+pub invariant_of-self-then-is_err : goal.invariant_of-self-then-is_err
+invariant_of-self-then-is_err g c =
+    let inside = c.deref_mut-parts.result.now in
+    let invariant : AreParts g.N.Known.known inside =
+    rw c.deref_mut-parts.ensures.value c.self.invariant in
+    let more : vec_capacity inside.ended ≤ vec_capacity c.reserve.new.self = search rules in
+    board_roomier _ _ c.reserve.new.self.items _ _ (vec_capacity inside.ended) (vec_capacity c.reserve.new.self) c.reserve.ensures.items more invariant
 
 pub invariant_of-self-in-Err : goal.invariant_of-self-in-Err
 invariant_of-self-in-Err g c =
-    let more : vec_capacity c.self.inside.ended ≤ vec_capacity c.reserve.new.self = search rules in
+    let inside = c.deref_mut-parts.result.now in
+    let invariant : AreParts g.N.Known.known inside =
+    rw c.deref_mut-parts.ensures.value c.self.invariant in
+    let more : vec_capacity inside.ended ≤ vec_capacity c.reserve.new.self = search rules in
     rw (c.in-Err.ensures.err)
-    (board_roomier _ _ c.reserve.new.self.items _ _ (vec_capacity c.self.inside.ended) (vec_capacity c.reserve.new.self) c.reserve.ensures.items more c.self.invariant)
+    (board_roomier _ _ c.reserve.new.self.items _ _ (vec_capacity inside.ended) (vec_capacity c.reserve.new.self) c.reserve.ensures.items more invariant)
 
 pub returns-in-Err-clause-why : goal.returns-in-Err-clause-why
 returns-in-Err-clause-why g c =
-    rw (c.of.ensures) (not_taken_for c.in-Err.fault _ c.args.self.now c.self.view_is c.in-Err.ensures.why)
+    let inside = c.deref_mut-parts.result.now in
+    let view_is : seen_board inside ≡ c.args.self.now =
+    rw c.deref_mut-parts.ensures.value c.self.view_is in
+    rw (c.of.ensures) (not_taken_for c.in-Err.fault _ c.args.self.now view_is c.in-Err.ensures.why)
 
 pub returns-clause-ok : goal.returns-clause-ok
 returns-clause-ok g c =
-    let slots = c.self.inside.conns.slots in
+    let inside = c.deref_mut-parts.result.now in
+    let slots = inside.conns.slots in
     let given = c.in_ok-next.ensures in
     let stored : c.put.new.self.slots ≡ with_item slots c.in_ok-next.next None =
-    put-slots c.self.inside.conns c.put.new.self.slots c.in_ok-next.next None c.put.result given.next given.vacant c.put.ensures.full.0 c.put.ensures.name c.put.ensures.stored in
+    put-slots inside.conns c.put.new.self.slots c.in_ok-next.next None c.put.result given.next given.vacant c.put.ensures.full.0 c.put.ensures.name c.put.ensures.stored in
     let same : conns_in c.put.new.self.slots ≡ conns_in slots = ap conns_in stored ∙ conns-put slots c.in_ok-next.next given.unused in
     let added : IsAdded c.args.who (event.Accept c.in-Took.name.slot) c.args.self.now
     (record { book = c.record.new.self; conns = conns_in slots; ended = c.reserve.new.self.items }) = search rules in

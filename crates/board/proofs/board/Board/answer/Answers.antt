@@ -7,6 +7,8 @@ use Rattle.board.specs.Book.{SeenBook}
 use Rattle.board.specs.Board.{SeenBoard}
 use Rattle.board.specs.Layout.{conns_in}
 use Rattle.board.specs.Events.{IsDecided}
+use Rattle.board.specs.BoardInside.{AreParts}
+use Rattle.board.specs.BoardParts.{seen_board}
 use Rattle.board.proofs.BoardLemmas.{may_while, there_of}
 use Rattle.board.proofs.ClosedLemmas.{board_on}
 use Rattle.board.proofs.EventLemmas.{answer-there}
@@ -17,39 +19,56 @@ use Rattle.board.proofs.board.Board.answer.Goals as goal
 
 pub record-requires-clause-allowed : goal.record-requires-clause-allowed
 record-requires-clause-allowed g c =
-    may_while _ c.args.self.now (event.Answer c.args.name c.args.ask) c.self.view_is c.requires.allowed
+    let inside = c.deref_mut-parts.result.now in
+    let view_is : seen_board inside ≡ c.args.self.now =
+    rw c.deref_mut-parts.ensures.value c.self.view_is in
+    may_while _ c.args.self.now (event.Answer c.args.name c.args.ask) view_is c.requires.allowed
 
 pub invariant_of-self-2 : goal.invariant_of-self-2
 invariant_of-self-2 g c =
-    let inside = c.self.inside in
+    let inside = c.deref_mut-parts.result.now in
+    let invariant : AreParts g.N.Known.known inside =
+    rw c.deref_mut-parts.ensures.value c.self.invariant in
+    let view_is : seen_board inside ≡ c.args.self.now =
+    rw c.deref_mut-parts.ensures.value c.self.view_is in
     let slots = inside.conns.slots in
     let conns = conns_in slots in
     let ended = inside.ended.items in
     let room = vec_capacity inside.ended in
     let e = event.Answer c.args.name c.args.ask in
     let ok = c.in_ok-last.ensures.ok in
-    let may = may_while _ c.args.self.now e c.self.view_is c.requires.allowed ok.was_open.going in
+    let may = may_while _ c.args.self.now e view_is c.requires.allowed ok.was_open.going in
     rw (ok.new_is)
-    (board_on _ inside.book slots slots conns ended inside.queues inside.queues room room c.args.who e c.self.invariant (λ s. refl)
-    (answer-there c.one_row_changes.ensures inside.book.state c.args.name c.args.ask conns inside.queues (length ended) room may (there_of _ inside.book slots ended inside.queues room c.self.invariant)) c.self.invariant.clients.conns
-    refl (c.self.invariant.used ∙ sym (answer-used inside.book.state c.args.name c.args.ask may)))
+    (board_on _ inside.book slots slots conns ended inside.queues inside.queues room room c.args.who e invariant (λ s. refl)
+    (answer-there c.one_row_changes.ensures inside.book.state c.args.name c.args.ask conns inside.queues (length ended) room may (there_of _ inside.book slots ended inside.queues room invariant)) invariant.clients.conns
+    refl (invariant.used ∙ sym (answer-used inside.book.state c.args.name c.args.ask may)))
 
 pub returns-clause-note : goal.returns-clause-note
 returns-clause-note g c =
-    let inside = c.self.inside in
+    let inside = c.deref_mut-parts.result.now in
+    let view_is : seen_board inside ≡ c.args.self.now =
+    rw c.deref_mut-parts.ensures.value c.self.view_is in
     let e = event.Answer c.args.name c.args.ask in
     let ok = c.in_ok-last.ensures.ok in
-    let may = may_while _ c.args.self.now e c.self.view_is c.requires.allowed ok.was_open.going in
+    let may = may_while _ c.args.self.now e view_is c.requires.allowed ok.was_open.going in
     let replied : Noted c.in-Noted.last ≡ Noted (noted_at inside.book.state c.args.name.slot c.args.ask) =
     sym c.in-Noted.is ∙ c.in_ok-last.ensures.reply in
     let last : c.in-Noted.last ≡ noted_at inside.book.state c.args.name.slot c.args.ask = cc in
     let moment : c.state.result.now.moment ≡ inside.book.state.moment =
     ap (λ (s : State). s.moment) c.state.ensures ∙ ap (λ (b : SeenBook). b.state.moment) ok.new_is in
-    subst (λ (v : SeenBoard). IsDecided v.book.state c.args.name c.args.ask c.note_of.result) c.self.view_is
+    subst (λ (v : SeenBoard). IsDecided v.book.state c.args.name c.args.ask c.note_of.result) view_is
     (rw c.note_of.ensures (answer-note inside.book.state c.args.name c.args.ask c.in-Noted.last c.state.result.now.moment may last moment))
 
 pub record-requires-clause-role : goal.record-requires-clause-role
-record-requires-clause-role g c = has_inside c.args.who _ c.args.self.now c.args.name c.self.view_is c.requires.row
+record-requires-clause-role g c =
+    let inside = c.deref_mut-parts.result.now in
+    let view_is : seen_board inside ≡ c.args.self.now =
+    rw c.deref_mut-parts.ensures.value c.self.view_is in
+    has_inside c.args.who _ c.args.self.now c.args.name view_is c.requires.row
 
 pub returns-clause-entries : goal.returns-clause-entries
-returns-clause-entries g c = adds_inside c.args.who _ c.args.self.now _ c.self.view_is c.record.ensures.entries
+returns-clause-entries g c =
+    let inside = c.deref_mut-parts.result.now in
+    let view_is : seen_board inside ≡ c.args.self.now =
+    rw c.deref_mut-parts.ensures.value c.self.view_is in
+    adds_inside c.args.who _ c.args.self.now _ view_is c.record.ensures.entries

@@ -1,16 +1,24 @@
-use Rattle.std.proofs.Common.{refl, vec_capacity}
+use Rattle.std.proofs.Common.{◌≡◌, refl, vec_capacity}
 use Rattle.conn_machine.specs.declared.event.Commanded.TheVariants.{Stop}
 use Rattle.conn_machine.specs.declared.event.Event.TheVariants as event
+use Rattle.board.specs.BoardInside.{AreParts}
+use Rattle.board.specs.BoardParts.{seen_board}
 use Rattle.board.proofs.ClosedLemmas.{board_same}
 use Rattle.board.proofs.PassLemmas.{adds_inside}
 use Rattle.board.proofs.board.Board.halt.Goals as goal
 
 pub invariant_of-self : goal.invariant_of-self
 invariant_of-self g c =
-    let inside = c.self.inside in
+    let inside = c.deref_mut-parts.result.now in
+    let invariant : AreParts g.N.Known.known inside =
+    rw c.deref_mut-parts.ensures.value c.self.invariant in
     rw (c.record_sure.ensures.is)
     (board_same _ inside.book inside.conns.slots inside.ended.items inside.queues (vec_capacity inside.ended) c.args.who (event.Command (Stop c.args.why))
-    c.self.invariant (λ s. refl) refl)
+    invariant (λ s. refl) refl)
 
 pub returns-clause-entries : goal.returns-clause-entries
-returns-clause-entries g c = adds_inside c.args.who _ c.args.self.now _ c.self.view_is c.record_sure.ensures.entries
+returns-clause-entries g c =
+    let inside = c.deref_mut-parts.result.now in
+    let view_is : seen_board inside ≡ c.args.self.now =
+    rw c.deref_mut-parts.ensures.value c.self.view_is in
+    adds_inside c.args.who _ c.args.self.now _ view_is c.record_sure.ensures.entries

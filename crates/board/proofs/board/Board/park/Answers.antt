@@ -11,6 +11,8 @@ use Rattle.board.specs.Fits.{IsSettled}
 use Rattle.board.specs.Board.{SeenBoard}
 use Rattle.board.specs.Layout.{conns_in}
 use Rattle.board.specs.QueuesInside.{waits_in, waits_under}
+use Rattle.board.specs.BoardInside.{AreParts}
+use Rattle.board.specs.BoardParts.{seen_board}
 use Rattle.board.proofs.BoardLemmas.{may_while, there_of}
 use Rattle.board.proofs.ClientLemmas.{clients_put}
 use Rattle.board.proofs.ClosedLemmas.{board_on}
@@ -22,23 +24,33 @@ use Rattle.board.proofs.board.Board.park.Goals as goal
 
 pub put_back-requires : goal.put_back-requires
 put_back-requires g c =
-    let inside = c.self.inside in
+    let inside = c.deref_mut-parts.result.now in
+    let invariant : AreParts g.N.Known.known inside =
+    rw c.deref_mut-parts.ensures.value c.self.invariant in
+    let view_is : seen_board inside ≡ c.args.self.now =
+    rw c.deref_mut-parts.ensures.value c.self.view_is in
     let name = c.name-name.result in
     let may : is_allowed inside.book.state (event.Park name c.args.kind) ≡ true =
     subst (λ (n : ConnName). is_allowed inside.book.state (event.Park n c.args.kind) ≡ true) (sym c.name-name.ensures)
-    (may_while _ c.args.self.now (event.Park c.args.conn.name c.args.kind) c.self.view_is c.requires.allowed c.in-Ok.ensures.ok.was_open.going) in
-    live-item inside.conns.slots inside.book.state.rows name (may_wait inside.book.state.moment c.args.kind) c.self.invariant.used
+    (may_while _ c.args.self.now (event.Park c.args.conn.name c.args.kind) view_is c.requires.allowed c.in-Ok.ensures.ok.was_open.going) in
+    live-item inside.conns.slots inside.book.state.rows name (may_wait inside.book.state.moment c.args.kind) invariant.used
     (park-lives inside.book.state name c.args.kind may)
 
 pub record-requires-clause-allowed : goal.record-requires-clause-allowed
 record-requires-clause-allowed g c going =
-    let inside = c.self.inside in
+    let inside = c.deref_mut-parts.result.now in
+    let view_is : seen_board inside ≡ c.args.self.now =
+    rw c.deref_mut-parts.ensures.value c.self.view_is in
     subst (λ (n : ConnName). is_allowed inside.book.state (event.Park n c.args.kind) ≡ true) (sym c.name-name.ensures)
-    (may_while _ c.args.self.now (event.Park c.args.conn.name c.args.kind) c.self.view_is c.requires.allowed going)
+    (may_while _ c.args.self.now (event.Park c.args.conn.name c.args.kind) view_is c.requires.allowed going)
 
-pub invariant_of-self : goal.invariant_of-self
-invariant_of-self g c =
-    let inside = c.self.inside in
+pub invariant_of-self-2 : goal.invariant_of-self-2
+invariant_of-self-2 g c =
+    let inside = c.deref_mut-parts.result.now in
+    let invariant : AreParts g.N.Known.known inside =
+    rw c.deref_mut-parts.ensures.value c.self.invariant in
+    let view_is : seen_board inside ≡ c.args.self.now =
+    rw c.deref_mut-parts.ensures.value c.self.view_is in
     let slots = inside.conns.slots in
     let conns = conns_in slots in
     let ended = inside.ended.items in
@@ -49,53 +61,69 @@ invariant_of-self g c =
     let found : live_row inside.book.state.rows name ≡ Some c.requires.fits.row = search rules in
     let may : is_allowed inside.book.state e ≡ true =
     subst (λ (n : ConnName). is_allowed inside.book.state (event.Park n c.args.kind) ≡ true) (sym c.name-name.ensures)
-    (may_while _ c.args.self.now (event.Park c.args.conn.name c.args.kind) c.self.view_is c.requires.allowed ok.was_open.going) in
+    (may_while _ c.args.self.now (event.Park c.args.conn.name c.args.kind) view_is c.requires.allowed ok.was_open.going) in
     let cause_is : cause_of c.args.self.now.book.state c.args.conn.name ≡ c.requires.fits.row.cause =
     cause-found c.args.self.now.book.state c.args.conn.name c.requires.fits.row c.requires.fits.found in
     let settled = subst (λ (why : Option Cause). IsSettled c.args.kind why c.args.conn) cause_is c.requires.settled in
     let parked = park-parked c.one_row_changes.ensures inside.book.state name c.args.kind c.requires.fits.row may found in
     let queued : c.wait_in_queue.new.queues ≡ slice_set inside.queues name.slot (waits_in (parked_row inside.book.state c.args.kind c.requires.fits.row)) = search rules in
     rw (ok.new_is, c.put_back.ensures, queued)
-    (board_on _ inside.book slots _ _ ended inside.queues _ room room c.args.who e c.self.invariant (λ s. refl)
+    (board_on _ inside.book slots _ _ ended inside.queues _ room room c.args.who e invariant (λ s. refl)
     (park-there c.one_row_changes.ensures inside.book.state name c.args.kind conns inside.queues c.args.conn c.requires.fits.row (length ended) room may
-    (there_of _ inside.book slots ended inside.queues room c.self.invariant) found (sym c.name-name.ensures) c.requires.fits.fits settled)
-    (clients_put _ conns name.slot c.args.conn c.show.ensures.client c.self.invariant.clients.conns) (conns-with slots name (Some c.args.conn))
-    (written-used slots inside.book.state.rows name (Some c.args.conn) (may_wait inside.book.state.moment c.args.kind) c.self.invariant.used
+    (there_of _ inside.book slots ended inside.queues room invariant) found (sym c.name-name.ensures) c.requires.fits.fits settled)
+    (clients_put _ conns name.slot c.args.conn c.show.ensures.client invariant.clients.conns) (conns-with slots name (Some c.args.conn))
+    (written-used slots inside.book.state.rows name (Some c.args.conn) (may_wait inside.book.state.moment c.args.kind) invariant.used
     (park-lives inside.book.state name c.args.kind may) ∙ sym (park-used inside.book.state name c.args.kind may)))
 
 pub wait_in_queue-requires-clause-free : goal.wait_in_queue-requires-clause-free
 wait_in_queue-requires-clause-free g c =
-    let inside = c.self.inside in
+    let inside = c.deref_mut-parts.result.now in
+    let invariant : AreParts g.N.Known.known inside =
+    rw c.deref_mut-parts.ensures.value c.self.invariant in
+    let view_is : seen_board inside ≡ c.args.self.now =
+    rw c.deref_mut-parts.ensures.value c.self.view_is in
     let name = c.name-name.result in
     let may : is_allowed inside.book.state (event.Park name c.args.kind) ≡ true =
     subst (λ (n : ConnName). is_allowed inside.book.state (event.Park n c.args.kind) ≡ true) (sym c.name-name.ensures)
-    (may_while _ c.args.self.now (event.Park c.args.conn.name c.args.kind) c.self.view_is c.requires.allowed c.in-Ok.ensures.ok.was_open.going) in
-    park-free inside.book.state name c.args.kind inside.queues may c.self.invariant.queued
+    (may_while _ c.args.self.now (event.Park c.args.conn.name c.args.kind) view_is c.requires.allowed c.in-Ok.ensures.ok.was_open.going) in
+    park-free inside.book.state name c.args.kind inside.queues may invariant.queued
 
 pub wait_in_queue-requires-clause-waits : goal.wait_in_queue-requires-clause-waits
 wait_in_queue-requires-clause-waits g c =
-    let inside = c.self.inside in
+    let inside = c.deref_mut-parts.result.now in
+    let view_is : seen_board inside ≡ c.args.self.now =
+    rw c.deref_mut-parts.ensures.value c.self.view_is in
     let name = c.name-name.result in
     let found : live_row inside.book.state.rows name ≡ Some c.requires.fits.row = search rules in
     let may : is_allowed inside.book.state (event.Park name c.args.kind) ≡ true =
     subst (λ (n : ConnName). is_allowed inside.book.state (event.Park n c.args.kind) ≡ true) (sym c.name-name.ensures)
-    (may_while _ c.args.self.now (event.Park c.args.conn.name c.args.kind) c.self.view_is c.requires.allowed c.in-Ok.ensures.ok.was_open.going) in
+    (may_while _ c.args.self.now (event.Park c.args.conn.name c.args.kind) view_is c.requires.allowed c.in-Ok.ensures.ok.was_open.going) in
     let parked = park-parked c.one_row_changes.ensures inside.book.state name c.args.kind c.requires.fits.row may found in
     let some : is_some (waits_under (next inside.book.state (event.Park name c.args.kind)).rows name) ≡ true = ap is_some parked in
     search (rules, some)
 
 pub record-requires-clause-role : goal.record-requires-clause-role
 record-requires-clause-role g c =
-    subst (λ (n : ConnName). has_row (row_in c.args.who c.self.inside.book) n ≡ true) (sym c.name-name.ensures)
-    (has_inside c.args.who _ c.args.self.now c.args.conn.name c.self.view_is c.requires.row)
+    let inside = c.deref_mut-parts.result.now in
+    let view_is : seen_board inside ≡ c.args.self.now =
+    rw c.deref_mut-parts.ensures.value c.self.view_is in
+    subst (λ (n : ConnName). has_row (row_in c.args.who inside.book) n ≡ true) (sym c.name-name.ensures)
+    (has_inside c.args.who _ c.args.self.now c.args.conn.name view_is c.requires.row)
 
-pub returns-in-Ok-clause-entries : goal.returns-in-Ok-clause-entries
-returns-in-Ok-clause-entries g c = adds_inside c.args.who _ c.args.self.now _ c.self.view_is c.record.ensures.entries
+pub returns-clause-entries : goal.returns-clause-entries
+returns-clause-entries g c =
+    let inside = c.deref_mut-parts.result.now in
+    let view_is : seen_board inside ≡ c.args.self.now =
+    rw c.deref_mut-parts.ensures.value c.self.view_is in
+    adds_inside c.args.who _ c.args.self.now _ view_is c.record.ensures.entries
 
-pub returns-in-Ok-clause-parked : goal.returns-in-Ok-clause-parked
-returns-in-Ok-clause-parked g c =
-    let slots = c.self.inside.conns.slots in
+pub returns-clause-parked : goal.returns-clause-parked
+returns-clause-parked g c =
+    let inside = c.deref_mut-parts.result.now in
+    let view_is : seen_board inside ≡ c.args.self.now =
+    rw c.deref_mut-parts.ensures.value c.self.view_is in
+    let slots = inside.conns.slots in
     ap conns_in c.put_back.ensures
     ∙ conns-with slots c.name-name.result (Some c.args.conn)
     ∙ ap (λ (n : ConnName). slice_set (conns_in slots) n.slot (Some c.args.conn)) c.name-name.ensures
-    ∙ ap (λ (b : SeenBoard). slice_set b.conns c.args.conn.name.slot (Some c.args.conn)) c.self.view_is
+    ∙ ap (λ (b : SeenBoard). slice_set b.conns c.args.conn.name.slot (Some c.args.conn)) view_is
