@@ -1,10 +1,10 @@
 -- A kept history that goes on by one entry.
-use Rattle.std.proofs.Common.{◌≡◌, ◌==◌, ℕ, zero, suc, ◌+◌, ◌*◌, ◌<◌, ◌≤◌, Bool, true, false, cond, if◌then◌else◌, List, [], ◌∷◌, ◌++◌, length, get_or, replicate, nat_le, refl, sym, ap, subst, ◌∙◌, length-append, eqb-true, eq-eqb, arith}
+use Rattle.std.proofs.Common.{◌≡◌, ◌==◌, ℕ, ◌+◌, ◌<◌, ◌≤◌, Bool, true, false, cond, if◌then◌else◌, List, [], ◌∷◌, ◌++◌, length, get_or, replicate, nat_le, refl, sym, ap, subst, ◌∙◌, length-append, eqb-true, eq-eqb, arith}
 use Rattle.std.specs.Prelude.{slice_index}
 use Rattle.std.proofs.Math.ListN.{set, length-set}
 use Rattle.std.proofs.Common.{get_or-set_same, get_or-set_other}
 use Rattle.std.proofs.lemmas.Bool.{leb-false}
-use Rattle.std.proofs.lemmas.List.{length-replicate, get_or-replicate}
+use Rattle.std.proofs.lemmas.List.{length-replicate}
 use Rattle.std.proofs.lemmas.List.Sums.{sum_by-append}
 use Rattle.std.proofs.lemmas.List.Folds.{sum_by-replicate}
 use Rattle.mpm_base.specs.declared.shape.Shape.{Shape}
@@ -26,8 +26,9 @@ use Rattle.board.specs.Book.{SeenBook, numbered_entry, book_with_entry}
 use Rattle.board.specs.BookInside.{AreNext, IsKept, pages_of}
 use Rattle.conn_machine.specs.declared.event.Reply.{Reply}
 use Rattle.board.specs.Faults.{IsOpen}
-use Rattle.board.specs.RoomInside.{row_owes, child_owes, owed_entries, is_sure}
-use Rattle.board.proofs.RoomLemmas.{owed-bound, owed-sure}
+use Rattle.board.specs.RoomInside.{row_owes, child_owes, owed_entries, room_with_event, is_sure}
+use Rattle.board.specs.RowsInside.{RowsChangeAlone}
+use Rattle.board.proofs.RoomLemmas.{room-suffices, owed-sure}
 use Rattle.board.proofs.StopLemmas.{IsStopFor, stops_first, stops_more, tells_first, tells_more}
 
 -- the entry is the last of its pass, and no other pass has it
@@ -124,20 +125,20 @@ kept_more base f history s ordinals ordinals' pages room room' e before is_allow
 }
 
 -- the same, where memory was found for all that may follow
-pub kept_with_room : (base : State) (f : Folded) (history history' : List Entry) (s s' : State) (ordinals ordinals' : List ℕ) (pages pages' room room' : ℕ) (e : Entry)
+pub kept_with_room : RowsChangeAlone → (base : State) (f : Folded) (history history' : List Entry) (s s' : State) (ordinals ordinals' : List ℕ) (pages pages' room room' : ℕ) (e : Entry)
     → IsKept base f history s ordinals pages room → is_allowed s e.event ≡ true → AreNext f ordinals' history' → IsStepped s s'
     → history' ≡ history ++ e ∷ [] → s' ≡ next s e.event → pages' ≡ pages + (if asks_page e.event then 1 else 0)
-    → length history + (4 * length s.rows + length s.children + 2) ≤ room'
+    → length history + room_with_event s ≤ room'
     → IsStopFor (load history) e.event → GoesOn base f history e
     → IsKept base f history' s' ordinals' pages' room'
-kept_with_room base f history history' s s' ordinals ordinals' pages pages' room room' e before is_allowed numbers stepped history_is state_is pages_is space stop goes =
+kept_with_room law base f history history' s s' ordinals ordinals' pages pages' room room' e before is_allowed numbers stepped history_is state_is pages_is space stop goes =
     let len : length (history ++ e ∷ []) ≡ length history + 1 = length-append history (e ∷ []) in
-    let owes = owed-bound (next s e.event) in
     let sizes : HasSizesOf s (next s e.event) = subst (HasSizesOf s) state_is stepped.sizes in
+    let owes = room-suffices law s e.event sizes.children in
     rw (history_is, state_is, pages_is)
     (kept_more base f history s ordinals ordinals' pages room room' e before is_allowed (rw history_is at numbers)
     (rw state_is at (stepped.sound before.sound)) (rw state_is at (stepped.sized before.sized))
-    (omega (arith, len, owes, sizes.rows, sizes.children, space)) stop goes)
+    (omega (arith, len, owes, space)) stop goes)
 
 -- the same, where the room was taken before
 pub kept_sure : (base : State) (f : Folded) (history history' : List Entry) (s s' : State) (ordinals ordinals' : List ℕ) (pages room room' : ℕ) (e : Entry)

@@ -1,10 +1,10 @@
 -- What each event does to the connections that wait, and to the room for those that live.
-use Rattle.std.proofs.Common.{◌≡◌, ◌==◌, ℕ, zero, suc, ◌+◌, ◌<◌, ◌≤◌, Bool, true, false, not, ◌&&◌, ◌||◌, cond, if◌then◌else◌, nat_lt, is_some, List, ◌∷◌, length, Option, None, Some, slice_get, get_or, count_by, replicate, refl, sym, ap, subst, ◌∙◌, arith}
+use Rattle.std.proofs.Common.{◌≡◌, ◌==◌, ℕ, zero, suc, ◌+◌, ◌<◌, ◌≤◌, Bool, true, false, not, ◌&&◌, ◌||◌, cond, if◌then◌else◌, nat_lt, is_some, List, ◌∷◌, Option, None, Some, slice_get, get_or, count_by, replicate, refl, sym, ap, subst, ◌∙◌, arith}
 use Rattle.std.specs.Option.{option_map_or}
 use Rattle.std.proofs.Math.ListN.{set}
 use Rattle.std.proofs.lemmas.Bool.{and_parts}
 use Rattle.std.proofs.lemmas.List.{length-replicate, set-get_or}
-use Rattle.std.proofs.lemmas.List.Sums.{count_by-le-length, sum_by-cons}
+use Rattle.std.proofs.lemmas.List.Sums.{sum_by-cons}
 use Rattle.mpm_base.specs.declared.conn.ConnName.{ConnName}
 use Rattle.mpm_base.specs.declared.conn.Kind.{Kind}
 use Rattle.mpm_base.specs.declared.conn.Kind.TheVariants.{Linger, ShortLinger}
@@ -175,14 +175,13 @@ row_at test (Some r) passes = (r, refl, passes)
 
 -- a connection is taken into a vacant slot, once there is room for the end of each
 pub accept-there : RowsChangeAlone → (s : State) (slot : ℕ) (conns : List (Option SeenConn)) (queues : List (Option ParkedName)) (ended room room' : ℕ)
-    → is_allowed s (event.Accept slot) ≡ true → AreThere s.rows conns queues ended room → ended + length s.rows ≤ room'
+    → is_allowed s (event.Accept slot) ≡ true → AreThere s.rows conns queues ended room → ended + (count_by is_live s.rows + 1) ≤ room'
     → AreThere (next s (event.Accept slot)).rows conns queues ended room'
 accept-there law s slot conns queues ended room room' may there space =
     let both = and_parts (is_serving s.going && is_vacant_at s slot) (is_some (pick_child s)) may in
     let vacant : is_vacant_at s slot ≡ true = (and_parts (is_serving s.going) (is_vacant_at s slot) both.0).1 in
     let found = row_at (λ (r : Row). is_vacant r.place) (slice_get s.rows slot) vacant in
-    let few : count_by is_live (update s.rows slot (taken_row s)) ≤ length s.rows =
-    omega (arith, count_by-le-length is_live (update s.rows slot (taken_row s)), law.as_many s.rows slot (taken_row s)) in
+    let few = law.more is_live s.rows slot (taken_row s) in
     there_away law s.rows conns queues slot found.0 (taken_row s) ended ended room room' there found.1 (vacant-away found.0.place found.2) refl
     (omega (arith, few, space))
 

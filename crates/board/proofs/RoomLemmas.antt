@@ -1,7 +1,7 @@
 -- What a history must still find room for: it is bounded by the rows and children, and an event that can't be refused
 -- takes its own entry out of it.
 use Rattle.std.proofs.Common.{◌≡◌, ℕ, zero, suc, ◌+◌, ◌*◌, ◌≤◌, Bool, true, false, not, ◌&&◌, ◌||◌, List, [], ◌∷◌, length, Option, None, Some, slice_get, refl, arith}
-use Rattle.std.specs.Prelude.{sum_by, if◌then◌else◌, ◌==◌}
+use Rattle.std.specs.Prelude.{cond, count_by, sum_by, if◌then◌else◌, ◌==◌}
 use Rattle.std.specs.Option.{option_map_or}
 use Rattle.std.proofs.lemmas.Bool.{and_parts}
 use Rattle.std.proofs.lemmas.List.Sums.{sum_by-cons}
@@ -14,16 +14,17 @@ use Rattle.conn_machine.specs.declared.row.Row.{Row}
 use Rattle.conn_machine.specs.declared.child.ChildPhase.{ChildPhase}
 use Rattle.conn_machine.specs.declared.child.ChildPhase.TheVariants.{Running, Stopping}
 use Rattle.conn_machine.specs.declared.child.Child.{Child}
-use Rattle.conn_machine.specs.declared.event.Commanded.TheVariants.{Stop}
+use Rattle.conn_machine.specs.declared.event.Commanded.TheVariants.{Graceful, Refused, GracefulStop, Stop}
 use Rattle.conn_machine.specs.declared.event.Event.{Event}
 use Rattle.conn_machine.specs.declared.event.Event.TheVariants as event
 use Rattle.conn_machine.specs.declared.state.State.{State}
 use Rattle.conn_machine.specs.Lists.{update}
-use Rattle.conn_machine.specs.Rows.{is_held, is_parked, is_queued, is_working, is_lingering, is_live_as, row_where, lives_and}
+use Rattle.conn_machine.specs.Rows.{is_live, is_unused, is_held, is_parked, is_queued, is_working, is_lingering, is_live_as, row_where, lives_and}
 use Rattle.conn_machine.specs.Children.{is_empty, is_running, is_stopping, stopped_child, all_stopped, retired_child}
 use Rattle.conn_machine.specs.States.{is_halted, is_signalled}
-use Rattle.conn_machine.specs.Table.{is_allowed, next, may_be_held, held_row, served_row, linger_cause_fits, lingering_row, end_fits, closed_row, greatest_life}
-use Rattle.board.specs.RoomInside.{place_owes, row_owes, child_owes, owed_entries, is_sure}
+use Rattle.conn_machine.specs.Table.{is_allowed, next, may_be_held, held_row, served_row, linger_cause_fits, lingering_row, end_fits, closed_row, greatest_life, taken_row, parked_row, queued_row, answered_row}
+use Rattle.board.specs.RoomInside.{place_owes, row_owes, child_owes, owed_entries, room_with_event, is_sure}
+use Rattle.board.specs.RowsInside.{RowsChangeAlone}
 
 -- ## Sums
 
@@ -37,6 +38,13 @@ sum_by-update w change test less more each (x ∷ xs) zero passes =
     omega (arith, each x passes, sum_by-cons w (change x) xs, sum_by-cons w x xs)
 sum_by-update w change test less more each (x ∷ xs) (suc i) passes =
     omega (arith, sum_by-update w change test less more each xs i passes, sum_by-cons w x (update xs i change), sum_by-cons w x xs)
+
+-- a sum is at most four for each item that passes a test, where each other one adds nothing
+sum_by-passing : {X : Type 0} (w : X → ℕ) (test : X → Bool) → ((x : X) → w x ≤ 4 * cond (test x) 1 0) → (xs : List X)
+    → sum_by w xs ≤ 4 * count_by test xs
+sum_by-passing w test each [] = omega arith
+sum_by-passing w test each (x ∷ xs) =
+    omega (arith, each x, sum_by-passing w test each xs, sum_by-cons w x xs, sum_by-cons (λ y. cond (test y) 1 0) x xs)
 
 -- a sum is at most so much for each item
 sum_by-most : {X : Type 0} (w : X → ℕ) (most : ℕ) → ((x : X) → w x ≤ most) → (xs : List X)
@@ -66,8 +74,8 @@ rows-change : (change : Row → Row) (test : Row → Bool) (less more : ℕ)
 rows-change change test less more each rows name lives =
     sum_by-update row_owes change test less more each rows name.slot (passes-where test name (slice_get rows name.slot) lives)
 
--- a place owes at most four entries
-place-most : (p : Place) (lingers : Bool) → place_owes p lingers ≤ 4
+-- the place of a live connection owes at most four entries, and another one none
+place-most : (p : Place) (lingers : Bool) → place_owes p lingers ≤ 4 * cond (not (is_unused p)) 1 0
 place-most Vacant lingers = omega arith
 place-most Spent lingers = omega arith
 place-most Held true = omega arith
@@ -173,15 +181,39 @@ retire-owes c is = rw (stopping-is_empty c.phase is) (omega arith)
 
 -- ## The state
 
--- four entries for each row, one for each child, and one for the stop
-pub owed-bound : (s : State) → owed_entries s ≤ 4 * length s.rows + length s.children + 1
+-- four entries for each live connection, one for each child, and one for the stop
+owed-bound : (s : State) → owed_entries s ≤ 4 * count_by is_live s.rows + length s.children + 1
 owed-bound s =
     omega (
       arith,
-      sum_by-most row_owes 4 (λ r. place-most r.place (is_lingering r)) s.rows,
+      sum_by-passing row_owes is_live (λ r. place-most r.place (is_lingering r)) s.rows,
       sum_by-most child_owes 1 (λ c. one-most (is_empty c.phase)) s.children,
       one-most (is_halted s.going),
     )
+
+-- an event leaves at most one connection more
+live-next : RowsChangeAlone → (s : State) (e : Event) → count_by is_live (next s e).rows ≤ count_by is_live s.rows + 1
+live-next law s (event.Accept slot) = law.more is_live s.rows slot (taken_row s)
+live-next law s (event.Park name kind) = law.more is_live s.rows name.slot (parked_row s kind)
+live-next law s (event.Hold name) = law.more is_live s.rows name.slot held_row
+live-next law s (event.Queue name) = law.more is_live s.rows name.slot queued_row
+live-next law s (event.Start name) = law.more is_live s.rows name.slot (served_row s)
+live-next law s (event.Answer name ask) = law.more is_live s.rows name.slot (answered_row s ask)
+live-next law s (event.Linger name why) = law.more is_live s.rows name.slot (lingering_row s why)
+live-next law s (event.Close name why how) = law.more is_live s.rows name.slot closed_row
+live-next law s (event.Ready slot) = omega arith
+live-next law s (event.Tick m) = omega arith
+live-next law s (event.StartChild k) = omega arith
+live-next law s (event.Command (Graceful shape)) = omega arith
+live-next law s (event.Command (Refused reason)) = omega arith
+live-next law s (event.Command (GracefulStop until)) = omega arith
+live-next law s (event.Command (Stop why)) = omega arith
+live-next law s (event.Retire k) = omega arith
+
+-- the room that is taken with an event suffices for it and what must follow it
+pub room-suffices : RowsChangeAlone → (s : State) (e : Event) → length (next s e).children ≡ length s.children
+    → owed_entries (next s e) + 1 ≤ room_with_event s
+room-suffices law s e children = omega (arith, owed-bound (next s e), live-next law s e, children)
 
 -- an event that can't be refused takes its own entry out of what is owed
 pub owed-sure : (s : State) (e : Event) → is_allowed s e ≡ true → is_sure e ≡ true → owed_entries (next s e) + 1 ≤ owed_entries s

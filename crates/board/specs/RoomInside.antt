@@ -1,6 +1,6 @@
 -- The entries that a history must still find room for, so that a connection in hand can always be closed and recorded,
 -- and the server always stopped. A call that needs memory takes the room for what must follow it.
-use Rattle.std.specs.Prelude.{ℕ, ◌+◌, Bool, true, false, sum_by, if◌then◌else◌}
+use Rattle.std.specs.Prelude.{ℕ, ◌+◌, ◌*◌, Bool, true, false, count_by, length, sum_by, if◌then◌else◌}
 use Rattle.conn_machine.specs.declared.row.Place.{Place}
 use Rattle.conn_machine.specs.declared.row.Place.TheVariants.{Vacant, Spent, Held, Parked, Queued, Working}
 use Rattle.conn_machine.specs.declared.row.Row.{Row}
@@ -9,7 +9,7 @@ use Rattle.conn_machine.specs.declared.event.Commanded.TheVariants.{Graceful, Re
 use Rattle.conn_machine.specs.declared.event.Event.{Event}
 use Rattle.conn_machine.specs.declared.event.Event.TheVariants as event
 use Rattle.conn_machine.specs.declared.state.State.{State}
-use Rattle.conn_machine.specs.Rows.{is_lingering}
+use Rattle.conn_machine.specs.Rows.{is_live, is_lingering}
 use Rattle.conn_machine.specs.Children.{is_empty}
 use Rattle.conn_machine.specs.States.{is_halted}
 
@@ -33,6 +33,10 @@ child_owes c = if is_empty c.phase then 0 else 1
 abbrev pub owed_entries : State → ℕ
 owed_entries s =
     sum_by row_owes s.rows + sum_by child_owes s.children + (if is_halted s.going then 0 else 1)
+
+-- room for an event, which leaves at most one connection more, and for what its state's history must still find room for
+abbrev pub room_with_event : State → ℕ
+room_with_event s = 4 * (count_by is_live s.rows + 1) + length s.children + 2
 
 -- the event finds its room taken before: it can't be refused
 abbrev pub is_sure : Event → Bool

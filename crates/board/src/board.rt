@@ -208,8 +208,8 @@ impl<L: Link, N: Known> Board<L, N> {
         let parts = &mut *self.parts;
         one_row_changes();
         let next = slot_for_accept(&parts.book, &parts.conns)?;
-        let slots = parts.book.state().rows.len();
-        if parts.ended.reserve(slots).is_err() {
+        let live = parts.book.state().rows.live_count();
+        if parts.ended.reserve(live + 1).is_err() {
             return Err(AcceptFault::NoMemory);
         }
         let reply = match parts.book.record(who, Event::Accept(next.slot)) {

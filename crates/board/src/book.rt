@@ -13,10 +13,12 @@ ghost use Rattle.board.specs.Book.{AddsOnly, StopsByLoad, TellsFullStop, book_wi
 ghost use Rattle.board.specs.BookInside.{AreNext};
 ghost use Rattle.board.specs.Faults.{IsRefusedFor};
 ghost use Rattle.board.specs.FaultsInside.{IsRecorded};
+ghost use Rattle.board.specs.RoomInside as spec;
 ghost use Rattle.board.specs.RoomInside.{is_sure};
 
 use crate::faults::BoardFault;
 use crate::filed::{FiledState, step};
+use crate::laws::one_row_changes;
 use conn_machine::laws::{each_pass_has_its_own_connection, events_keep_states_sound};
 use conn_machine::laws_of_runs::{
     histories_go_on_by_one_entry, passes_add_entries, records_open_with_nothing,
@@ -155,22 +157,23 @@ impl Book {
     {
         histories_go_on_by_one_entry();
         passes_add_entries();
+        one_row_changes();
         if self.state().going.is_halted() {
             return Err(BoardFault::Halted);
         }
         if self.is_full() {
             return Err(BoardFault::Full);
         }
-        let state = self.state.state();
-        let room = 4 * state.rows.len() + state.children.len() + 2;
+        let room = room_with_event(self.state());
         if self.history.reserve(room).is_err() {
             return Err(BoardFault::NoMemory);
         }
         let Ok(reply) = step(self.alloc, &mut self.state, &event) else {
             return Err(BoardFault::NoMemory);
         };
+        let pages = pages_in(&event);
         append(&mut self.history, &mut self.ordinals, who, event, reply);
-        self.pages += pages_in(&event);
+        self.pages += pages;
         Ok(reply)
     }
 
@@ -220,6 +223,16 @@ fn append(history: &mut Vec<Entry>, ordinals: &mut Vec<u64>, who: u32, event: Ev
         Ok(()) => (),
         Err(_) => unreachable!(),
     }
+}
+
+/// For how many entries an event takes room: for its own, and for what must follow it.
+fn room_with_event(state: &State) -> usize
+    requires few_rows { length state.now.rows ≤ 8192 }
+    requires few_children { length state.now.children ≤ 32 }
+    ensures { result ≡ spec.room_with_event state.now }
+{
+    let live = state.rows.live_count();
+    4 * (live + 1) + state.children.len() + 2
 }
 
 /// How many pages the event's entry keeps: 1 for a response that is the status page, else 0.

@@ -46,7 +46,7 @@ pub fn may(state: &State, event: &Event) -> bool
         Event::Ready(slot) => state.may_ready(slot),
         Event::Tick(moment) => state.may_tick(moment),
         Event::StartChild(child) => state.may_start_child(child),
-        Event::Command(commanded) => state.may_command(&commanded),
+        Event::Command(ref commanded) => state.may_command(commanded),
         Event::Retire(child) => state.may_retire(child),
     }
 }
@@ -290,8 +290,8 @@ impl State {
     {
         !self.going.is_halted()
             && match *commanded {
-                Commanded::Graceful(shape) => {
-                    self.going.is_serving() && self.newest < u32::MAX && is_in_bounds(&shape)
+                Commanded::Graceful(ref shape) => {
+                    self.going.is_serving() && self.newest < u32::MAX && is_in_bounds(shape.shape())
                 }
                 Commanded::Refused(_) => true,
                 Commanded::GracefulStop(until) => {

@@ -1,5 +1,9 @@
 //! The events of the machine, their replies, and the entries of a history.
-use mpm_base::{Ask, Cause, ConnName, Kind, Moment, Shape, Tail};
+ghost use Rattle.std.specs.Prelude.{◌≡◌, IfOk};
+
+use mpm_base::{Ask, Cause, ConnName, Kind, Moment, NoMemory, Shape, Tail};
+use std::alloc::Global;
+use std::marker::Model;
 use std::mem::size_of;
 
 /// Why the server stopped.
@@ -36,11 +40,62 @@ pub enum Refusal {
     NoMemory,
 }
 
+/// A shape that is kept apart, so that each entry of a history is small, though few have one. Contracts see it as the shape.
+#[derive(Debug, Drop)]
+pub struct BoxedShape {
+    shape: Box<Shape>,
+}
+
+impl Model for BoxedShape {
+    ghost use Rattle.mpm_base.specs.declared.shape.Shape.{Shape};
+
+    ghost Value = { Shape };
+
+    ghost view = { λ b. b.shape.value };
+}
+
+impl BoxedShape {
+    /// Takes memory for the shape.
+    pub fn make(alloc: Global, shape: Shape) -> Result<BoxedShape, NoMemory>
+        ensures { IfOk result (λ boxed. boxed ≡ shape) }
+    {
+        match Box::new(alloc, shape) {
+            Ok(shape) => Ok(BoxedShape { shape }),
+            Err(_) => Err(NoMemory),
+        }
+    }
+
+    /// The shape.
+    pub fn shape(&self) -> &Shape
+        ensures { result.now ≡ self.now }
+    {
+        &self.shape
+    }
+}
+
+impl PartialEq for BoxedShape {
+    ghost use Rattle.mpm_base.specs.contracts.shape.ShapePartialEq.TheImpl.Laws.{laws-law as shapes_compare};
+
+    ghost eq = { ⟦<Shape as PartialEq>⟧.eq };
+
+    ghost laws = { shapes_compare };
+
+    fn eq(&self, other: &BoxedShape) -> bool {
+        *self.shape == *other.shape
+    }
+}
+
+impl Eq for BoxedShape {
+    ghost use Rattle.mpm_base.specs.contracts.shape.ShapeEq.TheImpl.Laws.{laws-law as shapes_equal_themselves};
+
+    ghost laws = { shapes_equal_themselves };
+}
+
 /// A command, as the table takes it.
-#[derive(Clone, Copy, Debug, PartialEq, Eq)]
+#[derive(Debug, Drop, PartialEq, Eq)]
 pub enum Commanded {
     /// A new generation of this shape begins.
-    Graceful(Shape),
+    Graceful(BoxedShape),
     /// A `graceful` was refused.
     Refused(Refusal),
     /// No connection is taken any more. What is open may go on until the moment, where there is one.
@@ -50,7 +105,7 @@ pub enum Commanded {
 }
 
 /// An event of the machine.
-#[derive(Clone, Copy, Debug, PartialEq, Eq)]
+#[derive(Debug, Drop, PartialEq, Eq)]
 pub enum Event {
     /// A connection is taken into the slot.
     Accept(u32),
@@ -93,16 +148,16 @@ pub enum Reply {
     Noted(bool),
 }
 
-/// An entry of a history.
-#[derive(Clone, Copy, Debug, PartialEq, Eq)]
+/// An entry of a history. In this order its fields lie without a gap.
+#[derive(Debug, Drop, PartialEq, Eq)]
 pub struct Entry {
     /// The pass that made it.
     pub pass: u32,
+    pub reply: Reply,
     /// Its number among the entries of that pass, from 0.
     pub ordinal: u64,
     pub event: Event,
-    pub reply: Reply,
 }
 
 // A history of four million entries is kept in memory.
-const _: () = prove!(size_of::<Entry>() <= 96);
+const _: () = prove!(size_of::<Entry>() <= 64);

@@ -43,7 +43,7 @@ pub fn step(alloc: Global, state: &mut State, event: &Event) -> Result<Reply, No
         Event::Ready(slot) => Ok(ready(state, slot)),
         Event::Tick(moment) => Ok(tick(state, moment)),
         Event::StartChild(child) => Ok(start_child(state, child)),
-        Event::Command(commanded) => Ok(command(state, &commanded)),
+        Event::Command(ref commanded) => Ok(command(state, commanded)),
         Event::Retire(child) => Ok(retire(state, child)),
     }
 }
@@ -252,9 +252,9 @@ fn command(state: &mut State, commanded: &Commanded) -> Reply
     ensures reply { result ≡ Done }
 {
     match *commanded {
-        Commanded::Graceful(shape) => {
+        Commanded::Graceful(ref shape) => {
             state.newest += 1;
-            state.shape = shape;
+            state.shape = *shape.shape();
             state.children.stop_all();
         }
         Commanded::Refused(_) => (),

@@ -1,11 +1,26 @@
 //! Events of the machine as rows write them, by the names that they have.
 use crate::texts::{kind_of, name_of, number_of, small_of, words};
-use conn_machine::{Commanded, Event, Refusal, Why};
-use mpm_base::{Ask, Cause, Shape, Tail};
+use conn_machine::{BoxedShape, Commanded, Event, Refusal, Why};
+use mpm_base::{Ask, Cause, NoMemory, Shape, Tail};
+use std::alloc::Global;
 
 /// The event that the text writes.
-pub fn event_of(text: &str) -> Option<Event> {
+pub fn event_of(alloc: Global, text: &str) -> Result<Option<Event>, NoMemory> {
     let (word, rest) = words(text);
+    if word == "Graceful" {
+        return Ok(Some(restart_to(alloc, shape_of(rest))?));
+    }
+    Ok(small_event_of(word, rest))
+}
+
+/// A restart with this shape.
+pub fn restart_to(alloc: Global, shape: Shape) -> Result<Event, NoMemory> {
+    let shape = BoxedShape::make(alloc, shape)?;
+    Ok(Event::Command(Commanded::Graceful(shape)))
+}
+
+/// The event that the words write, where it is no restart.
+fn small_event_of(word: &str, rest: &str) -> Option<Event> {
     let (name, more) = words(rest);
     match word {
         "Accept" => Some(Event::Accept(small_of(rest))),
@@ -32,10 +47,9 @@ fn close_of(name: &str, text: &str) -> Option<Event> {
     Some(Event::Close(name_of(name), cause, tail))
 }
 
-/// The command that the words write.
+/// The command that the words write, where it is no restart.
 fn command_of(word: &str, rest: &str) -> Option<Commanded> {
     match word {
-        "Graceful" => Some(Commanded::Graceful(shape_of(rest))),
         "Refused" => Some(Commanded::Refused(refusal_of(rest)?)),
         "GracefulStop" => Some(Commanded::GracefulStop(rest.parse::<u64>().ok())),
         "Stop" => Some(Commanded::Stop(why_of(rest)?)),

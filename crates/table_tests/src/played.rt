@@ -69,7 +69,7 @@ fn plays_one(
 ) -> Result<bool, NoMemory> {
     let number = numbers.next();
     let detail = numbers.next();
-    let event = event_from(&table.state, number, detail);
+    let event = event_from(alloc, &table.state, number, detail)?;
     let reply = table.play(alloc, &event)?;
     Ok(reply.is_some())
 }

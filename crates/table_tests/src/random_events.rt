@@ -1,16 +1,22 @@
 //! Events that numbers ask for. Most fit the place of the connection that they name, so that many of them are allowed.
 use crate::calls::kind_from;
 use crate::numbers::below;
-use conn_machine::{Commanded, Event, Place, Refusal, Row, State, Why};
-use mpm_base::{Ask, Cause, ConnName, Kind, Shape, Tail};
+use conn_machine::{BoxedShape, Commanded, Event, Place, Refusal, Row, State, Why};
+use mpm_base::{Ask, Cause, ConnName, Kind, NoMemory, Shape, Tail};
+use std::alloc::Global;
 
 /// The event that the numbers ask for: the first one says what happens, the second one to which connection, and more.
-pub fn event_from(state: &State, number: u64, detail: u64) -> Event {
+pub fn event_from(
+    alloc: Global,
+    state: &State,
+    number: u64,
+    detail: u64,
+) -> Result<Event, NoMemory> {
     let (choice, number) = (number % 16, number / 16);
     match choice {
-        0 => Event::Tick(state.moment.saturating_add(number % 1024)),
-        1 => command_from(state, number, detail),
-        _ => event_of_slot(state, number, detail),
+        0 => Ok(Event::Tick(state.moment.saturating_add(number % 1024))),
+        1 => command_from(alloc, state, number, detail),
+        _ => Ok(event_of_slot(state, number, detail)),
     }
 }
 
@@ -107,25 +113,27 @@ fn tail_from(number: u64) -> Tail {
 }
 
 /// A child that starts or retires, or a command.
-fn command_from(state: &State, number: u64, detail: u64) -> Event {
+fn command_from(alloc: Global, state: &State, number: u64, detail: u64) -> Result<Event, NoMemory> {
     let child = below(detail, state.children.len());
-    match number % 32 {
+    let event = match number % 32 {
         0..=19 => Event::StartChild(child),
         20..=27 => Event::Retire(child),
-        28..=30 => Event::Command(restart_from(state, detail / 64)),
+        28..=30 => Event::Command(restart_from(alloc, state, detail / 64)?),
         _ => Event::Command(stop_from(state, detail / 64)),
-    }
+    };
+    Ok(event)
 }
 
 /// A restart with one worker more a child, of at most eight, or one that is refused.
-fn restart_from(state: &State, detail: u64) -> Commanded {
+fn restart_from(alloc: Global, state: &State, detail: u64) -> Result<Commanded, NoMemory> {
     if detail % 4 != 0 {
-        return Commanded::Refused(Refusal::Conf);
+        return Ok(Commanded::Refused(Refusal::Conf));
     }
-    Commanded::Graceful(Shape {
+    let shape = Shape {
         threads: state.shape.threads % 8 + 1,
         ..state.shape
-    })
+    };
+    Ok(Commanded::Graceful(BoxedShape::make(alloc, shape)?))
 }
 
 /// A stop.

@@ -1,10 +1,10 @@
 //! The event table: whether events are allowed, what they reply, and what comes of the state.
 ghost use Rattle.conn_machine.specs.Sizes.{IsSized};
 
-use crate::events::{event_of, shape_of};
+use crate::events::{event_of, restart_to, shape_of};
 use crate::shown::{show_sizes, show_state};
 use crate::texts::{grown, number_of, small_of, words};
-use conn_machine::{Commanded, Event, Reply, State, is_in_bounds, may, step};
+use conn_machine::{Event, Reply, State, is_in_bounds, may, step};
 use mpm_base::NoMemory;
 use std::alloc::Global;
 use std::io;
@@ -64,7 +64,7 @@ fn show_last(
 ) -> io::Result<()> {
     let (before, last) = events_of(row);
     let table = open_behind(rt, alloc, opening, first, before)?;
-    match event_of(last) {
+    match grown(event_of(alloc, last))? {
         Some(event) => println!(rt; "{}", table.allows(&event)),
         None => println!(rt; "{last} is no event"),
     }
@@ -150,7 +150,7 @@ pub fn show_bounds(rt: &impl Print, alloc: Global, rows: &str) -> io::Result<()>
     let table = grown(Table::open(alloc, "2 2"))?;
     for row in rows.lines() {
         let shape = shape_of(row);
-        let restart = Event::Command(Commanded::Graceful(shape));
+        let restart = grown(restart_to(alloc, shape))?;
         println!(rt;
             "{row} => {}, may {}",
             is_in_bounds(&shape),
@@ -172,7 +172,7 @@ fn play_events(rt: &impl Print, alloc: Global, table: &mut Table, events: &str) 
         return Ok(());
     }
     for text in events.split(", ") {
-        let reply = match event_of(text) {
+        let reply = match grown(event_of(alloc, text))? {
             Some(event) => grown(table.play(alloc, &event))?,
             None => None,
         };
@@ -185,7 +185,7 @@ fn play_events(rt: &impl Print, alloc: Global, table: &mut Table, events: &str) 
 
 /// Does the event, and shows its reply, or that it isn't allowed.
 fn show_event(rt: &impl Print, alloc: Global, table: &mut Table, text: &str) -> io::Result<()> {
-    let Some(event) = event_of(text) else {
+    let Some(event) = grown(event_of(alloc, text))? else {
         return println!(rt; "{text} is no event");
     };
     match grown(table.play(alloc, &event))? {

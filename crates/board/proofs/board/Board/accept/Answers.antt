@@ -1,4 +1,7 @@
-use Rattle.std.proofs.Common.{◌≡◌, ◌+◌, ◌≤◌, List, Option, None, length, vec_capacity, subst, sym, ap, ◌∙◌, refl, rules}
+use Rattle.std.proofs.Common.{◌≡◌, ◌+◌, ◌≤◌, List, Option, None, length, vec_capacity, subst, sym, ap, ◌∙◌, refl, rules, arith}
+use Rattle.std.specs.Prelude.{count_by}
+use Rattle.conn_machine.specs.Rows.{is_live}
+use Rattle.conn_machine.specs.declared.state.State.{State}
 use Rattle.conn_machine.specs.declared.event.Event.TheVariants as event
 use Rattle.conn_slots.specs.Slots.{with_item}
 use Rattle.conn_state.specs.Conn.{SeenConn}
@@ -26,7 +29,10 @@ invariant_of-self-2 g c =
     let room' = vec_capacity c.reserve.new.self in
     let name = c.in_ok-next.next in
     let given = c.in_ok-next.ensures in
-    let space : length ended + length inside.book.state.rows ≤ room' = search rules in
+    let live : c.live_count-live.result ≡ count_by is_live inside.book.state.rows =
+    c.live_count-live.ensures ∙ ap (λ (s : State). count_by is_live s.rows) c.state.ensures in
+    let reserved : length ended + (c.live_count-live.result + 1) ≤ room' = search rules in
+    let space : length ended + (count_by is_live inside.book.state.rows + 1) ≤ room' = omega (arith, reserved, live) in
     let stored : c.put.new.self.slots ≡ with_item slots name None =
     put-slots inside.conns c.put.new.self.slots name None c.put.result given.next given.vacant c.put.ensures.full.0 c.put.ensures.name c.put.ensures.stored in
     rw (c.in-Ok.ensures.ok.new_is, c.reserve.ensures.items)

@@ -1,4 +1,4 @@
-use Rattle.std.proofs.Common.{◌≡◌, List, ◌+◌, ◌*◌, ◌<◌, ◌≤◌, true, false, length, vec_capacity, if◌then◌else◌, subst, sym, refl, ◌∙◌, ap, rules}
+use Rattle.std.proofs.Common.{◌≡◌, List, ◌+◌, ◌<◌, ◌≤◌, true, false, length, vec_capacity, if◌then◌else◌, subst, sym, refl, ◌∙◌, ap, rules}
 use Rattle.conn_machine.specs.States.{is_halted}
 use Rattle.conn_machine.specs.declared.state.State.{State}
 use Rattle.conn_machine.specs.Table.{is_allowed, reply}
@@ -6,6 +6,7 @@ use Rattle.conn_machine.specs.declared.event.Entry.{Entry}
 use Rattle.conn_machine.specs.Folds.{opening_record}
 use Rattle.conn_machine.specs.Runs.{Adds, after, asks_page, full_load, load}
 use Rattle.board.specs.Book.{SeenBook, entry_of, numbered_entry}
+use Rattle.board.specs.RoomInside.{room_with_event}
 use Rattle.board.proofs.BookLemmas.{goes_by, open_if, kept_with_room, recorded_is}
 use Rattle.board.proofs.PassLemmas.{adds_recorded, is_own, may_be_next, role_inside, row-recorded}
 use Rattle.board.proofs.StopLemmas.{stop_by_role}
@@ -23,9 +24,9 @@ invariant_of-self-2 c =
     let going : is_halted c.args.self.now.state.going ≡ false =
     ap (λ (s : State). is_halted s.going) (sym c.state.ensures) ∙ sym c.is_halted.ensures ∙ c.if-is_halted.false in
     let may = subst (λ (v : SeenBook). is_allowed v.state c.args.event ≡ true) (sym c.self.view_is) (c.requires.allowed going) in
-    let space : length inside.history.items + (4 * length inside.state.rows + length inside.state.children + 2) ≤ vec_capacity c.append.new.history =
+    let space : length inside.history.items + room_with_event inside.state ≤ vec_capacity c.append.new.history =
     search rules in
-    let pages : inside.pages + c.pages_in.result ≡ inside.pages + (if asks_page c.args.event then 1 else 0) = search rules in
+    let pages : inside.pages + c.pages_in-pages.result ≡ inside.pages + (if asks_page c.args.event then 1 else 0) = search rules in
     let base = inside.base.value in
     let history = inside.history.items in
     let folded = opening_record (length inside.ordinals.items) in
@@ -35,8 +36,8 @@ invariant_of-self-2 c =
     let free = open_if c.args.self.now c.state.result.now c.is_halted.result c.is_full.result c.state.ensures c.is_halted.ensures c.is_full.ensures c.if-is_halted.false c.if-is_full.false in
     let light : load history < full_load = subst (λ (v : SeenBook). load v.history < full_load) (sym c.self.view_is) free.light in
     rw c.append.ensures.passes
-    (kept_with_room base folded history c.append.new.history.items inside.state c.step.new.state inside.ordinals.items
-    c.append.new.ordinals.items inside.pages (inside.pages + c.pages_in.result) (vec_capacity inside.history) (vec_capacity c.append.new.history)
+    (kept_with_room c.one_row_changes.ensures base folded history c.append.new.history.items inside.state c.step.new.state inside.ordinals.items
+    c.append.new.ordinals.items inside.pages (inside.pages + c.pages_in-pages.result) (vec_capacity inside.history) (vec_capacity c.append.new.history)
     e c.self.invariant may c.append.ensures.numbers
     (record { sound = c.step.ensures.sound; sizes = c.step.ensures.sizes; sized = c.step.ensures.sized })
     (rw c.reserve.ensures.items at c.append.ensures.history) c.in-Ok.ensures.state pages space
