@@ -1,9 +1,9 @@
 -- Slots that are filed in rings.
 use Rattle.std.proofs.Common.{◌≡◌, ℕ, zero, suc, ◌+◌, ◌<◌, ◌≤◌, List, [], ◌∷◌, length, set, get_or, Option, Some, None, is_some, true, slice_get, refl, sym, ap, ◌∙◌, arith}
-use Rattle.std.proofs.lemmas.Option.{none-some, same_Some, slice_get_past, slice_get_read}
+use Rattle.std.proofs.lemmas.Option.{none-some, slice_get_past, slice_get_read}
 use Rattle.timeout_queues.specs.Filed.{StandsIn}
-use Rattle.timeout_queues.specs.RingsInside.{by_number, ring_of, ring_at, due_of, place_at, IsRings, IsLastBefore}
-use Rattle.timeout_queues.proofs.HeadLemmas.{ring_first, ring_holds, head_number}
+use Rattle.timeout_queues.specs.RingsInside.{by_number, ring_of, due_of, place_at, IsRings, IsLastBefore}
+use Rattle.timeout_queues.proofs.HeadLemmas.{ring_first, head_number}
 
 -- the slot behind the head of a ring stands in it
 pub first_stands : (slots : List (Option ℕ)) (before behind : List ℕ) (ring slot : ℕ) → IsRings by_number slots before behind → ring < 128 →
@@ -18,34 +18,6 @@ pub none_stands : (slots : List (Option ℕ)) (before behind : List ℕ) (ring p
 none_stands slots before behind ring place r is past slot at =
     let head = ring_first by_number slots before behind r ring slot ring at refl in
     none-some (Some head.name) (sym (slice_get_past slots place past) ∙ ap (λ i. slice_get slots i) is ∙ head.there)
-
--- the place before the head of a ring is in that ring
-before_head : (slots : List (Option ℕ)) (before behind : List ℕ) (ring place : ℕ) → IsRings by_number slots before behind → ring < 128 →
-    place ≡ place_at before (length slots + ring) → ring_at by_number slots place ≡ Some (length slots + ring)
-before_head slots before behind ring place r few is =
-    let head : length slots + ring < length slots + 128 = omega arith in
-    let past = slice_get_past slots (length slots + ring) (omega arith) in
-    ap (λ i. ring_at by_number slots i) is
-    ∙ (r.linked (length slots + ring) head).ring
-    ∙ ap (λ o. ring_of by_number slots (length slots + ring) o) past
-
--- so the slot there stands in it
-pub last_stands : (slots : List (Option ℕ)) (before behind : List ℕ) (ring slot : ℕ) → IsRings by_number slots before behind → ring < 128 →
-    slot ≡ place_at before (length slots + ring) → slot < length slots → StandsIn slots ring slot
-last_stands slots before behind ring slot r few is within =
-    let last = ring_holds by_number slots ring slot within (before_head slots before behind ring slot r few is) in
-    last.1 ∙ ap (λ n. Some (Some n)) last.2
-
--- where the head of a ring has no slot before it, it has none behind it
-pub none_before : (slots : List (Option ℕ)) (before behind : List ℕ) (ring place : ℕ) → IsRings by_number slots before behind → ring < 128 →
-    place ≡ place_at before (length slots + ring) → length slots ≤ place → (slot : ℕ) → StandsIn slots ring slot → ⊥
-none_before slots before behind ring place r few is past =
-    let head : length slots + ring < length slots + 128 = omega arith in
-    let itself : Some place ≡ Some (length slots + ring) =
-    sym (ap (λ o. ring_of by_number slots place o) (slice_get_past slots place past)) ∙ before_head slots before behind ring place r few is in
-    let same : place ≡ length slots + ring = same_Some place (length slots + ring) itself in
-    none_stands slots before behind ring place r
-    (same ∙ sym (r.linked (length slots + ring) head).forth ∙ ap (λ i. place_at behind i) (sym is ∙ same)) past
 
 -- what stands in a ring by number has no deadline
 no_due : (o : Option (Option ℕ)) → due_of by_number o ≤ 0

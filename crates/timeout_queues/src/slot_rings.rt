@@ -71,17 +71,6 @@ impl SlotRings {
         if place < slots { Some(place) } else { None }
     }
 
-    /// The slot that stands last in the ring: the one that was put there after all others.
-    pub fn last(&self, ring: u32) -> Option<u32>
-        requires { ring < 128 }
-        ensures stands { IfSome result (StandsIn self.now ring) }
-        ensures none { IfNone result ((slot : ℕ) → ¬ StandsIn self.now ring slot) }
-    {
-        let slots = self.filed.len() as u32;
-        let place = self.rings.before[(slots + ring) as usize];
-        if place < slots { Some(place) } else { None }
-    }
-
     /// The ring in which the slot stands.
     pub fn ring_of(&self, slot: u32) -> Option<u32>
         ensures { result ≡ slice_index_or self.now slot None }
