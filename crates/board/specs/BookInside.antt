@@ -21,8 +21,9 @@ abbrev pub pages_of : List Entry → ℕ
 pages_of history = count_by (λ e. asks_page e.event) history
 
 -- the history is one of the machine, from its base to its state, behind what was folded, and the states are sound; each entry is
--- one that its pass may make, and before it each pass had a connection of its own, or none; each pass's next number and the number of pages are known; there is room for what must follow; a stop because the
--- history is full stands only where it is, and one for want of memory only where it isn't; and the first is told by the state
+-- one that its pass may make, and before it each pass had a connection of its own, or none; each pass's next number and the number
+-- of pages are known; there is room for what must follow; a stop because the history is full stands only where it is, and one for want
+-- of memory only where it isn't; and the first is told by the state
 pub record IsKept (base : State) (f : Folded) (history : List Entry) (state : State) (ordinals : List ℕ) (pages room : ℕ) : Type 0 where
   pub is_history : IsHistory base f history
   pub made : AreMade base f history

@@ -1,4 +1,4 @@
--- What is kept of the rows beside them, so that no call goes over them: numbers that equal the counts of the rows.
+-- What is kept of the rows beside them, so that few calls go over them: numbers that equal the counts of the rows.
 use Rattle.std.specs.Prelude.{◌≡◌, ◌==◌, ℕ, ◌+◌, ◌-◌, ◌<◌, ◌^◌, Bool, true, false, not, ◌&&◌, List, count_by, cond, length, min, nat_lt, replicate, slice_index_or}
 use Rattle.std.specs.Int.{bit_at}
 use Rattle.mpm_base.specs.declared.conn.Kind.TheVariants.{KeepAlive, Writing}

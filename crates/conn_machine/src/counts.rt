@@ -1,4 +1,5 @@
-//! What is kept of the rows beside them, so that no call goes over them.
+//! What is kept of the rows beside them, so that no call goes over them, but for the condition of a Tick and for lists that these
+//! numbers can't say.
 ghost use Rattle.std.specs.Prelude.{◌≡◌, ◌≢◌, ◌==◌, ℕ, ◌+◌, ◌-◌, ◌<◌, true, ◌&&◌, IfOk, if◌then◌else◌, Some, None};
 ghost use Rattle.std.specs.Int.{bit_at};
 ghost use Rattle.conn_machine.specs.CountsInside as spec;

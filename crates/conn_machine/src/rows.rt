@@ -1,4 +1,5 @@
-//! The list of rows, its counts, and a change of one row. The counts are kept beside the rows, so that no call goes over these.
+//! The list of rows, its counts, and a change of one row. The counts are kept beside the rows, so that no call goes over these but the
+//! condition of a Tick.
 ghost use Rattle.std.specs.Prelude.{◌≡◌, ◌==◌, ◌+◌, ◌≤◌, ◌<◌, false, Some, [], ◌∷◌, ◌++◌, count_by, length, replicate, IfOk, IfSome, OnOk, OnErr, OnSome, find, slice_get};
 ghost use Rattle.std.specs.List.{list_any, range_with_len};
 ghost use Rattle.std.specs.Option.{option_copied};

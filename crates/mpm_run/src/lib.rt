@@ -4,7 +4,7 @@
 //! `Started.antt`, `Times.antt`, `Watched.antt`, `Links.antt`, `Patient.antt` and `Tells.antt`: the history that the board
 //! keeps is a run of the connection machine from its opening state, in the order of its passes, and each state on its way is
 //! sound; the connections agree with it; each connection that was taken ended, and each child is gone; the children were
-//! started before all else; the front was bound once, watched each connection under its name, and listens no more in the end;
+//! started before all else, and each one where it was asked for; the front was bound once, watched each connection under its name, and listens no more in the end;
 //! each link that it handed out is that of one connection, but for one where the server was broken off; time passed to the
 //! clock's answers, and only where nothing was left to be done; each slot that the front gave was signalled once, in order; and
 //! where nothing more could come the whole script was played.

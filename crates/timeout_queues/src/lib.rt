@@ -3,7 +3,8 @@
 //! Contracts see the queues as a map from the parked names to kind and deadline. The name that `overdue`
 //! answers is late, and none has an earlier deadline. All memory is taken by `make`, so that a connection
 //! in hand can always be parked. The names of each kind stand in a ring, in the order of their deadlines, so
-//! no call but `make` goes over the slots. The definitions stand in `specs/Waiting.antt`.
+//! no call but `make` goes over the slots, and `park` only over the names of its kind that are due later. The
+//! definitions stand in `specs/Waiting.antt`.
 //!
 //! Rings of slots say of each slot in which ring it stands, and find one that stands in a ring without a look at the
 //! others. Their definitions stand in `specs/Filed.antt`.
