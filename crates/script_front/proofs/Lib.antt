@@ -1,6 +1,8 @@
 pub mod ClientLemmas
 pub mod ComingLemmas
+pub mod DueLemmas
 pub mod EditionLemmas
+pub mod LookLemmas
 pub mod MomentLemmas
 pub mod NameChainLemmas
 pub mod PlayedLemmas

@@ -157,7 +157,7 @@ GivesOne clients ns ready x n x' added =
     (later : List SeenClient) (slots : List ℕ) → Gives (256 - length (ready ++ added)) clients ns later slots
     → Gives (256 - length ready) (x ∷ clients) (n ∷ ns) (x' ∷ later) (added ++ slots)
 
-gives-step : (clients now : List SeenClient) (ns : List (Option ConnName)) (i : ℕ) (ready added : List ℕ) (x x' : SeenClient) (n : Option ConnName)
+pub gives-step : (clients now : List SeenClient) (ns : List (Option ConnName)) (i : ℕ) (ready added : List ℕ) (x x' : SeenClient) (n : Option ConnName)
     → GivesOn clients now ns i ready → i < length now → i < length ns → x ≡ get_or now i x → get_or ns i None ≡ n
     → GivesOne (drop (i + 1) clients) (drop (i + 1) ns) ready x n x' added → GivesOn clients (set now i x') ns (i + 1) (ready ++ added)
 gives-step clients now ns i ready added x x' n on l k is named one =
@@ -244,6 +244,13 @@ module _ (clients : List SeenClient) (all : List (List ℕ)) (named : names clie
       let hits : bytes_eq name x.name ≡ true = subst (λ (n : List ℕ). bytes_eq name n ≡ true) own walked.at.1 in
       let there : slice_get acted place ≡ Some (after_act did x) = slice_get-map (client_after_line (line.Client name did)) clients place ∙ rw (old, hits) refl in
       walked-step name all clients acted acted-alike now place (after_act did x) next walked there last
+
+  -- the place is one of the clients'
+  pub acts-size : (now : List SeenClient) (place : ℕ) → Walked name all clients acted now (Some place) → (place < length clients) × (place < length now)
+  acts-size now place walked =
+      let each : length clients ≡ length all = acted-alike.old_each in
+      let size : length now ≡ length all = walked-length name all clients acted acted-alike now (Some place) walked in
+      (omega (arith, each, walked.at.0), omega (arith, size, walked.at.0))
 
   pub acts-end : (now : List SeenClient) → Walked name all clients acted now None → now ≡ acted
   acts-end now walked = walked-end name all clients acted acted-alike now walked

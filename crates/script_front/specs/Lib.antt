@@ -1,3 +1,4 @@
+pub mod DuePlacesInside
 pub mod Editions
 pub mod NameChainsInside
 pub mod PlayedFrontInside

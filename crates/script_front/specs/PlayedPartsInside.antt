@@ -4,9 +4,11 @@ use Rattle.std.specs.List.{list_any}
 use Rattle.mpm_script.specs.Clients.{clients_of, fails_of, is_dropped, names_of, sent_by}
 use Rattle.mpm_base.specs.Front.{next_coming}
 use Rattle.script_front.specs.ScriptFront.{comings_of, lines_now}
-use Rattle.script_front.specs.Signals.{SeenClient}
+use Rattle.script_front.specs.DuePlacesInside.{AreMarked, Covers}
+use Rattle.script_front.specs.Signals.{SeenClient, all_closed}
 use Rattle.script_front.specs.declared.client_plans.Awaited.{Awaited}
 use Rattle.script_front.specs.declared.client_plans.LinkPlan.{LinkPlan}
+use Rattle.script_front.specs.declared.due_places.DuePlaces.{DuePlaces}
 use Rattle.mpm_base.specs.declared.conn.ConnName.{ConnName}
 use Rattle.mpm_base.specs.declared.script_line.ClientAct.{ClientAct}
 use Rattle.mpm_base.specs.declared.script_line.ClientAct.TheVariants as act
@@ -104,10 +106,15 @@ pub record SeenClients : Type 0 where
   pub clients : List SeenClient
   pub watched : List (Option ConnName)
 
--- the clients of the script are those of these names, and for each there is a place for the name under which its link is watched
-pub record AreClients (names : List (List ℕ)) (clients : List SeenClient) (watched : List (Option ConnName)) : Type 0 where
+-- the clients of the script are those of these names; for each there is a place for the name under which its link is watched, and a
+-- mark where a signal may be due; and so many links were found closed, one behind the other
+pub record AreClients (names : List (List ℕ)) (clients : List SeenClient) (watched : List (Option ConnName)) (due : DuePlaces) (closed : ℕ) : Type 0 where
   pub names_are : map (λ client. client.name) clients ≡ names
   pub each : length watched ≡ length names
+  pub marks : length due.marks.items ≡ length names
+  pub marked : AreMarked due
+  pub covers : Covers due.marks.items clients watched
+  pub shut : all_closed (take closed clients) ≡ true
 
 -- all lines have happened after it waited, and each connection was handed out or listening was stopped
 pub record IsPlayedOut (lines : List ScriptLine) (count : ℕ) (waited : Bool) (taken : ℕ) (hushed : Bool) : Type 0 where

@@ -10,6 +10,7 @@
 mod client_parts;
 mod client_plans;
 mod coming_lines;
+mod due_places;
 mod editions;
 mod name_chains;
 mod script_client;

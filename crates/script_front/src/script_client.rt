@@ -1,9 +1,12 @@
 //! A client of a script, as the front of the script knows it.
-ghost use Rattle.std.specs.Prelude.{◌≡◌, ◌&&◌, not, false, [], length, map, IfSome, IfNone};
+ghost use Rattle.std.specs.Prelude.{◌≡◌, ◌<◌, ◌≤◌, ◌&&◌, not, true, false, List, Option, [], length, map, take, IfSome, IfNone};
 ghost use Rattle.mpm_base.specs.declared.script_line.ScriptLine.TheVariants as said;
+ghost use Rattle.mpm_base.specs.declared.conn.ConnName.{ConnName as Name};
+ghost use Rattle.script_front.specs.DuePlacesInside.{AllLook, AreMarked, Covers};
 ghost use Rattle.script_front.specs.PlayedPartsInside.{is_of_client};
 ghost use Rattle.script_front.specs.Signals.{Gives, LooksAt, after_act, client_after_line, client_after_lines, all_closed, new_client, without_signal, watched_client};
 
+use crate::due_places::DuePlaces;
 use crate::name_chains::NameChains;
 use mpm_base::{ClientAct, ConnName, Octets, Ready, ScriptLine};
 use stand_ins::Wire;
@@ -109,13 +112,23 @@ impl ScriptClient {
 }
 
 /// These lines happen to each of the clients, which have these names.
-pub(crate) fn happen(chains: &NameChains, lines: &[ScriptLine], clients: &mut [ScriptClient])
-    requires { map (λ client. client.name) clients.old ≡ chains.now }
-    ensures { clients.new ≡ map (client_after_lines lines.now) clients.old }
+pub(crate) fn happen(
+    chains: &NameChains,
+    lines: &[ScriptLine],
+    due: &mut DuePlaces,
+    clients: &mut [ScriptClient],
+)
+    requires named { map (λ client. client.name) clients.old ≡ chains.now }
+    requires each { length due.old.marks.items ≡ length clients.old }
+    requires marked { AreMarked due.old }
+    ensures clients { clients.new ≡ map (client_after_lines lines.now) clients.old }
+    ensures each { length due.new.marks.items ≡ length due.old.marks.items }
+    ensures marked { AreMarked due.new }
+    ensures covers { (watched : List (Option Name)) → Covers due.old.marks.items clients.old watched → Covers due.new.marks.items clients.new watched }
 {
     for line in lines {
         if let Some((name, act)) = act_in(line) {
-            act_on(chains, name, act, clients);
+            act_on(chains, name, act, due, clients);
         }
     }
 }
@@ -132,31 +145,54 @@ pub(crate) fn act_in(line: &ScriptLine) -> Option<(&[u8], &ClientAct)>
 }
 
 /// The act happens to each client of that name.
-fn act_on(chains: &NameChains, name: &[u8], act: &ClientAct, clients: &mut [ScriptClient])
-    requires { map (λ client. client.name) clients.old ≡ chains.now }
-    ensures { clients.new ≡ map (client_after_line (said.Client name.now act.now)) clients.old }
+fn act_on(
+    chains: &NameChains,
+    name: &[u8],
+    act: &ClientAct,
+    due: &mut DuePlaces,
+    clients: &mut [ScriptClient],
+)
+    requires named { map (λ client. client.name) clients.old ≡ chains.now }
+    requires each { length due.old.marks.items ≡ length clients.old }
+    requires marked { AreMarked due.old }
+    ensures clients { clients.new ≡ map (client_after_line (said.Client name.now act.now)) clients.old }
+    ensures each { length due.new.marks.items ≡ length due.old.marks.items }
+    ensures marked { AreMarked due.new }
+    ensures covers { (watched : List (Option Name)) → Covers due.old.marks.items clients.old watched → Covers due.new.marks.items clients.new watched }
 {
     let mut next = chains.last(name);
     'places: while let Some(place) = next {
         clients[place].act(act);
+        due.add(place);
         next = chains.earlier(place);
     }
 }
 
 /// Gives the slots of those watched links for which a signal is due and which weren't closed, as far as there is room; the others
 /// stay due.
-pub(crate) fn give(clients: &mut [ScriptClient], watched: &[Option<ConnName>], ready: &mut Ready)
+pub(crate) fn give(
+    due: &mut DuePlaces,
+    clients: &mut [ScriptClient],
+    watched: &[Option<ConnName>],
+    ready: &mut Ready,
+)
     requires each { length clients.old ≡ length watched.now }
+    requires marks { length due.old.marks.items ≡ length clients.old }
     requires none { ready.old ≡ [] }
-    ensures { Gives 256 clients.old watched.now clients.new ready.new }
+    requires marked { AreMarked due.old }
+    requires covers { Covers due.old.marks.items clients.old watched.now }
+    ensures gives { Gives 256 clients.old watched.now clients.new ready.new }
+    ensures marks { length due.new.marks.items ≡ length due.old.marks.items }
+    ensures marked { AreMarked due.new }
+    ensures covers { Covers due.new.marks.items clients.new watched.now }
 {
-    for (place, watch) in watched.iter().enumerate() {
-        if ready.is_full() {
+    'places: while !ready.is_full() {
+        let Some(place) = due.take() else {
             return;
-        }
+        };
         let client = &mut clients[place];
         client.look();
-        if let Some(name) = watch {
+        if let Some(name) = &watched[place] {
             if client.take_signal() {
                 ready.add(name.slot);
             }
@@ -164,9 +200,23 @@ pub(crate) fn give(clients: &mut [ScriptClient], watched: &[Option<ConnName>], r
     }
 }
 
-/// Whether the link of each client was found closed.
-pub(crate) fn are_closed(clients: &[ScriptClient]) -> bool
-    ensures { result ≡ all_closed clients.now }
+/// How many of the first so many links were found closed, one behind the other, of which that many were before. It looks at
+/// each behind them, up to one that isn't closed.
+pub(crate) fn closed_up_to(clients: &mut [ScriptClient], closed: usize, count: usize) -> usize
+    requires few { count ≤ length clients.old }
+    requires were { all_closed (take closed clients.old) ≡ true }
+    ensures looks { AllLook clients.old clients.new }
+    ensures are { all_closed (take result clients.new) ≡ true }
+    ensures not_yet { result < count → all_closed (take count clients.new) ≡ false }
 {
-    clients.iter().all(|client| client.is_closed())
+    let mut found = closed;
+    'links: while found < count {
+        let client = &mut clients[found];
+        client.look();
+        if !client.is_closed() {
+            return found;
+        }
+        found += 1;
+    }
+    found
 }

@@ -1,14 +1,16 @@
 //! The clients of a script, as its front knows them.
 ghost use Rattle.std.specs.Prelude.{◌≡◌, ◌<◌, ◌≤◌, Some, [], ◌∷◌, length, take, map, slice_set, IfOk, IfSome, IfNone};
 ghost use Rattle.mpm_script.specs.Clients.{names_of};
+ghost use Rattle.script_front.specs.DuePlacesInside.{AllLook};
 ghost use Rattle.script_front.specs.PlayedPartsInside.{plans_of};
 ghost use Rattle.script_front.specs.ScriptFront.{no_name_yet};
 ghost use Rattle.script_front.specs.Signals.{Gives, client_after_lines, after_watch_of, all_closed, new_client};
 
 use crate::client_parts::parts_of;
 use crate::client_plans::Awaited;
+use crate::due_places::DuePlaces;
 use crate::name_chains::NameChains;
-use crate::script_client::{ScriptClient, are_closed, give, happen};
+use crate::script_client::{ScriptClient, closed_up_to, give, happen};
 use mpm_base::{ConnName, NoMemory, Ready, ScriptLine};
 use std::alloc::Global;
 use std::collections::VecDeque;
@@ -22,6 +24,8 @@ pub(crate) struct ScriptClients {
     awaited: VecDeque<Awaited>,
     clients: Vec<ScriptClient>,
     names: Vec<Option<ConnName>>,
+    due: DuePlaces,
+    closed: usize,
 }
 
 impl Model for ScriptClients {
@@ -34,7 +38,7 @@ impl Model for ScriptClients {
 
     ghost use Rattle.script_front.specs.PlayedPartsInside.{AreClients};
 
-    ghost invariant = { λ c. AreClients c.chains c.clients.items c.names.items };
+    ghost invariant = { λ c. AreClients c.chains c.clients.items c.names.items c.due c.closed };
 }
 
 impl ScriptClients {
@@ -45,11 +49,14 @@ impl ScriptClients {
         ensures watched { IfOk result (λ clients. clients.watched ≡ map no_name_yet (names_of lines.now)) }
     {
         let parts = parts_of(alloc, lines)?;
+        let due = DuePlaces::make(alloc, parts.clients.len())?;
         Ok(ScriptClients {
             chains: parts.chains,
             awaited: parts.awaited,
             clients: parts.clients,
             names: parts.watched,
+            due,
+            closed: 0,
         })
     }
 
@@ -73,18 +80,10 @@ impl ScriptClients {
     pub(crate) fn watch(&mut self, number: usize, name: ConnName)
         ensures { self.new ≡ record self.old { clients = after_watch_of number self.old.clients; watched = slice_set self.old.watched number (Some name) } }
     {
-        self.put_name(number, name);
         if number < self.clients.len() {
-            self.clients[number].watch();
-        }
-    }
-
-    /// Puts down under which name the link of that number is watched.
-    fn put_name(&mut self, number: usize, name: ConnName)
-        ensures { self.new ≡ record self.old { watched = slice_set self.old.watched number (Some name) } }
-    {
-        if number < self.names.len() {
             self.names[number] = Some(name);
+            self.clients[number].watch();
+            self.due.add(number);
         }
     }
 
@@ -92,7 +91,12 @@ impl ScriptClients {
     pub(crate) fn happen(&mut self, lines: &[ScriptLine])
         ensures { self.new ≡ record self.old { clients = map (client_after_lines lines.now) self.old.clients } }
     {
-        happen(&self.chains, lines, self.clients.as_mut_slice());
+        happen(
+            &self.chains,
+            lines,
+            &mut self.due,
+            self.clients.as_mut_slice(),
+        );
     }
 
     /// Gives the slots of those watched links for which a signal is due and which weren't closed, as far as there is room.
@@ -102,14 +106,22 @@ impl ScriptClients {
         ensures gives { Gives 256 self.old.clients self.old.watched self.new.clients ready.new }
         ensures rest { self.new ≡ record self.old { clients = self.new.clients } }
     {
-        give(self.clients.as_mut_slice(), self.names.as_slice(), ready);
+        give(
+            &mut self.due,
+            self.clients.as_mut_slice(),
+            self.names.as_slice(),
+            ready,
+        );
     }
 
-    /// Whether each of the first so many links was found closed.
-    pub(crate) fn are_closed(&self, count: usize) -> bool
-        requires few { count ≤ length self.now.clients }
-        ensures { result ≡ all_closed (take count self.now.clients) }
+    /// Whether each of the first so many links is found closed. Those that were found so before aren't looked at again.
+    pub(crate) fn find_closed(&mut self, count: usize) -> bool
+        requires few { count ≤ length self.old.clients }
+        ensures is { result ≡ all_closed (take count self.new.clients) }
+        ensures looks { AllLook self.old.clients self.new.clients }
+        ensures rest { self.new ≡ record self.old { clients = self.new.clients } }
     {
-        are_closed(&self.clients.as_slice()[..count])
+        self.closed = closed_up_to(self.clients.as_mut_slice(), self.closed, count);
+        count <= self.closed
     }
 }

@@ -3,6 +3,7 @@ ghost use Rattle.std.specs.Prelude.{◌≡◌, ◌<◌, ◌≤◌, ◌&&◌, max
 ghost use Rattle.mpm_base.specs.Count.{Rises};
 ghost use Rattle.mpm_base.specs.Front.{Accepts, Binds, Commands, HasAllTaken, StandsStill, Waits, Watches, accept_failed, after_bind, after_hush, after_turning_away, front_after_turning_away, hushed_front, is_handed, next_coming};
 ghost use Rattle.mpm_base.specs.Link.{telling_link};
+ghost use Rattle.script_front.specs.DuePlacesInside.{AllLook};
 ghost use Rattle.script_front.specs.PlayedFrontInside.{KeepsRest, arrivals_waiting, gone_to, with_begun, with_clients, with_end, with_lines, with_moment, with_wait};
 ghost use Rattle.script_front.specs.ScriptFront.{HandsPaced, IsOfScript, Plays, comings_of, front_seen, lines_now, new_front, all_taken_closed, to_come};
 ghost use Rattle.script_front.specs.Signals.{Gives, after_watch_of};
@@ -193,13 +194,15 @@ impl ScriptFront {
 
     /// Whether all lines have happened, each connection was handed out or listening was stopped, and each link that was handed
     /// out was found closed.
-    fn is_over(&self) -> bool
-        ensures over { result ≡ true → HasAllTaken self.now.told × (all_taken_closed self.now ≡ true) }
-        ensures unclosed { result ≡ false → HasAllTaken self.now.told → all_taken_closed self.now ≡ false }
+    fn is_over(&mut self) -> bool
+        ensures over { result ≡ true → HasAllTaken self.new.told × (all_taken_closed self.new ≡ true) }
+        ensures unclosed { result ≡ false → HasAllTaken self.new.told → all_taken_closed self.new ≡ false }
+        ensures looks { AllLook self.old.clients self.new.clients }
+        ensures state { self.new ≡ with_clients self.new.clients self.old }
     {
         self.happened == self.script.lines().len()
             && (self.hushed || self.accepted == self.clients.count())
-            && self.clients.are_closed(self.accepted)
+            && self.clients.find_closed(self.accepted)
     }
 
     /// Counts a wait that answers Ended.

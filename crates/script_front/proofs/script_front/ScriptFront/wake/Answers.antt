@@ -3,9 +3,10 @@ use Rattle.mpm_base.specs.Front.{HasAllTaken, earlier}
 use Rattle.script_front.specs.PlayedFrontInside.{gone_to, with_begun, with_clients, with_end}
 use Rattle.script_front.specs.ScriptFront.{IsUnderWay, SeenFront, next_moment, all_taken_closed, to_come}
 use Rattle.script_front.specs.Signals.{Gives}
+use Rattle.script_front.proofs.LookLemmas.{gives-looks}
 use Rattle.script_front.proofs.PlaysLemmas.{plays-begins, plays-ends, plays-over, plays-passes, none-of, plays-signals, plays-stays, some-of}
 use Rattle.script_front.proofs.script_front.ScriptFront.wake.Goals as goal
-use Rattle.script_front.proofs.script_front.ScriptFront.wake.Goals.{After-signal, After-earlier-next, then-not-quiet-via-then-not-quiet, then-not-quiet-via-else-not-quiet+then-not-is_empty}
+use Rattle.script_front.proofs.script_front.ScriptFront.wake.Goals.{After-is_over, After-signal, After-earlier-next, then-not-quiet-via-then-not-quiet, then-not-quiet-via-else-not-quiet+then-not-is_empty}
 
 pub returns-then-self-gt0-clause-plays : goal.returns-then-self-gt0-clause-plays
 returns-then-self-gt0-clause-plays c =
@@ -61,20 +62,34 @@ returns-in-Some-clause-plays c =
     plays-passes c.args.self.now c.go_to.new.self c.args.until c.args.quiet _ _ (goes at.After-signal) (gives at.After-signal) next _ gone (none at.After-earlier-next) stands
     c.if-not-quiet.false (comes at.After-earlier-next begun ∙ c.in-Some.is)
 
+-- ## Behind the look at the links
+
+over : (c : After-is_over) → c.is_over.new.self ≡ with_clients c.is_over.new.self.clients (with_begun c.args.self.now)
+over c =
+    let at = goal.at.After-is_over c in
+    c.is_over.ensures.state ∙ ap (with_clients c.is_over.new.self.clients) (is at.After-signal)
+
+looked : (c : After-is_over) → Gives 256 c.args.self.now.clients c.args.self.now.names c.is_over.new.self.clients c.signal.new.ready
+looked c =
+    let at = goal.at.After-is_over c in
+    gives-looks (gives at.After-signal) (omega arith) (none at.After-earlier-next) c.is_over.new.self.clients c.is_over.ensures.looks
+
 pub returns-then-is_over-clause-plays : goal.returns-then-is_over-clause-plays
 returns-then-is_over-clause-plays c =
     let at = goal.at.returns-then-is_over-clause-plays c in
     let begun = is at.After-signal in
-    let over = c.is_over.ensures.over c.if-is_over.true in
-    let taken = subst (λ (f : SeenFront). HasAllTaken f.told) begun over.0 in
-    plays-ends c.args.self.now c.end-then-is_over.new.self c.args.until c.args.quiet _ _ (goes at.After-signal) (gives at.After-signal)
-    (c.end-then-is_over.ensures.state ∙ ap with_end begun) (none at.After-earlier-next) c.if-not-quiet.false (comes at.After-earlier-next begun ∙ c.in_default.is)
-    (record { left = taken.left; read = taken.read; accepted = taken.accepted }) (ap all_taken_closed (sym begun) ∙ over.1)
+    let now = over at.After-is_over in
+    let ended = c.is_over.ensures.over c.if-is_over.true in
+    let taken = subst (λ (f : SeenFront). HasAllTaken f.told) now ended.0 in
+    plays-ends c.args.self.now c.end-then-is_over.new.self c.args.until c.args.quiet _ _ (goes at.After-signal) (looked at.After-is_over)
+    (c.end-then-is_over.ensures.state ∙ ap with_end now) (none at.After-earlier-next) c.if-not-quiet.false (comes at.After-earlier-next begun ∙ c.in_default.is)
+    (record { left = taken.left; read = taken.read; accepted = taken.accepted }) (ap all_taken_closed (sym now) ∙ ended.1)
 
 pub returns-clause-plays : goal.returns-clause-plays
 returns-clause-plays c =
     let at = goal.at.returns-clause-plays c in
     let begun = is at.After-signal in
-    let stands = ap (λ (f : SeenFront). f.told.moment) (c.self-3.view_is ∙ begun) in
-    plays-stays c.args.self.now c.signal.new.self c.args.until c.args.quiet _ _ (goes at.After-signal) (gives at.After-signal) _ begun (none at.After-earlier-next) stands
+    let now = over at.After-is_over in
+    let stands = ap (λ (f : SeenFront). f.told.moment) (c.self-4.view_is ∙ now) in
+    plays-stays c.args.self.now c.is_over.new.self c.args.until c.args.quiet _ _ (goes at.After-signal) (looked at.After-is_over) _ now (none at.After-earlier-next) stands
     c.if-not-quiet.false (comes at.After-earlier-next begun ∙ c.in_default.is) (c.is_over.ensures.unclosed c.if-is_over.false)
