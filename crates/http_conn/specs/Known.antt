@@ -11,10 +11,10 @@ pub record KnownEdition : Type 0 where
   pub site : SeenSite
 
 -- what a type knows of the outside: what each client sends, in the order of arrival, and the limits and the site of each edition of
--- the configuration
+-- the configuration: none where the configuration or the site of the edition is refused or missing
 pub record KnownOutside : Type 0 where
   pub clients : List (List ℕ)
-  pub editions : List KnownEdition
+  pub editions : List (Option KnownEdition)
 
 -- the link tells, and is that of one of these clients: what it received, and what still comes behind it, are what that
 -- client sends
