@@ -400,7 +400,7 @@ turned-at-once other c shown = absurd shown
 turned-lingering : (why : Cause) (c : SeenConn) → MayLinger why c → EndsAfter why c.turn
 turned-lingering cause.LastSent c may = may.usable
 turned-lingering cause.KeepAliveLate c may = may.usable
-turned-lingering cause.ReadLate c may = may.usable
+turned-lingering cause.ReadLate c may = may.shows
 turned-lingering cause.WriteLate c may = may.usable
 turned-lingering cause.Retiring c may = may.usable
 turned-lingering other c may = absurd may.shows
@@ -414,6 +414,16 @@ turned-so why tail.Late c shows = turned-lingering why c shows
 turned-so why tail.Failed c shows = turned-lingering why c shows
 turned-so why tail.Halted c shows = turned-lingering why c shows
 turned-so why tail.NoMemory c shows = turned-lingering why c shows
+
+-- one that ends for its last response has noted that
+said-last : (how : Tail) (c : SeenConn) → ShowsCause cause.LastSent how c → says_last c.notes ≡ true
+said-last tail.Direct c shows = absurd shows
+said-last tail.Drained c shows = shows.shows.says_it
+said-last tail.Sated c shows = shows.shows.says_it
+said-last tail.Late c shows = shows.shows.says_it
+said-last tail.Failed c shows = shows.shows.says_it
+said-last tail.Halted c shows = shows.shows.says_it
+said-last tail.NoMemory c shows = shows.shows.says_it
 
 -- ## The connection that ended
 
@@ -432,6 +442,7 @@ ended-shown laws c seen e is same shown closed only site limits notes turn linge
         by_tail = licensed-tail e.tail c e.counts is shown'.left only;
       };
       turned = subst (EndsAfter e.cause) (sym turn) (turned-so e.cause e.tail c shown'.shows);
+      last = λ is_last. ap says_last notes ∙ said-last e.tail c (subst (λ w. ShowsCause w e.tail c) is_last shown'.shows);
       left = subst (IsLeft e.tail) (sym linger) shown'.left;
       answered = rw (closed, site, limits, notes) answered;
     }

@@ -173,10 +173,11 @@ pub record IsLicensed (why : Cause) (how : Tail) (counts : LinkCounts) : Type 0 
   pub by_cause : LicensesCause why counts
   pub by_tail : LicensesTail how counts
 
--- what the last turn of a connection answered that ends for the cause: where its client had done, that it sends no more; and where
--- it lingered, nothing that failed
+-- what the last turn of a connection answered that ends for the cause: where its client had done, that it sends no more; where it was
+-- late to send, that more has to come, or there was none; and where it lingered for another cause, nothing that failed
 abbrev pub EndsAfter : Cause → LastTurn → Type 0
 EndsAfter cause.ClientDone last = last ≡ turn.Gone
+EndsAfter cause.ReadLate last = waits_on last ≡ true
 EndsAfter cause.LinkFailed last = ⊤
 EndsAfter cause.Stopped last = ⊤
 EndsAfter cause.NoMemory last = ⊤
@@ -186,6 +187,7 @@ EndsAfter other last = is_usable last ≡ true
 pub record IsEnded (e : SeenEnded) : Type 0 where
   pub licensed : IsLicensed e.cause e.tail e.counts
   pub turned : EndsAfter e.cause e.turn
+  pub last : e.cause ≡ cause.LastSent → says_last e.notes ≡ true
   pub left : IsLeft e.tail e.linger
   pub answered : IfSome e.told (IsAnswered e.cause e.tail e.site e.limits e.notes)
 
