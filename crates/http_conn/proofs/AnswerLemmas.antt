@@ -268,6 +268,8 @@ module _ (fitting : (site : SeenSite) (limits : Limits) (notes : List Note) (byt
       subst (λ x. TakesNote note x (record c { notes = notes'; pending = pending_bytes c.site u'; reader = r'; turn = turn.Answered })) is
       (record {
         item = here.item;
+        kept = here.kept;
+        first = first c.notes c.reader.stage here.item here.kept (ready known c seen plan u note held is asked not_shut).goes_on;
         response = pending_bytes c.site u';
         leaves = λ rest h. leaves here.item rest here.kept h;
         is_response = here.is_response;

@@ -23,9 +23,9 @@ use Rattle.http_conn.specs.declared.turn.WriteTurn.{WriteTurn}
 use Rattle.http_conn.specs.declared.turn.WriteTurn.TheVariants as write
 use Rattle.http_conn.specs.declared.turn.LastLinger.TheVariants as linger
 use Rattle.http_conn.specs.Items.{Item}
-use Rattle.http_conn.specs.Replies.{IsAskedIn, IsFitting, AreReplies, MayFollow}
+use Rattle.http_conn.specs.Replies.{IsFitting, AreReplies, MayFollow}
 use Rattle.http_conn.specs.Rest.{StandsAs, is_awaited}
-use Rattle.http_conn.specs.Reader.{SeenReader, StandsFor, IsReading, finds_waiting, finds_more, finds_end, finds_failure, AnswerFinds, KeepsAll, ReadsNext}
+use Rattle.http_conn.specs.Reader.{SeenReader, StandsFor, IsReading, AsksKeptItem, finds_waiting, finds_more, finds_end, finds_failure, AnswerFinds, KeepsAll, ReadsNext}
 use Rattle.http_conn.specs.Follows.{what_follows}
 use Rattle.http_conn.specs.Outgoing.{Unsent, IsUnsentOf, pending_bytes}
 use Rattle.http_conn.specs.Writing.{SendsOn, with_sent}
@@ -115,15 +115,16 @@ usable-streams c rest streams usable = subst (λ b. IfSome c.told (StreamsWhile 
 
 -- ## A turn of reading
 
--- what the item that was read asks is asked by the bytes
+-- the item that was read is the next one of the bytes
 asked-in : (site : SeenSite) (s : Stage) (ask : Ask) (plan : Option Plan) (limits : Limits) (unread rest : List ℕ) → IsPlanOf site s ask plan
-    → StandsAs limits unread s rest → IsAskedIn site limits rest ask
+    → StandsAs limits unread s rest → AsksKeptItem site limits s rest ask
 asked-in site (stage.Head reader) ask plan limits unread rest planned h = absurd planned
 asked-in site (stage.Body request reader) ask plan limits unread rest planned h = absurd planned
 asked-in site (stage.Whole request) ask None limits unread rest planned h = absurd planned
-asked-in site (stage.Whole request) ask (Some plan) limits unread rest planned h = record { item = inl request; size = h.size; begins = h.whole; asks = planned.1 }
+asked-in site (stage.Whole request) ask (Some plan) limits unread rest planned h =
+    record { asked = record { item = inl request; size = h.size; begins = h.whole; asks = planned.1 }; kept = refl }
 asked-in site (stage.Refused code expected) ask None limits unread rest planned h =
-    record { item = inr (record { code = code; expected = expected }); size = 0; begins = (h, refl); asks = planned }
+    record { asked = record { item = inr (record { code = code; expected = expected }); size = 0; begins = (h, refl); asks = planned }; kept = refl }
 asked-in site (stage.Refused code expected) ask (Some plan) limits unread rest planned h = absurd planned
 
 -- what is pending after a turn of reading

@@ -11,8 +11,8 @@ use Rattle.http_conn.specs.declared.turn.LastTurn.TheVariants as turn
 use Rattle.http_conn.specs.declared.turn.LastLinger.{LastLinger}
 use Rattle.http_conn.specs.declared.turn.LastLinger.TheVariants as linger
 use Rattle.http_conn.specs.Items.{Item}
-use Rattle.http_conn.specs.Replies.{IsAskedIn, IsFitting, AreReplies, MayFollow}
-use Rattle.http_conn.specs.Reader.{SeenReader, StandsFor, AwaitsMore}
+use Rattle.http_conn.specs.Replies.{IsFitting, AreReplies, MayFollow}
+use Rattle.http_conn.specs.Reader.{SeenReader, StandsFor, AsksKeptItem, AwaitsMore}
 use Rattle.http_conn.specs.Follows.{what_follows}
 
 -- a connection: what its link tells and counts, its name, child and generation, the site of its generation, its responses so
@@ -119,10 +119,10 @@ pub record IsUntouched (c : SeenConn) (rest : List ℕ) : Type 0 where
   pub none_read : rest ≡ []
   pub none_noted : c.notes ≡ []
 
--- nothing is to be sent, and the next item asks this
+-- nothing is to be sent, and the next item was read and asks this
 pub record IsAsked (ask : Ask) (c : SeenConn) (rest : List ℕ) : Type 0 where
   pub none_pending : c.pending ≡ []
-  pub asked : IsAskedIn c.site c.reader.limits rest ask
+  pub asked : AsksKeptItem c.site c.reader.limits c.reader.stage rest ask
   pub goes_on : says_last c.notes ≡ false
 
 -- nothing is to be sent, and more bytes have to come

@@ -3,13 +3,15 @@ use Rattle.std.specs.Prelude.{◌≡◌, ◌==◌, ◌⊎◌, ℕ, ◌≤◌, Bo
 use Rattle.std.proofs.Common.{inl, inr}
 use Rattle.mpm_base.specs.Count.{RisesWhere, RisesExactlyWhere}
 use Rattle.mpm_base.specs.Link.{LinkSeen, with_received}
+use Rattle.mpm_base.specs.declared.conn.Ask.{Ask}
 use Rattle.http_read.specs.declared.request.Limits.{Limits}
+use Rattle.file_table.specs.Site.{SeenSite}
 use Rattle.http_conn.specs.declared.stage.Stage.{Stage}
 use Rattle.http_conn.specs.declared.stage.Stage.TheVariants as stage
 use Rattle.http_conn.specs.declared.reader.RequestAnswer.{RequestAnswer}
 use Rattle.http_conn.specs.declared.reader.RequestAnswer.TheVariants as answer
 use Rattle.http_conn.specs.Items.{Item, BeginsItem}
-use Rattle.http_conn.specs.Replies.{Expects}
+use Rattle.http_conn.specs.Replies.{Expects, IsAskedIn}
 use Rattle.http_conn.specs.Rest.{StandsAs, is_awaited, is_in_head}
 use Rattle.http_conn.specs.Steps.{WaitsIn, IsShortIn}
 
@@ -37,6 +39,11 @@ item_kept (stage.Head reader) = None
 item_kept (stage.Body request reader) = None
 item_kept (stage.Whole request) = Some (inl request)
 item_kept (stage.Refused code expected) = Some (inr (record { code = code; expected = expected }))
+
+-- the item that was read is the next one of the bytes, and asks this
+pub record AsksKeptItem (site : SeenSite) (limits : Limits) (s : Stage) (rest : List ℕ) (ask : Ask) : Type 0 where
+  pub asked : IsAskedIn site limits rest ask
+  pub kept : item_kept s ≡ Some asked.item
 
 -- more of the next request has to come, all that is there was read, and few bytes are kept
 pub record AwaitsMore (r : SeenReader) (rest : List ℕ) : Type 0 where

@@ -1,5 +1,5 @@
 -- What each turn of a connection leaves of it.
-use Rattle.std.specs.Prelude.{◌≡◌, ◌==◌, ℕ, ◌+◌, Bool, true, false, not, ◌||◌, List, [], ◌∷◌, ◌++◌, take, drop, length, option_map, IfSome, ⊤}
+use Rattle.std.specs.Prelude.{◌≡◌, ◌==◌, ℕ, ◌+◌, Bool, true, false, not, ◌||◌, List, [], ◌∷◌, ◌++◌, take, drop, length, option_map, Some, IfSome, ⊤}
 use Rattle.mpm_base.specs.Count.{RisesWhere, RisesExactlyWhere}
 use Rattle.mpm_base.specs.Link.{OnlyFaults, with_received, after_shut}
 use Rattle.mpm_base.specs.declared.note.Note.{Note}
@@ -15,9 +15,10 @@ use Rattle.http_conn.specs.declared.turn.LingerTurn.TheVariants as left
 use Rattle.http_conn.specs.declared.turn.LastLinger.{LastLinger}
 use Rattle.http_conn.specs.declared.turn.LastLinger.TheVariants as linger
 use Rattle.http_conn.specs.Items.{Item, BeginsItem}
-use Rattle.http_conn.specs.Replies.{IsAskedIn, IsNoteFor, IsResponse}
+use Rattle.http_conn.specs.Replies.{IsNoteFor, IsResponse, first_part}
 use Rattle.http_conn.specs.Rest.{is_awaited}
-use Rattle.http_conn.specs.Reader.{SeenReader, StandsFor, AwaitsMore, AsksInNeed}
+use Rattle.http_conn.specs.Reader.{SeenReader, StandsFor, item_kept, AsksKeptItem, AwaitsMore, AsksInNeed}
+use Rattle.http_conn.specs.Follows.{what_follows}
 use Rattle.http_conn.specs.Writing.{is_not_ready, is_write_failure, WriteLeaves, with_sent}
 use Rattle.http_conn.specs.Conn.{SeenConn}
 
@@ -69,7 +70,7 @@ FindsClient other old new = is_awaited new.stage ≡ (is_awaited old.stage || is
 
 -- what a turn of reading found in the bytes that came: the next item, an accepted head whose client waits, or that more has to come
 abbrev pub ReadFinds : ReadTurn → SeenConn → List ℕ → Type 0
-ReadFinds (read.Asked ask) c rest = IsAskedIn c.site c.reader.limits rest ask
+ReadFinds (read.Asked ask) c rest = AsksKeptItem c.site c.reader.limits c.reader.stage rest ask
 ReadFinds read.Interim c rest = is_awaited c.reader.stage ≡ true
 ReadFinds read.More c rest = AwaitsMore c.reader rest
 ReadFinds read.Gone c rest = AwaitsMore c.reader rest
@@ -119,9 +120,11 @@ pub record LeavesItem (item : Item) (old new : SeenReader) (rest : List ℕ) : T
   pub begins : BeginsItem old.limits rest item size
   pub stands : StandsFor new (drop size rest)
 
--- the next item of the bytes has a response, which is to be sent
+-- the next item of the bytes, which was read, has a response, which is to be sent behind what is sent before it
 pub record TakesNote (note : Note) (old new : SeenConn) : Type 0 where
   pub item : Item
+  pub kept : item_kept old.reader.stage ≡ Some item
+  pub first : what_follows old.notes old.reader.stage ≡ first_part item
   pub response : List ℕ
   pub leaves : (rest : List ℕ) → StandsFor old.reader rest → LeavesItem item old.reader new.reader rest
   pub is_response : IsResponse old.site item note response
