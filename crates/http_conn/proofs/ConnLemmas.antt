@@ -25,7 +25,7 @@ use Rattle.http_conn.specs.declared.turn.LastLinger.TheVariants as linger
 use Rattle.http_conn.specs.Items.{Item}
 use Rattle.http_conn.specs.Replies.{IsFitting, AreReplies, MayFollow}
 use Rattle.http_conn.specs.Rest.{StandsAs, is_awaited}
-use Rattle.http_conn.specs.Reader.{SeenReader, StandsFor, IsReading, AsksKeptItem, finds_waiting, finds_more, finds_end, finds_failure, AnswerFinds, KeepsAll, ReadsNext}
+use Rattle.http_conn.specs.Reader.{SeenReader, StandsFor, IsAnswerable, IsReading, AsksKeptItem, finds_waiting, finds_more, finds_end, finds_failure, AnswerFinds, KeepsAll, ReadsNext}
 use Rattle.http_conn.specs.Follows.{what_follows}
 use Rattle.http_conn.specs.Outgoing.{Unsent, IsUnsentOf, pending_bytes}
 use Rattle.http_conn.specs.Writing.{SendsOn, with_sent}
@@ -35,7 +35,8 @@ use Rattle.http_conn.specs.Turns.{after_reading, after_writing, is_interim, is_m
 use Rattle.http_conn.specs.ConnInside.{IsPlanOf, IsTurnOf, unsent_after, TakesIn, IsPlanned, IsHeld}
 use Rattle.http_conn.proofs.KnownLemmas.{client-received, client-sent}
 use Rattle.http_conn.proofs.OpenLemmas.{before-open, told-open_received, told-open_sent, open-link, IsOnItsWay, still-open}
-use Rattle.http_conn.proofs.ReaderLemmas.{KeepsKept, or-nothing}
+use Rattle.http_conn.proofs.ItemLemmas.{KeepsHeads, KeepsSpelled, KeepsRefused}
+use Rattle.http_conn.proofs.ReaderLemmas.{KeepsKept, or-nothing, none-taken}
 
 -- the first items of the bytes stay the first, with their notes
 abbrev pub Stays : Type 0
@@ -395,6 +396,18 @@ reads-on c seen plan' u u' link' r' answer turn' is pending takes turn_is =
       ends = subst (λ b. RisesExactlyWhere b c.counts.ends link'.counts.ends) same.gone reads.ends;
       late_writes = reads.late_writes;
     })
+
+-- where there is something to answer, what is kept stands for the same bytes
+pub keeps-still : KeepsHeads → KeepsSpelled → KeepsRefused → (c seen : SeenConn) (plan' : Option Plan) (u u' : Unsent) (link' : LinkSeen) (r' : SeenReader) (answer : ReadTurn)
+    → c ≡ seen → TakesIn (record { told = c.told; counts = c.counts }) link' c.site c.reader r' u u' answer plan'
+    → (rest : List ℕ) → StandsFor seen.reader rest → IsAnswerable seen.reader rest → KeepsRead answer r' rest
+keeps-still heads spelled refused c seen plan' u u' link' r' answer is takes rest h there =
+    let reads = takes.reads in
+    let stands = subst (λ (x : SeenConn). StandsFor x.reader rest) (sym is) h in
+    let none = none-taken heads spelled refused c.reader rest reads.got (subst (λ (x : SeenConn). IsAnswerable x.reader rest) (sym is) there)
+    (reads.asks rest stands) in
+    subst (KeepsRead answer r') (ap (λ xs. rest ++ xs) none ∙ append-nil rest)
+    (keeps-read answer c.site takes.given r' plan' (rest ++ reads.got) takes.turn_of (reads.stands rest stands))
 
 -- ## Writing
 

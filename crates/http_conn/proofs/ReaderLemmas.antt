@@ -347,6 +347,17 @@ pub item-more : KeepsSpelled → KeepsRefused → (limits : Limits) (rest more :
 item-more spelled refused limits rest more (inl request) size b = (spelled limits rest more ((request, size) ∷ []) (drop size rest) (b, refl)).0
 item-more spelled refused limits rest more (inr refusal) size b = (refused-more refused limits rest more refusal b.0, b.1)
 
+-- what can be answered still can, whatever comes behind it
+answerable-more : KeepsHeads → KeepsSpelled → KeepsRefused → (r : SeenReader) (rest more : List ℕ) → IsAnswerable r rest → IsAnswerable r (rest ++ more)
+answerable-more heads spelled refused r rest more (inl (item, size, begins)) = inl (item, size, item-more spelled refused r.limits rest more item size begins)
+answerable-more heads spelled refused r rest more (inr (expects, unfound)) = inr (expects-more heads r.limits rest more expects, unfound)
+
+-- where there is something to answer no byte is taken
+pub none-taken : KeepsHeads → KeepsSpelled → KeepsRefused → (r : SeenReader) (rest got : List ℕ) → IsAnswerable r rest → AsksInNeed r rest got → got ≡ []
+none-taken heads spelled refused r rest got there (inl none) = none
+none-taken heads spelled refused r rest got there (inr came) =
+    absurd (came.none_there (answerable-more heads spelled refused r rest came.before there))
+
 -- where more has to come there was no item before, and no client that waits and wasn't found
 pub none-answerable : KeepsHeads → KeepsSpelled → KeepsRefused → ItemsApart → ClientsFound → (old new : SeenReader) (rest more : List ℕ) → new.limits ≡ old.limits → is_awaited new.stage ≡ is_awaited old.stage
     → AwaitsMore new (rest ++ more) → IsAnswerable old rest → ⊥

@@ -13,7 +13,7 @@ ghost use Rattle.http_conn.specs.declared.turn.LastLinger.TheVariants as linger;
 ghost use Rattle.http_conn.specs.Reader.{IsAnswerable, StandsFor, keeps_none};
 ghost use Rattle.http_conn.specs.Known.{IsOfClient};
 ghost use Rattle.http_conn.specs.Conn.{IsConn, IsFresh, is_usable, lingers};
-ghost use Rattle.http_conn.specs.Turns.{AsksNothing, IsNoteOf, LingersOn, ReadsOn, ShutsOn, TakesNote, WritesOn};
+ghost use Rattle.http_conn.specs.Turns.{AsksNothing, IsNoteOf, KeepsRead, LingersOn, ReadsOn, ShutsOn, TakesNote, WritesOn};
 ghost use Rattle.http_conn.specs.Answered.{IsEnded, IsEndOf, IsShown};
 
 use crate::ended::Ended;
@@ -31,7 +31,7 @@ use crate::responses::{refuse, respond};
 use crate::turn::{LastLinger, LastTurn, LingerTurn, ReadTurn, WriteTurn};
 use file_table::Site;
 use http_core::Plan;
-use http_read::Limits;
+use http_read::{Limits, keeps_answer, keeps_spelling};
 use mpm_base::{Cause, ConnName, Link, NoMemory, Note, Notes, Octets, Tail};
 use std::alloc::Global;
 use std::marker::{Model, PhantomData};
@@ -233,8 +233,11 @@ impl<L: Link, N: Known> Conn<L, N> {
         requires open { says_last self.old.notes ≡ false }
         requires not_shut { self.old.linger ≡ linger.Open }
         ensures reads { ReadsOn self.old self.new result }
-        ensures still { (rest : List ℕ) → StandsFor self.old.reader rest → IsAnswerable self.old.reader rest → AsksNothing self.old self.new }
+        ensures still { (rest : List ℕ) → StandsFor self.old.reader rest → IsAnswerable self.old.reader rest
+            → AsksNothing self.old self.new × KeepsRead result self.new.reader rest }
     {
+        keeps_answer();
+        keeps_spelling();
         answered_items_stay();
         kept_bytes_go_on();
         follows_what_was_read();
