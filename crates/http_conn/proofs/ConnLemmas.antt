@@ -176,10 +176,6 @@ module _ (stays : Stays) (goes_on : KeepsKept) (may : FollowsMay) (c : SeenConn)
       each (Some t) comes still streams =
           stream-breaks stays goes_on may c (conn_after c link' pending' r' turn') rest got t refl limits refl stands none still.shuts comes streams
 
--- what tells the client to send the body isn't empty
-some-continue : 0 < length continue_text
-some-continue = omega arith
-
 module _ (stays : Stays) (goes_on : KeepsKept) (may : FollowsMay) (c : SeenConn) (link' : LinkSeen) (pending' : List ℕ) (r' : SeenReader) (plan' : Option Plan)
     (conn : IsConn c) (usable : is_usable c.turn ≡ true) (none : c.pending ≡ []) (open_still : says_last c.notes ≡ false) (not_shut : c.linger ≡ linger.Open)
     (reading : IsReading r') where
@@ -214,7 +210,7 @@ module _ (stays : Stays) (goes_on : KeepsKept) (may : FollowsMay) (c : SeenConn)
       record {
         rest = conn.rest ++ n.got;
         stands = n.stands conn.rest conn.stands;
-        turn_fits = subst (λ xs. 0 < length xs) (sym left) some-continue;
+        turn_fits = record { pending_is = left; waits = n.finds conn.rest conn.stands };
         ended = λ e. absurd (cc);
         linger_fits = (way-read turn.Interim n.got n.told_is).fits;
         link = (way-read turn.Interim n.got n.told_is).link;

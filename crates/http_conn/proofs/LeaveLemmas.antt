@@ -78,7 +78,7 @@ turn-kept turn.New c told' counts' last dropped rest faults fits =
     record { none_pending = fits.none_pending; none_read = fits.none_read; none_noted = fits.none_noted }
 turn-kept (turn.Asked ask) c told' counts' last dropped rest faults fits =
     record { none_pending = fits.none_pending; asked = fits.asked; goes_on = fits.goes_on }
-turn-kept turn.Interim c told' counts' last dropped rest faults fits = fits
+turn-kept turn.Interim c told' counts' last dropped rest faults fits = record { pending_is = fits.pending_is; waits = fits.waits }
 turn-kept turn.Answered c told' counts' last dropped rest faults fits = fits
 turn-kept turn.More c told' counts' last dropped rest faults fits =
     record { none_pending = fits.none_pending; none_whole = fits.none_whole; goes_on = fits.goes_on }

@@ -6,12 +6,14 @@ use Rattle.mpm_base.specs.declared.conn.ConnName.{ConnName}
 use Rattle.mpm_base.specs.declared.conn.Ask.{Ask}
 use Rattle.mpm_base.specs.declared.note.Note.{Note}
 use Rattle.file_table.specs.Site.{SeenSite}
+use Rattle.http_core.specs.Code.{continue_text}
 use Rattle.http_conn.specs.declared.turn.LastTurn.{LastTurn}
 use Rattle.http_conn.specs.declared.turn.LastTurn.TheVariants as turn
 use Rattle.http_conn.specs.declared.turn.LastLinger.{LastLinger}
 use Rattle.http_conn.specs.declared.turn.LastLinger.TheVariants as linger
 use Rattle.http_conn.specs.Items.{Item}
 use Rattle.http_conn.specs.Replies.{IsFitting, AreReplies, MayFollow}
+use Rattle.http_conn.specs.Rest.{is_awaited}
 use Rattle.http_conn.specs.Reader.{SeenReader, StandsFor, AsksKeptItem, AwaitsMore}
 use Rattle.http_conn.specs.Follows.{what_follows}
 
@@ -125,6 +127,11 @@ pub record IsAsked (ask : Ask) (c : SeenConn) (rest : List ℕ) : Type 0 where
   pub asked : AsksKeptItem c.site c.reader.limits c.reader.stage rest ask
   pub goes_on : says_last c.notes ≡ false
 
+-- what tells the client to send the body is to be sent, and the client waits for it
+pub record IsTelling (c : SeenConn) : Type 0 where
+  pub pending_is : c.pending ≡ continue_text
+  pub waits : is_awaited c.reader.stage ≡ true
+
 -- nothing is to be sent, and more bytes have to come
 pub record IsWaiting (c : SeenConn) (rest : List ℕ) : Type 0 where
   pub none_pending : c.pending ≡ []
@@ -135,7 +142,7 @@ pub record IsWaiting (c : SeenConn) (rest : List ℕ) : Type 0 where
 abbrev pub TurnFits : LastTurn → SeenConn → List ℕ → Type 0
 TurnFits turn.New c rest = IsUntouched c rest
 TurnFits (turn.Asked ask) c rest = IsAsked ask c rest
-TurnFits turn.Interim c rest = 0 < length c.pending
+TurnFits turn.Interim c rest = IsTelling c
 TurnFits turn.Answered c rest = 0 < length c.pending
 TurnFits turn.More c rest = IsWaiting c rest
 TurnFits turn.Gone c rest = IsWaiting c rest
