@@ -9,15 +9,21 @@
 //! - `heads LINE FIELD FIELDS`: heads, by these limits. `requests`: heads, and what they ask. `hosts`: no rows, for each byte in a host.
 //! - `root`: heads of the one form that the program reads.
 //! - `answers SECOND LAST`: heads that are answered at the second. `refusals`: codes. `continue`: no rows.
+//! - `conn`: the first row has the bytes that a client sends; each other one has the turns of a connection, what happens to its link
+//!   between them, and how it ends. `cuts`: what clients send; each is cut behind each of its bytes.
 //! - `pages`: the letters and the numbers of a snapshot.
 #![tactic(auto)]
 
 mod bodies;
+mod conns;
 mod heads;
+mod leaving;
 mod pages;
 mod responses;
 mod root_heads;
+mod test_conn;
 mod texts;
+mod turn_answers;
 
 use std::alloc::Global;
 use std::io;
@@ -55,6 +61,8 @@ fn show_section(
         "answers" => responses::show_answers(rt, alloc, kind, rows),
         "refusals" => responses::show_refusals(rt, alloc, rows),
         "continue" => responses::show_continue(rt, alloc),
+        "conn" => conns::show_turns(rt, alloc, rows),
+        "cuts" => conns::show_cuts(rt, alloc, rows),
         _ => pages::show_pages(rt, alloc, rows),
     }
 }

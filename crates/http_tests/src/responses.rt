@@ -24,7 +24,7 @@ fn htdocs(alloc: Global) -> Result<SiteOrder, NoMemory>
 }
 
 /// A site of an index, ten digits, an empty file and a folder.
-fn digits_site(alloc: Global) -> Result<Site, LoadFault> {
+pub fn digits_site(alloc: Global) -> Result<Site, LoadFault> {
     let mut files = Files::make(alloc);
     files.set("htdocs/index.html", b"hello\n")?;
     files.set("htdocs/n.txt", b"0123456789")?;
