@@ -10,8 +10,6 @@ mod player;
 mod resting;
 mod seats;
 mod stage;
-#[cfg(test)]
-mod tests;
 mod texts;
 mod toy;
 mod turns;

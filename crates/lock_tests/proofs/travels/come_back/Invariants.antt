@@ -1,4 +1,4 @@
-use Rattle.lock_examples.proofs.tests.travels.carriers_come_back_to_their_perch_through_a_queue.Given as goal
+use Rattle.lock_tests.proofs.travels.come_back.Given as goal
 
 -- the lock is the perch's
 abbrev pub ghosts-travel : goal.ghosts-travel

@@ -1,6 +1,6 @@
 use Rattle.std.proofs.Common.{◌≡◌}
 use Rattle.board_lock.specs.Passes.{HasNoTurn}
-use Rattle.lock_examples.proofs.tests.turns.signals.Given as goal
+use Rattle.lock_tests.proofs.turns.signals.Given as goal
 
 -- the pass stays pass 0, without the turn
 abbrev pub invariant-loop : goal.invariant-loop

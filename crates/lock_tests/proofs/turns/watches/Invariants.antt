@@ -1,6 +1,6 @@
 use Rattle.std.proofs.Common.{◌≡◌}
 use Rattle.board_lock.specs.Passes.{HasNoTurn}
-use Rattle.lock_examples.proofs.tests.turns.watches.Given as goal
+use Rattle.lock_tests.proofs.turns.watches.Given as goal
 
 -- the pass has no turn
 abbrev pub invariant-loop : goal.invariant-loop

@@ -1,18 +1,73 @@
-//! Turns of many threads.
-use crate::tests::begins;
-use crate::{Player, folds, goes_on, last_of, looks, opened, players, serves};
+//! Turns of several threads with the small value.
+ghost use Rattle.std.specs.Prelude.{◌≤◌};
+
+use crate::begins::begins;
+use crate::texts::grown;
 use board_lock::number;
 use conn_machine::{Entry, Event, Reply};
-use mpm_base::{ConnName, Kind};
+use lock_examples::{Player, Toy, folds, goes_on, last_of, looks, opened, players, serves};
+use mpm_base::{ConnName, Kind, NoMemory};
+use std::alloc::Global;
+use std::io;
 use std::sync::Wait;
-use std::test::Fail;
-use std::thread;
+use std::thread::{self, Threads};
 
 /// How often the connection is served.
 const ROUNDS: u32 = 1_000;
 
 /// How many turns each thread takes that only looks.
 const TURNS: u32 = 1_000;
+
+/// What the threads left.
+#[derive(Drop)]
+struct Played {
+    /// How many of them did all.
+    done: usize,
+    /// What the lock kept.
+    toy: Box<Toy>,
+}
+
+/// Shows what comes of the turns of so many threads.
+pub fn show_turns<R: Print + Threads + Wait + Sync>(
+    rt: &R,
+    alloc: Global,
+    threads: u32,
+) -> io::Result<()> {
+    match grown(play_all(rt, alloc, threads.min(64)))? {
+        Some(played) => show_played(rt, &played),
+        None => println!(rt; "a pass is missing"),
+    }
+}
+
+/// So many threads take their turns.
+fn play_all<R: Threads + Wait + Sync>(
+    rt: &R,
+    alloc: Global,
+    threads: u32,
+) -> Result<Option<Played>, NoMemory>
+    requires { threads ≤ 64 }
+{
+    let (shared, mut passes) = opened(alloc, threads + 1)?;
+    let Some(last) = last_of(&shared, &mut passes) else {
+        return Ok(None);
+    };
+    let jobs = players(alloc, &shared, &mut passes, threads)?;
+    let Ok(all) = thread::map_vec(rt, jobs, &|player: Player| plays(rt, player)) else {
+        return Err(NoMemory);
+    };
+    let done = all.iter().filter(|done| **done).count();
+    let toy = shared.close(rt, last);
+    Ok(Some(Played { done, toy }))
+}
+
+/// Pass 0 signals and folds, pass 1 serves, and each other pass looks: whether all was done.
+fn plays<R: Wait>(rt: &R, player: Player) -> bool {
+    match number(&player.pass) {
+        0 => signals(rt, player),
+        1 => works(rt, player),
+        _ => watches(rt, player),
+    }
+}
 
 /// Turns of pass 0: the child starts, the connection is taken, and it is signalled so often. Each tenth step is made in a
 /// turn that folds.
@@ -72,12 +127,22 @@ fn watches<R: Wait>(rt: &R, player: Player) -> bool {
     grew
 }
 
-/// Pass 0 signals and folds, pass 1 serves, and each other pass looks: whether all was done.
-fn plays<R: Wait>(rt: &R, player: Player) -> bool {
-    match number(&player.pass) {
-        0 => signals(rt, player),
-        1 => works(rt, player),
-        _ => watches(rt, player),
+/// Shows what the threads left.
+fn show_played(rt: &impl Print, played: &Played) -> io::Result<()> {
+    let entries = played.toy.entries();
+    println!(rt; "{} threads did all", played.done)?;
+    println!(rt;
+        "{} entries, {} steps folded",
+        entries.len(),
+        played.toy.folded()
+    )?;
+    match entries
+        .iter()
+        .enumerate()
+        .find(|(place, entry)| **entry != expected(*place))
+    {
+        Some((place, entry)) => println!(rt; "another one at {place}: {entry:?}"),
+        None => println!(rt; "each entry stands in its place"),
     }
 }
 
@@ -107,31 +172,4 @@ fn expected(place: usize) -> Entry {
         event,
         reply,
     }
-}
-
-#[test]
-fn entries_stand_in_pass_order_behind_turns_and_folds_of_many_threads(
-    rt: HostRuntime,
-) -> Result<(), Fail> {
-    for threads in [2, 4] {
-        let (shared, mut passes) = opened(rt.alloc(), threads + 1)?;
-        let Some(last) = last_of(&shared, &mut passes) else {
-            panic!(rt; "a pass is missing")
-        };
-        let jobs = players(rt.alloc(), &shared, &mut passes, threads)?;
-        assert_eq!(rt; jobs.len(), threads as usize);
-        let runtime = &rt;
-        let all = thread::map_vec(&rt, jobs, &|player: Player| plays(runtime, player))?;
-        for done in &all {
-            assert!(rt; *done);
-        }
-        let toy = shared.close(&rt, last);
-        let entries = toy.entries();
-        assert_eq!(rt; entries.len(), 3 + 4 * 1_000, "with {threads} threads");
-        assert!(rt; 1_900 < toy.folded(), "{} steps were folded", toy.folded());
-        for (place, entry) in entries.iter().enumerate() {
-            assert_eq!(rt; *entry, expected(place));
-        }
-    }
-    Ok(())
 }

@@ -1,7 +1,7 @@
 use Rattle.std.proofs.Common.{◌≡◌}
 use Rattle.board_lock.specs.Passes.{HasNoTurn}
 use Rattle.table_rule.specs.Views.{IsIdle}
-use Rattle.lock_examples.proofs.tests.turns.works.Given as goal
+use Rattle.lock_tests.proofs.turns.works.Given as goal
 
 -- the pass stays pass 1, and has nothing
 abbrev pub invariant-loop : goal.invariant-loop

@@ -1,0 +1,122 @@
+//! Permits for which several threads contend.
+ghost use Rattle.std.specs.Prelude.{◌≤◌};
+
+use crate::begins::begins;
+use crate::texts::grown;
+use board_lock::number;
+use idle_workers::{idle, release, reserve, uncredit};
+use lock_examples::{Player, last_of, opened, players};
+use mpm_base::NoMemory;
+use std::alloc::Global;
+use std::io;
+use std::sync::Wait;
+use std::sync::atomic::{AtomicU64, Ordering};
+use std::thread::{self, Threads};
+
+/// How often each thread tries for a permit.
+const TRIES: u32 = 2_000;
+
+/// What a thread saw of the permits.
+#[derive(Debug, Drop)]
+struct Seen {
+    /// How often it got one.
+    got: u32,
+    /// How many were out at most while it had one.
+    most: u64,
+}
+
+/// What the threads saw, and what is left of the permits behind them.
+#[derive(Clone, Copy)]
+struct Contention {
+    threads: usize,
+    got: u32,
+    most: u64,
+    idle: u32,
+    uncredited: bool,
+    idle_behind: u32,
+}
+
+/// Shows what comes of so many threads that contend.
+pub fn show_contention<R: Print + Threads + Wait + Sync>(
+    rt: &R,
+    alloc: Global,
+    threads: u32,
+) -> io::Result<()> {
+    match grown(contend(rt, alloc, threads.min(64)))? {
+        Some(seen) => show_seen(rt, seen),
+        None => println!(rt; "a pass is missing, or the child has no workers"),
+    }
+}
+
+/// So many threads reserve and release workers of child 0.
+fn contend<R: Threads + Wait + Sync>(
+    rt: &R,
+    alloc: Global,
+    threads: u32,
+) -> Result<Option<Contention>, NoMemory>
+    requires { threads ≤ 64 }
+{
+    let (shared, mut passes) = opened(alloc, threads + 1)?;
+    let jobs = players(alloc, &shared, &mut passes, threads)?;
+    let Some(mut zero) = last_of(&shared, &mut passes) else {
+        return Ok(None);
+    };
+    if number(&zero) != 0 || !begins(rt, &shared, &mut zero) {
+        return Ok(None);
+    }
+    let out = AtomicU64::new(0);
+    let count = &out;
+    let Ok(all) = thread::map_vec(rt, jobs, &|player: Player| reserves_often(player, count)) else {
+        return Err(NoMemory);
+    };
+    let (got, most) = seen_by(&all);
+    let idle_first = idle(&shared, &mut zero, 0);
+    let uncredited = uncredit(&shared, &mut zero, 0, 2);
+    let idle_behind = idle(&shared, &mut zero, 0);
+    Ok(Some(Contention {
+        threads: all.len(),
+        got,
+        most,
+        idle: idle_first,
+        uncredited,
+        idle_behind,
+    }))
+}
+
+/// Reserves a worker of child 0 and releases it, over and over; the word counts the permits that are out.
+fn reserves_often(player: Player, out: &AtomicU64) -> Seen {
+    let Player { shared, mut pass } = player;
+    let mut seen = Seen { got: 0, most: 0 };
+    for _ in 0..TRIES {
+        if reserve(shared, &mut pass, 0) {
+            let others = out.fetch_add(1, Ordering::SeqCst);
+            seen.most = seen.most.max(others.saturating_add(1));
+            seen.got += 1;
+            thread::yield_now();
+            out.fetch_sub(1, Ordering::SeqCst);
+            release(shared, &mut pass, 0);
+        }
+    }
+    seen
+}
+
+/// How often they got a permit together, and how many were out at most.
+fn seen_by(all: &[Seen]) -> (u32, u64) {
+    let mut got: u32 = 0;
+    let mut most = 0;
+    for seen in all {
+        got = seen.got.saturating_add(got);
+        most = seen.most.max(most);
+    }
+    (got, most)
+}
+
+/// Shows what the threads saw, as far as no schedule changes it.
+fn show_seen(rt: &impl Print, seen: Contention) -> io::Result<()> {
+    println!(rt; "{} threads tried", seen.threads)?;
+    println!(rt; "two were out at most => {}", seen.most <= 2)?;
+    println!(rt; "two or more were got => {}", 2 <= seen.got)?;
+    println!(rt; "idle => {}", seen.idle)?;
+    println!(rt; "credit taken back => {}", seen.uncredited)?;
+    println!(rt; "idle => {}", seen.idle_behind)
+}

@@ -1,0 +1,61 @@
+//! Tests of the lock, of permits, of the perch and of the queue, with the small value of `lock_examples`, on one thread and on several.
+//! The file `stdin` says which, section by section, and `stdout` what must come of them, whatever the schedule.
+//!
+//! In the input a line that begins with `== ` begins a section: the words up to a colon say what is tried, and the rest is its title. A
+//! section has no rows.
+//!
+//! - `passes`: pass 0 makes an entry, and each of two passes looks.
+//! - `permits`: three carriers reserve workers of a child that has two.
+//! - `perch`: two carriers lie down, are taken, and lie down again.
+//! - `turns THREADS`: pass 0 signals the connection a thousand times and folds now and then, pass 1 serves it each time, and each
+//!   further thread looks a thousand times. Each entry is compared with the one that must stand in its place.
+//! - `contend THREADS`: each thread tries two thousand times for a permit of a child that has two workers, and gives it back.
+//! - `travel`: three carriers leave their perch two thousand times, a thousand times by each of two threads that send them through a
+//!   queue, and lie down again as two other threads receive them.
+#![tactic(auto)]
+
+mod begins;
+mod contended;
+mod passes;
+mod perches;
+mod permits;
+mod posts;
+mod texts;
+mod travels;
+mod turns;
+
+use std::alloc::Global;
+use std::io;
+use std::sync::Wait;
+use std::thread::Threads;
+
+fn main(rt: HostRuntime) -> io::Result<()> {
+    let input = io::read_to_string(rt.alloc(), rt.reader())?;
+    let mut sections = input.as_str().split("\n== ");
+    let _ = sections.next();
+    for section in sections {
+        let (title, _) = section.split_once('\n').unwrap_or((section, ""));
+        println!(&rt; "== {title}")?;
+        let (kind, _) = title.split_once(':').unwrap_or((title, ""));
+        let (word, rest) = texts::words(kind);
+        show_section(&rt, rt.alloc(), word, texts::small_of(rest))?;
+    }
+    Ok(())
+}
+
+/// Shows what comes of a section of that kind, with so many threads.
+fn show_section<R: Print + Threads + Wait + Sync>(
+    rt: &R,
+    alloc: Global,
+    word: &str,
+    threads: u32,
+) -> io::Result<()> {
+    match word {
+        "passes" => passes::show_passes(rt, alloc),
+        "permits" => permits::show_permits(rt, alloc),
+        "perch" => perches::show_perch(rt, alloc),
+        "turns" => turns::show_turns(rt, alloc, threads),
+        "contend" => contended::show_contention(rt, alloc, threads),
+        _ => travels::show_travel(rt, alloc),
+    }
+}
