@@ -1,0 +1,7 @@
+pub mod Accepting
+pub mod Answers
+pub mod AskingInside
+pub mod CommandLines
+pub mod Events
+pub mod EventsInside
+pub mod Moments

@@ -1,0 +1,13 @@
+-- The moments of the system's clock.
+use Rattle.std.specs.Prelude.{ℕ, ◌+◌, ◌/◌, max, min, Option, None, Some}
+use Rattle.mpm_base.specs.Moment.{greatest_moment}
+
+-- the moment so many nanoseconds behind another number of them, both counted from 1970 on, cut to the greatest moment
+abbrev pub moment_behind : ℕ → ℕ → ℕ
+moment_behind start since = min ((start + since) / 1000000) greatest_moment
+
+-- what a clock that answered this moment last answers: what it reads, or where it can't be read the moment that it was told;
+-- but never one before the last
+abbrev pub next_answer : ℕ → ℕ → Option ℕ → ℕ
+next_answer last at (Some moment) = max last moment
+next_answer last at None = max last at

@@ -1,0 +1,113 @@
+//! The clock of the system.
+ghost use Rattle.std.specs.Prelude.{◌≡◌, ◌≤◌, None, IfSome};
+ghost use Rattle.std.specs.Duration.{as_nanos};
+ghost use Rattle.mpm_base.specs.Clock.{Answers};
+ghost use Rattle.mpm_base.specs.Moment.{greatest_moment};
+ghost use Rattle.socket_outside.specs.Moments.{moment_behind, next_answer};
+
+use mpm_base::{Clock, GREATEST_MOMENT, Moment};
+use std::marker::Model;
+use std::time::{self, Duration, Instant, SystemTime, UNIX_EPOCH};
+
+/// When a clock began: the system's time since 1970, and what the clock that never goes back said then.
+#[derive(Clone, Copy)]
+struct Start {
+    since_1970: Duration,
+    at: Instant,
+}
+
+/// The system's time when it began, and the time that passed since by the clock that never goes back. Copies of it go on from
+/// the same start. It tells nothing.
+#[derive(Drop)]
+pub struct SystemClock<'a, T: time::Clock> {
+    time: &'a T,
+    start: Option<Start>,
+    last: Moment,
+}
+
+impl<'a, T: time::Clock> Model for SystemClock<'a, T> {
+    ghost use Rattle.std.specs.Prelude.{ℕ};
+
+    ghost Value = { ℕ };
+
+    ghost view = { λ c. c.last };
+}
+
+impl<'a, T: time::Clock> SystemClock<'a, T> {
+    /// The clock that begins now. Where the system doesn't say what time it is, no reading of it succeeds.
+    pub fn begin(time: &'a T) -> SystemClock<'a, T> {
+        SystemClock {
+            time,
+            start: start_of(time),
+            last: 0,
+        }
+    }
+
+    /// Another one of the same start, which answered nothing before this one's last answer.
+    pub fn twin(&self) -> SystemClock<'a, T>
+        ensures { result ≡ self.now }
+    {
+        SystemClock {
+            time: self.time,
+            start: self.start,
+            last: self.last,
+        }
+    }
+
+    /// The moment that it answered last, or 0.
+    pub fn last(&self) -> Moment
+        ensures { result ≡ self.now }
+    {
+        self.last
+    }
+
+    /// The moment that the system says it is, where it does.
+    fn read(&self) -> Option<Moment>
+        ensures { IfSome result (λ moment. moment ≤ greatest_moment) }
+    {
+        let start = self.start?;
+        let now = Instant::now(self.time).ok()?;
+        Some(moment_behind(start.since_1970, now.duration_since(start.at)))
+    }
+}
+
+/// When a clock begins, where the system says it.
+fn start_of<T: time::Clock>(time: &T) -> Option<Start> {
+    let since_1970 = SystemTime::now(time).ok()?.duration_since(UNIX_EPOCH).ok()?;
+    let at = Instant::now(time).ok()?;
+    Some(Start { since_1970, at })
+}
+
+/// The moment so long behind the start.
+pub fn moment_behind(start: Duration, since: Duration) -> Moment
+    ensures { result ≡ moment_behind (as_nanos start) (as_nanos since) }
+{
+    match start.checked_add(since) {
+        Some(sum) => sum.as_millis().min(GREATEST_MOMENT as u128) as u64,
+        None => GREATEST_MOMENT,
+    }
+}
+
+/// What a clock that answered this moment last answers, where it is told one and reads another or none.
+pub fn next_answer(last: Moment, at: Moment, reading: Option<Moment>) -> Moment
+    ensures is { result ≡ next_answer last at reading }
+    ensures never_back { last ≤ result }
+{
+    match reading {
+        Some(moment) => last.max(moment),
+        None => last.max(at),
+    }
+}
+
+impl<'a, T: time::Clock> Clock for SystemClock<'a, T> {
+    ghost told = { λ c. None };
+
+    fn now(&mut self, at: Moment) -> Moment
+        ensures clock { Answers None None at result }
+        ensures never_back { self.old ≤ result }
+        ensures last { self.new ≡ result }
+    {
+        self.last = next_answer(self.last, at, self.read());
+        self.last
+    }
+}

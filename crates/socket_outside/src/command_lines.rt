@@ -1,0 +1,118 @@
+//! Reading a command line off a control connection.
+ghost use Rattle.std.specs.Prelude.{◌≡◌, ◌<◌, ◌≤◌, [], IfSome, length};
+ghost use Rattle.socket_outside.specs.CommandLines.{IsHeard, IsLineOrNone, MayBeHeard, feed_in};
+
+use crate::answers::read_some;
+use mpm_base::{Got, Line};
+use std::io::Read;
+use std::marker::Model;
+
+/// How many bytes a line has at most, its line feed with it.
+const MOST: usize = 33;
+
+/// What came on a control connection so far.
+#[derive(Drop)]
+pub enum Heard {
+    /// The line isn't whole.
+    More,
+    /// This line.
+    Line(Line),
+    /// No line, and none comes.
+    Nothing,
+}
+
+/// The bytes that came on a control connection so far, at most 33, as contracts see them.
+#[derive(Drop)]
+pub struct Spoken {
+    bytes: [u8; 33],
+    filled: usize,
+}
+
+impl Model for Spoken {
+    ghost use Rattle.std.specs.Prelude.{◌≤◌, List, ℕ, take};
+
+    ghost Value = { List ℕ };
+
+    ghost view = { λ s. take s.filled s.bytes };
+
+    ghost invariant = { λ s. s.filled ≤ 33 };
+}
+
+impl Spoken {
+    /// Nothing came yet.
+    pub fn make() -> Spoken
+        ensures { result ≡ [] }
+    {
+        Spoken {
+            bytes: [0; MOST],
+            filled: 0,
+        }
+    }
+
+    /// The bytes.
+    fn bytes(&self) -> &[u8]
+        ensures is { result.now ≡ self.now }
+        ensures few { length result.now ≤ 33 }
+    {
+        &self.bytes[..self.filled]
+    }
+
+    /// What the bytes are.
+    fn heard(&self) -> Heard
+        ensures { IsHeard self.now result }
+    {
+        heard_in(self.bytes())
+    }
+
+    /// Reads what comes, up to the line's end, 33 bytes or the connection's end.
+    pub fn hear<S: Read>(&mut self, socket: &mut S) -> Heard
+        ensures { MayBeHeard self.new result }
+    {
+        for _ in 0..MOST {
+            match read_some(socket, &mut self.bytes[self.filled..]) {
+                Got::Got(count) => self.filled += count as usize,
+                Got::NotReady => return self.heard(),
+                Got::End | Got::Failed => return Heard::Nothing,
+            }
+            match self.heard() {
+                Heard::More => (),
+                heard => return heard,
+            }
+        }
+        Heard::Nothing
+    }
+}
+
+/// How many bytes stand before the first line feed, where there is one.
+fn feed_in(bytes: &[u8]) -> Option<usize>
+    ensures is { result ≡ feed_in bytes.now }
+    ensures within { IfSome result (λ n. n < length bytes.now) }
+{
+    bytes.iter().position(|byte| *byte == b'\n')
+}
+
+/// What the bytes are that came so far.
+pub fn heard_in(bytes: &[u8]) -> Heard
+    requires { length bytes.now ≤ 33 }
+    ensures { IsHeard bytes.now result }
+{
+    match feed_in(bytes) {
+        Some(end) => line_of(&bytes[..end]),
+        None if bytes.len() < MOST => Heard::More,
+        None => Heard::Nothing,
+    }
+}
+
+/// The line of that text of at most 32 bytes, where it is text.
+fn line_of(bytes: &[u8]) -> Heard
+    requires { length bytes.now ≤ 32 }
+    ensures { IsLineOrNone bytes.now result }
+{
+    match std::str::from_utf8(bytes) {
+        Ok(text) => match Line::of(text) {
+            Some(line) => Heard::Line(line),
+            None => unreachable!(),
+        },
+        Err(_) => Heard::Nothing,
+    }
+}

@@ -1,0 +1,145 @@
+//! What the system's events are for, and which slots they give.
+ghost use Rattle.std.specs.Prelude.{◌≡◌, ◌||◌, ◌==◌, ◌+◌, ◌<◌, ◌≤◌, [], ◌∷◌, ◌++◌, length, not, if◌then◌else◌};
+ghost use Rattle.std.specs.List.{IsDistinct, list_any};
+ghost use Rattle.mio.specs.Events.{items};
+ghost use Rattle.socket_outside.specs.Events.{is_room_alone, longest_wait, source_of_number};
+ghost use Rattle.socket_outside.specs.EventsInside.{AddsSlot, GivesSlots, has_slot, is_of_control, is_of_listener, source_of_event};
+
+use crate::room::RoomMarks;
+use mio::event::Event;
+use mio::{Events, Token};
+use mpm_base::{Moment, Ready};
+
+/// What is registered with the system.
+#[derive(Clone, Copy, PartialEq, Eq)]
+pub enum Source {
+    /// The listening socket.
+    Listener,
+    /// The socket that takes command lines, and each connection that brings one.
+    Control,
+    /// The link of that slot.
+    Slot(u32),
+    /// Nothing of the front's.
+    Nothing,
+}
+
+/// The token of the listening socket.
+pub(crate) const LISTENER: Token = Token(usize::MAX);
+
+/// The token of the sockets that bring command lines.
+pub(crate) const CONTROL: Token = Token(usize::MAX - 1);
+
+/// What is registered under the token.
+pub fn source_of(token: Token) -> Source
+    ensures { result ≡ source_of_number token.0 }
+{
+    if token == LISTENER {
+        return Source::Listener;
+    }
+    if token == CONTROL {
+        return Source::Control;
+    }
+    match u32::try_from(token.0) {
+        Ok(slot) => Source::Slot(slot),
+        Err(_) => Source::Nothing,
+    }
+}
+
+/// Whether the event gives its slot, where the link may lack room or doesn't: not where it says that there is room, and
+/// nothing else, and the link doesn't lack any.
+pub fn gives_slot(event: &Event, lacks_room: bool) -> bool
+    ensures { result ≡ (lacks_room || not (is_room_alone event.now)) }
+{
+    let room_alone = event.is_writable()
+        && !(event.is_readable()
+            || event.is_error()
+            || event.is_read_closed()
+            || event.is_write_closed());
+    lacks_room || !room_alone
+}
+
+/// Whether the slot is one of these.
+fn has_slot(slots: &[u32], slot: u32) -> bool
+    ensures { result ≡ has_slot slots.now slot }
+{
+    slots.iter().any(|given| *given == slot)
+}
+
+/// Puts the slot at the end, unless it is there already.
+fn give(ready: &mut Ready, slot: u32)
+    requires distinct { IsDistinct (λ a b. a == b) ready.old }
+    requires room { length ready.old < 256 }
+    ensures distinct { IsDistinct (λ a b. a == b) ready.new }
+    ensures is { ready.new ≡ (if has_slot ready.old slot then ready.old else ready.old ++ slot ∷ []) }
+{
+    if !has_slot(ready.slots(), slot) {
+        ready.add(slot);
+    }
+}
+
+/// What events say besides the slots that they give.
+#[derive(Clone, Copy, PartialEq, Eq)]
+pub(crate) struct Noticed {
+    /// Connections may have arrived.
+    pub(crate) arrivals: bool,
+    /// Something came for command lines.
+    pub(crate) control: bool,
+}
+
+/// Gives the slot of the event where it calls for it or its link may lack room, and notes what else it tells.
+fn note_event(event: &Event, marks: &RoomMarks, ready: &mut Ready, noticed: &mut Noticed)
+    requires distinct { IsDistinct (λ a b. a == b) ready.old }
+    requires room { length ready.old < 256 }
+    ensures distinct { IsDistinct (λ a b. a == b) ready.new }
+    ensures few { length ready.new ≤ length ready.old + 1 }
+    ensures adds { AddsSlot event.now ready.old ready.new }
+    ensures arrivals { noticed.new.arrivals ≡ (noticed.old.arrivals || is_of_listener (source_of_event event.now)) }
+    ensures control { noticed.new.control ≡ (noticed.old.control || is_of_control (source_of_event event.now)) }
+{
+    match source_of(event.token()) {
+        Source::Listener => noticed.arrivals = true,
+        Source::Control => noticed.control = true,
+        Source::Slot(slot) => {
+            if gives_slot(event, marks.lacks(slot)) {
+                give(ready, slot);
+            }
+        }
+        Source::Nothing => (),
+    }
+}
+
+/// Gives the slots of the events, and says what else they tell.
+pub(crate) fn give_slots(events: &Events, marks: &RoomMarks, ready: &mut Ready) -> Noticed
+    requires empty { ready.old ≡ [] }
+    requires few { length (items events.now) ≤ 256 }
+    ensures slots { GivesSlots (items events.now) ready.new }
+    ensures few { length ready.new ≤ 256 }
+    ensures arrivals { result.arrivals ≡ list_any (λ e. is_of_listener (source_of_event e)) (items events.now) }
+    ensures control { result.control ≡ list_any (λ e. is_of_control (source_of_event e)) (items events.now) }
+{
+    let mut noticed = Noticed {
+        arrivals: false,
+        control: false,
+    };
+    let iter = events.iter();
+    let found = iter.as_slice();
+    for event in found {
+        note_event(event, marks, ready, &mut noticed);
+    }
+    noticed
+}
+
+/// How many milliseconds a wait that begins at the moment lasts at most.
+pub fn longest_wait(now: Moment, until: Option<Moment>, quiet: bool, pressed: bool) -> Option<u64>
+    ensures { result ≡ longest_wait now until quiet pressed }
+{
+    if !quiet {
+        return Some(0);
+    }
+    let left = until.map(|until| until.saturating_sub(now));
+    match left {
+        Some(left) if pressed => Some(left.min(100)),
+        None if pressed => Some(100),
+        left => left,
+    }
+}

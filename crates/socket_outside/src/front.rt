@@ -1,0 +1,132 @@
+//! The front over sockets.
+ghost use Rattle.std.specs.Prelude.{◌≡◌, ◌==◌, None};
+ghost use Rattle.std.specs.List.{IsDistinct};
+ghost use Rattle.mpm_base.specs.Front.{Waits, accept_failed};
+
+use crate::clock::SystemClock;
+use crate::events::longest_wait;
+use crate::front_counters::FrontCounters;
+use crate::link::SocketLink;
+use crate::sockets::Sockets;
+use mpm_base::{Addr, Arrival, Clock, ConnName, Front, Line, Link, Moment, NoMemory, Ready, Woke};
+use std::alloc::Global;
+use std::net::{Net, SocketAddr};
+use std::sync::Wait;
+use std::time;
+
+/// Connections, signals and command lines off the system's sockets, and moments off its clock. It tells nothing, and no wait of it
+/// ends by itself.
+#[derive(Drop)]
+pub struct SocketFront<'a, R: Net + time::Clock> {
+    net: &'a R,
+    clock: SystemClock<'a, R>,
+    sockets: Sockets,
+    // An accept failed since the last wait.
+    pressed: bool,
+    counters: FrontCounters,
+}
+
+impl<'a, R: Net + time::Clock> SocketFront<'a, R> {
+    /// A front that isn't bound, whose links are watched under so many slots. Takes all its memory here.
+    pub fn make(
+        net: &'a R,
+        alloc: Global,
+        clock: SystemClock<'a, R>,
+        slots: u32,
+    ) -> Result<SocketFront<'a, R>, NoMemory> {
+        Ok(SocketFront {
+            net,
+            clock,
+            sockets: Sockets::make(alloc, slots)?,
+            pressed: false,
+            counters: FrontCounters::make(),
+        })
+    }
+
+    /// Where connections are taken, as the system says it: also where it chose the port.
+    pub fn listens_at(&self) -> Option<SocketAddr> {
+        self.sockets.listens_at()
+    }
+
+    /// Where command lines are taken.
+    pub fn control_at(&self) -> Option<SocketAddr> {
+        self.sockets.control_at()
+    }
+}
+
+impl<'a, R: Net + time::Clock> Front for SocketFront<'a, R> {
+    type L = SocketLink;
+
+    ghost seen = { λ f. record { script = None; told = None; counts = f.counters } };
+
+    fn bind(&mut self, listen: Addr, control: Option<u16>) -> bool {
+        let bound = self.sockets.open(self.net, listen, control);
+        self.counters.test(bound);
+        bound
+    }
+
+    /// Lasts no longer than a tenth of a second behind a failed accept, and not at all where a connection is being served. No slot
+    /// is given twice.
+    fn wait<W: Wait>(
+        &mut self,
+        _rt: &W,
+        until: Option<Moment>,
+        quiet: bool,
+        ready: &mut Ready,
+    ) -> Woke
+        ensures waits { Waits (record { script = None; told = None; counts = self.old.counters }) (record { script = None; told = None; counts = self.new.counters }) until quiet result ready.new }
+        ensures once { IsDistinct (λ a b. a == b) ready.new }
+    {
+        let last = self.clock.last();
+        let now = self.clock.now(last);
+        let pressed = self.pressed || self.sockets.asks_control();
+        self.pressed = false;
+        let woke = self
+            .sockets
+            .wait(longest_wait(now, until, quiet, pressed), ready);
+        self.counters.test(woke);
+        if woke {
+            Woke::Woke(self.clock.now(now))
+        } else {
+            Woke::Failed
+        }
+    }
+
+    fn accept(&mut self) -> Arrival<SocketLink> {
+        let arrival = self.sockets.accept();
+        let failed = has_failed(&arrival);
+        self.pressed = self.pressed || failed;
+        self.counters.accept(failed);
+        arrival
+    }
+
+    fn watch(&mut self, name: ConnName, link: &mut SocketLink) -> bool {
+        self.sockets.watch(link, name.slot)
+    }
+
+    fn turn_away(&mut self, link: SocketLink) {
+        let mut link = link;
+        link.close();
+    }
+
+    /// Gives up the listening socket, and keeps that of command lines.
+    fn hush(&mut self) {
+        self.sockets.hush();
+    }
+
+    fn command(&mut self) -> Option<Line> {
+        let line = self.sockets.take_line();
+        self.counters.command(line.is_some());
+        line
+    }
+}
+
+/// Whether the accept failed.
+fn has_failed(arrival: &Arrival<SocketLink>) -> bool
+    ensures { result ≡ accept_failed arrival.now }
+{
+    match arrival {
+        Arrival::Failed => true,
+        Arrival::Some(_) | Arrival::None => false,
+    }
+}

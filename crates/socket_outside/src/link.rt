@@ -1,0 +1,113 @@
+//! A connection's way to its client over a socket.
+ghost use Rattle.std.specs.Prelude.{◌≡◌, not, true, false, None};
+ghost use Rattle.mpm_base.specs.Link.{OnlyFaults};
+
+use crate::answers::{lacks_room, read_some, shut_for, write_pair_some, write_some};
+use crate::counters::LinkCounters;
+use crate::room::{RoomMark, RoomMarks};
+use mio::net::TcpStream;
+use mio::{Interest, Registry, Token};
+use mpm_base::{Got, Link, Sent};
+use std::net::Shutdown;
+use std::sync::Arc;
+
+/// A link over a non-blocking socket, which it gives back where it is closed or dropped. It tells nothing.
+#[derive(Drop)]
+pub struct SocketLink {
+    socket: Option<TcpStream>,
+    room: RoomMark,
+    counters: LinkCounters,
+}
+
+impl SocketLink {
+    /// The link over the socket, which is non-blocking.
+    pub(crate) fn of(socket: TcpStream, marks: Arc<RoomMarks>) -> SocketLink
+        ensures { result.counters ≡ record { faults = 0; late_reads = 0; late_writes = 0; ends = 0 } }
+    {
+        SocketLink {
+            socket: Some(socket),
+            room: RoomMark::of(marks),
+            counters: LinkCounters::make(),
+        }
+    }
+
+    /// Has the registry report the slot from now on where the socket becomes readable or writable. False where that failed.
+    pub(crate) fn watch(&mut self, registry: &Registry, slot: u32) -> bool
+        ensures { OnlyFaults (not result) self.old.counters self.new.counters }
+    {
+        self.room.watch(slot);
+        let watched = match &mut self.socket {
+            Some(socket) => registry
+                .register(
+                    socket,
+                    Token(slot as usize),
+                    Interest::READABLE | Interest::WRITABLE,
+                )
+                .is_ok(),
+            None => false,
+        };
+        self.counters.test(watched);
+        watched
+    }
+
+    /// There is nothing to watch the socket with.
+    pub(crate) fn refuse_watch(&mut self) -> bool
+        ensures is { result ≡ false }
+        ensures counts { OnlyFaults true self.old.counters self.new.counters }
+    {
+        self.counters.test(false);
+        false
+    }
+}
+
+impl Link for SocketLink {
+    ghost seen = { λ l. record { told = None; counts = l.counters } };
+
+    /// Failed where the link was closed.
+    fn read(&mut self, buffer: &mut [u8]) -> Got {
+        let got = match &mut self.socket {
+            Some(socket) => read_some(socket, buffer),
+            None => Got::Failed,
+        };
+        self.counters.read(got);
+        got
+    }
+
+    /// Failed where the link was closed.
+    fn write(&mut self, bytes: &[u8]) -> Sent {
+        self.room.set(true);
+        let sent = match &mut self.socket {
+            Some(socket) => write_some(socket, bytes),
+            None => Sent::Failed,
+        };
+        self.room.set(lacks_room(sent, bytes.len()));
+        self.counters.write(sent);
+        sent
+    }
+
+    /// Failed where the link was closed.
+    fn write_pair(&mut self, first: &[u8], second: &[u8]) -> Sent {
+        self.room.set(true);
+        let sent = match &self.socket {
+            Some(socket) => write_pair_some(socket, first, second),
+            None => Sent::Failed,
+        };
+        self.room.set(lacks_room(sent, first.len() + second.len()));
+        self.counters.write(sent);
+        sent
+    }
+
+    fn shut(&mut self) -> bool {
+        let shut = match &self.socket {
+            Some(socket) => shut_for(socket.shutdown(Shutdown::Write)),
+            None => false,
+        };
+        self.counters.test(shut);
+        shut
+    }
+
+    /// Gives the socket back at once.
+    fn close(&mut self) {
+        self.socket = None;
+    }
+}

@@ -1,0 +1,211 @@
+//! The sockets of a front, and what the system says of them.
+ghost use Rattle.std.specs.Prelude.{◌≡◌, ◌==◌, ◌≤◌, None, [], length, not, false};
+ghost use Rattle.std.specs.List.{IsDistinct};
+ghost use Rattle.mio.specs.Events.{capacity as events_capacity};
+ghost use Rattle.mpm_base.specs.Front.{Hands};
+ghost use Rattle.mpm_base.specs.Link.{OnlyFaults};
+ghost use Rattle.socket_outside.specs.AskingInside.{asks_again};
+
+use crate::accepting::{NoStream, accept_next};
+use crate::control::ControlPort;
+use crate::events::{CONTROL, LISTENER, give_slots};
+use crate::link::SocketLink;
+use crate::room::RoomMarks;
+use mio::net::TcpListener;
+use mio::{Events, Interest, Poll, Registry, Token};
+use mpm_base::{Addr, Arrival, Line, Link, NoMemory, Ready};
+use std::alloc::Global;
+use std::io;
+use std::net::{Ipv4Addr, Net, SocketAddr};
+use std::sync::Arc;
+use std::time::Duration;
+
+/// How many events one wait takes at most.
+const MOST_EVENTS: usize = 256;
+
+/// The sockets of a front, where it is bound, and what it knows of them.
+#[derive(Drop)]
+pub(crate) struct Sockets {
+    poll: Option<Poll>,
+    events: Events,
+    listener: Option<TcpListener>,
+    // The system is asked for a connection only while this mark stands.
+    asks: bool,
+    control: ControlPort,
+    marks: Arc<RoomMarks>,
+    ghost few: { events_capacity events ≤ 256 },
+}
+
+/// The sockets that a bind opens, which are watched.
+#[derive(Drop)]
+struct Opened {
+    poll: Poll,
+    listener: TcpListener,
+    control: Option<TcpListener>,
+}
+
+impl Sockets {
+    /// No sockets, and marks for so many slots. Takes all its memory here.
+    pub(crate) fn make(alloc: Global, slots: u32) -> Result<Sockets, NoMemory> {
+        let Ok(events) = Events::with_capacity(alloc, MOST_EVENTS) else {
+            return Err(NoMemory);
+        };
+        let control = ControlPort::make(alloc)?;
+        let Ok(marks) = Arc::new(alloc, RoomMarks::make(alloc, slots)?) else {
+            return Err(NoMemory);
+        };
+        Ok(Sockets {
+            poll: None,
+            events,
+            listener: None,
+            asks: false,
+            control,
+            marks,
+        })
+    }
+
+    /// Where connections are taken, as the system says it.
+    pub(crate) fn listens_at(&self) -> Option<SocketAddr> {
+        local_address(self.listener.as_ref())
+    }
+
+    /// Where command lines are taken.
+    pub(crate) fn control_at(&self) -> Option<SocketAddr> {
+        local_address(self.control.listener())
+    }
+
+    /// Gives up the sockets that are open, and opens these. False where one can't be opened: then none is open.
+    pub(crate) fn open<R: Net>(&mut self, net: &R, listen: Addr, control: Option<u16>) -> bool {
+        self.give_up();
+        match open_sockets(net, listen, control) {
+            Ok(opened) => {
+                self.poll = Some(opened.poll);
+                self.listener = Some(opened.listener);
+                self.control.open(opened.control);
+                self.asks = true;
+                true
+            }
+            Err(_) => false,
+        }
+    }
+
+    /// Gives up all sockets.
+    fn give_up(&mut self) {
+        self.hush();
+        self.control.open(None);
+        self.poll = None;
+    }
+
+    /// Gives up the listening socket.
+    pub(crate) fn hush(&mut self) {
+        self.listener = None;
+        self.asks = false;
+    }
+
+    /// Whether a control connection may wait that the system is to be asked for again.
+    pub(crate) fn asks_control(&self) -> bool {
+        self.control.asks()
+    }
+
+    /// The command line that waited longest.
+    pub(crate) fn take_line(&mut self) -> Option<Line> {
+        self.control.take_line()
+    }
+
+    /// Has the slot given from now on where something comes for the link. False where that failed.
+    pub(crate) fn watch(&self, link: &mut SocketLink, slot: u32) -> bool
+        ensures { OnlyFaults (not result) link.old.counters link.new.counters }
+    {
+        match &self.poll {
+            Some(poll) => link.watch(poll.registry(), slot),
+            None => link.refuse_watch(),
+        }
+    }
+
+    #[tactic(auto, using(crate::proofs::EventLemmas::distinct_none))]
+    /// Waits so many milliseconds at most, and gives the slots for which something came. False where the wait failed.
+    pub(crate) fn wait(&mut self, longest: Option<u64>, ready: &mut Ready) -> bool
+        ensures none { result ≡ false → ready.new ≡ [] }
+        ensures few { length ready.new ≤ 256 }
+        ensures once { IsDistinct (λ a b. a == b) ready.new }
+    {
+        ready.clear();
+        let Some(poll) = &mut self.poll else {
+            return false;
+        };
+        if poll
+            .poll(&mut self.events, longest.map(Duration::from_millis))
+            .is_err()
+        {
+            return false;
+        }
+        let noticed = give_slots(&self.events, &self.marks, ready);
+        self.asks = self.asks || noticed.arrivals;
+        if noticed.control || self.control.asks() {
+            self.control.attend(poll.registry());
+        }
+        true
+    }
+
+    /// The next connection. The mark stands until none waits, and none is asked for where it doesn't stand.
+    pub(crate) fn accept(&mut self) -> Arrival<SocketLink>
+        ensures hands { Hands (⟦<SocketLink as Link>⟧.seen) None result }
+        ensures asks { self.new.asks ≡ asks_again result self.old.asks }
+        ensures none { self.old.asks ≡ false → result ≡ Arrival.None }
+    {
+        if !self.asks {
+            return Arrival::None;
+        }
+        let Ok(marks) = Arc::try_clone(&self.marks) else {
+            return Arrival::Failed;
+        };
+        let answer = match &self.listener {
+            Some(listener) => accept_next(listener),
+            None => Err(NoStream::NoneWaits),
+        };
+        match answer {
+            Ok(socket) => Arrival::Some(SocketLink::of(socket, marks)),
+            Err(NoStream::NoneWaits) => {
+                self.asks = false;
+                Arrival::None
+            }
+            Err(_) => Arrival::Failed,
+        }
+    }
+}
+
+/// The address of the socket.
+fn local_address(listener: Option<&TcpListener>) -> Option<SocketAddr> {
+    listener?.local_addr().ok()
+}
+
+/// A listening socket at the address, which is watched under the token.
+fn listen_at<R: Net>(
+    net: &R,
+    registry: &Registry,
+    address: SocketAddr,
+    token: Token,
+) -> io::Result<TcpListener> {
+    let mut listener = TcpListener::bind(net, address)?;
+    registry.register(&mut listener, token, Interest::READABLE)?;
+    Ok(listener)
+}
+
+/// The listening socket, and behind it that of command lines on this machine, both watched.
+fn open_sockets<R: Net>(net: &R, listen: Addr, control: Option<u16>) -> io::Result<Opened> {
+    let poll = Poll::new(net)?;
+    let address = SocketAddr::from((Ipv4Addr::from(listen.host), listen.port));
+    let listener = listen_at(net, poll.registry(), address, LISTENER)?;
+    let control = match control {
+        Some(port) => {
+            let address = SocketAddr::from((Ipv4Addr::LOCALHOST, port));
+            Some(listen_at(net, poll.registry(), address, CONTROL)?)
+        }
+        None => None,
+    };
+    Ok(Opened {
+        poll,
+        listener,
+        control,
+    })
+}
