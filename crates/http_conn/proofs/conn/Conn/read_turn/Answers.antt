@@ -43,8 +43,7 @@ returns-clause-still g c rest h a =
     let same = c.read_item-turn.ensures.still rest (subst (λ (x : SeenConn). StandsFor x.reader rest) old h) (subst (λ (x : SeenConn). IsAnswerable x.reader rest) old a) in
     let reading = c.read_item-turn in
     let takes = subst (λ st. TakesIn (g.L.Link.seen c.self.inside.link) (g.L.Link.seen reading.new.link) st c.self.inside.reader reading.new.reader
-    c.self.inside.unsent reading.new.unsent reading.result.turn reading.result.plan) c.deref.ensures reading.ensures.takes in
-    (
+    c.self.inside.unsent reading.new.unsent reading.result.turn reading.result.plan) c.deref.ensures reading.ensures.takes in (
       record {
         told = ap (λ (l : LinkSeen). l.told) same ∙ ap (λ (x : SeenConn). x.told) c.self.view_is;
         counts = ap (λ (l : LinkSeen). l.counts) same ∙ ap (λ (x : SeenConn). x.counts) c.self.view_is;
@@ -63,5 +62,5 @@ returns-clause-still g c rest h a =
         linger = c.self.inside.linger;
         dropped = c.self.inside.dropped;
       }) c.args.self.now reading.result.plan c.self.inside.unsent reading.new.unsent (g.L.Link.seen reading.new.link) reading.new.reader reading.result.turn
-      c.self.view_is takes rest h a,
+          c.self.view_is takes rest h a,
     )
