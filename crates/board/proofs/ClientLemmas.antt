@@ -2,11 +2,11 @@
 use Rattle.std.proofs.Common.{◌≡◌, ◌⊎◌, inl, inr, ℕ, zero, suc, List, [], ◌∷◌, ◌++◌, replicate, Option, Some, None, slice_set, subst}
 use Rattle.conn_state.specs.Conn.{SeenConn}
 use Rattle.conn_state.specs.Answered.{SeenEnded}
-use Rattle.conn_state.specs.Known.{KnownOutside, IsOfClient}
-use Rattle.board.specs.Board.{WaitForClients, EndedForClients, conn_at}
+use Rattle.conn_state.specs.Known.{KnownOutside, IsOfOutside}
+use Rattle.board.specs.Board.{WaitOfOutside, EndedOfOutside, conn_at}
 
 -- a list without connections has none
-pub clients_first : (known : Option KnownOutside) (slots : ℕ) → WaitForClients known (replicate slots None)
+pub clients_first : (known : Option KnownOutside) (slots : ℕ) → WaitOfOutside known (replicate slots None)
 clients_first known zero slot c is = absurd (cc)
 clients_first known (suc slots) zero c is = absurd (cc)
 clients_first known (suc slots) (suc slot) c is = clients_first known slots slot c is
@@ -21,17 +21,17 @@ set-cases (x ∷ conns) (suc slot) zero new c is = inr is
 set-cases (x ∷ conns) (suc slot) (suc at) new c is = set-cases conns slot at new c is
 
 -- the connection that was put into a slot is that of a client
-pub clients_put : (known : Option KnownOutside) (conns : List (Option SeenConn)) (slot : ℕ) (x : SeenConn) → IsOfClient known x.told
-    → WaitForClients known conns → WaitForClients known (slice_set conns slot (Some x))
+pub clients_put : (known : Option KnownOutside) (conns : List (Option SeenConn)) (slot : ℕ) (x : SeenConn) → IsOfOutside known x.told x.reader.limits x.site
+    → WaitOfOutside known conns → WaitOfOutside known (slice_set conns slot (Some x))
 clients_put known conns slot x client clients at c is =
     elim (set-cases conns slot at (Some x) c is) [
-      | inl here ↦ let same : x ≡ c = cc here in subst (λ (y : SeenConn). IsOfClient known y.told) same client
+      | inl here ↦ let same : x ≡ c = cc here in subst (λ (y : SeenConn). IsOfOutside known y.told y.reader.limits y.site) same client
       | inr old ↦ clients at c old
     ]
 
 -- a connection was taken out of a slot
-pub clients_taken : (known : Option KnownOutside) (conns : List (Option SeenConn)) (slot : ℕ) → WaitForClients known conns
-    → WaitForClients known (slice_set conns slot None)
+pub clients_taken : (known : Option KnownOutside) (conns : List (Option SeenConn)) (slot : ℕ) → WaitOfOutside known conns
+    → WaitOfOutside known (slice_set conns slot None)
 clients_taken known conns slot clients at c is =
     elim (set-cases conns slot at None c is) [
       | inl here ↦ absurd (cc here)
@@ -39,12 +39,12 @@ clients_taken known conns slot clients at c is =
     ]
 
 -- one more ended
-pub ended_clients : (known : Option KnownOutside) (ended : List SeenEnded) (x : SeenEnded) → EndedForClients known ended → IsOfClient known x.told
-    → EndedForClients known (ended ++ x ∷ [])
+pub ended_clients : (known : Option KnownOutside) (ended : List SeenEnded) (x : SeenEnded) → EndedOfOutside known ended → IsOfOutside known x.told x.limits x.site
+    → EndedOfOutside known (ended ++ x ∷ [])
 ended_clients known [] x clients client = (client, tt)
 ended_clients known (e ∷ ended) x clients client = (clients.0, ended_clients known ended x clients.1 client)
 
 -- a type that knows nothing says nothing of those that ended
-pub ended_unknown : (ended : List SeenEnded) → EndedForClients None ended
+pub ended_unknown : (ended : List SeenEnded) → EndedOfOutside None ended
 ended_unknown [] = tt
 ended_unknown (e ∷ ended) = (tt, ended_unknown ended)

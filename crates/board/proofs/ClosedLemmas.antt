@@ -13,10 +13,10 @@ use Rattle.timeout_queues.specs.Waiting.{ParkedName}
 use Rattle.conn_slots.specs.Slots.{Slot, unused_slot}
 use Rattle.conn_state.specs.Conn.{SeenConn}
 use Rattle.conn_state.specs.Answered.{SeenEnded, IsEnded}
-use Rattle.conn_state.specs.Known.{KnownOutside, IsOfClient}
+use Rattle.conn_state.specs.Known.{KnownOutside, IsOfOutside}
 use Rattle.board.specs.Book.{SeenBook, entry_of, book_with_entry}
 use Rattle.board.specs.Fits.{IsClosing}
-use Rattle.board.specs.Board.{SeenBoard, AreClosed, AreEnded, ClosesFirst, WaitForClients}
+use Rattle.board.specs.Board.{SeenBoard, AreClosed, AreEnded, ClosesFirst, WaitOfOutside}
 use Rattle.board.specs.BoardInside.{IsBoard}
 use Rattle.board.specs.Layout.{conns_in}
 use Rattle.board.specs.SlotsInside.{AreUsedAlike}
@@ -53,7 +53,7 @@ ended_more (y ∷ ended) x are is = (are.0, ended_more ended x are.1 is)
 -- a board goes on by an event that closes nothing
 pub board_on : (known : Option KnownOutside) (book : SeenBook) (slots slots' : List (Slot (Option SeenConn))) (conns' : List (Option SeenConn)) (ended : List SeenEnded) (queues queues' : List (Option ParkedName)) (room room' who : ℕ) (e : Event)
     → IsBoard known (record { book = book; conns = conns_in slots; ended = ended }) slots queues room → ((s : State) → ClosesFirst s e (λ others. others ≡ []) [])
-    → AreThere (next book.state e).rows conns' queues' (length ended) room' → WaitForClients known conns'
+    → AreThere (next book.state e).rows conns' queues' (length ended) room' → WaitOfOutside known conns'
     → conns_in slots' ≡ conns' → AreUsedAlike slots' (next book.state e).rows
     → IsBoard known (record { book = book_with_entry who e book; conns = conns_in slots'; ended = ended }) slots' queues' room'
 board_on known book slots slots' conns' ended queues queues' room room' who e is closes there clients same used =
@@ -65,7 +65,7 @@ board_on known book slots slots' conns' ended queues queues' room room' who e is
             (closed_more book.base book.history (entry_of who e book) ended [] is.agrees.closed (closes (after book.base book.history)));
         answered = is.agrees.answered;
       };
-      clients = record { conns = clients; ended = is.clients.ended };
+      outside = record { conns = clients; ended = is.outside.ended };
       used = used;
       queued = there.queued;
       has_room = there.has_room;
@@ -74,7 +74,7 @@ board_on known book slots slots' conns' ended queues queues' room room' who e is
 -- a board goes on by an event that closes a connection, which is the last that ended
 pub board_closed : (known : Option KnownOutside) (book : SeenBook) (slots slots' : List (Slot (Option SeenConn))) (ended : List SeenEnded) (x : SeenEnded) (queues : List (Option ParkedName)) (room room' who : ℕ)
     → IsBoard known (record { book = book; conns = conns_in slots; ended = ended }) slots queues room → after book.base book.history ≡ book.state
-    → IsClosing book.state x.name x.cause x.tail x → IsEnded x → IsOfClient known x.told
+    → IsClosing book.state x.name x.cause x.tail x → IsEnded x → IsOfOutside known x.told x.limits x.site
     → AreThere (next book.state (event.Close x.name x.cause x.tail)).rows (conns_in slots) queues (length ended + 1) room'
     → conns_in slots' ≡ conns_in slots → AreUsedAlike slots' (next book.state (event.Close x.name x.cause x.tail)).rows
     → IsBoard known (record { book = book_with_entry who (event.Close x.name x.cause x.tail) book; conns = conns_in slots'; ended = ended ++ x ∷ [] }) slots' queues room'
@@ -89,7 +89,7 @@ board_closed known book slots slots' ended x queues room room' who is state_is c
             (subst (λ (s : State). IsClosing s x.name x.cause x.tail x) (sym state_is) closing, refl);
         answered = ended_more ended x is.agrees.answered shown;
       };
-      clients = record { conns = is.clients.conns; ended = ended_clients known ended x is.clients.ended client };
+      outside = record { conns = is.outside.conns; ended = ended_clients known ended x is.outside.ended client };
       used = used;
       queued = there.queued;
       has_room = omega (arith, len, there.has_room);
@@ -103,7 +103,7 @@ pub board_same : (known : Option KnownOutside) (book : SeenBook) (slots : List (
 board_same known book slots ended queues room who e is closes same =
     board_on known book slots slots (conns_in slots) ended queues queues room room who e is closes
     (subst (λ (rows : List Row). AreThere rows (conns_in slots) queues (length ended) room) (sym same)
-    (record { waiting = is.agrees.waiting; queued = is.queued; has_room = is.has_room })) is.clients.conns refl
+    (record { waiting = is.agrees.waiting; queued = is.queued; has_room = is.has_room })) is.outside.conns refl
     (subst (λ (rows : List Row). AreUsedAlike slots rows) (sym same) is.used)
 
 -- a board begins without connections, in a state without any
@@ -118,7 +118,7 @@ board_first known book slots ended queues n room history_is rows_is slots_is end
     (rw ended_is
     (record {
       agrees = record { waiting = there.waiting; closed = rw history_is refl; answered = tt };
-      clients = record { conns = clients_first known n; ended = tt };
+      outside = record { conns = clients_first known n; ended = tt };
       used = used;
       queued = there.queued;
       has_room = there.has_room;
@@ -129,7 +129,7 @@ pub board_forgotten : (known : Option KnownOutside) (b : SeenBoard) (slots : Lis
     → IsBoard known b slots queues room → IsBoard None b slots queues room
 board_forgotten known b slots queues room is = record {
   agrees = is.agrees;
-  clients = record { conns = λ slot c has. tt; ended = ended_unknown b.ended };
+  outside = record { conns = λ slot c has. tt; ended = ended_unknown b.ended };
   used = is.used;
   queued = is.queued;
   has_room = is.has_room;
@@ -141,7 +141,7 @@ pub board_roomier : (known : Option KnownOutside) (b : SeenBoard) (ended : List 
 board_roomier known b ended slots queues room room' same more is =
     subst (λ (es : List SeenEnded). IsBoard known (record b { ended = es }) slots queues room') (sym same) (record {
       agrees = is.agrees;
-      clients = is.clients;
+      outside = is.outside;
       used = is.used;
       queued = is.queued;
       has_room = omega (arith, more, is.has_room);

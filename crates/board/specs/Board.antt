@@ -10,7 +10,7 @@ use Rattle.conn_machine.specs.declared.state.State.{State}
 use Rattle.conn_machine.specs.Table.{next}
 use Rattle.conn_state.specs.Conn.{SeenConn}
 use Rattle.conn_state.specs.Answered.{SeenEnded, IsEnded}
-use Rattle.conn_state.specs.Known.{KnownOutside, IsOfClient}
+use Rattle.conn_state.specs.Known.{KnownOutside, IsOfOutside}
 use Rattle.board.specs.Book.{SeenBook}
 use Rattle.board.specs.Fits.{Fits, IsSettled, IsClosing}
 
@@ -86,20 +86,21 @@ pub record Agrees (b : SeenBoard) : Type 0 where
   pub closed : AreClosed b.book.base b.book.history b.ended
   pub answered : AreEnded b.ended
 
--- ## Clients
+-- ## The outside
 
--- where the type knows the clients, the link of each connection that the board has is that of one of them
-abbrev pub WaitForClients : Option KnownOutside → List (Option SeenConn) → Type 0
-WaitForClients known conns = (slot : ℕ) (c : SeenConn) → conn_at conns slot ≡ Some c → IsOfClient known c.told
+-- where the type knows the outside, the link of each connection that the board has is that of one of the clients, and its limits and
+-- its site are those of one of the editions
+abbrev pub WaitOfOutside : Option KnownOutside → List (Option SeenConn) → Type 0
+WaitOfOutside known conns = (slot : ℕ) (c : SeenConn) → conn_at conns slot ≡ Some c → IsOfOutside known c.told c.reader.limits c.site
 
--- where the type knows the clients, the link of each connection that ended is that of one of them
-abbrev pub EndedForClients : Option KnownOutside → List SeenEnded → Type 0
-EndedForClients known [] = ⊤
-EndedForClients known (e ∷ ended) = IsOfClient known e.told × EndedForClients known ended
+-- the same of each connection that ended
+abbrev pub EndedOfOutside : Option KnownOutside → List SeenEnded → Type 0
+EndedOfOutside known [] = ⊤
+EndedOfOutside known (e ∷ ended) = IsOfOutside known e.told e.limits e.site × EndedOfOutside known ended
 
--- where the type knows the clients, the links of the connections that a board has, and of those that ended, are links of theirs
-pub record AreOfClients (known : Option KnownOutside) (b : SeenBoard) : Type 0 where
-  pub conns : WaitForClients known b.conns
-  pub ended : EndedForClients known b.ended
+-- the same of those that a board has, and of those that ended
+pub record AreOfOutside (known : Option KnownOutside) (b : SeenBoard) : Type 0 where
+  pub conns : WaitOfOutside known b.conns
+  pub ended : EndedOfOutside known b.ended
 
 -- ## Every board

@@ -9,13 +9,13 @@ use Rattle.board.specs.declared.board.Parts.{Parts}
 use Rattle.board.specs.BoardParts.{seen_board}
 use Rattle.board.specs.QueuesInside.{queues_of}
 use Rattle.board.specs.SlotsInside.{AreUsedAlike}
-use Rattle.board.specs.Board.{Agrees, AreOfClients, SeenBoard}
+use Rattle.board.specs.Board.{Agrees, AreOfOutside, SeenBoard}
 
--- a board whose type knows this agrees with its history, its links are those of clients, its slots are used as its rows are, its
+-- a board whose type knows this agrees with its history, its connections are of the outside, its slots are used as its rows are, its
 -- timeout queues have the rows that wait, and each live connection finds room among those that ended
 pub record IsBoard (known : Option KnownOutside) (b : SeenBoard) (slots : List (Slot (Option SeenConn))) (queues : List (Option ParkedName)) (room : ℕ) : Type 0 where
   pub agrees : Agrees b
-  pub clients : AreOfClients known b
+  pub outside : AreOfOutside known b
   pub used : AreUsedAlike slots b.book.state.rows
   pub queued : queues ≡ queues_of b.book.state.rows
   pub has_room : length b.ended + count_by is_live b.book.state.rows ≤ room

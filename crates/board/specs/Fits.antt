@@ -12,6 +12,7 @@ use Rattle.conn_machine.specs.declared.state.State.{State}
 use Rattle.conn_machine.specs.Rows.{live_row}
 use Rattle.conn_state.specs.declared.turn.LastTurn.TheVariants as turn
 use Rattle.conn_state.specs.declared.turn.LastLinger.TheVariants as linger
+use Rattle.conn_state.specs.Reader.{keeps_none}
 use Rattle.conn_state.specs.Conn.{SeenConn, IsConn, is_usable, lingers}
 use Rattle.conn_state.specs.Answered.{SeenEnded, MayLinger}
 
@@ -27,7 +28,7 @@ pub record Fits (c : SeenConn) (r : Row) : Type 0 where
 -- it waits for a further request: its last turn found no byte of one
 pub record WaitsForNext (c : SeenConn) : Type 0 where
   pub turn : c.turn ≡ turn.More
-  pub rest : c.rest ≡ []
+  pub none_kept : keeps_none c.reader ≡ true
 
 -- the connection may wait so: as new or after a turn that found no whole request; after one that found nothing at all; after
 -- one that found no room to write; or, to linger, after one in which nothing failed

@@ -17,9 +17,9 @@ ghost use Rattle.mpm_base.specs.Moment.{IsSecond};
 ghost use Rattle.conn_state.specs.declared.turn.LastLinger.TheVariants as linger;
 ghost use Rattle.conn_state.specs.Answered.{IsEnded, MayLinger};
 ghost use Rattle.conn_state.specs.Conn.{SeenConn};
-ghost use Rattle.conn_state.specs.Known.{IsOfClient};
+ghost use Rattle.conn_state.specs.Known.{IsOfOutside};
 ghost use Rattle.board.specs.Book.{AddsOnly, StopsByLoad, TellsFullStop, book_with_entry, row_in};
-ghost use Rattle.board.specs.Board.{Agrees, AreOfClients, conn_at};
+ghost use Rattle.board.specs.Board.{Agrees, AreOfOutside, conn_at};
 ghost use Rattle.board.specs.Events.{IsAdded, IsDecided, IsTaken, with_recorded};
 ghost use Rattle.board.specs.EventsInside.{decided_note};
 ghost use Rattle.board.specs.Faults.{IsNotTakenFor, IsRefusedFor};
@@ -52,8 +52,8 @@ pub struct Taken {
     pub generation: u32,
 }
 
-/// The table of connections: its history, the connections that wait, and those that ended. Where `N` knows what the clients
-/// send, each link is that of one of them. It is moved as one box.
+/// The table of connections: its history, the connections that wait, and those that ended. Where `N` knows the outside, each link is
+/// that of one of its clients, and each connection is served by one of its editions. It is moved as one box.
 #[derive(Drop)]
 pub struct Board<L: Link, N: Known> {
     // What `N` knows of the connections is kept by the board itself, so that a board forgets it without a move of its parts.
@@ -136,10 +136,10 @@ impl<L: Link, N: Known> Board<L, N> {
         })
     }
 
-    /// The same board, of a type that knows nothing of the outside. What the type knew of each link is said of the board.
+    /// The same board, of a type that knows nothing of the outside. What the type knew of each connection is said of the board.
     pub fn forget(self) -> Board<L, Nothing>
         ensures same { result ≡ self }
-        ensures clients { AreOfClients N.known self }
+        ensures outside { AreOfOutside N.known self }
     {
         let Board { parts, of: _ } = self;
         Board {
@@ -173,7 +173,7 @@ impl<L: Link, N: Known> Board<L, N> {
     /// its passes behind what was folded; each entry is one that its pass may make where it stands, and before the first of them each
     /// pass had a connection of its own, or none, and each one that somebody had was some pass's; a stop because the history is full
     /// stands only where it is, and one for want of memory only where it isn't; and the connections agree with the history.
-    /// Where `N` knows what the clients send, each link is that of one of them. Nothing is folded yet.
+    /// Where `N` knows the outside, the connections are of it. Nothing is folded yet.
     pub fn show(&self)
         ensures unfolded { self.now.book.folded ≡ opening_record self.now.book.passes }
         ensures run { Run self.now.book.base self.now.book.history }
@@ -187,7 +187,7 @@ impl<L: Link, N: Known> Board<L, N> {
         ensures stops { StopsByLoad self.now.book.history }
         ensures full { TellsFullStop self.now.book.state.going self.now.book.history }
         ensures agrees { Agrees self.now }
-        ensures clients { AreOfClients N.known self.now }
+        ensures outside { AreOfOutside N.known self.now }
     {
         self.parts.book.show();
     }
@@ -382,7 +382,7 @@ impl<L: Link, N: Known> Board<L, N> {
         requires allowed { is_allowed self.old.book.state (event.Close ended.name ended.cause ended.tail) ≡ true }
         requires fits { IsClosing self.old.book.state ended.name ended.cause ended.tail ended }
         requires answered { IsEnded ended }
-        requires client { IsOfClient N.known ended.told }
+        requires outside { IsOfOutside N.known ended.told ended.limits ended.site }
         ensures is { self.new ≡ record (with_recorded who (event.Close ended.name ended.cause ended.tail) self.old) { ended = self.old.ended ++ ended ∷ [] } }
         ensures entries { AddsOnly who self.old.book self.new.book }
         ensures row { row_in who self.new.book ≡ None }

@@ -2,7 +2,7 @@
 ghost use Rattle.std.specs.Prelude.{◌≡◌, Some, None};
 ghost use Rattle.conn_slots.specs.Slots.{IsLive, with_item};
 ghost use Rattle.conn_state.specs.Conn.{SeenConn};
-ghost use Rattle.board.specs.Board.{WaitForClients, conn_at};
+ghost use Rattle.board.specs.Board.{WaitOfOutside, conn_at};
 ghost use Rattle.board.specs.Layout.{conns_in};
 
 use conn_slots::Slots;
@@ -16,7 +16,7 @@ pub(crate) fn take_out<L: Link, N: Known>(
 ) -> Conn<L, N>
     requires live { IsLive conns.old.slots name }
     requires there { (c : SeenConn) × (conn_at (conns_in conns.old.slots) name.slot ≡ Some c) }
-    requires clients { WaitForClients N.known (conns_in conns.old.slots) }
+    requires clients { WaitOfOutside N.known (conns_in conns.old.slots) }
     ensures conn { conn_at (conns_in conns.old.slots) name.slot ≡ Some result }
     ensures emptied { conns.new.slots ≡ with_item conns.old.slots name None }
 {

@@ -6,8 +6,8 @@ use Rattle.mpm_base.specs.Link.{LinkTold, LinkCounts, Reads, with_received}
 use Rattle.mpm_base.specs.declared.link.Got.TheVariants as got
 use Rattle.conn_state.specs.declared.turn.LingerTurn.{LingerTurn}
 use Rattle.conn_state.specs.Turns.{is_drained, is_linger_late, is_linger_failure}
-use Rattle.conn_state.specs.ExchangeInside.{HasDropped, DropsOn}
-use Rattle.conn_state.proofs.ExchangeLemmas.{rises-after, told-joined, gives-joined, gives-taken}
+use Rattle.conn_state.specs.LingerInside.{HasDropped, DropsOn}
+use Rattle.conn_state.proofs.LinkLemmas.{rises-after, told-joined, gives-joined, gives-taken}
 
 -- a read gave so many bytes, which were dropped
 pub has_dropped-piece : (told told' : Option LinkTold) (counts counts' : LinkCounts) (dropped dropped' : ℕ) (buffer : List ℕ) (count : ℕ)

@@ -1,6 +1,7 @@
 -- A connection that lingers, or ends, was answered.
-use Rattle.std.proofs.Common.{◌≡◌, ◌≢◌, ◌<◌, ◌+◌, ℕ, true, false, List, [], ◌++◌, length, Option, Some, None, option_map, IfSome, refl, sym, ap, subst, ◌∙◌, arith, length-append, inl}
-use Rattle.std.proofs.lemmas.List.{append-nil, nil_from_length}
+use Rattle.std.proofs.Common.{◌≡◌, ◌≢◌, ◌<◌, ◌+◌, ℕ, Bool, true, false, List, [], ◌++◌, length, Option, Some, None, option_map, IfSome, refl, sym, ap, subst, ◌∙◌, arith, length-append}
+use Rattle.std.proofs.lemmas.Bool.{false≢true}
+use Rattle.std.proofs.lemmas.List.{append-nil}
 use Rattle.mpm_base.specs.Count.{next_count}
 use Rattle.mpm_base.specs.Link.{LinkTold, LinkCounts, OnlyFaults, after_close}
 use Rattle.mpm_base.specs.Notes.{says_last}
@@ -9,144 +10,185 @@ use Rattle.mpm_base.specs.declared.conn.Cause.TheVariants as cause
 use Rattle.mpm_base.specs.declared.conn.Tail.{Tail}
 use Rattle.mpm_base.specs.declared.conn.Tail.TheVariants as tail
 use Rattle.mpm_base.specs.declared.note.Note.{Note}
+use Rattle.http_read.specs.declared.request.Limits.{Limits}
+use Rattle.file_table.specs.Site.{SeenSite}
 use Rattle.conn_state.specs.declared.turn.LastTurn.{LastTurn}
 use Rattle.conn_state.specs.declared.turn.LastTurn.TheVariants as turn
 use Rattle.conn_state.specs.declared.turn.LastLinger.{LastLinger}
 use Rattle.conn_state.specs.declared.turn.LastLinger.TheVariants as linger
-use Rattle.conn_state.specs.Items.{Item, SpellsNone}
-use Rattle.conn_state.specs.Replies.{IsFitting, AreReplies}
-use Rattle.conn_state.specs.Conn.{SeenConn, is_usable, is_half_closed, shuts_at, IsFrontOf, LinkFits, LingerFits, Streams, BrokeOff, TurnFits, IsUntouched, IsWaiting, IsConn}
-use Rattle.conn_state.specs.Answered.{SeenEnded, ShowsAtOnce, SentAll, SentLast, ShowsLingering, MayLinger, ShowsCause, IsLeft, IsShown, SentFor, HasAnswered, shuts_of, IsAnswered, LicensesCause, LicensesTail, EndsAfter, IsEnded}
-use Rattle.conn_state.proofs.StreamLemmas.{Stays, interim-none, spells_none-empty}
-use Rattle.conn_state.proofs.ConnLemmas.{usable-streams, told-broken}
+use Rattle.conn_state.specs.Steps.{WaitsIn}
+use Rattle.conn_state.specs.Reader.{StandsFor, keeps_none}
+use Rattle.conn_state.specs.Follows.{what_follows}
+use Rattle.conn_state.specs.Conn.{SeenConn, is_usable, is_half_closed, shuts_at, IsFrontOf, LinkFits, LingerFits, Streams, BrokeOff, StreamsWhile, TurnFits, IsWaiting, IsConn}
+use Rattle.conn_state.specs.Answered.{SeenEnded, ShowsAtOnce, SentAll, SentLast, waits_on, ShowsLingering, MayLinger, ShowsCause, IsLeft, IsShown, SentWhole, SentFor, HasAll, HasAnswered, shuts_of, IsAnswered, LicensesCause, LicensesTail, EndsAfter, IsEnded}
+use Rattle.conn_state.proofs.ConnLemmas.{FollowsMay, sent-breaks, usable-streams}
+use Rattle.conn_state.proofs.OpenLemmas.{same-before}
+use Rattle.conn_state.proofs.RestEmptyLemmas.{ShowsEmpty, Laws, kept-waits, kept-nil, nil-kept, kept-follows, last-follows}
 
 -- ## What was answered
 
--- a front of a list, with nothing behind the list
-front-nil : (whole front : List ℕ) → IsFrontOf whole front → IsFrontOf (whole ++ []) front
-front-nil whole front f = (f.0, append-nil whole ∙ f.1)
-
--- where a front of the replies is enough, a stream that broke off will do
-has_answered-front : Stays → (why : Cause) (notes : List Note) (last : LastLinger) (dropped : ℕ) (t : LinkTold) → why ≢ cause.ClientDone
-    → ((items : List Item) (rest replies : List ℕ) → IsFrontOf (replies ++ []) t.sent → SentFor why items notes rest replies [] t)
-    → LinkFits last dropped t → BrokeOff notes t → HasAnswered why notes t
-has_answered-front stays why notes last dropped t other enough l b = record {
+-- where a front of the replies and what may follow them is enough, a stream that broke off will do
+has_answered-front : (why : Cause) (c : SeenConn) (t : LinkTold) → why ≢ cause.ClientDone
+    → ((rest replies interim : List ℕ) → IsFrontOf (replies ++ interim) t.sent → SentFor why c.reader.limits c.notes rest replies interim t)
+    → LinkFits c.linger c.dropped t → BrokeOff c t → HasAnswered why c.site c.reader.limits c.notes t
+has_answered-front why c t other enough l b = record {
   items = b.items;
-  rest = b.left ++ l.behind;
+  rest = b.left;
+  dropped = l.behind;
   replies = b.replies;
-  interim = [];
-  fitting = subst (λ xs. IsFitting notes xs b.items (b.left ++ l.behind)) (sym l.received)
-      (stays notes t.before_shut b.items b.left l.behind b.fitting);
+  interim = b.interim;
+  fitting = b.fitting;
+  received_is = l.received;
   are_replies = b.are_replies;
-  is_interim = interim-none notes (b.left ++ l.behind);
-  sent = enough b.items (b.left ++ l.behind) b.replies (front-nil b.replies t.sent b.front);
+  may_follow = b.may_follow;
+  sent = enough b.left b.replies b.interim b.front;
   received = λ e. absurd (other e);
 }
 
+-- what was sent where nothing is pending
+abbrev SentSo : Cause → SeenConn → List ℕ → LinkTold → Type 0
+SentSo why c rest t =
+    (replies : List ℕ) → t.sent ≡ replies ++ what_follows c.notes c.reader.stage
+    → SentFor why c.reader.limits c.notes rest replies (what_follows c.notes c.reader.stage) t
+
 -- where all was sent, a stream that goes on will do
-has_answered-whole : Stays → (why : Cause) (notes : List Note) (rest : List ℕ) (last : LastLinger) (dropped : ℕ) (t : LinkTold) → (why ≡ cause.ClientDone → t.coming ≡ [])
-    → ((items : List Item) (behind : List ℕ) → length behind ≡ dropped → IsFitting notes t.before_shut items rest
-    → SentFor why items notes (rest ++ behind) t.sent [] t)
-    → LinkFits last dropped t → Streams notes [] rest t → HasAnswered why notes t
-has_answered-whole stays why notes rest last dropped t all enough l s = record {
+has_answered-whole : FollowsMay → (why : Cause) (c : SeenConn) (rest : List ℕ) (t : LinkTold) → StandsFor c.reader rest → c.pending ≡ []
+    → (why ≡ cause.ClientDone → HasAll t) → SentSo why c rest t
+    → LinkFits c.linger c.dropped t → Streams c rest t → HasAnswered why c.site c.reader.limits c.notes t
+has_answered-whole may why c rest t stands none all enough l s = record {
   items = s.items;
-  rest = rest ++ l.behind;
-  replies = t.sent;
-  interim = [];
-  fitting = subst (λ xs. IsFitting notes xs s.items (rest ++ l.behind)) (sym l.received)
-      (stays notes t.before_shut s.items rest l.behind s.fitting);
-  are_replies = subst (AreReplies s.items notes) (append-nil t.sent) s.replies;
-  is_interim = interim-none notes (rest ++ l.behind);
-  sent = enough s.items l.behind l.count s.fitting;
+  rest = rest;
+  dropped = l.behind;
+  replies = s.replies;
+  interim = what_follows c.notes c.reader.stage;
+  fitting = s.fitting;
+  received_is = l.received;
+  are_replies = s.are_replies;
+  may_follow = may c.reader.limits c.notes c.reader.unread c.reader.stage rest stands;
+  sent = enough s.replies (sym (append-nil t.sent) ∙ ap (λ xs. t.sent ++ xs) (sym none) ∙ s.stream);
   received = all;
 }
 
 -- the same of a link that may tell
-told-front : Stays → (why : Cause) (notes : List Note) (last : LastLinger) (dropped : ℕ) (told : Option LinkTold) → why ≢ cause.ClientDone
-    → ((t : LinkTold) (items : List Item) (rest replies : List ℕ) → IsFrontOf (replies ++ []) t.sent → SentFor why items notes rest replies [] t)
-    → IfSome told (LinkFits last dropped) → IfSome told (BrokeOff notes) → IfSome told (HasAnswered why notes)
-told-front stays why notes last dropped None other enough l b = tt
-told-front stays why notes last dropped (Some t) other enough l b = has_answered-front stays why notes last dropped t other (enough t) l b
+told-front : (why : Cause) (c : SeenConn) (told : Option LinkTold) → why ≢ cause.ClientDone
+    → ((t : LinkTold) (rest replies interim : List ℕ) → IsFrontOf (replies ++ interim) t.sent → SentFor why c.reader.limits c.notes rest replies interim t)
+    → IfSome told (LinkFits c.linger c.dropped) → IfSome told (BrokeOff c) → IfSome told (HasAnswered why c.site c.reader.limits c.notes)
+told-front why c None other enough l b = tt
+told-front why c (Some t) other enough l b = has_answered-front why c t other (enough t) l b
 
 -- the same of a link that may tell
-told-whole : Stays → (why : Cause) (notes : List Note) (rest : List ℕ) (last : LastLinger) (dropped : ℕ) (told : Option LinkTold)
-    → IfSome told (λ t. why ≡ cause.ClientDone → t.coming ≡ [])
-    → ((t : LinkTold) (items : List Item) (behind : List ℕ) → length behind ≡ dropped → IsFitting notes t.before_shut items rest
-    → SentFor why items notes (rest ++ behind) t.sent [] t)
-    → IfSome told (LinkFits last dropped) → IfSome told (Streams notes [] rest) → IfSome told (HasAnswered why notes)
-told-whole stays why notes rest last dropped None all enough l s = tt
-told-whole stays why notes rest last dropped (Some t) all enough l s = has_answered-whole stays why notes rest last dropped t all (enough t) l s
+told-whole : FollowsMay → (why : Cause) (c : SeenConn) (rest : List ℕ) (told : Option LinkTold) → StandsFor c.reader rest → c.pending ≡ []
+    → IfSome told (λ t. why ≡ cause.ClientDone → HasAll t) → ((t : LinkTold) → SentSo why c rest t)
+    → IfSome told (LinkFits c.linger c.dropped) → IfSome told (Streams c rest) → IfSome told (HasAnswered why c.site c.reader.limits c.notes)
+told-whole may why c rest None stands none all enough l s = tt
+told-whole may why c rest (Some t) stands none all enough l s = has_answered-whole may why c rest t stands none all (enough t) l s
 
 -- a cause asks nothing of what still comes unless the client had done
-told-other : (why : Cause) (told : Option LinkTold) → why ≢ cause.ClientDone → IfSome told (λ t. why ≡ cause.ClientDone → t.coming ≡ [])
+told-other : (why : Cause) (told : Option LinkTold) → why ≢ cause.ClientDone → IfSome told (λ t. why ≡ cause.ClientDone → HasAll t)
 told-other why None other = tt
 told-other why (Some t) other = λ e. absurd (other e)
 
--- what comes no more is asked of the client that had done
-told-all : (told : Option LinkTold) → IfSome told (λ t. t.coming ≡ []) → IfSome told (λ t. cause.ClientDone ≡ cause.ClientDone → t.coming ≡ [])
-told-all None all = tt
-told-all (Some t) all = λ e. all
-
 -- the stream of any connection may be taken as broken off
-conn-broken : (c : SeenConn) → IsConn c → IfSome c.told (BrokeOff c.notes)
-conn-broken c is = told-broken (is_usable c.turn) c.told c.notes c.pending c.rest is.streams
+broke_while : FollowsMay → (usable : Bool) (c : SeenConn) (rest : List ℕ) (told : Option LinkTold) → StandsFor c.reader rest → IfSome told (StreamsWhile usable c rest)
+    → IfSome told (BrokeOff c)
+broke_while may usable c rest None stands s = tt
+broke_while may true c rest (Some t) stands s = sent-breaks may c rest t stands s
+broke_while may false c rest (Some t) stands s = s
 
--- the stream of a connection all of which was sent
-whole-streams : (c : SeenConn) → IsConn c → is_usable c.turn ≡ true → c.pending ≡ [] → IfSome c.told (Streams c.notes [] c.rest)
-whole-streams c is usable none = subst (λ xs. IfSome c.told (Streams c.notes xs c.rest)) none (usable-streams c is usable)
+-- the same of a connection that holds
+conn-broken : FollowsMay → (c : SeenConn) (is : IsConn c) → IfSome c.told (BrokeOff c)
+conn-broken may c is = broke_while may (is_usable c.turn) c is.rest c.told is.stands is.streams
 
 -- ## Causes that linger
 
-module _ (stays : Stays) (c : SeenConn) (is : IsConn c) (usable : is_usable c.turn ≡ true) where
-  -- the last response was sent whole
-  last-lingering : SentLast c → IfSome c.told (HasAnswered cause.LastSent c.notes)
-  last-lingering sent =
-      told-whole stays cause.LastSent c.notes c.rest c.linger c.dropped c.told (told-other cause.LastSent c.told (λ e. absurd (cc)))
-      (λ t items behind count fits. (refl, sent.says_it)) is.link (whole-streams c is usable sent.none_pending)
+-- the replies without what follows them, where nothing does
+sent-alone : (sent replies follows : List ℕ) → sent ≡ replies ++ follows → follows ≡ [] → sent ≡ replies
+sent-alone sent replies follows is none = is ∙ ap (λ xs. replies ++ xs) none ∙ append-nil replies
 
-  -- each item that was received before the half-close has its note
-  all-lingering : (why : Cause) → why ≢ cause.ClientDone
-      → ((t : LinkTold) (items : List Item) (behind : List ℕ) → IsFitting c.notes t.before_shut items c.rest
-      → SentFor why items c.notes (c.rest ++ behind) t.sent [] t)
-      → SentAll c → IfSome c.told (HasAnswered why c.notes)
-  all-lingering why other enough sent =
-      told-whole stays why c.notes c.rest c.linger c.dropped c.told (told-other why c.told other)
-      (λ t items behind count fits. enough t items behind fits) is.link (whole-streams c is usable sent.none_pending)
+-- nothing is pending where a turn waits on, and more has to come
+pub record HasToCome (c : SeenConn) (rest : List ℕ) : Type 0 where
+  pub none_pending : c.pending ≡ []
+  pub more : WaitsIn c.reader.limits c.reader.unread c.reader.stage rest
+
+-- by the last turn
+to_come-at : ShowsEmpty → (u : LastTurn) (c : SeenConn) (rest : List ℕ) → StandsFor c.reader rest → TurnFits u c rest → waits_on u ≡ true → HasToCome c rest
+to_come-at empty turn.New c rest h fits on =
+    record { none_pending = fits.none_pending; more = kept-waits c.reader rest h (nil-kept empty c.reader rest h fits.none_read) }
+to_come-at empty turn.More c rest h fits on = record { none_pending = fits.none_pending; more = fits.none_whole.waits }
+to_come-at empty (turn.Asked ask) c rest h fits on = absurd (false≢true on)
+to_come-at empty turn.Interim c rest h fits on = absurd (false≢true on)
+to_come-at empty turn.Answered c rest h fits on = absurd (false≢true on)
+to_come-at empty turn.Gone c rest h fits on = absurd (false≢true on)
+to_come-at empty turn.Done c rest h fits on = absurd (false≢true on)
+to_come-at empty turn.NotReady c rest h fits on = absurd (false≢true on)
+to_come-at empty turn.LinkFailed c rest h fits on = absurd (false≢true on)
+to_come-at empty turn.NoMemory c rest h fits on = absurd (false≢true on)
+
+-- what was sent where more has to come: the replies and what is due
+sent-whole : Laws → (c : SeenConn) (rest : List ℕ) → StandsFor c.reader rest → WaitsIn c.reader.limits c.reader.unread c.reader.stage rest
+    → (t : LinkTold) (replies : List ℕ) → t.sent ≡ replies ++ what_follows c.notes c.reader.stage
+    → SentWhole c.reader.limits c.notes rest replies (what_follows c.notes c.reader.stage) t
+sent-whole laws c rest h more t replies sent = record {
+  all_sent = sent;
+  due = laws.due c.reader.limits c.notes c.reader.unread c.reader.stage rest h more;
+  none_whole = laws.waits c.reader.limits c.reader.unread c.reader.stage rest more;
+}
+
+module _ (laws : Laws) (c : SeenConn) (is : IsConn c) (usable : is_usable c.turn ≡ true) where
+  -- the last response was sent whole
+  last-lingering : SentLast c → IfSome c.told (HasAnswered cause.LastSent c.site c.reader.limits c.notes)
+  last-lingering sent =
+      told-whole laws.may cause.LastSent c is.rest c.told is.stands sent.none_pending (told-other cause.LastSent c.told (λ e. absurd (cc)))
+      (λ t replies all. (sent-alone t.sent replies (what_follows c.notes c.reader.stage) all (last-follows c.notes c.reader.stage sent.says_it), sent.says_it))
+      is.link (usable-streams c is.rest is.streams usable)
+
+  -- each response was sent whole, and no byte is left
+  all-lingering : (why : Cause) → why ≢ cause.ClientDone → SentAll c
+      → ((t : LinkTold) (replies : List ℕ) → t.sent ≡ replies → is.rest ≡ [] → SentFor why c.reader.limits c.notes is.rest replies (what_follows c.notes c.reader.stage) t)
+      → IfSome c.told (HasAnswered why c.site c.reader.limits c.notes)
+  all-lingering why other sent enough =
+      told-whole laws.may why c is.rest c.told is.stands sent.none_pending (told-other why c.told other)
+      (λ t replies all. enough t replies (sent-alone t.sent replies (what_follows c.notes c.reader.stage) all (kept-follows c.notes c.reader sent.none_kept))
+      (kept-nil laws.empty c.reader is.rest is.stands sent.none_kept))
+      is.link (usable-streams c is.rest is.streams usable)
+
+  -- more has to come
+  late-lingering : waits_on c.turn ≡ true → IfSome c.told (HasAnswered cause.ReadLate c.site c.reader.limits c.notes)
+  late-lingering on =
+      let come = to_come-at laws.empty c.turn c is.rest is.stands is.turn_fits on in
+      told-whole laws.may cause.ReadLate c is.rest c.told is.stands come.none_pending (told-other cause.ReadLate c.told (λ e. absurd (cc)))
+      (λ t replies all. sent-whole laws c is.rest is.stands come.more t replies all) is.link (usable-streams c is.rest is.streams usable)
 
   -- a connection that shows a cause with which it lingers was answered
-  shown-lingering : (why : Cause) → ShowsLingering why c → IfSome c.told (HasAnswered why c.notes)
+  shown-lingering : (why : Cause) → ShowsLingering why c → IfSome c.told (HasAnswered why c.site c.reader.limits c.notes)
   shown-lingering cause.LastSent shows = last-lingering shows
   shown-lingering cause.KeepAliveLate shows =
-      all-lingering cause.KeepAliveLate (λ e. absurd (cc))
-      (λ t items behind fits. (refl, record { left = c.rest; first = fits.first; none_left = shows.none_whole })) shows
-  shown-lingering cause.ReadLate shows =
-      all-lingering cause.ReadLate (λ e. absurd (cc))
-      (λ t items behind fits. (inl refl, record { left = c.rest; first = fits.first; none_left = shows.none_whole })) shows
+      all-lingering cause.KeepAliveLate (λ e. absurd (cc)) shows (λ t replies all none. record { all_sent = all; none_left = none })
+  shown-lingering cause.ReadLate shows = late-lingering shows
   shown-lingering cause.WriteLate shows =
-      told-front stays cause.WriteLate c.notes c.linger c.dropped c.told (λ e. absurd (cc)) (λ t items rest replies f. f) is.link (conn-broken c is)
+      told-front cause.WriteLate c c.told (λ e. absurd (cc)) (λ t rest replies interim f. f) is.link (conn-broken laws.may c is)
   shown-lingering cause.Retiring shows =
-      all-lingering cause.Retiring (λ e. absurd (cc))
-      (λ t items behind fits. (refl, record { left = c.rest; first = fits.first; none_left = shows.none_whole })) shows
+      all-lingering cause.Retiring (λ e. absurd (cc)) shows (λ t replies all none. record { all_sent = all; none_left = none })
   shown-lingering other shows = absurd shows
 
 -- a connection that lingers was answered for its cause
-pub answered-lingering : Stays → (c : SeenConn) (why : Cause) → IsConn c → MayLinger why c → IfSome c.told (HasAnswered why c.notes)
-answered-lingering stays c why is may = shown-lingering stays c is may.usable why may.shows
+pub answered-lingering : Laws → (c : SeenConn) (why : Cause) → IsConn c → MayLinger why c → IfSome c.told (HasAnswered why c.site c.reader.limits c.notes)
+answered-lingering laws c why is may = shown-lingering laws c is may.usable why may.shows
 
 -- where nothing but the way out changes, it shows the same cause
-pub may_linger-kept : (old new : SeenConn) (why : Cause) → new.turn ≡ old.turn → new.notes ≡ old.notes → new.pending ≡ old.pending → new.rest ≡ old.rest
+pub may_linger-kept : (old new : SeenConn) (why : Cause) → new.turn ≡ old.turn → new.notes ≡ old.notes → new.pending ≡ old.pending → new.reader ≡ old.reader
     → MayLinger why old → MayLinger why new
-may_linger-kept old new why same_turn same_notes same_pending same_rest may = record { usable = ap is_usable same_turn ∙ may.usable; shows = kept why may.shows }
+may_linger-kept old new why same_turn same_notes same_pending same_reader may = record { usable = ap is_usable same_turn ∙ may.usable; shows = kept why may.shows }
   where
     -- what was sent whole still is
     all-kept : SentAll old → SentAll new
-    all-kept sent = record { none_pending = same_pending ∙ sent.none_pending; none_whole = subst SpellsNone (sym same_rest) sent.none_whole }
+    all-kept sent = record { none_pending = same_pending ∙ sent.none_pending; none_kept = ap keeps_none same_reader ∙ sent.none_kept }
 
     -- what it shows it still shows
     kept : (why : Cause) → ShowsLingering why old → ShowsLingering why new
     kept cause.LastSent shows = record { none_pending = same_pending ∙ shows.none_pending; says_it = ap says_last same_notes ∙ shows.says_it }
     kept cause.KeepAliveLate shows = all-kept shows
-    kept cause.ReadLate shows = all-kept shows
+    kept cause.ReadLate shows = ap waits_on same_turn ∙ shows
     kept cause.WriteLate shows = tt
     kept cause.Retiring shows = all-kept shows
     kept other shows = absurd shows
@@ -157,64 +199,74 @@ may_linger-kept old new why same_turn same_notes same_pending same_rest may = re
 none-dropped : (last : LastLinger) (c : SeenConn) → is_half_closed last ≡ false → LingerFits last c → c.dropped ≡ 0
 none-dropped linger.Open c not_shut fits = fits
 none-dropped linger.ShutFailed c not_shut fits = fits.0
-none-dropped linger.Shut c not_shut fits = fits
+none-dropped linger.Shut c not_shut fits = absurd (cc)
 none-dropped linger.Drained c not_shut fits = absurd (cc)
 none-dropped linger.Sated c not_shut fits = absurd (cc)
 none-dropped linger.NotReady c not_shut fits = absurd (cc)
 none-dropped linger.LinkFailed c not_shut fits = absurd (cc)
 
--- nothing stands behind the rest, where nothing was dropped
-none-behind : (rest behind : List ℕ) (dropped : ℕ) → length behind ≡ dropped → dropped ≡ 0 → SpellsNone rest → SpellsNone (rest ++ behind)
-none-behind rest behind dropped count none spells =
-    subst SpellsNone (sym (append-nil rest) ∙ ap (λ xs. rest ++ xs) (sym (nil_from_length behind (count ∙ none)))) spells
+-- all that the client sent was received, where nothing was dropped
+told-all : (last : LastLinger) (dropped : ℕ) (told : Option LinkTold) → dropped ≡ 0 → IfSome told (LinkFits last dropped) → IfSome told (λ t. t.coming ≡ [])
+    → IfSome told (λ t. cause.ClientDone ≡ cause.ClientDone → HasAll t)
+told-all last dropped None none l all = tt
+told-all last dropped (Some t) none l all = λ e. record { came = all; none_dropped = same-before t l.behind l.received (l.count ∙ none) }
 
 -- a connection whose client sends no more was answered
-done-answered : Stays → (c : SeenConn) → IsConn c → c.turn ≡ turn.Gone → is_half_closed c.linger ≡ false → IfSome c.told (HasAnswered cause.ClientDone c.notes)
-done-answered stays c is gone not_shut =
-    let waits : IsWaiting c = subst (λ (u : LastTurn). TurnFits u c) gone is.turn_fits in
+done-answered : Laws → (c : SeenConn) → IsConn c → c.turn ≡ turn.Gone → is_half_closed c.linger ≡ false
+    → IfSome c.told (HasAnswered cause.ClientDone c.site c.reader.limits c.notes)
+done-answered laws c is gone not_shut =
+    let waits : IsWaiting c is.rest = subst (λ (u : LastTurn). TurnFits u c is.rest) gone is.turn_fits in
     let none : c.dropped ≡ 0 = none-dropped c.linger c not_shut is.linger_fits in
-    told-whole stays cause.ClientDone c.notes c.rest c.linger c.dropped c.told (told-all c.told (is.ended gone).all_came)
-    (λ t items behind count fits. (sym (append-nil t.sent), none-behind c.rest behind c.dropped count none waits.none_whole))
-    is.link (whole-streams c is (ap is_usable gone) waits.none_pending)
+    told-whole laws.may cause.ClientDone c is.rest c.told is.stands waits.none_pending (told-all c.linger c.dropped c.told none is.link (is.ended gone).all_came)
+    (λ t replies all. sent-whole laws c is.rest is.stands waits.none_whole.waits t replies all)
+    is.link (usable-streams c is.rest is.streams (ap is_usable gone))
 
 -- a connection that is closed at once was answered
-answered-at-once : Stays → (why : Cause) (c : SeenConn) → IsConn c → ShowsAtOnce why c → is_half_closed c.linger ≡ false → IfSome c.told (HasAnswered why c.notes)
-answered-at-once stays cause.ClientDone c is shown not_shut = done-answered stays c is shown not_shut
-answered-at-once stays cause.LinkFailed c is shown not_shut =
-    told-front stays cause.LinkFailed c.notes c.linger c.dropped c.told (λ e. absurd (cc)) (λ t items rest replies f. f) is.link (conn-broken c is)
-answered-at-once stays cause.Stopped c is shown not_shut =
-    told-front stays cause.Stopped c.notes c.linger c.dropped c.told (λ e. absurd (cc)) (λ t items rest replies f. f) is.link (conn-broken c is)
-answered-at-once stays cause.NoMemory c is shown not_shut =
-    told-front stays cause.NoMemory c.notes c.linger c.dropped c.told (λ e. absurd (cc)) (λ t items rest replies f. f) is.link (conn-broken c is)
-answered-at-once stays other c is shown not_shut = absurd shown
+answered-at-once : Laws → (why : Cause) (c : SeenConn) → IsConn c → ShowsAtOnce why c → is_half_closed c.linger ≡ false
+    → IfSome c.told (HasAnswered why c.site c.reader.limits c.notes)
+answered-at-once laws cause.ClientDone c is shown not_shut = done-answered laws c is shown not_shut
+answered-at-once laws cause.LinkFailed c is shown not_shut =
+    told-front cause.LinkFailed c c.told (λ e. absurd (cc)) (λ t rest replies interim f. f) is.link (conn-broken laws.may c is)
+answered-at-once laws cause.Stopped c is shown not_shut =
+    told-front cause.Stopped c c.told (λ e. absurd (cc)) (λ t rest replies interim f. f) is.link (conn-broken laws.may c is)
+answered-at-once laws cause.NoMemory c is shown not_shut =
+    told-front cause.NoMemory c c.told (λ e. absurd (cc)) (λ t rest replies interim f. f) is.link (conn-broken laws.may c is)
+answered-at-once laws other c is shown not_shut = absurd shown
 
 -- ## The close
 
 -- a close leaves what was sent for the cause
-sent-closed : (why : Cause) (items : List Item) (notes : List Note) (rest replies interim : List ℕ) (t : LinkTold)
-    → SentFor why items notes rest replies interim t → SentFor why items notes rest replies interim (after_close t)
-sent-closed cause.ClientDone items notes rest replies interim t sent = sent
-sent-closed cause.LastSent items notes rest replies interim t sent = sent
-sent-closed cause.KeepAliveLate items notes rest replies interim t sent = sent
-sent-closed cause.ReadLate items notes rest replies interim t sent = sent
-sent-closed cause.WriteLate items notes rest replies interim t sent = sent
-sent-closed cause.Retiring items notes rest replies interim t sent = sent
-sent-closed cause.LinkFailed items notes rest replies interim t sent = sent
-sent-closed cause.Stopped items notes rest replies interim t sent = sent
-sent-closed cause.NoMemory items notes rest replies interim t sent = sent
+sent-closed : (why : Cause) (limits : Limits) (notes : List Note) (rest replies interim : List ℕ) (t : LinkTold)
+    → SentFor why limits notes rest replies interim t → SentFor why limits notes rest replies interim (after_close t)
+sent-closed cause.ClientDone limits notes rest replies interim t sent = record { all_sent = sent.all_sent; due = sent.due; none_whole = sent.none_whole }
+sent-closed cause.LastSent limits notes rest replies interim t sent = sent
+sent-closed cause.KeepAliveLate limits notes rest replies interim t sent = record { all_sent = sent.all_sent; none_left = sent.none_left }
+sent-closed cause.ReadLate limits notes rest replies interim t sent = record { all_sent = sent.all_sent; due = sent.due; none_whole = sent.none_whole }
+sent-closed cause.WriteLate limits notes rest replies interim t sent = sent
+sent-closed cause.Retiring limits notes rest replies interim t sent = record { all_sent = sent.all_sent; none_left = sent.none_left }
+sent-closed cause.LinkFailed limits notes rest replies interim t sent = sent
+sent-closed cause.Stopped limits notes rest replies interim t sent = sent
+sent-closed cause.NoMemory limits notes rest replies interim t sent = sent
+
+-- a close leaves what was received
+all-closed : (t : LinkTold) → HasAll t → HasAll (after_close t)
+all-closed t all = record { came = all.came; none_dropped = all.none_dropped }
 
 -- a close leaves the answers
-answers-closed : (why : Cause) (notes : List Note) (t : LinkTold) → HasAnswered why notes t → HasAnswered why notes (after_close t)
-answers-closed why notes t has = record {
+answers-closed : (why : Cause) (site : SeenSite) (limits : Limits) (notes : List Note) (t : LinkTold) → HasAnswered why site limits notes t
+    → HasAnswered why site limits notes (after_close t)
+answers-closed why site limits notes t has = record {
   items = has.items;
   rest = has.rest;
+  dropped = has.dropped;
   replies = has.replies;
   interim = has.interim;
   fitting = has.fitting;
+  received_is = has.received_is;
   are_replies = has.are_replies;
-  is_interim = has.is_interim;
-  sent = sent-closed why has.items notes has.rest has.replies has.interim t has.sent;
-  received = has.received;
+  may_follow = has.may_follow;
+  sent = sent-closed why limits notes has.rest has.replies has.interim t has.sent;
+  received = λ e. all-closed t (has.received e);
 }
 
 -- how often the link was half-closed is what the tail says
@@ -237,22 +289,22 @@ record LeavesSo (how : Tail) (dropped : ℕ) (t : LinkTold) : Type 0 where
   all : how ≡ tail.Sated → dropped ≡ 1048576
 
 -- the answers of a link, and how it is left, are those of the closed one
-closed-answered : (why : Cause) (how : Tail) (notes : List Note) (last : LastLinger) (dropped : ℕ) (t : LinkTold) → IsLeft how last → LeavesSo how dropped t
-    → LinkFits last dropped t → HasAnswered why notes t → IsAnswered why how notes (after_close t)
-closed-answered why how notes last dropped t left so l has = record {
+closed-answered : (why : Cause) (how : Tail) (site : SeenSite) (limits : Limits) (notes : List Note) (last : LastLinger) (dropped : ℕ) (t : LinkTold) → IsLeft how last → LeavesSo how dropped t
+    → LinkFits last dropped t → HasAnswered why site limits notes t → IsAnswered why how site limits notes (after_close t)
+closed-answered why how site limits notes last dropped t left so l has = record {
   closed = closes-once t.closes l.closes;
   shuts = l.shuts ∙ shuts-left how last left;
-  answers = answers-closed why notes t has;
+  answers = answers-closed why site limits notes t has;
   drained = so.drained;
   sated = λ e. ap length l.received ∙ length-append t.before_shut l.behind ∙ ap (λ n. length t.before_shut + n) (l.count ∙ so.all e);
 }
 
 -- the same of a link that may tell
-told-closed : (why : Cause) (how : Tail) (notes : List Note) (last : LastLinger) (dropped : ℕ) (told : Option LinkTold) → IsLeft how last
-    → IfSome told (LeavesSo how dropped) → IfSome told (LinkFits last dropped) → IfSome told (HasAnswered why notes)
-    → IfSome (option_map after_close told) (IsAnswered why how notes)
-told-closed why how notes last dropped None left so l has = tt
-told-closed why how notes last dropped (Some t) left so l has = closed-answered why how notes last dropped t left so l has
+told-closed : (why : Cause) (how : Tail) (site : SeenSite) (limits : Limits) (notes : List Note) (last : LastLinger) (dropped : ℕ) (told : Option LinkTold) → IsLeft how last
+    → IfSome told (LeavesSo how dropped) → IfSome told (LinkFits last dropped) → IfSome told (HasAnswered why site limits notes)
+    → IfSome (option_map after_close told) (IsAnswered why how site limits notes)
+told-closed why how site limits notes last dropped None left so l has = tt
+told-closed why how site limits notes last dropped (Some t) left so l has = closed-answered why how site limits notes last dropped t left so l has
 
 -- a tail says nothing of the link but for two
 leaves-other : (how : Tail) (dropped : ℕ) (told : Option LinkTold) → how ≢ tail.Drained → how ≢ tail.Sated → IfSome told (LeavesSo how dropped)
@@ -280,14 +332,14 @@ leaves-so tail.Halted c is left = leaves-other tail.Halted c.dropped c.told (λ 
 leaves-so tail.NoMemory c is left = leaves-other tail.NoMemory c.dropped c.told (λ e. absurd (cc)) (λ e. absurd (cc))
 
 -- a connection that may be ended so was answered for its cause
-answered-shown : Stays → (why : Cause) (how : Tail) (c : SeenConn) → IsConn c → ShowsCause why how c → IsLeft how c.linger → IfSome c.told (HasAnswered why c.notes)
-answered-shown stays why tail.Direct c is shows left = answered-at-once stays why c is shows left
-answered-shown stays why tail.Drained c is shows left = answered-lingering stays c why is shows
-answered-shown stays why tail.Sated c is shows left = answered-lingering stays c why is shows
-answered-shown stays why tail.Late c is shows left = answered-lingering stays c why is shows
-answered-shown stays why tail.Failed c is shows left = answered-lingering stays c why is shows
-answered-shown stays why tail.Halted c is shows left = answered-lingering stays c why is shows
-answered-shown stays why tail.NoMemory c is shows left = answered-lingering stays c why is shows
+answered-shown : Laws → (why : Cause) (how : Tail) (c : SeenConn) → IsConn c → ShowsCause why how c → IsLeft how c.linger → IfSome c.told (HasAnswered why c.site c.reader.limits c.notes)
+answered-shown laws why tail.Direct c is shows left = answered-at-once laws why c is shows left
+answered-shown laws why tail.Drained c is shows left = answered-lingering laws c why is shows
+answered-shown laws why tail.Sated c is shows left = answered-lingering laws c why is shows
+answered-shown laws why tail.Late c is shows left = answered-lingering laws c why is shows
+answered-shown laws why tail.Failed c is shows left = answered-lingering laws c why is shows
+answered-shown laws why tail.Halted c is shows left = answered-lingering laws c why is shows
+answered-shown laws why tail.NoMemory c is shows left = answered-lingering laws c why is shows
 
 -- ## What the counts show
 
@@ -348,7 +400,7 @@ turned-at-once other c shown = absurd shown
 turned-lingering : (why : Cause) (c : SeenConn) → MayLinger why c → EndsAfter why c.turn
 turned-lingering cause.LastSent c may = may.usable
 turned-lingering cause.KeepAliveLate c may = may.usable
-turned-lingering cause.ReadLate c may = may.usable
+turned-lingering cause.ReadLate c may = may.shows
 turned-lingering cause.WriteLate c may = may.usable
 turned-lingering cause.Retiring c may = may.usable
 turned-lingering other c may = absurd may.shows
@@ -363,32 +415,38 @@ turned-so why tail.Failed c shows = turned-lingering why c shows
 turned-so why tail.Halted c shows = turned-lingering why c shows
 turned-so why tail.NoMemory c shows = turned-lingering why c shows
 
+-- one that ends for its last response has noted that
+said-last : (how : Tail) (c : SeenConn) → ShowsCause cause.LastSent how c → says_last c.notes ≡ true
+said-last tail.Direct c shows = absurd shows
+said-last tail.Drained c shows = shows.shows.says_it
+said-last tail.Sated c shows = shows.shows.says_it
+said-last tail.Late c shows = shows.shows.says_it
+said-last tail.Failed c shows = shows.shows.says_it
+said-last tail.Halted c shows = shows.shows.says_it
+said-last tail.NoMemory c shows = shows.shows.says_it
+
 -- ## The connection that ended
 
 -- what the closed link of a connection that ended tells and counts
-pub ended-shown : Stays → (c seen : SeenConn) (e : SeenEnded) → IsConn c → c ≡ seen → IsShown e.cause e.tail seen
-    → e.told ≡ option_map after_close c.told → OnlyFaults false c.counts e.counts → e.notes ≡ c.notes → e.turn ≡ c.turn → e.linger ≡ c.linger
+pub ended-shown : Laws → (c seen : SeenConn) (e : SeenEnded) → IsConn c → c ≡ seen → IsShown e.cause e.tail seen
+    → e.told ≡ option_map after_close c.told → OnlyFaults false c.counts e.counts → e.site ≡ c.site → e.limits ≡ c.reader.limits → e.notes ≡ c.notes
+    → e.turn ≡ c.turn → e.linger ≡ c.linger
     → IsEnded e
-ended-shown stays c seen e is same shown closed only notes turn linger =
+ended-shown laws c seen e is same shown closed only site limits notes turn linger =
     let shown' : IsShown e.cause e.tail c = subst (λ (x : SeenConn). IsShown e.cause e.tail x) (sym same) shown in
-    let answered = told-closed e.cause e.tail c.notes c.linger c.dropped c.told shown'.left (leaves-so e.tail c is shown'.left) is.link
-    (answered-shown stays e.cause e.tail c is shown'.shows shown'.left) in
+    let answered = told-closed e.cause e.tail c.site c.reader.limits c.notes c.linger c.dropped c.told shown'.left (leaves-so e.tail c is shown'.left) is.link
+    (answered-shown laws e.cause e.tail c is shown'.shows shown'.left) in
     record {
       licensed = record {
         by_cause = licensed-cause e.cause e.tail c e.counts is shown'.shows only;
         by_tail = licensed-tail e.tail c e.counts is shown'.left only;
       };
       turned = subst (EndsAfter e.cause) (sym turn) (turned-so e.cause e.tail c shown'.shows);
+      last = λ is_last. ap says_last notes ∙ said-last e.tail c (subst (λ w. ShowsCause w e.tail c) is_last shown'.shows);
       left = subst (IsLeft e.tail) (sym linger) shown'.left;
-      answered = subst (λ ns. IfSome e.told (IsAnswered e.cause e.tail ns)) (sym notes)
-          (subst (λ o. IfSome o (IsAnswered e.cause e.tail c.notes)) (sym closed) answered);
+      answered = rw (closed, site, limits, notes) answered;
     }
 
 -- a connection of which nothing was read shows what one shows that is late to send
-pub may_linger-untouched : (c : SeenConn) → IsConn c → c.turn ≡ turn.New → MayLinger cause.ReadLate c
-may_linger-untouched c is new =
-    let fits : IsUntouched c = subst (λ (t : LastTurn). TurnFits t c) new is.turn_fits in
-    record {
-      usable = ap is_usable new;
-      shows = record { none_pending = fits.none_pending; none_whole = subst SpellsNone (sym fits.none_read) spells_none-empty };
-    }
+pub may_linger-untouched : (c : SeenConn) → c.turn ≡ turn.New → MayLinger cause.ReadLate c
+may_linger-untouched c new = record { usable = ap is_usable new; shows = ap waits_on new }

@@ -1,40 +1,43 @@
--- The first item of the bytes, and its size.
-use Rattle.std.proofs.Common.{◌≡◌, ℕ, List, length, drop, refl, ap, inl, inr, arith, length-append}
-use Rattle.mpm_base.specs.RootRequest.{BeginsRequest, IsStarted, request_of}
-use Rattle.mpm_base.specs.declared.conn.Ask.{Ask}
-use Rattle.http_read.specs.declared.root_head.RootHead.{RootHead}
-use Rattle.http_read.specs.RootHead.{BeginsWith, IsNoFront}
-use Rattle.conn_state.specs.Items.{Item, BeginsItem, IsAskedIn, SpellsNone, request_ask, refusal_ask}
-use Rattle.conn_state.specs.HeldInside.{HasSize}
+-- The first items of the bytes stay the first.
+use Rattle.std.proofs.Common.{ℕ, List, [], ◌++◌, Option, Some, None, IfSome, refl}
+use Rattle.http_read.specs.declared.request.Limits.{Limits}
+use Rattle.http_read.specs.RequestParts.{RequestParts}
+use Rattle.http_read.specs.Head.{BeginsHead}
+use Rattle.http_read.specs.Requests.{ReadRefusal, SpellsRequests, BeginsRefusal, AreItems}
+use Rattle.conn_state.specs.Items.{Item, AreFirst}
 
--- a whole request has its size
-pub size-request : (bytes : List ℕ) (request : RootHead) (size : ℕ) (ask : Ask) → BeginsWith bytes request size → ask ≡ request_ask request → HasSize bytes ask size
-size-request bytes request size ask begins asks = record {
-  item = inl request;
-  begins = record { size = size; begins = begins; left = refl };
-  asks = asks;
-  fits = omega (arith, begins.length_is, ap length begins.whole, length-append (request_of begins.host) begins.rest);
+-- an accepted head stays one
+abbrev pub KeepsHeads : Type 0
+KeepsHeads = (limits : Limits) (bytes more : List ℕ) (request : RequestParts) (head_len : ℕ)
+    → BeginsHead limits bytes request head_len → BeginsHead limits (bytes ++ more) request head_len
+
+-- spelled requests stay so
+abbrev pub KeepsSpelled : Type 0
+KeepsSpelled = (limits : Limits) (bytes more : List ℕ) (requests : List (RequestParts × ℕ)) (rest : List ℕ)
+    → SpellsRequests limits bytes requests rest → SpellsRequests limits (bytes ++ more) requests (rest ++ more)
+
+-- a refusal behind them stays one
+abbrev pub KeepsRefused : Type 0
+KeepsRefused = (limits : Limits) (bytes more : List ℕ) (requests : List (RequestParts × ℕ)) (refusal : ReadRefusal) (rest : List ℕ)
+    → AreItems limits bytes requests (Some refusal) rest → AreItems limits (bytes ++ more) requests (Some refusal) (rest ++ more)
+
+-- a refusal stays one
+pub refused-more : KeepsRefused → (limits : Limits) (bytes more : List ℕ) (refusal : ReadRefusal) → BeginsRefusal limits bytes refusal → BeginsRefusal limits (bytes ++ more) refusal
+refused-more keeps limits bytes more refusal b = (keeps limits bytes more [] refusal bytes (record { spelled = refl; left = b })).left
+
+-- a refusal that may be there stays
+may_refuse-more : KeepsRefused → (limits : Limits) (bytes more : List ℕ) (refusal : Option ReadRefusal)
+    → IfSome refusal (BeginsRefusal limits bytes) → IfSome refusal (BeginsRefusal limits (bytes ++ more))
+may_refuse-more keeps limits bytes more None b = tt
+may_refuse-more keeps limits bytes more (Some refusal) b = refused-more keeps limits bytes more refusal b
+
+-- the first items stay the first
+pub first-more : KeepsSpelled → KeepsRefused → (limits : Limits) (items : List Item) (rest bytes more : List ℕ)
+    → AreFirst limits items rest bytes → AreFirst limits items (rest ++ more) (bytes ++ more)
+first-more spelled refused limits items rest bytes more h = record {
+  requests = h.requests;
+  refusal = h.refusal;
+  items_are = h.items_are;
+  spelled = spelled limits bytes more h.requests rest h.spelled;
+  refused = may_refuse-more refused limits rest more h.refusal h.refused;
 }
-
--- a refusal has no bytes
-pub size-refusal : (bytes : List ℕ) (code : ℕ) (ask : Ask) → code ≡ 400 → IsNoFront bytes → ask ≡ refusal_ask code → HasSize bytes ask 0
-size-refusal bytes code ask is none asks = record {
-  item = inr code;
-  begins = record { bad_request = is; no_front = none; left = refl };
-  asks = asks;
-  fits = omega arith;
-}
-
--- what has a size is asked
-pub asked-sized : (bytes : List ℕ) (ask : Ask) (size : ℕ) → HasSize bytes ask size → IsAskedIn bytes ask
-asked-sized bytes ask size has = record { item = has.item; behind = drop size bytes; begins = has.begins; asks = has.asks }
-
--- no bytes begin with an item of which more have to come
-pub asked-none : ((bytes : List ℕ) → BeginsRequest bytes → ¬ (IsStarted bytes)) → (bytes : List ℕ) (ask : Ask) → IsAskedIn bytes ask → ¬ (SpellsNone bytes)
-asked-none apart bytes ask asked none = begins-none asked.item asked.behind asked.begins
-  where
-    -- no item stands there
-    begins-none : (item : Item) (behind : List ℕ) → ¬ (BeginsItem bytes item behind)
-    begins-none (inl request) behind b =
-        apart bytes (record { host = b.begins.host; rest = b.begins.rest; is_host = b.begins.is_host; whole = b.begins.whole }) none
-    begins-none (inr code) behind b = b.no_front.no_front none

@@ -1,25 +1,26 @@
 -- A connection stays one on its way out: its link is half-closed, and what still comes is dropped.
-use Rattle.std.proofs.Common.{◌≡◌, ◌==◌, ℕ, ◌+◌, ◌<◌, ◌≤◌, Bool, true, false, List, [], ◌++◌, take, drop, length, Option, Some, None, option_map, IfSome, refl, sym, ap, subst, ◌∙◌, arith, append_assoc, length-append}
+use Rattle.std.proofs.Common.{◌≡◌, ◌==◌, ℕ, ◌+◌, ◌<◌, ◌≤◌, Bool, true, false, not, List, [], ◌++◌, take, drop, length, Option, Some, None, option_map, IfSome, refl, sym, ap, subst, ◌∙◌, arith, append_assoc, length-append}
 use Rattle.std.proofs.Math.Seq.{drop-nil}
 use Rattle.std.proofs.lemmas.Bool.{false≢true}
 use Rattle.std.proofs.lemmas.Bool.Decides.{nat_tests}
-use Rattle.mpm_base.specs.Count.{NeverFalls, RisesWhere, RisesExactlyWhere}
-use Rattle.mpm_base.specs.Link.{LinkTold, LinkCounts, with_received}
-use Rattle.mpm_base.specs.declared.note.Note.{Note}
+use Rattle.mpm_base.specs.Count.{NeverFalls, RisesWhere, RisesExactlyWhere, next_count}
+use Rattle.mpm_base.specs.Link.{LinkTold, LinkCounts, OnlyFaults, with_received, after_shut}
+use Rattle.http_core.specs.declared.plan.Plan.{Plan}
 use Rattle.conn_state.specs.declared.turn.LastTurn.{LastTurn}
 use Rattle.conn_state.specs.declared.turn.LastTurn.TheVariants as turn
 use Rattle.conn_state.specs.declared.turn.LastLinger.{LastLinger}
 use Rattle.conn_state.specs.declared.turn.LastLinger.TheVariants as linger
 use Rattle.conn_state.specs.declared.turn.LingerTurn.{LingerTurn}
 use Rattle.conn_state.specs.declared.turn.LingerTurn.TheVariants as left
-use Rattle.conn_state.specs.Replies.{IsFitting, AreReplies}
+use Rattle.conn_state.specs.Replies.{IsFitting}
 use Rattle.conn_state.specs.Known.{KnownOutside}
+use Rattle.conn_state.specs.Outgoing.{Unsent}
 use Rattle.conn_state.specs.Conn.{SeenConn, is_usable, is_half_closed, lingers, IsFrontOf, LinkFits, LingerFits, StreamsWhile, TurnFits, IsDone, IsConn}
-use Rattle.conn_state.specs.Turns.{after_linger, is_drained, is_linger_failure}
-use Rattle.conn_state.specs.HeldInside.{IsHeld}
-use Rattle.conn_state.specs.ExchangeInside.{DropsOn}
-use Rattle.conn_state.proofs.KnownLemmas.{client-received}
-use Rattle.conn_state.proofs.LinkLemmas.{before-shut}
+use Rattle.conn_state.specs.Turns.{after_half_close, after_linger, is_drained, is_linger_failure}
+use Rattle.conn_state.specs.ConnInside.{IsHeld}
+use Rattle.conn_state.specs.LingerInside.{DropsOn}
+use Rattle.conn_state.proofs.KnownLemmas.{outside-received, outside-shut}
+use Rattle.conn_state.proofs.OpenLemmas.{before-shut, open-link, open-none}
 use Rattle.conn_state.proofs.ConnLemmas.{rises-some}
 
 -- ## What a change of the link keeps
@@ -30,57 +31,63 @@ record KeepsReplies (change : LinkTold → LinkTold) (t : LinkTold) : Type 0 whe
   sent : (change t).sent ≡ t.sent
   came : t.coming ≡ [] → (change t).coming ≡ []
 
-module _ (change : LinkTold → LinkTold) where
-  -- the reply stream stays
-  streams-kept : (usable : Bool) (notes : List Note) (pending rest : List ℕ) (t : LinkTold) → KeepsReplies change t → StreamsWhile usable notes pending rest t
-      → StreamsWhile usable notes pending rest (change t)
-  streams-kept true notes pending rest t keeps s = record {
-    items = s.items;
-    fitting = subst (λ xs. IsFitting notes xs s.items rest) (sym keeps.before) s.fitting;
-    replies = subst (λ xs. AreReplies s.items notes (xs ++ pending)) (sym keeps.sent) s.replies;
-  }
-  streams-kept false notes pending rest t keeps b = record {
-    items = b.items;
-    left = b.left;
-    replies = b.replies;
-    fitting = subst (λ xs. IsFitting notes xs b.items b.left) (sym keeps.before) b.fitting;
-    are_replies = b.are_replies;
-    front = subst (IsFrontOf b.replies) (sym keeps.sent) b.front;
-  }
-
-  -- the same of a link that may tell
-  told-kept : (usable : Bool) (notes : List Note) (pending rest : List ℕ) (told : Option LinkTold) → IfSome told (KeepsReplies change)
-      → IfSome told (StreamsWhile usable notes pending rest) → IfSome (option_map change told) (StreamsWhile usable notes pending rest)
-  told-kept usable notes pending rest None keeps s = tt
-  told-kept usable notes pending rest (Some t) keeps s = streams-kept usable notes pending rest t keeps s
-
-  -- where nothing more came, nothing more comes
-  told-came : (told : Option LinkTold) → IfSome told (KeepsReplies change) → IfSome told (λ t. t.coming ≡ []) → IfSome (option_map change told) (λ t. t.coming ≡ [])
-  told-came None keeps came = tt
-  told-came (Some t) keeps came = keeps.came came
-
--- ## What the connection keeps
-
 -- the connection on its way out, with what its link tells and counts then
 abbrev leaving : SeenConn → Option LinkTold → LinkCounts → LastLinger → ℕ → SeenConn
 leaving c told' counts' last dropped = record c { told = told'; counts = counts'; linger = last; dropped = dropped }
 
+module _ (change : LinkTold → LinkTold) (c : SeenConn) (told' : Option LinkTold) (counts' : LinkCounts) (last : LastLinger) (dropped : ℕ) (rest : List ℕ) where
+  -- the reply stream stays
+  streams-kept : (usable : Bool) (t : LinkTold) → KeepsReplies change t → StreamsWhile usable c rest t
+      → StreamsWhile usable (leaving c told' counts' last dropped) rest (change t)
+  streams-kept true t keeps s = record {
+    items = s.items;
+    replies = s.replies;
+    fitting = subst (λ xs. IsFitting c.site c.reader.limits c.notes xs s.items rest) (sym keeps.before) s.fitting;
+    are_replies = s.are_replies;
+    stream = ap (λ xs. xs ++ c.pending) keeps.sent ∙ s.stream;
+  }
+  streams-kept false t keeps b = record {
+    items = b.items;
+    left = b.left;
+    replies = b.replies;
+    interim = b.interim;
+    fitting = subst (λ xs. IsFitting c.site c.reader.limits c.notes xs b.items b.left) (sym keeps.before) b.fitting;
+    are_replies = b.are_replies;
+    may_follow = b.may_follow;
+    front = subst (IsFrontOf (b.replies ++ b.interim)) (sym keeps.sent) b.front;
+  }
+
+  -- the same of a link that may tell
+  told-kept : (usable : Bool) (told : Option LinkTold) → IfSome told (KeepsReplies change) → IfSome told (StreamsWhile usable c rest)
+      → IfSome (option_map change told) (StreamsWhile usable (leaving c told' counts' last dropped) rest)
+  told-kept usable None keeps s = tt
+  told-kept usable (Some t) keeps s = streams-kept usable t keeps s
+
+-- where nothing more came, nothing more comes
+told-came : (change : LinkTold → LinkTold) (told : Option LinkTold) → IfSome told (KeepsReplies change) → IfSome told (λ t. t.coming ≡ [])
+    → IfSome (option_map change told) (λ t. t.coming ≡ [])
+told-came change None keeps came = tt
+told-came change (Some t) keeps came = keeps.came came
+
+-- ## What the connection keeps
+
 -- what the last turn says holds as before
-turn-kept : (u : LastTurn) (c : SeenConn) (told' : Option LinkTold) (counts' : LinkCounts) (last : LastLinger) (dropped : ℕ)
-    → NeverFalls c.counts.faults counts'.faults → TurnFits u c → TurnFits u (leaving c told' counts' last dropped)
-turn-kept turn.New c told' counts' last dropped faults fits =
+turn-kept : (u : LastTurn) (c : SeenConn) (told' : Option LinkTold) (counts' : LinkCounts) (last : LastLinger) (dropped : ℕ) (rest : List ℕ)
+    → NeverFalls c.counts.faults counts'.faults → TurnFits u c rest → TurnFits u (leaving c told' counts' last dropped) rest
+turn-kept turn.New c told' counts' last dropped rest faults fits =
     record { none_pending = fits.none_pending; none_read = fits.none_read; none_noted = fits.none_noted }
-turn-kept (turn.Asked ask) c told' counts' last dropped faults fits =
+turn-kept (turn.Asked ask) c told' counts' last dropped rest faults fits =
     record { none_pending = fits.none_pending; asked = fits.asked; goes_on = fits.goes_on }
-turn-kept turn.Answered c told' counts' last dropped faults fits = fits
-turn-kept turn.More c told' counts' last dropped faults fits =
+turn-kept turn.Interim c told' counts' last dropped rest faults fits = record { pending_is = fits.pending_is; waits = fits.waits }
+turn-kept turn.Answered c told' counts' last dropped rest faults fits = fits
+turn-kept turn.More c told' counts' last dropped rest faults fits =
     record { none_pending = fits.none_pending; none_whole = fits.none_whole; goes_on = fits.goes_on }
-turn-kept turn.Gone c told' counts' last dropped faults fits =
+turn-kept turn.Gone c told' counts' last dropped rest faults fits =
     record { none_pending = fits.none_pending; none_whole = fits.none_whole; goes_on = fits.goes_on }
-turn-kept turn.Done c told' counts' last dropped faults fits = fits
-turn-kept turn.NotReady c told' counts' last dropped faults fits = fits
-turn-kept turn.LinkFailed c told' counts' last dropped faults fits = omega (arith, faults, fits)
-turn-kept turn.NoMemory c told' counts' last dropped faults fits = tt
+turn-kept turn.Done c told' counts' last dropped rest faults fits = fits
+turn-kept turn.NotReady c told' counts' last dropped rest faults fits = fits
+turn-kept turn.LinkFailed c told' counts' last dropped rest faults fits = omega (arith, faults, fits)
+turn-kept turn.NoMemory c told' counts' last dropped rest faults fits = tt
 
 -- what a step on the way out does to the link: what it keeps, and that no count falls
 record IsStep (c : SeenConn) (told' : Option LinkTold) (counts' : LinkCounts) : Type 0 where
@@ -101,15 +108,15 @@ module _ (c : SeenConn) (told' : Option LinkTold) (counts' : LinkCounts) (last :
   -- the connection stays one
   conn-leaving : LingerFits last (leaving c told' counts' last dropped) → IfSome told' (LinkFits last dropped) → IsConn (leaving c told' counts' last dropped)
   conn-leaving fits link = record {
-    turn_fits = turn-kept c.turn c told' counts' last dropped step.faults is.turn_fits;
+    rest = is.rest;
+    stands = is.stands;
+    turn_fits = turn-kept c.turn c told' counts' last dropped is.rest step.faults is.turn_fits;
     ended = λ e. done-kept (is.ended e);
     linger_fits = fits;
     link = link;
-    streams = subst (λ o. IfSome o (StreamsWhile (is_usable c.turn) c.notes c.pending c.rest)) (sym step.told_is)
-        (told-kept step.change (is_usable c.turn) c.notes c.pending c.rest c.told step.keeps is.streams);
+    streams = subst (λ o. IfSome o (StreamsWhile (is_usable c.turn) (leaving c told' counts' last dropped) is.rest)) (sym step.told_is)
+        (told-kept step.change c told' counts' last dropped is.rest (is_usable c.turn) c.told step.keeps is.streams);
   }
-
--- ## The half-close
 
 -- a count that may have risen never falls
 never-where : (test : Bool) (old new : ℕ) → RisesWhere test old new → NeverFalls old new
@@ -119,6 +126,59 @@ never-where false old new never = never
 -- a count that stays never falls
 never-same : (old new : ℕ) → new ≡ old → NeverFalls old new
 never-same old new same = omega (arith, same)
+
+-- ## The half-close
+
+-- a half-close keeps the replies
+keeps-shut : (made : Bool) (t : LinkTold) → KeepsReplies (after_shut made) t
+keeps-shut true t = record { before = refl; sent = refl; came = λ e. e }
+keeps-shut false t = record { before = refl; sent = refl; came = λ e. e }
+
+-- the same of a link that may tell
+told-keeps_shut : (made : Bool) (told : Option LinkTold) → IfSome told (KeepsReplies (after_shut made))
+told-keeps_shut made None = tt
+told-keeps_shut made (Some t) = keeps-shut made t
+
+-- the link of a connection that was open
+shut-link : (made : Bool) (t : LinkTold) → LinkFits linger.Open 0 t → LinkFits (after_half_close made) 0 (after_shut made t)
+shut-link true t l = record { closes = l.closes; shuts = ap next_count l.shuts; behind = l.behind; received = l.received; count = l.count }
+shut-link false t l = record { closes = l.closes; shuts = l.shuts; behind = l.behind; received = l.received; count = l.count }
+
+-- the same of a link that may tell
+told-shut_link : (made : Bool) (told : Option LinkTold) → IfSome told (LinkFits linger.Open 0) → IfSome (option_map (after_shut made) told) (LinkFits (after_half_close made) 0)
+told-shut_link made None l = tt
+told-shut_link made (Some t) l = shut-link made t l
+
+-- nothing was dropped, and a half-close that wasn't made failed
+shut-fits : (made : Bool) (c : SeenConn) (told' : Option LinkTold) (counts' : LinkCounts) → c.dropped ≡ 0 → RisesWhere (not made) c.counts.faults counts'.faults
+    → LingerFits (after_half_close made) (leaving c told' counts' (after_half_close made) c.dropped)
+shut-fits true c told' counts' none rises = none
+shut-fits false c told' counts' none rises = (none, rises-some c.counts.faults counts'.faults rises)
+
+-- a connection holds after the half-close
+pub held-shut : (known : Option KnownOutside) (c seen : SeenConn) (plan : Option Plan) (u : Unsent) (told' : Option LinkTold) (counts' : LinkCounts) (made : Bool) (last : LastLinger)
+    → IsHeld known c plan u → c ≡ seen → seen.linger ≡ linger.Open → told' ≡ option_map (after_shut made) c.told → OnlyFaults (not made) c.counts counts'
+    → last ≡ after_half_close made → IsHeld known (leaving c told' counts' last c.dropped) plan u
+held-shut known c seen plan u told' counts' made last held is not_shut told_is only last_is =
+    let not_shut' : c.linger ≡ linger.Open = ap (λ (x : SeenConn). x.linger) is ∙ not_shut in
+    let none : c.dropped ≡ 0 = open-none c held.conn not_shut' in
+    let step : IsStep c told' counts' = record {
+      change = after_shut made;
+      told_is = told_is;
+      keeps = told-keeps_shut made c.told;
+      faults = never-where (not made) c.counts.faults counts'.faults only.faults;
+      ends = never-same c.counts.ends counts'.ends only.ends;
+    } in
+    let link : IfSome told' (LinkFits (after_half_close made) c.dropped) =
+    subst (λ n. IfSome told' (LinkFits (after_half_close made) n)) (sym none)
+    (subst (λ o. IfSome o (LinkFits (after_half_close made) 0)) (sym told_is) (told-shut_link made c.told (open-link c held.conn not_shut'))) in
+    subst (λ x. IsHeld known (leaving c told' counts' x c.dropped) plan u) (sym last_is)
+    (record {
+      conn = conn-leaving c told' counts' (after_half_close made) c.dropped held.conn step (shut-fits made c told' counts' none only.faults) link;
+      planned = held.planned;
+      unsent = held.unsent;
+      outside = outside-shut known c.told told' c.reader.limits c.site made told_is held.outside;
+    })
 
 -- ## Dropping
 
@@ -200,10 +260,10 @@ drop-fits left.LinkFailed c told' counts' dropped' drops =
     (below dropped' drops.most drops.sated, rises-some c.counts.faults counts'.faults drops.faults)
 
 -- a connection holds after a turn of lingering
-pub held-dropped : (known : Option KnownOutside) (c seen : SeenConn) (size : ℕ) (told' : Option LinkTold) (counts' : LinkCounts) (dropped' : ℕ) (answer : LingerTurn) (last : LastLinger)
-    → IsHeld known c size → c ≡ seen → lingers seen.linger ≡ true → DropsOn c.told told' c.counts counts' c.dropped dropped' answer
-    → last ≡ after_linger answer → IsHeld known (leaving c told' counts' last dropped') size
-held-dropped known c seen size told' counts' dropped' answer last held is lingering drops last_is =
+pub held-dropped : (known : Option KnownOutside) (c seen : SeenConn) (plan : Option Plan) (u : Unsent) (told' : Option LinkTold) (counts' : LinkCounts) (dropped' : ℕ) (answer : LingerTurn) (last : LastLinger)
+    → IsHeld known c plan u → c ≡ seen → lingers seen.linger ≡ true → DropsOn c.told told' c.counts counts' c.dropped dropped' answer
+    → last ≡ after_linger answer → IsHeld known (leaving c told' counts' last dropped') plan u
+held-dropped known c seen plan u told' counts' dropped' answer last held is lingering drops last_is =
     let shut : is_half_closed c.linger ≡ true =
     half_closed-lingering c.linger (ap (λ (x : SeenConn). lingers x.linger) is ∙ lingering) in
     let step : IsStep c told' counts' = record {
@@ -216,9 +276,10 @@ held-dropped known c seen size told' counts' dropped' answer last held is linger
     let link : IfSome told' (LinkFits (after_linger answer) dropped') =
     subst (λ o. IfSome o (LinkFits (after_linger answer) dropped')) (sym drops.told_is)
     (told-dropped_link drops.got c.linger (after_linger answer) c.dropped dropped' c.told shut (half_closed-after answer) drops.gives drops.dropped_is held.conn.link) in
-    subst (λ x. IsHeld known (leaving c told' counts' x dropped') size) (sym last_is)
+    subst (λ x. IsHeld known (leaving c told' counts' x dropped') plan u) (sym last_is)
     (record {
       conn = conn-leaving c told' counts' (after_linger answer) dropped' held.conn step (drop-fits answer c told' counts' dropped' drops) link;
-      size_is = held.size_is;
-      client = client-received known c.told told' (length drops.got) drops.told_is held.client;
+      planned = held.planned;
+      unsent = held.unsent;
+      outside = outside-received known c.told told' c.reader.limits c.reader.limits c.site (length drops.got) drops.told_is refl held.outside;
     })

@@ -1,70 +1,99 @@
--- What holds of the link of a connection over its turns, while it isn't on its way out.
-use Rattle.std.proofs.Common.{◌≡◌, ℕ, List, [], ◌++◌, take, length, Option, Some, None, option_map, IfSome, refl, sym, ap, subst, ◌∙◌}
-use Rattle.std.proofs.lemmas.List.{append-nil, nil_from_length}
-use Rattle.mpm_base.specs.Link.{LinkTold, with_received}
-use Rattle.conn_state.specs.declared.turn.LastLinger.TheVariants as linger
-use Rattle.conn_state.specs.Conn.{SeenConn, LinkFits, LingerFits, IsConn}
-use Rattle.conn_state.specs.Turns.{with_sent}
+-- Several reads of a link are one.
+use Rattle.std.proofs.Common.{◌≡◌, ◌==◌, ℕ, ◌+◌, ◌≤◌, Bool, true, false, List, [], ◌++◌, take, drop, length, Option, Some, None, option_map, IfSome, if◌then◌else◌, refl, sym, ap, subst, ◌∙◌, arith, append_assoc, length-append}
+use Rattle.std.proofs.Math.Seq.{take-add}
+use Rattle.std.proofs.lemmas.List.{drop-drop, append-nil, length-take-le}
+use Rattle.mpm_base.specs.Count.{NeverFalls, RisesWhere}
+use Rattle.mpm_base.specs.Link.{LinkTold, GivesNext, with_received}
+use Rattle.mpm_base.specs.declared.link.Got.TheVariants as got
 
--- what was received before the half-close, while there was none
-pub before-open : (n : ℕ) (t : LinkTold) → t.shuts ≡ 0 → (with_received n t).before_shut ≡ t.before_shut ++ take n t.coming
-before-open n t is = rw is refl
+-- ## Counts
 
--- what was received before the half-close, once there was one
-pub before-shut : (n : ℕ) (t : LinkTold) → t.shuts ≡ 1 → (with_received n t).before_shut ≡ t.before_shut
-before-shut n t is = rw is refl
+-- a count that never falls, and then rises where the test holds, rises there
+pub rises-after : (test : Bool) (old mid new : ℕ) → NeverFalls old mid → RisesWhere test mid new → RisesWhere test old new
+rises-after true old mid new first later = (omega (arith, first, later.0), λ below. grind (arith, first, later.0, later.1, below))
+rises-after false old mid new first later = omega (arith, first, later)
 
--- where nothing was dropped, all that was received came before the half-close
-pub same-before : (t : LinkTold) (behind : List ℕ) → t.received ≡ t.before_shut ++ behind → length behind ≡ 0 → t.received ≡ t.before_shut
-same-before t behind is none = is ∙ ap (λ xs. t.before_shut ++ xs) (nil_from_length behind none) ∙ append-nil t.before_shut
+-- ## Reading
 
--- an open link stays open when it gives bytes
-open-received : (n : ℕ) (t : LinkTold) → LinkFits linger.Open 0 t → LinkFits linger.Open 0 (with_received n t)
-open-received n t l = record {
-  closes = l.closes;
-  shuts = l.shuts;
-  behind = [];
-  received = ap (λ xs. xs ++ take n t.coming) (same-before t l.behind l.received l.count) ∙ sym (before-open n t l.shuts)
-      ∙ sym (append-nil ((with_received n t).before_shut));
-  count = refl;
-}
+-- bytes before the half-close, received in two steps
+before-twice : (open_still : Bool) (before first second : List ℕ)
+    → (if open_still then (if open_still then before ++ first else before) ++ second else (if open_still then before ++ first else before))
+    ≡ (if open_still then before ++ (first ++ second) else before)
+before-twice true before first second = append_assoc before first second
+before-twice false before first second = refl
 
--- it stays open when it takes bytes
-open-sent : (sent : List ℕ) (t : LinkTold) → LinkFits linger.Open 0 t → LinkFits linger.Open 0 (with_sent sent t)
-open-sent sent t l = record { closes = l.closes; shuts = l.shuts; behind = l.behind; received = l.received; count = l.count }
-
--- the same of a link that may tell
-pub told-open_received : (n : ℕ) (told : Option LinkTold) → IfSome told (LinkFits linger.Open 0) → IfSome (option_map (with_received n) told) (LinkFits linger.Open 0)
-told-open_received n None l = tt
-told-open_received n (Some t) l = open-received n t l
-
--- the same of a link that may tell
-pub told-open_sent : (sent : List ℕ) (told : Option LinkTold) → IfSome told (LinkFits linger.Open 0) → IfSome (option_map (with_sent sent) told) (LinkFits linger.Open 0)
-told-open_sent sent None l = tt
-told-open_sent sent (Some t) l = open-sent sent t l
-
--- a connection that isn't on its way out dropped nothing
-pub open-none : (c : SeenConn) → IsConn c → c.linger ≡ linger.Open → c.dropped ≡ 0
-open-none c is not_shut = subst (λ last. LingerFits last c) not_shut is.linger_fits
-
--- its link is open
-pub open-link : (c : SeenConn) → IsConn c → c.linger ≡ linger.Open → IfSome c.told (LinkFits linger.Open 0)
-open-link c is not_shut =
-    subst (λ n. IfSome c.told (LinkFits linger.Open n)) (open-none c is not_shut)
-    (subst (λ last. IfSome c.told (LinkFits last c.dropped)) not_shut is.link)
-
--- what holds of a connection on its way out, or before that
-pub record IsOnItsWay (c : SeenConn) : Type 0 where
-  pub fits : LingerFits c.linger c
-  pub link : IfSome c.told (LinkFits c.linger c.dropped)
-
--- a turn that leaves the link open leaves the connection as far on its way out as it was
-pub still-open : (c c' : SeenConn) → IsConn c → c.linger ≡ linger.Open → c'.linger ≡ c.linger → c'.dropped ≡ c.dropped
-    → IfSome c'.told (LinkFits linger.Open 0) → IsOnItsWay c'
-still-open c c' is not_shut same none link =
-    let last : c'.linger ≡ linger.Open = same ∙ not_shut in
-    let dropped : c'.dropped ≡ 0 = none ∙ open-none c is not_shut in
-    record {
-      fits = subst (λ x. LingerFits x c') (sym last) dropped;
-      link = subst (λ x. IfSome c'.told (LinkFits x c'.dropped)) (sym last) (subst (λ n. IfSome c'.told (LinkFits linger.Open n)) (sym dropped) link);
+-- bytes received in two steps were received
+received-twice : (a b : ℕ) (t : LinkTold) → with_received b (with_received a t) ≡ with_received (a + b) t
+received-twice a b t =
+    let joined : take a t.coming ++ take b (drop a t.coming) ≡ take (a + b) t.coming = sym (take-add a b t.coming) in
+    λ i. record {
+      received = (append_assoc t.received (take a t.coming) (take b (drop a t.coming)) ∙ ap (λ xs. t.received ++ xs) joined) i;
+      before_shut = (before-twice (t.shuts == 0) t.before_shut (take a t.coming) (take b (drop a t.coming))
+          ∙ ap (λ xs. if t.shuts == 0 then t.before_shut ++ xs else t.before_shut) joined) i;
+      coming = drop-drop b a t.coming i;
+      sent = t.sent;
+      shuts = t.shuts;
+      closes = t.closes;
+      rank = t.rank;
     }
+
+-- the same of a link that may tell
+told-received_twice : (a b : ℕ) (told : Option LinkTold) → option_map (with_received b) (option_map (with_received a) told) ≡ option_map (with_received (a + b)) told
+told-received_twice a b None = refl
+told-received_twice a b (Some t) = ap Some (received-twice a b t)
+
+-- what is given in two steps comes next
+gives-twice : (told : Option LinkTold) (a b : List ℕ) → IfSome told (λ t. a ≡ take (length a) t.coming)
+    → IfSome (option_map (with_received (length a)) told) (λ t. b ≡ take (length b) t.coming)
+    → IfSome told (λ t. a ++ b ≡ take (length (a ++ b)) t.coming)
+gives-twice None a b first second = tt
+gives-twice (Some t) a b first second =
+    rw (length-append a b, take-add (length a) (length b) t.coming)
+    (ap (λ xs. xs ++ b) first ∙ ap (λ xs. take (length a) t.coming ++ xs) second)
+
+-- nothing is received
+received-none : (t : LinkTold) → t ≡ with_received 0 t
+received-none t = λ i. record {
+  received = sym (append-nil t.received) i;
+  before_shut = before-none (t.shuts == 0) t.before_shut i;
+  coming = t.coming;
+  sent = t.sent;
+  shuts = t.shuts;
+  closes = t.closes;
+  rank = t.rank;
+}
+  where
+    -- no byte came before the half-close
+    before-none : (open_still : Bool) (before : List ℕ) → before ≡ (if open_still then before ++ [] else before)
+    before-none true before = sym (append-nil before)
+    before-none false before = refl
+
+-- the same of a link that may tell
+pub told-received_none : (told : Option LinkTold) → told ≡ option_map (with_received 0) told
+told-received_none None = refl
+told-received_none (Some t) = ap Some (received-none t)
+
+-- no byte comes next
+pub gives-none : (told : Option LinkTold) → IfSome told (λ t. [] ≡ take (length {A = ℕ} []) t.coming)
+gives-none None = tt
+gives-none (Some t) = refl
+
+module _ (told told1 told2 : Option LinkTold) where
+  -- two receipts are one
+  pub told-joined : (a b : List ℕ) → told1 ≡ option_map (with_received (length a)) told → told2 ≡ option_map (with_received (length b)) told1
+      → told2 ≡ option_map (with_received (length (a ++ b))) told
+  told-joined a b first second =
+      second ∙ ap (λ o. option_map (with_received (length b)) o) first ∙ told-received_twice (length a) (length b) told
+      ∙ ap (λ n. option_map (with_received n) told) (sym (length-append a b))
+
+  -- what both gave comes next
+  pub gives-joined : (a b : List ℕ) → told1 ≡ option_map (with_received (length a)) told → IfSome told (λ t. a ≡ take (length a) t.coming)
+      → IfSome told1 (λ t. b ≡ take (length b) t.coming) → IfSome told (λ t. a ++ b ≡ take (length (a ++ b)) t.coming)
+  gives-joined a b is first second =
+      gives-twice told a b first (subst (λ o. IfSome o (λ t. b ≡ take (length b) t.coming)) is second)
+
+-- what a read gave comes next
+pub gives-taken : (told : Option LinkTold) (count : ℕ) (buffer : List ℕ) → count ≤ length buffer → IfSome told (GivesNext (got.Got count) buffer)
+    → IfSome told (λ t. take count buffer ≡ take (length (take count buffer)) t.coming)
+gives-taken None count buffer fits gives = tt
+gives-taken (Some t) count buffer fits gives = rw (length-take-le count buffer fits) gives.1

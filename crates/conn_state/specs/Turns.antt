@@ -1,8 +1,9 @@
 -- What each turn of a connection leaves of it.
-use Rattle.std.specs.Prelude.{◌≡◌, ◌==◌, ℕ, ◌<◌, ◌+◌, Bool, true, false, not, List, [], ◌∷◌, ◌++◌, take, length, option_map, IfSome, ⊤}
+use Rattle.std.specs.Prelude.{◌≡◌, ◌==◌, ℕ, ◌+◌, Bool, true, false, not, ◌||◌, List, [], ◌∷◌, ◌++◌, take, drop, length, option_map, Some, IfSome, ⊤}
 use Rattle.mpm_base.specs.Count.{RisesWhere, RisesExactlyWhere}
-use Rattle.mpm_base.specs.Link.{LinkTold, OnlyFaults, with_received, after_shut}
+use Rattle.mpm_base.specs.Link.{OnlyFaults, with_received, after_shut}
 use Rattle.mpm_base.specs.declared.note.Note.{Note}
+use Rattle.http_core.specs.Code.{continue_text}
 use Rattle.conn_state.specs.declared.turn.LastTurn.{LastTurn}
 use Rattle.conn_state.specs.declared.turn.LastTurn.TheVariants as turn
 use Rattle.conn_state.specs.declared.turn.ReadTurn.{ReadTurn}
@@ -13,9 +14,12 @@ use Rattle.conn_state.specs.declared.turn.LingerTurn.{LingerTurn}
 use Rattle.conn_state.specs.declared.turn.LingerTurn.TheVariants as left
 use Rattle.conn_state.specs.declared.turn.LastLinger.{LastLinger}
 use Rattle.conn_state.specs.declared.turn.LastLinger.TheVariants as linger
-use Rattle.conn_state.specs.Items.{Item, BeginsItem, IsAskedIn, SpellsNone}
-use Rattle.conn_state.specs.Response.{IsResponse}
-use Rattle.conn_state.specs.Replies.{IsNoteFor, first_part}
+use Rattle.conn_state.specs.Items.{Item, BeginsItem}
+use Rattle.conn_state.specs.Replies.{IsNoteFor, IsResponse, first_part}
+use Rattle.conn_state.specs.Rest.{is_awaited}
+use Rattle.conn_state.specs.Reader.{SeenReader, StandsFor, item_kept, AsksKeptItem, AwaitsMore, AsksInNeed}
+use Rattle.conn_state.specs.Follows.{what_follows}
+use Rattle.conn_state.specs.Writing.{is_not_ready, is_write_failure, WriteLeaves, with_sent}
 use Rattle.conn_state.specs.Conn.{SeenConn}
 
 -- ## Reading
@@ -23,10 +27,16 @@ use Rattle.conn_state.specs.Conn.{SeenConn}
 -- the connection after a turn of reading that answered so
 abbrev pub after_reading : ReadTurn → LastTurn
 after_reading (read.Asked ask) = turn.Asked ask
+after_reading read.Interim = turn.Interim
 after_reading read.More = turn.More
 after_reading read.Gone = turn.Gone
 after_reading read.LinkFailed = turn.LinkFailed
 after_reading read.NoMemory = turn.NoMemory
+
+-- the client is to be told to send the body
+abbrev pub is_interim : ReadTurn → Bool
+is_interim read.Interim = true
+is_interim other = false
 
 -- the turn found that more has to come
 abbrev pub is_more : ReadTurn → Bool
@@ -43,44 +53,59 @@ abbrev pub is_read_failure : ReadTurn → Bool
 is_read_failure read.LinkFailed = true
 is_read_failure other = false
 
--- what a turn of reading found in the bytes that it has: the next item, or that there is none yet
-abbrev pub ReadFinds : ReadTurn → List ℕ → Type 0
-ReadFinds (read.Asked ask) rest = IsAskedIn rest ask
-ReadFinds read.More rest = SpellsNone rest
-ReadFinds read.Gone rest = SpellsNone rest
-ReadFinds read.LinkFailed rest = SpellsNone rest
-ReadFinds read.NoMemory rest = ⊤
+-- what is pending after a turn of reading: what tells the client to send the body, where it is to be told
+abbrev pub pending_after : ReadTurn → List ℕ → List ℕ
+pending_after read.Interim pending = continue_text
+pending_after other pending = pending
 
--- the bytes that the link gave stand behind the rest, unless memory lacked
-abbrev pub KeepsRead : ReadTurn → List ℕ → List ℕ → List ℕ → Type 0
-KeepsRead read.NoMemory got rest rest' = ⊤
-KeepsRead other got rest rest' = rest' ≡ rest ++ got
+-- what is kept stands for all that came, unless memory lacked
+abbrev pub KeepsRead : ReadTurn → SeenReader → List ℕ → Type 0
+KeepsRead read.NoMemory r rest = ⊤
+KeepsRead other r rest = StandsFor r rest
+
+-- a client is found that waits only where the turn says so, unless memory lacked to tell it
+abbrev pub FindsClient : ReadTurn → SeenReader → SeenReader → Type 0
+FindsClient read.NoMemory old new = ⊤
+FindsClient other old new = is_awaited new.stage ≡ (is_awaited old.stage || is_interim other)
+
+-- what a turn of reading found in the bytes that came: the next item, an accepted head whose client waits, or that more has to come
+abbrev pub ReadFinds : ReadTurn → SeenConn → List ℕ → Type 0
+ReadFinds (read.Asked ask) c rest = AsksKeptItem c.site c.reader.limits c.reader.stage rest ask
+ReadFinds read.Interim c rest = is_awaited c.reader.stage ≡ true
+ReadFinds read.More c rest = AwaitsMore c.reader rest
+ReadFinds read.Gone c rest = AwaitsMore c.reader rest
+ReadFinds read.LinkFailed c rest = AwaitsMore c.reader rest
+ReadFinds read.NoMemory c rest = ⊤
 
 -- a turn of reading takes what the link gives
 pub record ReadsOn (old new : SeenConn) (answer : ReadTurn) : Type 0 where
   pub name : new.name ≡ old.name
   pub child : new.child ≡ old.child
   pub generation : new.generation ≡ old.generation
+  pub site : new.site ≡ old.site
+  pub limits : new.reader.limits ≡ old.reader.limits
   pub notes : new.notes ≡ old.notes
-  pub pending : new.pending ≡ old.pending
+  pub pending : new.pending ≡ pending_after answer old.pending
   pub turn : new.turn ≡ after_reading answer
   pub linger : new.linger ≡ old.linger
   pub dropped : new.dropped ≡ old.dropped
-  pub finds : ReadFinds answer new.rest
   pub got : List ℕ
-  pub rest : KeepsRead answer got old.rest new.rest
   pub told : new.told ≡ option_map (with_received (length got)) old.told
   pub gives : IfSome old.told (λ t. got ≡ take (length got) t.coming)
+  pub asks : (rest : List ℕ) → StandsFor old.reader rest → AsksInNeed old.reader rest got
+  pub stands : (rest : List ℕ) → StandsFor old.reader rest → KeepsRead answer new.reader (rest ++ got)
+  pub finds : (rest : List ℕ) → StandsFor old.reader rest → ReadFinds answer new (rest ++ got)
+  pub told_once : FindsClient answer old.reader new.reader
+  pub not_twice : is_interim answer ≡ true → is_awaited old.reader.stage ≡ false
   pub faults : RisesWhere (is_read_failure answer) old.counts.faults new.counts.faults
   pub late_reads : RisesExactlyWhere (is_more answer) old.counts.late_reads new.counts.late_reads
   pub ends : RisesExactlyWhere (is_gone answer) old.counts.ends new.counts.ends
   pub late_writes : new.counts.late_writes ≡ old.counts.late_writes
 
--- the link was asked for nothing
+-- the link tells and counts what it did before
 pub record AsksNothing (old new : SeenConn) : Type 0 where
   pub told : new.told ≡ old.told
   pub counts : new.counts ≡ old.counts
-  pub rest : new.rest ≡ old.rest
 
 -- ## Answering
 
@@ -89,15 +114,22 @@ abbrev pub IsNoteOf : LastTurn → Note → Type 0
 IsNoteOf (turn.Asked ask) note = IsNoteFor ask note
 IsNoteOf other note = ⊥
 
--- the next item of the bytes has a response, which is to be sent
+-- the item stands at the front of the bytes, and the reader goes on behind it
+pub record LeavesItem (item : Item) (old new : SeenReader) (rest : List ℕ) : Type 0 where
+  pub size : ℕ
+  pub begins : BeginsItem old.limits rest item size
+  pub stands : StandsFor new (drop size rest)
+
+-- the next item of the bytes, which was read, has a response, which is to be sent behind what is sent before it
 pub record TakesNote (note : Note) (old new : SeenConn) : Type 0 where
   pub item : Item
-  pub behind : List ℕ
+  pub kept : item_kept old.reader.stage ≡ Some item
+  pub first : what_follows old.notes old.reader.stage ≡ first_part item
   pub response : List ℕ
-  pub begins : BeginsItem old.rest item behind
-  pub is_response : IsResponse item note response
-  pub new_is : new
-      ≡ record old { notes = old.notes ++ note ∷ []; pending = first_part item ++ response; rest = behind; turn = turn.Answered }
+  pub leaves : (rest : List ℕ) → StandsFor old.reader rest → LeavesItem item old.reader new.reader rest
+  pub is_response : IsResponse old.site item note response
+  pub limits : new.reader.limits ≡ old.reader.limits
+  pub new_is : new ≡ record old { notes = old.notes ++ note ∷ []; pending = response; reader = new.reader; turn = turn.Answered }
 
 -- ## Writing
 
@@ -107,35 +139,14 @@ after_writing write.Done = turn.Done
 after_writing write.NotReady = turn.NotReady
 after_writing write.LinkFailed = turn.LinkFailed
 
--- the turn found no room to write
-abbrev pub is_not_ready : WriteTurn → Bool
-is_not_ready write.Done = false
-is_not_ready write.NotReady = true
-is_not_ready write.LinkFailed = false
-
--- a write of the turn failed
-abbrev pub is_write_failure : WriteTurn → Bool
-is_write_failure write.Done = false
-is_write_failure write.NotReady = false
-is_write_failure write.LinkFailed = true
-
--- what is left to send: nothing, or something
-abbrev pub WriteLeaves : WriteTurn → List ℕ → Type 0
-WriteLeaves write.Done pending = pending ≡ []
-WriteLeaves write.NotReady pending = 0 < length pending
-WriteLeaves write.LinkFailed pending = 0 < length pending
-
--- the bytes were sent
-abbrev pub with_sent : List ℕ → LinkTold → LinkTold
-with_sent bytes t = record t { sent = t.sent ++ bytes }
-
 -- a turn of writing sends a front of what is pending
 pub record WritesOn (old new : SeenConn) (answer : WriteTurn) : Type 0 where
   pub name : new.name ≡ old.name
   pub child : new.child ≡ old.child
   pub generation : new.generation ≡ old.generation
+  pub site : new.site ≡ old.site
   pub notes : new.notes ≡ old.notes
-  pub rest : new.rest ≡ old.rest
+  pub reader : new.reader ≡ old.reader
   pub turn : new.turn ≡ after_writing answer
   pub linger : new.linger ≡ old.linger
   pub dropped : new.dropped ≡ old.dropped
@@ -160,9 +171,10 @@ pub record ShutsOn (old new : SeenConn) (answer : Bool) : Type 0 where
   pub name : new.name ≡ old.name
   pub child : new.child ≡ old.child
   pub generation : new.generation ≡ old.generation
+  pub site : new.site ≡ old.site
   pub notes : new.notes ≡ old.notes
   pub pending : new.pending ≡ old.pending
-  pub rest : new.rest ≡ old.rest
+  pub reader : new.reader ≡ old.reader
   pub turn : new.turn ≡ old.turn
   pub linger : new.linger ≡ after_half_close answer
   pub dropped : new.dropped ≡ old.dropped
@@ -209,9 +221,10 @@ pub record LingersOn (old new : SeenConn) (answer : LingerTurn) : Type 0 where
   pub name : new.name ≡ old.name
   pub child : new.child ≡ old.child
   pub generation : new.generation ≡ old.generation
+  pub site : new.site ≡ old.site
   pub notes : new.notes ≡ old.notes
   pub pending : new.pending ≡ old.pending
-  pub rest : new.rest ≡ old.rest
+  pub reader : new.reader ≡ old.reader
   pub turn : new.turn ≡ old.turn
   pub linger : new.linger ≡ after_linger answer
   pub got : List ℕ

@@ -1,45 +1,59 @@
 //! One connection over its link.
-ghost use Rattle.std.specs.Prelude.{◌≡◌, ◌==◌, ◌<◌, true, false, not, [], ◌∷◌, ◌++◌, length, IfSome, IfOk, OnOk, OnErr};
+ghost use Rattle.std.specs.Prelude.{◌≡◌, ℕ, List, ◌==◌, ◌<◌, true, false, not, Bool, [], ◌∷◌, ◌++◌, length, Some, None, IfSome, IfOk, OnOk, OnErr};
 ghost use Rattle.std.proofs.Common.{inl, inr};
 ghost use Rattle.mpm_base.specs.Moment.{IsSecond};
 ghost use Rattle.mpm_base.specs.Notes.{says_last};
-ghost use Rattle.mpm_base.specs.declared.conn.Ask.{Ask};
-ghost use Rattle.http_read.specs.declared.root_head.RootHead.{RootHead};
+ghost use Rattle.http_read.specs.RequestParts.{RequestParts};
+ghost use Rattle.http_core.specs.Ask.{IsServedOf, plan_for};
+ghost use Rattle.http_core.specs.Code.{refuses_head};
+ghost use Rattle.conn_state.specs.Replies.{IsResponse};
+ghost use Rattle.conn_state.specs.Outgoing.{IsUnsentOf, pending_bytes};
 ghost use Rattle.conn_state.specs.declared.turn.LastTurn.TheVariants as turn;
 ghost use Rattle.conn_state.specs.declared.turn.LastLinger.TheVariants as linger;
-ghost use Rattle.conn_state.specs.Items.{IsAskedIn};
-ghost use Rattle.conn_state.specs.Known.{IsOfClient};
-ghost use Rattle.conn_state.specs.Conn.{IsConn, IsFresh, is_usable, lingers, new_conn};
-ghost use Rattle.conn_state.specs.Turns.{ReadsOn, AsksNothing, IsNoteOf, TakesNote, WritesOn, ShutsOn, LingersOn};
-ghost use Rattle.conn_state.specs.Answered.{IsShown, IsEnded, IsEndOf};
-ghost use Rattle.conn_state.specs.Response.{IsResponse};
+ghost use Rattle.conn_state.specs.Reader.{IsAnswerable, StandsFor, keeps_none};
+ghost use Rattle.conn_state.specs.Known.{IsOfClient, IsOfEdition, IsOfOutside};
+ghost use Rattle.conn_state.specs.Conn.{IsConn, IsFresh, is_usable, lingers};
+ghost use Rattle.conn_state.specs.Turns.{AsksNothing, IsNoteOf, KeepsRead, LingersOn, ReadsOn, ShutsOn, TakesNote, WritesOn};
+ghost use Rattle.conn_state.specs.Answered.{IsEnded, IsEndOf, IsShown};
 
-use crate::buffers::{Pending, Received};
 use crate::ended::Ended;
-use crate::exchange::{drop_rest, read_item, send};
+use crate::exchange::{ReadAnswer, read_item};
 use crate::known::{Known, Nothing};
-use crate::laws::first_items_stay;
-use crate::response::response;
+use crate::laws::{
+    answered_items_go_on, answered_items_stay, follows_what_was_read, kept_bytes_go_on,
+    kept_bytes_show_empty_rests, refusals_have_their_codes, replies_go_on, responses_have_bytes,
+    steps_wait_for_requests,
+};
+use crate::linger::drop_rest;
+use crate::outgoing::{Outgoing, send};
+use crate::reader::RequestReader;
+use crate::responses::{refuse, respond};
 use crate::turn::{LastLinger, LastTurn, LingerTurn, ReadTurn, WriteTurn};
+use file_table::Site;
+use http_core::Plan;
+use http_read::{Limits, keeps_answer, keeps_spelling};
 use mpm_base::{Cause, ConnName, Link, NoMemory, Note, Notes, Octets, Tail};
 use std::alloc::Global;
 use std::marker::{Model, PhantomData};
 use std::snapshot::Snapshot;
+use std::sync::Arc;
 
-/// A connection over a link. Where `N` knows what the clients send, the link is that of one of them.
+/// A connection over a link, served of the site of its generation. Where `N` knows the outside, the link is that of one of the
+/// clients, and its limits and its site are those of one of the editions.
 #[derive(Drop)]
 pub struct Conn<L: Link, N: Known> {
     alloc: Global,
     name: ConnName,
     child: u32,
     generation: u32,
+    site: Arc<Site>,
     link: L,
     notes: Notes,
-    pending: Pending,
-    rest: Received,
+    unsent: Outgoing,
+    reader: RequestReader,
     turn: LastTurn,
-    // How many bytes the item has that the last turn asked.
-    size: usize,
+    // The plan of the response to what the last turn asked; a refusal has none.
+    plan: Option<Plan>,
     linger: LastLinger,
     // How many bytes were dropped while it lingered.
     dropped: usize,
@@ -48,7 +62,8 @@ pub struct Conn<L: Link, N: Known> {
 
 impl<L: Link, N: Known> Model for Conn<L, N> {
     ghost use Rattle.conn_state.specs.Conn.{SeenConn};
-    ghost use Rattle.conn_state.specs.HeldInside.{IsHeld};
+    ghost use Rattle.conn_state.specs.ConnInside.{IsHeld};
+    ghost use Rattle.conn_state.specs.Outgoing.{pending_bytes};
 
     ghost Value = { SeenConn };
 
@@ -58,9 +73,10 @@ impl<L: Link, N: Known> Model for Conn<L, N> {
       name = c.name;
       child = c.child;
       generation = c.generation;
+      site = c.site.value;
       notes = c.notes;
-      pending = c.pending;
-      rest = c.rest;
+      pending = pending_bytes c.site.value c.unsent;
+      reader = c.reader;
       turn = c.turn;
       linger = c.linger;
       dropped = c.dropped;
@@ -72,42 +88,65 @@ impl<L: Link, N: Known> Model for Conn<L, N> {
       name = c.name;
       child = c.child;
       generation = c.generation;
+      site = c.site.value;
       notes = c.notes;
-      pending = c.pending;
-      rest = c.rest;
+      pending = pending_bytes c.site.value c.unsent;
+      reader = c.reader;
       turn = c.turn;
       linger = c.linger;
       dropped = c.dropped;
-    }) c.size };
+    }) c.plan c.unsent };
 }
 
 impl<L: Link, N: Known> Conn<L, N> {
     /// A connection of that name over a link of which nothing was read, and to which nothing was written. Takes no memory.
-    pub fn new(alloc: Global, name: ConnName, child: u32, generation: u32, link: L) -> Conn<L, N>
+    pub fn new(
+        alloc: Global,
+        name: ConnName,
+        child: u32,
+        generation: u32,
+        limits: Limits,
+        site: Arc<Site>,
+        link: L,
+    ) -> Conn<L, N>
         requires fresh { IfSome (L.seen link).told IsFresh }
         requires client { IsOfClient N.known (L.seen link).told }
-        ensures { result ≡ new_conn (L.seen link).told (L.seen link).counts name child generation }
+        requires edition { IsOfEdition N.known limits site.value }
+        ensures told { result.told ≡ (L.seen link).told }
+        ensures counts { result.counts ≡ (L.seen link).counts }
+        ensures name { result.name ≡ name }
+        ensures child { result.child ≡ child }
+        ensures generation { result.generation ≡ generation }
+        ensures limits { result.reader.limits ≡ limits }
+        ensures site { result.site ≡ site.value }
+        ensures notes { result.notes ≡ [] }
+        ensures pending { result.pending ≡ [] }
+        ensures stands { StandsFor result.reader [] }
+        ensures turn { result.turn ≡ turn.New }
+        ensures linger { result.linger ≡ linger.Open }
+        ensures dropped { result.dropped ≡ 0 }
     {
         Conn {
             alloc,
             name,
             child,
             generation,
+            site,
             link,
             notes: Notes::make(alloc),
-            pending: Pending::of(Octets::make(alloc)),
-            rest: Received::make(alloc),
+            unsent: Outgoing::of(Octets::make(alloc), None),
+            reader: RequestReader::new(alloc, limits),
             turn: LastTurn::New,
-            size: 0,
+            plan: None,
             linger: LastLinger::Open,
             dropped: 0,
             of: PhantomData,
         }
     }
 
-    /// The same connection, of a type that knows this of its link.
+    /// The same connection, of a type that knows this of its link, its limits and its site.
     pub fn known_as<M: Known>(self) -> Conn<L, M>
-        requires client { IsOfClient M.known self.told }
+        requires outside { IsOfOutside M.known self.told self.reader.limits self.site }
         ensures same { result ≡ self }
     {
         Conn {
@@ -115,12 +154,13 @@ impl<L: Link, N: Known> Conn<L, N> {
             name: self.name,
             child: self.child,
             generation: self.generation,
+            site: self.site,
             link: self.link,
             notes: self.notes,
-            pending: self.pending,
-            rest: self.rest,
+            unsent: self.unsent,
+            reader: self.reader,
             turn: self.turn,
-            size: self.size,
+            plan: self.plan,
             linger: self.linger,
             dropped: self.dropped,
             of: PhantomData,
@@ -134,10 +174,10 @@ impl<L: Link, N: Known> Conn<L, N> {
         self.known_as()
     }
 
-    /// Shows what holds of each connection, and what its type knows of its link. Does nothing.
+    /// Shows what holds of each connection, and what its type knows of its link, its limits and its site. Does nothing.
     pub fn show(&self)
         ensures conn { IsConn self.now }
-        ensures client { IsOfClient N.known self.now.told }
+        ensures outside { IsOfOutside N.known self.now.told self.now.reader.limits self.now.site }
     {
         let _ = &self.turn;
     }
@@ -160,14 +200,16 @@ impl<L: Link, N: Known> Conn<L, N> {
     pub fn pending(&self) -> bool
         ensures { result ≡ not (length self.now.pending == 0) }
     {
-        !self.pending.is_empty()
+        !self.unsent.is_empty()
     }
 
     /// Whether each byte that was read is one of an answered request.
     pub fn rest_empty(&self) -> bool
-        ensures { result ≡ (length self.now.rest == 0) }
+        ensures kept { result ≡ keeps_none self.now.reader }
+        ensures rest { (rest : List ℕ) → StandsFor self.now.reader rest → result ≡ (length rest == 0) }
     {
-        self.rest.is_empty()
+        kept_bytes_show_empty_rests();
+        self.reader.is_empty()
     }
 
     /// Whether there is a response.
@@ -184,20 +226,32 @@ impl<L: Link, N: Known> Conn<L, N> {
         self.notes.says_last()
     }
 
-    /// Reads until a request is whole or refused, or the link gives no more. The link is asked only while there is neither.
+    /// Reads until a request is whole or refused, its client is to be told to send the body, or the link gives no more. The link is
+    /// asked only while there is none of these.
     pub fn read_turn(&mut self) -> ReadTurn
         requires usable { is_usable self.old.turn ≡ true }
         requires sent { self.old.pending ≡ [] }
         requires open { says_last self.old.notes ≡ false }
         requires not_shut { self.old.linger ≡ linger.Open }
         ensures reads { ReadsOn self.old self.new result }
-        ensures still { (ask : Ask) → IsAskedIn self.old.rest ask → AsksNothing self.old self.new }
+        ensures still { (rest : List ℕ) → StandsFor self.old.reader rest → IsAnswerable self.old.reader rest
+            → AsksNothing self.old self.new × KeepsRead result self.new.reader rest }
     {
-        first_items_stay();
-        let reading = read_item(self.alloc, &mut self.link, &mut self.rest);
-        self.turn = reading.turn.leaves();
-        self.size = reading.size;
-        reading.turn
+        keeps_answer();
+        keeps_spelling();
+        answered_items_stay();
+        kept_bytes_go_on();
+        follows_what_was_read();
+        let ReadAnswer { turn, plan } = read_item(
+            self.alloc,
+            &mut self.link,
+            &self.site,
+            &mut self.reader,
+            &mut self.unsent,
+        );
+        self.turn = turn.leaves();
+        self.plan = plan;
+        turn
     }
 
     /// Takes the note of the response to what the last turn asked. The response becomes pending. Where memory lacks nothing
@@ -209,10 +263,15 @@ impl<L: Link, N: Known> Conn<L, N> {
         ensures ok { OnOk result (TakesNote note self.old self.new) }
         ensures err { OnErr result (self.new ≡ record self.old { turn = turn.NoMemory }) }
     {
-        match take_note(self.alloc, &mut self.notes, note) {
-            Ok(bytes) => {
-                self.pending = Pending::of(bytes);
-                self.rest.skip(self.size);
+        answered_items_go_on();
+        replies_go_on();
+        responses_have_bytes();
+        follows_what_was_read();
+        refusals_have_their_codes();
+        match take_note(self.alloc, &self.site, &self.plan, &mut self.notes, note) {
+            Ok(unsent) => {
+                self.unsent = unsent;
+                self.reader.leave_item();
                 self.turn = LastTurn::Answered;
                 Ok(())
             }
@@ -223,19 +282,21 @@ impl<L: Link, N: Known> Conn<L, N> {
         }
     }
 
-    /// Sends what is pending, until the link has no room. Takes no memory.
+    /// Sends what is pending, until the link has no room. Takes no memory, and holds none for what is pending where nothing is.
     pub fn write_turn(&mut self) -> WriteTurn
         requires usable { is_usable self.old.turn ≡ true }
         requires not_shut { self.old.linger ≡ linger.Open }
         ensures { WritesOn self.old self.new result }
     {
-        let turn = send(&mut self.link, &mut self.pending);
+        follows_what_was_read();
+        let turn = send(self.alloc, &mut self.link, &self.site, &mut self.unsent);
         self.turn = turn.leaves();
         turn
     }
 
     /// Half-closes the link: the client is told that no more comes. False where the call failed. Takes no memory.
     pub fn shut(&mut self) -> bool
+        requires usable { is_usable self.old.turn ≡ true }
         requires not_shut { self.old.linger ≡ linger.Open }
         ensures { ShutsOn self.old self.new result }
     {
@@ -260,20 +321,23 @@ impl<L: Link, N: Known> Conn<L, N> {
         requires shown { IsShown cause tail self }
         ensures ends { IsEndOf self cause tail result }
         ensures ended { IsEnded result }
-        ensures client { IsOfClient N.known result.told }
+        ensures outside { IsOfOutside N.known result.told result.limits result.site }
     {
-        first_items_stay();
+        follows_what_was_read();
+        steps_wait_for_requests();
+        kept_bytes_show_empty_rests();
         let Conn {
             alloc: _,
             name,
             child,
             generation,
+            site,
             mut link,
             notes,
-            pending: _,
-            rest: _,
+            unsent: _,
+            reader,
             turn,
-            size: _,
+            plan: _,
             linger,
             dropped: _,
             of: _,
@@ -287,21 +351,44 @@ impl<L: Link, N: Known> Conn<L, N> {
             cause,
             tail,
             link,
+            site: Snapshot::of(&*site),
+            limits: Snapshot::of(&reader.limits()),
             turn: Snapshot::of(&turn),
             linger: Snapshot::of(&linger),
         }
     }
 }
 
-/// Makes the response of the note, and puts the note behind the others. Where memory lacks nothing changes.
-fn take_note(alloc: Global, notes: &mut Notes, note: Note) -> Result<Octets, NoMemory>
-    requires { IsSecond note.date }
+/// Makes the response of the note, by the plan of a request or to a refusal, and puts the note behind the others. Where memory
+/// lacks nothing changes.
+fn take_note(
+    alloc: Global,
+    site: &Site,
+    plan: &Option<Plan>,
+    notes: &mut Notes,
+    note: Note,
+) -> Result<Outgoing, NoMemory>
+    requires date { IsSecond note.date }
+    requires served { IfSome plan.now (λ p. IsServedOf site.now p.served) }
+    requires code { plan.now ≡ None → refuses_head note.code ≡ true }
     ensures ok { OnOk result (notes.new ≡ notes.old ++ note ∷ []) }
-    ensures file { note.code ≡ 200 → IfOk result (λ bytes. (request : RootHead) → IsResponse (inl request) note bytes) }
-    ensures refusal { ¬ (note.code ≡ 200) → IfOk result (IsResponse (inr note.code) note) }
+    ensures planned { IfOk result (λ unsent. (request : RequestParts) → plan.now ≡ Some (plan_for site.now request)
+        → IsResponse site.now (inl request) note (pending_bytes site.now unsent)) }
+    ensures refused { IfOk result (λ unsent. plan.now ≡ None → (expected : Bool)
+        → IsResponse site.now (inr (record { code = note.code; expected = expected })) note (pending_bytes site.now unsent)) }
+    ensures of { IfOk result (IsUnsentOf site.now) }
     ensures err { OnErr result (notes.new ≡ notes.old) }
 {
-    let bytes = response(alloc, &note)?;
-    notes.push(note)?;
-    Ok(bytes)
+    match plan {
+        Some(plan) => {
+            let unsent = respond(alloc, site, plan, &note)?;
+            notes.push(note)?;
+            Ok(unsent)
+        }
+        None => {
+            let unsent = refuse(alloc, &note)?;
+            notes.push(note)?;
+            Ok(unsent)
+        }
+    }
 }

@@ -1,5 +1,7 @@
 //! A connection that ended.
 use crate::turn::{LastLinger, LastTurn};
+use file_table::Site;
+use http_read::Limits;
 use mpm_base::{Cause, ConnName, Link, Notes, Tail};
 use std::marker::Model;
 use std::snapshot::Snapshot;
@@ -21,7 +23,10 @@ pub struct Ended<L: Link> {
     pub tail: Tail,
     /// Its link, which is closed.
     pub link: L,
-    // What its last turn answered, and how far it was on its way out, which only contracts see.
+    // The site of its generation, the limits of its heads, what its last turn answered, and how far it was on its way out, which only
+    // contracts see.
+    pub(crate) site: Snapshot<Site>,
+    pub(crate) limits: Snapshot<Limits>,
     pub(crate) turn: Snapshot<LastTurn>,
     pub(crate) linger: Snapshot<LastLinger>,
 }
@@ -37,6 +42,8 @@ impl<L: Link> Model for Ended<L> {
       name = e.name;
       child = e.child;
       generation = e.generation;
+      site = e.site.value;
+      limits = e.limits.value;
       notes = e.notes;
       cause = e.cause;
       tail = e.tail;

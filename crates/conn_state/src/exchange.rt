@@ -1,128 +1,87 @@
-//! What a connection takes from its link and gives to it.
-ghost use Rattle.std.specs.Prelude.{◌<◌, IfSome};
-ghost use Rattle.mpm_base.specs.declared.conn.Ask.{Ask};
-ghost use Rattle.conn_state.specs.Items.{IsAskedIn, SpellsNone};
-ghost use Rattle.conn_state.specs.Turns.{after_reading};
-ghost use Rattle.conn_state.specs.HeldInside.{IsSizeOf};
-ghost use Rattle.conn_state.specs.ExchangeInside.{ReadsPiece, TakesIn, SendsOn, DropsOn, DropsPiece, IsSame};
+//! What a turn of reading of a connection does.
+ghost use Rattle.std.specs.Prelude.{◌≡◌, ℕ, true, List, None, is_some};
+ghost use Rattle.conn_state.specs.Reader.{IsAnswerable, StandsFor, item_kept};
+ghost use Rattle.conn_state.specs.ConnInside.{AsksItem, TakesIn};
 
-use crate::buffers::{Pending, Received};
-use crate::item::{FoundItem, find_item};
-use crate::turn::{LingerTurn, ReadTurn, WriteTurn};
-use mpm_base::{Got, Link, Sent, one_request};
+use crate::outgoing::Outgoing;
+use crate::reader::{RequestAnswer, RequestReader};
+use crate::responses::tell_to_send;
+use crate::stage::Stage;
+use crate::turn::ReadTurn;
+use file_table::Site;
+use http_core::{Plan, ask_of};
+use mpm_base::{Ask, Link, NoMemory};
 use std::alloc::Global;
 
-/// How many bytes a link is asked for, and is offered, at once.
-const PIECE: usize = 4_096;
-
-/// How many bytes are dropped at most while a link lingers.
-const MOST_DROPPED: usize = 1_048_576;
-
-/// What a turn of reading answers, and the size of the item that it found.
-#[derive(Clone, Copy, Debug, PartialEq, Eq)]
+/// What a turn of reading answers, and the plan of the response.
+#[derive(Debug, Drop)]
 pub struct ReadAnswer {
     /// The answer.
     pub turn: ReadTurn,
-    /// How many bytes the item has; 0 where there is none.
-    pub size: usize,
+    /// The plan, where a request is whole.
+    pub plan: Option<Plan>,
 }
 
-/// Reads until the first item is whole or refused, or the link gives no more. The link is asked only while more bytes have
-/// to come.
-pub fn read_item<L: Link>(alloc: Global, link: &mut L, bytes: &mut Received) -> ReadAnswer
-    ensures takes { TakesIn (L.seen link.old).told (L.seen link.new).told (L.seen link.old).counts (L.seen link.new).counts
-        bytes.old bytes.new result.turn }
-    ensures size { IsSizeOf (after_reading result.turn) bytes.new result.size }
-    ensures still { (ask : Ask) → IsAskedIn bytes.old ask
-        → IsSame (L.seen link.old).told (L.seen link.new).told (L.seen link.old).counts (L.seen link.new).counts bytes.old bytes.new }
-{
-    one_request();
-    loop {
-        match find_item(alloc, bytes.as_slice()) {
-            FoundItem::Item(ask, size) => {
-                return ReadAnswer {
-                    turn: ReadTurn::Asked(ask),
-                    size,
-                };
-            }
-            FoundItem::Nothing => (),
-            FoundItem::NoMemory => {
-                return ReadAnswer {
-                    turn: ReadTurn::NoMemory,
-                    size: 0,
-                };
-            }
-        }
-        if let Some(turn) = read_piece(link, bytes) {
-            return ReadAnswer { turn, size: 0 };
-        }
+impl ReadAnswer {
+    /// An answer without a plan.
+    fn unplanned(turn: ReadTurn) -> ReadAnswer
+        ensures turn { result.turn ≡ turn }
+        ensures none { result.plan ≡ None }
+    {
+        ReadAnswer { turn, plan: None }
     }
 }
 
-/// Reads what the link has, at most a piece. None where bytes came.
-fn read_piece<L: Link>(link: &mut L, bytes: &mut Received) -> Option<ReadTurn>
-    requires none { SpellsNone bytes.old }
-    ensures piece { ReadsPiece (L.seen link.old).told (L.seen link.new).told (L.seen link.old).counts (L.seen link.new).counts
-        bytes.old bytes.new result }
-    ensures no_item { IfSome result (λ turn. IsSizeOf (after_reading turn) bytes.new 0) }
+/// What the item that was read asks, and the plan of the response to it.
+fn ask_item(alloc: Global, site: &Site, stage: &Stage) -> ReadAnswer
+    requires { is_some (item_kept stage.now) ≡ true }
+    ensures { AsksItem site.now stage.now result.turn result.plan }
 {
-    let mut buffer = [0; PIECE];
-    match link.read(&mut buffer) {
-        Got::Got(count) => match bytes.add(&buffer[..count as usize]) {
-            Ok(()) => None,
-            Err(_) => Some(ReadTurn::NoMemory),
+    match stage {
+        Stage::Whole(request) => match ask_of(alloc, site, request) {
+            Ok((ask, plan)) => ReadAnswer {
+                turn: ReadTurn::Asked(ask),
+                plan: Some(plan),
+            },
+            Err(NoMemory) => ReadAnswer::unplanned(ReadTurn::NoMemory),
         },
-        Got::End => Some(ReadTurn::Gone),
-        Got::NotReady => Some(ReadTurn::More),
-        Got::Failed => Some(ReadTurn::LinkFailed),
+        Stage::Refused(code, _) => ReadAnswer::unplanned(ReadTurn::Asked(Ask {
+            asked_close: false,
+            refused: true,
+            code: *code,
+            page: false,
+        })),
+        _ => unreachable!(),
     }
 }
 
-/// Sends the bytes, until the link has no room.
-pub fn send<L: Link>(link: &mut L, bytes: &mut Pending) -> WriteTurn
-    ensures { SendsOn (L.seen link.old).told (L.seen link.new).told (L.seen link.old).counts (L.seen link.new).counts
-        bytes.old bytes.new result }
+/// Reads until the next item is there, and plans the response to it; or until its client is to be told to send the body, which is
+/// to be sent then.
+pub fn read_item<L: Link>(
+    alloc: Global,
+    link: &mut L,
+    site: &Site,
+    reader: &mut RequestReader,
+    unsent: &mut Outgoing,
+) -> ReadAnswer
+    ensures takes { TakesIn (L.seen link.old) (L.seen link.new) site.now reader.old reader.new unsent.old unsent.new result.turn result.plan }
+    ensures still { (rest : List ℕ) → StandsFor reader.old rest → IsAnswerable reader.old rest → L.seen link.new ≡ L.seen link.old }
 {
-    while !bytes.is_empty() {
-        match link.write(bytes.piece(PIECE)) {
-            Sent::Put(count) => bytes.skip(count as usize),
-            Sent::NotReady => return WriteTurn::NotReady,
-            Sent::Failed => return WriteTurn::LinkFailed,
-        }
-    }
-    WriteTurn::Done
-}
-
-/// Reads and drops what the link has, until it gives no more or as many bytes were dropped in all as may be. `dropped` counts
-/// them, also those of earlier calls.
-pub fn drop_rest<L: Link>(link: &mut L, dropped: &mut usize) -> LingerTurn
-    requires { dropped.old < 1048576 }
-    ensures { DropsOn (L.seen link.old).told (L.seen link.new).told (L.seen link.old).counts (L.seen link.new).counts
-        dropped.old dropped.new result }
-{
-    while *dropped < MOST_DROPPED {
-        if let Some(turn) = drop_piece(link, dropped) {
-            return turn;
-        }
-    }
-    LingerTurn::Sated
-}
-
-/// Reads and drops what the link has, at most a piece, and no more than is left to drop. None where bytes came.
-fn drop_piece<L: Link>(link: &mut L, dropped: &mut usize) -> Option<LingerTurn>
-    requires { dropped.old < 1048576 }
-    ensures { DropsPiece (L.seen link.old).told (L.seen link.new).told (L.seen link.old).counts (L.seen link.new).counts
-        dropped.old dropped.new result }
-{
-    let mut buffer = [0; PIECE];
-    let room = PIECE.min(MOST_DROPPED - *dropped);
-    match link.read(&mut buffer[..room]) {
-        Got::Got(count) => {
-            *dropped += count as usize;
-            None
-        }
-        Got::End => Some(LingerTurn::Drained),
-        Got::NotReady => Some(LingerTurn::NotReady),
-        Got::Failed => Some(LingerTurn::LinkFailed),
+    reader.show();
+    let given = reader.read_turn(link);
+    reader.show();
+    match given {
+        RequestAnswer::Item => ask_item(alloc, site, reader.stage()),
+        RequestAnswer::Awaited => match tell_to_send(alloc) {
+            Ok(text) => {
+                *unsent = text;
+                ReadAnswer::unplanned(ReadTurn::Interim)
+            }
+            Err(NoMemory) => ReadAnswer::unplanned(ReadTurn::NoMemory),
+        },
+        RequestAnswer::More => ReadAnswer::unplanned(ReadTurn::More),
+        RequestAnswer::Gone => ReadAnswer::unplanned(ReadTurn::Gone),
+        RequestAnswer::LinkFailed => ReadAnswer::unplanned(ReadTurn::LinkFailed),
+        RequestAnswer::NoMemory => ReadAnswer::unplanned(ReadTurn::NoMemory),
     }
 }

@@ -1,25 +1,43 @@
-//! One connection over a link: it reads requests, however their bytes are cut, and sends the responses that are decided.
+//! One connection over its link, for whole HTTP: requests with their bodies, and the responses that are decided. It is to take the
+//! place of `conn_state`.
 //!
-//! What was sent, followed by what is pending, is at every turn the reply stream of the responses that were noted and the
-//! bytes that were received. Behind the half-close a connection lingers: it drops what still comes, and keeps all else. The
-//! items of the bytes stand in `specs/Items.antt`, a response in `specs/Response.antt`, the reply stream in
-//! `specs/Replies.antt`, what is seen of a connection and holds of it in `specs/Conn.antt`, what each turn leaves in
-//! `specs/Turns.antt`, and what an ended connection shows in `specs/Answered.antt`. What holds of the items of its
-//! bytes, and of every connection that lingers, is said by `laws`. The type of a connection says what is known of the outside,
-//! which stands in `specs/Known.antt`. The site is one file.
+//! `Conn` is a connection. What it keeps at every turn stands in `specs/Conn.antt`: what was sent and what is pending are the
+//! replies to the first items that were received, and what follows them. What each turn does stands in `specs/Turns.antt`. Behind the
+//! half-close a connection lingers: it drops what still comes, and keeps all else. What an ended connection (`Ended`) shows
+//! stands in `specs/Answered.antt`. The type of a connection says what is known of the outside, which stands in `specs/Known.antt`.
+//!
+//! `read_on` reads the next request by the bytes that are there (`specs/Steps.antt`), and keeps those of a head, but of a
+//! body only a line that isn't whole. Which bytes that stands for is a relation (`specs/Rest.antt`). `RequestReader` does so over
+//! a link, and takes bytes of it only while more has to come (`specs/Reader.antt`).
+//!
+//! The items of the bytes that a connection received stand in `specs/Items.antt`: whole requests, and at most one refusal. The
+//! replies to them, and what is sent before a reply, stand in `specs/Replies.antt`, and what follows them by how far the next
+//! request was read in `specs/Follows.antt`; the laws of these are in `laws`. `Outgoing`
+//! is what a connection has yet to send: the rest of a head, and behind it a range of a file, whose bytes stay in the site
+//! (`specs/Outgoing.antt`). `send` offers both to the link by one call, and says what it sent and left (`specs/Writing.antt`).
 #![tactic(auto)]
 
-mod buffers;
 mod conn;
 mod ended;
 mod exchange;
-mod item;
 mod known;
 pub mod laws;
-mod response;
+mod linger;
+mod outgoing;
+mod reader;
+mod received;
+mod responses;
+mod stage;
+mod steps;
 mod turn;
 
 pub use conn::Conn;
 pub use ended::Ended;
 pub use known::{Known, Nothing};
+pub use outgoing::{FileRange, Outgoing, send};
+pub use reader::{RequestAnswer, RequestReader};
+pub use received::Received;
+pub use responses::{refuse, respond, tell_to_send};
+pub use stage::Stage;
+pub use steps::{StepAnswer, read_on};
 pub use turn::{LastLinger, LastTurn, LingerTurn, ReadTurn, WriteTurn};

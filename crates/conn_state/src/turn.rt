@@ -9,9 +9,11 @@ use mpm_base::Ask;
 pub enum ReadTurn {
     /// The next request is whole, or refused: what it asks of the table.
     Asked(Ask),
-    /// The link has nothing more at this moment, and no request is whole.
+    /// The head of the next request was accepted, and what tells its client to send the body is pending.
+    Interim,
+    /// The link has nothing more at this moment; no request is whole, and none is refused.
     More,
-    /// The client sends no more, and no request is whole.
+    /// The client sends no more; no request is whole, and none is refused.
     Gone,
     /// A call of the link failed.
     LinkFailed,
@@ -37,7 +39,9 @@ pub enum LastTurn {
     New,
     /// A turn of reading found what a request asks, which waits for its response.
     Asked(Ask),
-    /// The response was taken, and is pending.
+    /// A turn of reading found a client that waits to be told to send the body; what tells it is pending.
+    Interim,
+    /// The note was taken, and its response is pending.
     Answered,
     /// A turn of reading found no whole request.
     More,
@@ -92,6 +96,7 @@ impl ReadTurn {
     {
         match self {
             ReadTurn::Asked(ask) => LastTurn::Asked(ask),
+            ReadTurn::Interim => LastTurn::Interim,
             ReadTurn::More => LastTurn::More,
             ReadTurn::Gone => LastTurn::Gone,
             ReadTurn::LinkFailed => LastTurn::LinkFailed,

@@ -1,5 +1,3 @@
-pub mod RootGrammarLemmas
-pub mod RootAnswerLemmas
 pub mod WordLemmas
 pub mod LineFeedLemmas
 pub mod HeadLineLemmas

@@ -1,7 +1,6 @@
 pub mod RequestParts
 pub mod Spans
 pub mod SpansInside
-pub mod RootHead
 pub mod FieldValues
 pub mod HeadRules
 pub mod WordsInside

@@ -13,10 +13,6 @@
 //!
 //! Which requests bytes spell, one behind the other, and what is left behind them, stands in `specs/Requests.antt`;
 //! `one_spelling` and `keeps_spelling` are the laws above it.
-//!
-//! `next_root_head` knows one form of request alone, a GET of `/` whose one field is Host (`specs/RootRequest.antt` of
-//! `mpm_base`); the program reads with it so far. What it answers is in `specs/RootHead.antt`; `one_root_answer` and
-//! `keeps_root_answer` are its laws.
 #![tactic(auto)]
 
 mod body;
@@ -29,7 +25,6 @@ mod head_rules;
 mod request;
 mod request_fields;
 mod requests;
-mod root_head;
 mod whole_head;
 mod words;
 
@@ -38,4 +33,3 @@ pub use head::{HeadAnswer, keeps_answer, next_head, one_answer};
 pub use head_reader::HeadReader;
 pub use request::{BodyKind, Limits, Request};
 pub use requests::{keeps_spelling, one_spelling};
-pub use root_head::{RootAnswer, RootHead, keeps_root_answer, next_root_head, one_root_answer};

@@ -1,12 +1,12 @@
 //! Connections whose turns the input says one by one, and connections whose bytes are cut.
 ghost use Rattle.std.specs.Prelude.{IfOk};
-ghost use Rattle.http_conn.specs.Conn.{IsFresh};
+ghost use Rattle.conn_state.specs.Conn.{IsFresh};
 
 use crate::responses::digits_site;
 use crate::test_conn::TestConn;
 use crate::texts::{grown, number_of, text_of, words};
 use file_table::Site;
-use http_conn::{Ended, LastTurn};
+use conn_state::{Ended, LastTurn};
 use mpm_base::{Cause, LinkCall, NoMemory, Octets, Tail};
 use stand_ins::{Calls, ScriptLink, Wire};
 use std::alloc::Global;

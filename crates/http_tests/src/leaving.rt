@@ -1,9 +1,9 @@
 //! When a connection may be ended.
 ghost use Rattle.std.specs.Prelude.{◌≡◌, true};
-ghost use Rattle.http_conn.specs.Answered.{IsShown, MayLinger, ShowsAtOnce, ShowsLingering};
+ghost use Rattle.conn_state.specs.Answered.{IsShown, MayLinger, ShowsAtOnce, ShowsLingering};
 
 use crate::turn_answers::{is_half_closed, is_usable};
-use http_conn::{Conn, LastLinger, LastTurn, Nothing};
+use conn_state::{Conn, LastLinger, LastTurn, Nothing};
 use mpm_base::{Cause, Link, Tail};
 
 /// Whether the connection may be ended for the cause, its link left so. These were the answers of its last turns.

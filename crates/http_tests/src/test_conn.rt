@@ -1,14 +1,14 @@
 //! A connection each of whose turns is made only where it may be.
 ghost use Rattle.std.specs.Prelude.{◌≡◌, true, IfSome};
-ghost use Rattle.http_conn.specs.Conn.{IsFresh};
-ghost use Rattle.http_conn.specs.Conn as spec;
-ghost use Rattle.http_conn.specs.declared.turn.LastLinger.TheVariants as linger;
+ghost use Rattle.conn_state.specs.Conn.{IsFresh};
+ghost use Rattle.conn_state.specs.Conn as spec;
+ghost use Rattle.conn_state.specs.declared.turn.LastLinger.TheVariants as linger;
 
 use crate::heads::LIMITS;
 use crate::leaving::may_end;
 use crate::turn_answers::{is_usable, left_by_drop, left_by_read, left_by_write, lingers};
 use file_table::Site;
-use http_conn::{Conn, Ended, LastLinger, LastTurn, LingerTurn, Nothing, ReadTurn, WriteTurn};
+use conn_state::{Conn, Ended, LastLinger, LastTurn, LingerTurn, Nothing, ReadTurn, WriteTurn};
 use mpm_base::{Ask, Cause, ConnName, Link, NoMemory, Note, Tail};
 use std::alloc::Global;
 use std::io;
@@ -34,7 +34,7 @@ pub struct TestConn<L: Link> {
 
 impl<L: Link> Model for TestConn<L> {
     ghost use Rattle.std.specs.Prelude.{◌≡◌};
-    ghost use Rattle.http_conn.specs.Conn.{SeenConn};
+    ghost use Rattle.conn_state.specs.Conn.{SeenConn};
 
     ghost Value = { SeenConn };
 

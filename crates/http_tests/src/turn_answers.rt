@@ -1,9 +1,9 @@
 //! What the answers of turns of a connection leave, and what that lets it do.
 ghost use Rattle.std.specs.Prelude.{◌≡◌};
-ghost use Rattle.http_conn.specs.Conn as spec;
-ghost use Rattle.http_conn.specs.Turns.{after_linger, after_reading, after_writing};
+ghost use Rattle.conn_state.specs.Conn as spec;
+ghost use Rattle.conn_state.specs.Turns.{after_linger, after_reading, after_writing};
 
-use http_conn::{LastLinger, LastTurn, LingerTurn, ReadTurn, WriteTurn};
+use conn_state::{LastLinger, LastTurn, LingerTurn, ReadTurn, WriteTurn};
 
 /// Whether nothing failed so far.
 pub fn is_usable(turn: LastTurn) -> bool

@@ -66,7 +66,7 @@ pub record FrontTold : Type 0 where
   pub failed : Bool
   pub waits : List WaitTold
 
--- counts that each front keeps, whether it tells or not: of failed binds and waits, of failed accepts, of waits that answered
+-- counts that each front keeps, whether it tells or not: of failed binds, waits and dials, of failed accepts, of waits that answered
 -- Ended, and of the command lines that it gave
 pub record FrontCounts : Type 0 where
   pub faults : ℕ
@@ -338,3 +338,18 @@ pub record Commands (old new : FrontSeen) (answer : Option (List ℕ)) : Type 0 
   pub accept_faults : new.counts.accept_faults ≡ old.counts.accept_faults
   pub ends : new.counts.ends ≡ old.counts.ends
   pub commands : RisesExactlyWhere (is_some answer) old.counts.commands new.counts.commands
+
+-- ## A dial
+
+-- what the front tells after a dial of the port with the word, which answered this
+abbrev pub after_dial : ℕ → List ℕ → Bool → FrontTold → FrontTold
+after_dial port word answer t = record t { dialled = t.dialled ++ record { port = port; word = word; answer = answer } ∷ [] }
+
+-- what a dial answered, and left of the front
+pub record Dials (old new : FrontSeen) (port : ℕ) (word : List ℕ) (answer : Bool) : Type 0 where
+  pub script : new.script ≡ old.script
+  pub told_is : new.told ≡ option_map (after_dial port word answer) old.told
+  pub faults : RisesWhere (not answer) old.counts.faults new.counts.faults
+  pub accept_faults : new.counts.accept_faults ≡ old.counts.accept_faults
+  pub ends : new.counts.ends ≡ old.counts.ends
+  pub commands : new.counts.commands ≡ old.counts.commands

@@ -6,9 +6,6 @@ pub mod Front
 pub mod Link
 pub mod Moment
 pub mod Notes
-pub mod RootRequest
-pub mod RootRequestInside
 pub mod Shape
 pub mod Sink
-pub mod StopsInside
 pub mod Store

@@ -1,10 +1,13 @@
 //! The front: where connections, signals and time come from.
 
 use crate::addr::Addr;
+use crate::bell::Bell;
 use crate::conn::{ConnName, Moment};
 use crate::line::Line;
 use crate::link::Link;
+use crate::memory::NoMemory;
 use crate::ready::Ready;
+use std::alloc::Global;
 use std::sync::Wait;
 
 /// What a wait of a front answers.
@@ -35,13 +38,16 @@ pub enum Arrival<L> {
 /// sockets does not. One that tells does so to its end. Its counts are there for every front.
 pub trait Front {
     ghost use Rattle.std.specs.Prelude.{◌≡◌};
-    ghost use Rattle.mpm_base.specs.Front.{FrontSeen, Accepts, Binds, Commands, Waits, Watches, after_hush, front_after_turning_away};
+    ghost use Rattle.mpm_base.specs.Front.{FrontSeen, Accepts, Binds, Commands, Dials, Waits, Watches, after_hush, front_after_turning_away};
 
     /// The links that it hands out.
     type L: Link + Send;
 
+    /// Its bells.
+    type B: Bell + Send + Sync;
+
     /// The script that it was made of, which no call changes; what it tells: what has come and what will, what was taken and
-    /// turned away, and its waits; and its counts of failed binds and waits, of failed accepts, of waits that answered Ended, and of command
+    /// turned away, and its waits; and its counts of failed binds, waits and dials, of failed accepts, of waits that answered Ended, and of command
     /// lines, none of which ever falls.
     ghost seen: { Self → FrontSeen };
 
@@ -81,4 +87,12 @@ pub trait Front {
     /// The next command line that came and was not read yet.
     fn command(&mut self) -> Option<Line>
         ensures commands { Commands (seen self.old) (seen self.new) result };
+
+    /// Sends the word as a command line to the port of this machine, and waits until it is taken. False where the call failed.
+    fn dial(&mut self, port: u16, word: &str) -> bool
+        ensures dials { Dials (seen self.old) (seen self.new) port word.now result };
+
+    /// A bell that ends the wait of this front.
+    fn bell(&mut self, alloc: Global) -> Result<Self::B, NoMemory>
+        ensures same { seen self.new ≡ seen self.old };
 }

@@ -6,11 +6,11 @@
 //! stand in `specs/`, one file for each trait. `stand_ins` has objects in memory that keep these traits.
 //!
 //! `ScriptLine` is a line of a script, as a front may tell it; `mpm_script` reads scripts, and `script_front` plays them.
-//! `host_of` and `is_started` tell the one form of request that is read so far (`specs/RootRequest.antt`), and `decimal` reads
-//! a number of decimal digits (`specs/Digits.antt`).
+//! `decimal` reads a number of decimal digits (`specs/Digits.antt`).
 #![tactic(auto)]
 
 mod addr;
+mod bell;
 mod clock;
 mod conn;
 mod digits;
@@ -22,7 +22,6 @@ mod memory;
 mod note;
 mod octets;
 mod ready;
-mod root_request;
 mod script_line;
 mod sequence;
 mod shape;
@@ -31,6 +30,7 @@ mod store;
 mod words;
 
 pub use addr::Addr;
+pub use bell::{Bell, Gate};
 pub use clock::Clock;
 pub use conn::{Ask, Cause, ConnName, GREATEST_MOMENT, Kind, Moment, Tail};
 pub use digits::decimal;
@@ -41,9 +41,6 @@ pub use memory::NoMemory;
 pub use note::{Note, Notes, Snapshot};
 pub use octets::Octets;
 pub use ready::Ready;
-pub use root_request::{
-    AFTER_HOST, BEFORE_HOST, LONGEST_HOST, host_of, is_host_byte, is_started, one_request,
-};
 pub use script_line::{ClientAct, CommandWord, LinkCall, ScriptLine, SiteLine};
 pub use sequence::Sequence;
 pub use shape::Shape;

@@ -38,7 +38,7 @@ pub struct Note {
     /// Its status code (RFC 9110, section 15).
     pub code: u16,
     /// What the status page shows, where the response is one. There is no such response yet.
-    pub page: Option<Snapshot>,
+    pub page: Option<Box<Snapshot>>,
 }
 
 /// A list of notes, as contracts see it, in the order of the responses.

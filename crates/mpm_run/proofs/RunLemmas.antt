@@ -25,7 +25,7 @@ use Rattle.conn_machine.specs.Laws.{StaysSound}
 use Rattle.conn_state.specs.Answered.{SeenEnded, IsAnswered, IsEnded}
 use Rattle.conn_state.specs.Known.{KnownOutside, TellsFrom}
 use Rattle.board.specs.Book.{SeenBook, StopsByLoad, TellsFullStop}
-use Rattle.board.specs.Board.{SeenBoard, Agrees, AreClosed, AreEnded, ClosesFirst, EndedForClients}
+use Rattle.board.specs.Board.{SeenBoard, Agrees, AreClosed, AreEnded, ClosesFirst, EndedOfOutside}
 use Rattle.board.specs.Ranks.{AllTell, has_rank}
 use Rattle.mpm_run.specs.Links.{EndsLinks}
 use Rattle.mpm_run.specs.Tells.{Receives, AllReceive}
@@ -143,18 +143,18 @@ receives clients e tells ended =
     }
 
 -- so did each
-pub all-receive : (k : KnownOutside) (ended : List SeenEnded) → AreEnded ended → EndedForClients (Some k) ended → AllReceive k.clients ended
+pub all-receive : (k : KnownOutside) (ended : List SeenEnded) → AreEnded ended → EndedOfOutside (Some k) ended → AllReceive k.clients ended
 all-receive k [] are ends = tt
 all-receive k (e ∷ ended) are ends = (receives k.clients e ends.0 are.0, all-receive k ended are.1 ends.1)
 
 -- ## The links of ended connections
 
 -- each is that of a client, and tells, where the type knows the clients
-all-tell : (k : KnownOutside) (ended : List SeenEnded) → EndedForClients (Some k) ended → AllTell ended
+all-tell : (k : KnownOutside) (ended : List SeenEnded) → EndedOfOutside (Some k) ended → AllTell ended
 all-tell k [] ends = tt
 all-tell k (e ∷ ended) ends = ((ends.0.t, ends.0.told_is), all-tell k ended ends.1)
 
-pub known-tell : (known : Option KnownOutside) (ended : List SeenEnded) → is_some known ≡ true → EndedForClients known ended → AllTell ended
+pub known-tell : (known : Option KnownOutside) (ended : List SeenEnded) → is_some known ≡ true → EndedOfOutside known ended → AllTell ended
 known-tell None ended is ends = absurd (cc is)
 known-tell (Some k) ended is ends = all-tell k ended ends
 

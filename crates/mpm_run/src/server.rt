@@ -4,7 +4,7 @@ ghost use Rattle.mpm_base.specs.Count.{NeverFalls};
 ghost use Rattle.mpm_base.specs.Front.{Binds};
 ghost use Rattle.mpm_run.specs.UnusedInside.{IsUnused};
 ghost use Rattle.conn_machine.specs.Made.{AreOfPasses};
-ghost use Rattle.board.specs.Board.{AreOfClients};
+ghost use Rattle.board.specs.Board.{AreOfOutside};
 ghost use Rattle.mpm_run.specs.ExitStatusesInside.{WritesAll};
 ghost use Rattle.mpm_run.specs.FirstNumbers.{opened_by};
 ghost use Rattle.mpm_run.specs.FirstNumbersInside.{AreNumbers, opened_book};
@@ -76,7 +76,7 @@ pub fn run_server<
     ensures run { IfOk result (λ s. IsRunFrom numbers s.board) }
     ensures unfolded { IfOk result (λ s. NeverFolded numbers s.board.book) }
     ensures closed { IfOk result (λ s. HasClosedAll s.board) }
-    ensures clients { IfOk result (λ s. AreOfClients N.known s.board) }
+    ensures clients { IfOk result (λ s. AreOfOutside N.known s.board) }
     ensures stopped { IfOk result (λ s. HasStopped (F.seen front) (F.seen s.front) s.board.book.state) }
     ensures follows { IfOk result (λ s. Follows (F.seen front) (F.seen s.front)) }
     ensures front { IfOk result (λ s. IfSome (F.seen s.front).told (IsOpenedAndHushed numbers)) }
@@ -169,7 +169,7 @@ fn show_run<L: Link, N: Known>(board: &Board<L, N>, numbers: RunNumbers)
     ensures run { IsRunFrom numbers board.now }
     ensures closed { IsClosedDown board.now.book.state → HasClosedAll board.now }
     ensures links { IsClosedDown board.now.book.state → is_some N.known ≡ true → EndsLinks board.now }
-    ensures clients { AreOfClients N.known board.now }
+    ensures clients { AreOfOutside N.known board.now }
 {
     events_keep_states_sound();
     accepted_connections_are_closed_or_live();

@@ -1,5 +1,5 @@
-use Rattle.conn_state.proofs.StreamLemmas.{fitting-more}
+use Rattle.conn_state.proofs.ItemLemmas.{first-more}
 use Rattle.conn_state.proofs.laws.first_items_stay.Goals as goal
 
 pub returns : goal.returns
-returns c = fitting-more c.keeps_root_answer.ensures.whole c.keeps_root_answer.ensures.refused
+returns c = first-more c.keeps_spelling.ensures.requests c.keeps_spelling.ensures.refusal

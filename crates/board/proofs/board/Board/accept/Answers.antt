@@ -38,7 +38,7 @@ invariant_of-self-2 g c =
     rw (c.in-Ok.ensures.ok.new_is, c.reserve.ensures.items)
     (board_on _ inside.book slots c.put.new.self.slots conns ended inside.queues inside.queues room room' c.args.who (event.Accept name.slot) invariant (λ s. refl)
     (accept-there c.one_row_changes.ensures inside.book.state name.slot conns inside.queues (length ended) room room' given.allowed
-    (there_of _ inside.book slots ended inside.queues room invariant) space) invariant.clients.conns
+    (there_of _ inside.book slots ended inside.queues room invariant) space) invariant.outside.conns
     (ap conns_in stored ∙ conns-put slots name given.unused)
     (rw stored (accept-used inside.book.state slots name None given.allowed invariant.used given.unused)))
 

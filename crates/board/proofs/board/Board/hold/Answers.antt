@@ -47,7 +47,7 @@ invariant_of-self g c =
     rw (c.record_sure.ensures.is, c.take_out.ensures.emptied, unparked)
     (board_on _ inside.book slots _ _ ended inside.queues _ room room c.args.who (event.Hold c.args.name) invariant (λ s. refl)
     (hold-there c.one_row_changes.ensures inside.book.state c.args.name conns inside.queues (length ended) room may (there_of _ inside.book slots ended inside.queues room invariant))
-    (clients_taken _ conns c.args.name.slot invariant.clients.conns) (conns-with slots c.args.name None)
+    (clients_taken _ conns c.args.name.slot invariant.outside.conns) (conns-with slots c.args.name None)
     (written-used slots inside.book.state.rows c.args.name None (may_be_held inside.book.state (is_signalled inside.book.state c.args.name.slot)) invariant.used may
     ∙ sym (hold-used inside.book.state c.args.name may)))
 
@@ -99,7 +99,7 @@ take_out-requires-clause-clients g c =
     let inside = c.deref_mut-parts.result.now in
     let invariant : AreParts g.N.Known.known inside =
     rw c.deref_mut-parts.ensures.value c.self.invariant in
-    invariant.clients.conns
+    invariant.outside.conns
 
 pub take_out-requires-clause-live : goal.take_out-requires-clause-live
 take_out-requires-clause-live g c =

@@ -101,7 +101,7 @@ invariant_of-self g c =
     (board_on _ inside.book slots _ _ ended inside.queues _ room room c.args.who (event.Linger name why) invariant (λ s. refl)
     (linger-there c.one_row_changes.ensures inside.book.state name why conns inside.queues c.args.conn c.requires.fits.row (length ended) room may
     (there_of _ inside.book slots ended inside.queues room invariant) found (sym c.name-name.ensures) c.requires.fits.fits waits c.show.ensures.conn)
-    (clients_put _ conns name.slot c.args.conn c.show.ensures.client invariant.clients.conns) (conns-with slots name (Some c.args.conn))
+    (clients_put _ conns name.slot c.args.conn c.show.ensures.outside invariant.outside.conns) (conns-with slots name (Some c.args.conn))
     (written-used slots inside.book.state.rows name (Some c.args.conn) (is_fit_to_linger inside.book.state why (is_signalled inside.book.state name.slot)) invariant.used
     may ∙ sym (linger-used inside.book.state name why may)))
 

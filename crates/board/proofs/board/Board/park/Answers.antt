@@ -71,7 +71,7 @@ invariant_of-self-2 g c =
     (board_on _ inside.book slots _ _ ended inside.queues _ room room c.args.who e invariant (λ s. refl)
     (park-there c.one_row_changes.ensures inside.book.state name c.args.kind conns inside.queues c.args.conn c.requires.fits.row (length ended) room may
     (there_of _ inside.book slots ended inside.queues room invariant) found (sym c.name-name.ensures) c.requires.fits.fits settled)
-    (clients_put _ conns name.slot c.args.conn c.show.ensures.client invariant.clients.conns) (conns-with slots name (Some c.args.conn))
+    (clients_put _ conns name.slot c.args.conn c.show.ensures.outside invariant.outside.conns) (conns-with slots name (Some c.args.conn))
     (written-used slots inside.book.state.rows name (Some c.args.conn) (may_wait inside.book.state.moment c.args.kind) invariant.used
     (park-lives inside.book.state name c.args.kind may) ∙ sym (park-used inside.book.state name c.args.kind may)))
 

@@ -52,7 +52,7 @@ invariant_of-self-2 g c =
     rw (c.in_ok-record.ensures.ok.new_is, c.take_out.ensures.emptied, unparked)
     (board_on _ inside.book slots _ _ ended inside.queues _ room room c.args.who (event.Queue c.args.name) invariant (λ s. refl)
     (queue-there c.one_row_changes.ensures inside.book.state c.args.name conns inside.queues (length ended) room may (there_of _ inside.book slots ended inside.queues room invariant))
-    (clients_taken _ conns c.args.name.slot invariant.clients.conns) (conns-with slots c.args.name None)
+    (clients_taken _ conns c.args.name.slot invariant.outside.conns) (conns-with slots c.args.name None)
     (written-used slots inside.book.state.rows c.args.name None (may_be_queued inside.book.state) invariant.used (queue-lives inside.book.state c.args.name may)
     ∙ sym (queue-used inside.book.state c.args.name may)))
 
@@ -103,7 +103,7 @@ take_out-requires-clause-clients g c =
     let inside = c.deref_mut-parts.result.now in
     let invariant : AreParts g.N.Known.known inside =
     rw c.deref_mut-parts.ensures.value c.self.invariant in
-    invariant.clients.conns
+    invariant.outside.conns
 
 pub take_out-requires-clause-live : goal.take_out-requires-clause-live
 take_out-requires-clause-live g c =

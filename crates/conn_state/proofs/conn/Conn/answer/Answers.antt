@@ -1,18 +1,31 @@
-use Rattle.conn_state.proofs.AnswerLemmas.{answers-here, held-answered, held-no_memory}
+use Rattle.std.proofs.Common.{◌≡◌, Bool, Some, None, inl, inr, subst}
+use Rattle.http_read.specs.RequestParts.{RequestParts}
+use Rattle.http_core.specs.Ask.{plan_for}
+use Rattle.conn_state.specs.Replies.{IsResponse}
+use Rattle.conn_state.specs.Outgoing.{IsUnsentOf, pending_bytes}
+use Rattle.conn_state.proofs.AnswerLemmas.{held-answered, takes-note}
 use Rattle.conn_state.proofs.conn.Conn.answer.Goals as goal
 
 pub invariant_of-self : goal.invariant_of-self
 invariant_of-self g c =
     let taken = c.in-Ok.ensures in
-    rw (taken.ok, c.of.ensures, c.skip.ensures)
-    (held-answered _ _ c.args.self.now c.self.inside.size c.args.note c.in-Ok.bytes c.self.invariant c.self.view_is c.requires.asked c.requires.not_shut taken.file taken.refusal)
-
-pub invariant_of-self-in-Err : goal.invariant_of-self-in-Err
-invariant_of-self-in-Err g c =
-    held-no_memory _ _ c.args.self.now c.self.inside.size c.take_note.new.notes c.self.invariant c.self.view_is c.requires.not_shut c.in-Err.ensures.err
+    let unsent = c.in-Ok.unsent in
+    let planned = subst (λ st. (request : RequestParts) → c.self.inside.plan ≡ Some (plan_for st request) → IsResponse st (inl request) c.args.note (pending_bytes st unsent))
+    c.deref.ensures taken.planned in
+    let refused = subst (λ st. c.self.inside.plan ≡ None → (expected : Bool)
+    → IsResponse st (inr (record { code = c.args.note.code; expected = expected })) c.args.note (pending_bytes st unsent)) c.deref.ensures taken.refused in
+    held-answered c.answered_items_go_on.ensures c.replies_go_on.ensures c.responses_have_bytes.ensures c.follows_what_was_read.ensures.first
+    _ _ c.args.self.now c.self.inside.plan c.self.inside.unsent unsent c.args.note c.take_note.new.notes c.leave_item.new.self c.self.invariant c.self.view_is c.requires.asked
+    c.requires.not_shut taken.ok planned refused c.leave_item.ensures.limits c.leave_item.ensures.leaves (subst (λ st. IsUnsentOf st unsent) c.deref.ensures taken.of) c.leave_item.ensures.untold
 
 pub returns-in-Ok-clause-ok : goal.returns-in-Ok-clause-ok
 returns-in-Ok-clause-ok g c =
     let taken = c.in-Ok.ensures in
-    rw (taken.ok, c.of.ensures, c.skip.ensures)
-    (answers-here _ _ c.args.self.now c.self.inside.size c.args.note c.in-Ok.bytes c.self.invariant c.self.view_is c.requires.asked c.requires.not_shut taken.file taken.refusal)
+    let unsent = c.in-Ok.unsent in
+    let planned = subst (λ st. (request : RequestParts) → c.self.inside.plan ≡ Some (plan_for st request) → IsResponse st (inl request) c.args.note (pending_bytes st unsent))
+    c.deref.ensures taken.planned in
+    let refused = subst (λ st. c.self.inside.plan ≡ None → (expected : Bool)
+    → IsResponse st (inr (record { code = c.args.note.code; expected = expected })) c.args.note (pending_bytes st unsent)) c.deref.ensures taken.refused in
+    takes-note c.answered_items_go_on.ensures c.replies_go_on.ensures c.responses_have_bytes.ensures c.follows_what_was_read.ensures.first
+    _ _ c.args.self.now c.self.inside.plan c.self.inside.unsent unsent c.args.note c.take_note.new.notes c.leave_item.new.self c.self.invariant c.self.view_is c.requires.asked
+    c.requires.not_shut taken.ok planned refused c.leave_item.ensures.limits c.leave_item.ensures.leaves

@@ -1,5 +1,0 @@
-use Rattle.http_conn.proofs.ItemLemmas.{first-more}
-use Rattle.http_conn.proofs.laws.first_items_stay.Goals as goal
-
-pub returns : goal.returns
-returns c = first-more c.keeps_spelling.ensures.requests c.keeps_spelling.ensures.refusal
