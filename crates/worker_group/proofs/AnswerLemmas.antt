@@ -1,5 +1,5 @@
 -- A response that is decided, and its connection.
-use Rattle.std.proofs.Common.{◌≡◌, ℕ, zero, suc, ◌+◌, ◌-◌, ◌<◌, true, false, not, ◌&&◌, List, [], ◌∷◌, ◌++◌, length, Some, slice_get, refl, sym, ap, subst, ◌∙◌, inr, arith}
+use Rattle.std.proofs.Common.{◌≡◌, ℕ, zero, suc, ◌+◌, ◌-◌, ◌*◌, ◌<◌, Bool, true, false, if◌then◌else◌, not, ◌&&◌, List, [], ◌∷◌, ◌++◌, length, Some, slice_get, refl, sym, ap, subst, ◌∙◌, inr, arith}
 use Rattle.std.proofs.lemmas.List.{length_push, map-append}
 use Rattle.mpm_base.specs.Notes.{says_last}
 use Rattle.mpm_base.specs.declared.conn.Ask.{Ask}
@@ -20,20 +20,21 @@ use Rattle.conn_machine.specs.Table.{is_allowed, next, note_for, answered_row}
 use Rattle.conn_machine.specs.Sound.{IsSound}
 use Rattle.conn_state.specs.declared.turn.LastTurn.{LastTurn}
 use Rattle.conn_state.specs.declared.turn.LastTurn.TheVariants as turn
+use Rattle.conn_state.specs.Rest.{is_awaited}
 use Rattle.conn_state.specs.Conn.{SeenConn, TurnFits, IsConn, is_half_closed}
 use Rattle.conn_state.specs.Turns.{TakesNote}
 use Rattle.board.specs.Book.{SeenBook, row_in}
 use Rattle.board.specs.Events.{IsDecided}
 use Rattle.worker_group.specs.Acts.{Acts}
 use Rattle.worker_group.specs.InHand.{IsClosable}
-use Rattle.worker_group.specs.InHandInside.{IsServed, answers_left}
+use Rattle.worker_group.specs.InHandInside.{IsServed, answers_left, sends_left}
 use Rattle.worker_group.specs.Service.{answer_events}
 use Rattle.worker_group.proofs.ActsLemmas.{acts_as, acts_more, acts_same}
 use Rattle.worker_group.proofs.ServeLemmas.{alive, test-at, served-row, served-stays, row-open, working-in_hand, ends-direct}
 
 -- the connection was asked for something, and its last response wasn't decided
 pub asked-open : (c : SeenConn) (ask : Ask) → IsConn c → c.turn ≡ turn.Asked ask → says_last c.notes ≡ false
-asked-open c ask is asked = (subst (λ (u : LastTurn). TurnFits u c) asked is.turn_fits).goes_on
+asked-open c ask is asked = (subst (λ (u : LastTurn). TurnFits u c is.rest) asked is.turn_fits).goes_on
 
 -- a response may be decided for it
 pub may-answer : (s : State) (c : SeenConn) (name : ConnName) (ask : Ask) → IsSound s → IsServed s c → says_last c.notes ≡ false → name ≡ c.name
@@ -152,9 +153,9 @@ one-less : (most n m : ℕ) → n < most → m ≡ n + 1 → most - m < most - n
 one-less most n m less is = omega (arith, less, is)
 
 -- the child allows one response less
-pub fewer-answered : (s s' : State) (c c' : SeenConn) (name : ConnName) (ask : Ask) (note : Note) → IsSound s → IsServed s c → says_last c.notes ≡ false
+fewer-allowed : (s s' : State) (c c' : SeenConn) (name : ConnName) (ask : Ask) (note : Note) → IsSound s → IsServed s c → says_last c.notes ≡ false
     → s' ≡ next s (event.Answer name ask) → TakesNote note c c' → answers_left s' c' < answers_left s c
-fewer-answered s s' c c' name ask note sound served goes_on is answers =
+fewer-allowed s s' c c' name ask note sound served goes_on is answers =
     let room : length served.row.notes < (child_of s served.row).shape.most =
     (served-row s c.name served.row sound served.found).notes.fewer (row-open s c sound served goes_on) in
     let room' : length c.notes < (child_of s served.row).shape.most = subst (λ (ns : List Note). length ns < (child_of s served.row).shape.most) (sym served.fits.notes) room in
@@ -163,6 +164,30 @@ fewer-answered s s' c c' name ask note sound served goes_on is answers =
     subst (λ (t : State). answers_left t c' < answers_left s c) (sym is)
     (subst (λ (x : SeenConn). answers_left (next s (event.Answer name ask)) x < answers_left s c) (sym answers.new_is)
     (one-less (child_of s (record served.row { child = c.child })).shape.most (length c.notes) (length (c.notes ++ note ∷ [])) here (length_push c.notes note)))
+
+-- with one response less there is less to send, whether or not the client of the next request was told to send its body
+less-sent : (n m : ℕ) (told told' : Bool) → m < n → 2 * m + (if told' then 0 else 1) < 2 * n + (if told then 0 else 1)
+less-sent n m true true less = omega (arith, less)
+less-sent n m true false less = omega (arith, less)
+less-sent n m false true less = omega (arith, less)
+less-sent n m false false less = omega (arith, less)
+
+-- less is left to send
+pub fewer-answered : (s s' : State) (c c' : SeenConn) (name : ConnName) (ask : Ask) (note : Note) → IsSound s → IsServed s c → says_last c.notes ≡ false
+    → s' ≡ next s (event.Answer name ask) → TakesNote note c c' → sends_left s' c' < sends_left s c
+fewer-answered s s' c c' name ask note sound served goes_on is answers =
+    less-sent (answers_left s c) (answers_left s' c') (is_awaited c.reader.stage) (is_awaited c'.reader.stage)
+    (fewer-allowed s s' c c' name ask note sound served goes_on is answers)
+
+-- what is left to send goes by the child, the responses, and whether the client was told
+pub sends-same : (s : State) (c c' : SeenConn) → c'.child ≡ c.child → c'.notes ≡ c.notes → is_awaited c'.reader.stage ≡ is_awaited c.reader.stage
+    → sends_left s c' ≡ sends_left s c
+sends-same s c c' child notes told = rw (child, notes, told) refl
+
+-- once the client is told to send the body, less is left
+pub fewer-told : (s : State) (c c' : SeenConn) → c'.child ≡ c.child → c'.notes ≡ c.notes → is_awaited c.reader.stage ≡ false
+    → is_awaited c'.reader.stage ≡ true → sends_left s c' < sends_left s c
+fewer-told s c c' child notes untold told = rw (child, notes, untold, told) (omega (arith))
 
 -- ## The events
 

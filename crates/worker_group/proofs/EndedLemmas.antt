@@ -57,6 +57,7 @@ closes-for turn.New c why how exits = absurd exits
 closes-for (turn.Asked ask) c why how exits =
     let gives = exits.1 in
     absurd (cc)
+closes-for turn.Interim c why how exits = absurd exits
 closes-for turn.Answered c why how exits = absurd exits
 closes-for turn.More c why how exits = absurd (cc)
 closes-for turn.Gone c why how exits = cc
@@ -75,6 +76,7 @@ given-causes fault.NoMemory = inr refl
 parks-for : (u : LastTurn) (c : SeenConn) (kind : Kind) (f : BoardFault) → ExitsAfter u c (exit.Park kind) → EndsFor u c.linger (given_up_cause f)
 parks-for turn.New c kind f exits = absurd exits
 parks-for (turn.Asked ask) c kind f exits = given-causes f
+parks-for turn.Interim c kind f exits = absurd exits
 parks-for turn.Answered c kind f exits = absurd exits
 parks-for turn.More c kind f exits = given-causes f
 parks-for turn.Gone c kind f exits = absurd (cc)
@@ -87,6 +89,7 @@ parks-for turn.NoMemory c kind f exits = absurd (cc)
 gives-for : (u : LastTurn) (c : SeenConn) (g f : BoardFault) → ExitsAfter u c (exit.GiveUp g) → EndsFor u c.linger (given_up_cause f)
 gives-for turn.New c g f exits = absurd exits
 gives-for (turn.Asked ask) c g f exits = given-causes f
+gives-for turn.Interim c g f exits = absurd exits
 gives-for turn.Answered c g f exits = absurd exits
 gives-for turn.More c g f exits = given-causes f
 gives-for turn.Gone c g f exits = absurd (cc)

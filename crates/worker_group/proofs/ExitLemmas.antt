@@ -21,6 +21,7 @@ use Rattle.conn_state.specs.declared.turn.LastTurn.{LastTurn}
 use Rattle.conn_state.specs.declared.turn.LastTurn.TheVariants as turn
 use Rattle.conn_state.specs.declared.turn.ReadTurn.{ReadTurn}
 use Rattle.conn_state.specs.declared.turn.WriteTurn.{WriteTurn}
+use Rattle.conn_state.specs.Reader.{keeps_none}
 use Rattle.conn_state.specs.Conn.{SeenConn}
 use Rattle.conn_state.specs.Answered.{SeenEnded, IsEndOf}
 use Rattle.conn_state.specs.Turns.{ReadsOn, WritesOn, after_reading, after_writing}
@@ -38,7 +39,7 @@ use Rattle.worker_group.proofs.ServeLemmas.{alive}
 -- ## What the connection waits for
 
 -- the next request, where it was answered and nothing of one came
-pub keeps-alive : (c : SeenConn) → not (length c.notes == 0) ≡ true → (length c.rest == 0) ≡ true → KeepAlive ≡ kept_kind c
+pub keeps-alive : (c : SeenConn) → not (length c.notes == 0) ≡ true → keeps_none c.reader ≡ true → KeepAlive ≡ kept_kind c
 keeps-alive c noted empty = rw (noted, empty) refl
 
 -- ## Ways out

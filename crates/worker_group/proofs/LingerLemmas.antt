@@ -18,8 +18,8 @@ use Rattle.conn_state.specs.declared.turn.LastTurn.TheVariants as turn
 use Rattle.conn_state.specs.declared.turn.LastLinger.{LastLinger}
 use Rattle.conn_state.specs.declared.turn.LastLinger.TheVariants as linger
 use Rattle.conn_state.specs.Conn.{SeenConn, is_half_closed, is_usable}
-use Rattle.conn_state.specs.Answered.{MayLinger, SentAll, SentLast, ShowsLingering}
-use Rattle.conn_state.specs.Items.{SpellsNone}
+use Rattle.conn_state.specs.Answered.{MayLinger, SentAll, SentLast, ShowsLingering, waits_on}
+use Rattle.conn_state.specs.Reader.{keeps_none}
 use Rattle.conn_state.specs.Turns.{ShutsOn}
 use Rattle.board.specs.Book.{SeenBook}
 use Rattle.board.specs.Board.{SeenBoard}
@@ -67,28 +67,28 @@ sent-last c c' pending notes sent =
     record { none_pending = pending ∙ sent.none_pending; says_it = ap says_last notes ∙ sent.says_it }
 
 -- and so was all
-sent-all : (c c' : SeenConn) → c'.pending ≡ c.pending → c'.rest ≡ c.rest → SentAll c → SentAll c'
-sent-all c c' pending rest sent =
-    record { none_pending = pending ∙ sent.none_pending; none_whole = subst SpellsNone (sym rest) sent.none_whole }
+sent-all : (c c' : SeenConn) → c'.pending ≡ c.pending → c'.reader ≡ c.reader → SentAll c → SentAll c'
+sent-all c c' pending reader sent =
+    record { none_pending = pending ∙ sent.none_pending; none_kept = ap keeps_none reader ∙ sent.none_kept }
 
 -- a cause is shown as before
-shows-still : (why : Cause) (c c' : SeenConn) → c'.pending ≡ c.pending → c'.notes ≡ c.notes → c'.rest ≡ c.rest → ShowsLingering why c
-    → ShowsLingering why c'
-shows-still cause.ClientDone c c' pending notes rest shows = absurd shows
-shows-still cause.LastSent c c' pending notes rest shows = sent-last c c' pending notes shows
-shows-still cause.KeepAliveLate c c' pending notes rest shows = sent-all c c' pending rest shows
-shows-still cause.ReadLate c c' pending notes rest shows = sent-all c c' pending rest shows
-shows-still cause.WriteLate c c' pending notes rest shows = tt
-shows-still cause.Retiring c c' pending notes rest shows = sent-all c c' pending rest shows
-shows-still cause.LinkFailed c c' pending notes rest shows = absurd shows
-shows-still cause.Stopped c c' pending notes rest shows = absurd shows
-shows-still cause.NoMemory c c' pending notes rest shows = absurd shows
+shows-still : (why : Cause) (c c' : SeenConn) → c'.pending ≡ c.pending → c'.notes ≡ c.notes → c'.reader ≡ c.reader → c'.turn ≡ c.turn
+    → ShowsLingering why c → ShowsLingering why c'
+shows-still cause.ClientDone c c' pending notes reader turn shows = absurd shows
+shows-still cause.LastSent c c' pending notes reader turn shows = sent-last c c' pending notes shows
+shows-still cause.KeepAliveLate c c' pending notes reader turn shows = sent-all c c' pending reader shows
+shows-still cause.ReadLate c c' pending notes reader turn shows = ap waits_on turn ∙ shows
+shows-still cause.WriteLate c c' pending notes reader turn shows = tt
+shows-still cause.Retiring c c' pending notes reader turn shows = sent-all c c' pending reader shows
+shows-still cause.LinkFailed c c' pending notes reader turn shows = absurd shows
+shows-still cause.Stopped c c' pending notes reader turn shows = absurd shows
+shows-still cause.NoMemory c c' pending notes reader turn shows = absurd shows
 
 -- the half-close changes nothing of that
 pub may-linger : (why : Cause) (c c' : SeenConn) (answer : Bool) → ShutsOn c c' answer → MayLinger why c → MayLinger why c'
 may-linger why c c' answer shuts may = record {
   usable = ap is_usable shuts.turn ∙ may.usable;
-  shows = shows-still why c c' shuts.pending shuts.notes shuts.rest may.shows;
+  shows = shows-still why c c' shuts.pending shuts.notes shuts.reader shuts.turn may.shows;
 }
 
 -- ## How it is left

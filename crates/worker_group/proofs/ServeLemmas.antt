@@ -259,9 +259,9 @@ closes-done s c c' sound served goes_on reads =
 -- a connection that waits for a request, or did, goes on
 waits-on : (c : SeenConn) → IsConn c → (c.turn ≡ turn.New) ⊎ (c.turn ≡ turn.More) → says_last c.notes ≡ false
 waits-on c is (inl new) =
-    let untouched = subst (λ (u : LastTurn). TurnFits u c) new is.turn_fits in
+    let untouched = subst (λ (u : LastTurn). TurnFits u c is.rest) new is.turn_fits in
     ap says_last untouched.none_noted
-waits-on c is (inr more) = (subst (λ (u : LastTurn). TurnFits u c) more is.turn_fits).goes_on
+waits-on c is (inr more) = (subst (λ (u : LastTurn). TurnFits u c is.rest) more is.turn_fits).goes_on
 
 or-right : (a b : Bool) → b ≡ true → (a || b) ≡ true
 or-right true b at = refl

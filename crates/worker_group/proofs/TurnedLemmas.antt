@@ -33,6 +33,7 @@ rises-after old mid new first later = (omega (arith, first, later.0), λ below. 
 counts-after : (last : LastTurn) (a b c : LinkCounts) → NoneFalls a b → CountsTurn last b c → CountsTurn last a c
 counts-after turn.New a b c first later = tt
 counts-after (turn.Asked ask) a b c first later = tt
+counts-after turn.Interim a b c first later = tt
 counts-after turn.Answered a b c first later = tt
 counts-after turn.More a b c first later = rises-after a.late_reads b.late_reads c.late_reads first.late_reads later
 counts-after turn.Gone a b c first later = rises-after a.ends b.ends c.ends first.ends later
@@ -104,6 +105,15 @@ turned-reading : (answer : ReadTurn) (a b : LinkCounts) → RisesWhere (is_read_
     → RisesExactlyWhere (is_more answer) a.late_reads b.late_reads → RisesExactlyWhere (is_gone answer) a.ends b.ends → b.late_writes ≡ a.late_writes
     → HasTurned (after_reading answer) a b
 turned-reading (read.Asked ask) a b faults reads ends writes = record {
+  none_falls = record {
+    faults = faults;
+    late_reads = stays a.late_reads b.late_reads reads;
+    late_writes = stays a.late_writes b.late_writes writes;
+    ends = stays a.ends b.ends ends;
+  };
+  counted = tt;
+}
+turned-reading read.Interim a b faults reads ends writes = record {
   none_falls = record {
     faults = faults;
     late_reads = stays a.late_reads b.late_reads reads;

@@ -23,6 +23,7 @@ use Rattle.conn_state.specs.declared.turn.LastTurn.{LastTurn}
 use Rattle.conn_state.specs.declared.turn.LastTurn.TheVariants as turn
 use Rattle.conn_state.specs.declared.turn.LastLinger.{LastLinger}
 use Rattle.conn_state.specs.declared.turn.LastLinger.TheVariants as linger
+use Rattle.conn_state.specs.Reader.{keeps_none}
 use Rattle.conn_state.specs.Conn.{SeenConn, is_half_closed}
 use Rattle.conn_state.specs.Turns.{ShutsOn}
 use Rattle.conn_state.specs.Answered.{SeenEnded, IsEndOf}
@@ -39,7 +40,7 @@ use Rattle.worker_group.specs.Acts.{Acts}
 
 -- what a connection waits for of which no request came: the next one, where one was answered and no byte of another one read
 abbrev pub kept_kind : SeenConn → Kind
-kept_kind c = if not (length c.notes == 0) && (length c.rest == 0) then KeepAlive else Reading
+kept_kind c = if not (length c.notes == 0) && keeps_none c.reader then KeepAlive else Reading
 
 -- how a connection is left that has to linger for the cause: it lingers where its half-close was made, and else ends
 abbrev pub EndsOut : Cause → LastLinger → Exit → Type 0
@@ -59,6 +60,7 @@ IsWayOut why e = (e ≡ exit.Linger why) ⊎ (e ≡ exit.Close cause.LinkFailed 
 abbrev pub ExitsAfter : LastTurn → SeenConn → Exit → Type 0
 ExitsAfter turn.New c e = ⊥
 ExitsAfter (turn.Asked ask) c e = (fault : BoardFault) × (e ≡ exit.GiveUp fault)
+ExitsAfter turn.Interim c e = ⊥
 ExitsAfter turn.Answered c e = ⊥
 ExitsAfter turn.More c e = e ≡ exit.Park (kept_kind c)
 ExitsAfter turn.Gone c e = e ≡ exit.Close cause.ClientDone Direct
@@ -80,6 +82,7 @@ pub record NoneFalls (old new : LinkCounts) : Type 0 where
 abbrev pub CountsTurn : LastTurn → LinkCounts → LinkCounts → Type 0
 CountsTurn turn.New old new = ⊤
 CountsTurn (turn.Asked ask) old new = ⊤
+CountsTurn turn.Interim old new = ⊤
 CountsTurn turn.Answered old new = ⊤
 CountsTurn turn.More old new = Rises old.late_reads new.late_reads
 CountsTurn turn.Gone old new = Rises old.ends new.ends
@@ -225,6 +228,7 @@ IsRefusedCause why = (why ≡ cause.Stopped) ⊎ (why ≡ cause.NoMemory)
 abbrev pub EndsFor : LastTurn → LastLinger → Cause → Type 0
 EndsFor turn.New last why = ⊥
 EndsFor (turn.Asked ask) last why = IsRefusedCause why
+EndsFor turn.Interim last why = ⊥
 EndsFor turn.Answered last why = ⊥
 EndsFor turn.More last why = IsRefusedCause why
 EndsFor turn.Gone last why = why ≡ cause.ClientDone

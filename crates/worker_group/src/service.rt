@@ -7,14 +7,14 @@ ghost use Rattle.conn_machine.specs.declared.event.Event.TheVariants as event;
 ghost use Rattle.conn_state.specs.declared.turn.LastTurn.TheVariants as turn;
 ghost use Rattle.conn_state.specs.declared.turn.LastLinger.TheVariants as linger;
 ghost use Rattle.conn_state.specs.Answered.{MayLinger};
-ghost use Rattle.conn_state.specs.Conn.{is_half_closed};
+ghost use Rattle.conn_state.specs.Conn.{is_half_closed, is_usable};
 ghost use Rattle.conn_state.specs.Turns.{ShutsOn};
 ghost use Rattle.board.specs.Book.{book_with_entry, row_in};
 ghost use Rattle.board.specs.Faults.{IsRefusedFor};
 ghost use Rattle.board.specs.Fits.{FoundNoMore, IsSettled};
 ghost use Rattle.worker_group.specs.Acts.{Acts};
 ghost use Rattle.worker_group.specs.InHand.{IsClosable, IsInHand};
-ghost use Rattle.worker_group.specs.InHandInside.{IsServed, answers_left};
+ghost use Rattle.worker_group.specs.InHandInside.{IsServed, sends_left};
 ghost use Rattle.worker_group.specs.Service.{EndsOut, ExitsAfter, HasServed, HasTurned, IsGivenUp, IsLastEnded, IsLeftBy, IsLetLinger, IsThere, IsWayOut, LeavesRest, RefusalLasts, answer_events, give_up_events, left_events};
 ghost use Rattle.worker_group.specs.ServiceInside.{MayLeave};
 
@@ -75,8 +75,8 @@ fn converse<L: Link, N: Known>(board: &mut Board<L, N>, who: u32, conn: &mut Con
     }
 }
 
-/// Sends what is pending; where all was sent, reads on, and answers. None where the response is to be sent. Once the last
-/// response was sent the connection is half-closed.
+/// Sends what is pending; where all was sent, reads on, and answers. None where the response, or what tells the client to send the
+/// body, is to be sent. Once the last response was sent the connection is half-closed.
 fn serve_turn<L: Link, N: Known>(
     board: &mut Board<L, N>,
     who: u32,
@@ -91,7 +91,7 @@ fn serve_turn<L: Link, N: Known>(
     ensures exits { IfSome result (ExitsAfter conn.new.turn conn.new) }
     ensures turned { HasTurned conn.new.turn conn.old.counts conn.new.counts }
     ensures served { IfNone result (IsServed board.new.book.state conn.new) }
-    ensures fewer { IfNone result (answers_left board.new.book.state conn.new < answers_left board.old.book.state conn.old) }
+    ensures fewer { IfNone result (sends_left board.new.book.state conn.new < sends_left board.old.book.state conn.old) }
 {
     board.show();
     match conn.write_turn() {
@@ -104,6 +104,7 @@ fn serve_turn<L: Link, N: Known>(
     }
     match conn.read_turn() {
         ReadTurn::Asked(ask) => answer(board, who, conn, ask),
+        ReadTurn::Interim => None,
         ReadTurn::More if conn.noted() && conn.rest_empty() => Some(Exit::Park(Kind::KeepAlive)),
         ReadTurn::More => Some(Exit::Park(Kind::Reading)),
         ReadTurn::Gone => Some(Exit::Close(Cause::ClientDone, Tail::Direct)),
@@ -129,7 +130,7 @@ fn answer<L: Link, N: Known>(
     ensures exits { IfSome result (ExitsAfter conn.new.turn conn.new) }
     ensures turned { HasTurned conn.new.turn conn.old.counts conn.new.counts }
     ensures served { IfNone result (IsServed board.new.book.state conn.new) }
-    ensures fewer { IfNone result (answers_left board.new.book.state conn.new < answers_left board.old.book.state conn.old) }
+    ensures fewer { IfNone result (sends_left board.new.book.state conn.new < sends_left board.old.book.state conn.old) }
 {
     board.show();
     conn.show();
@@ -144,6 +145,7 @@ fn answer<L: Link, N: Known>(
 
 /// Half-closes the connection, which has to linger for the cause: how it is left then. Where the half-close fails it ends.
 fn half_close<L: Link, N: Known>(conn: &mut Conn<L, N>, cause: Cause) -> Exit
+    requires usable { is_usable conn.old.turn ≡ true }
     requires open { conn.old.linger ≡ linger.Open }
     ensures shuts { ShutsOn conn.old conn.new (is_half_closed conn.new.linger) }
     ensures way { EndsOut cause conn.new.linger result }

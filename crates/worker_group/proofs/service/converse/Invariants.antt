@@ -1,7 +1,7 @@
 use Rattle.std.proofs.Common.{◌≡◌, List, Some}
 use Rattle.mpm_base.specs.declared.conn.Ask.{Ask}
 use Rattle.worker_group.specs.Acts.{Acts}
-use Rattle.worker_group.specs.InHandInside.{IsServed, answers_left}
+use Rattle.worker_group.specs.InHandInside.{IsServed, sends_left}
 use Rattle.worker_group.specs.Service.{NoneFalls, answer_events}
 use Rattle.worker_group.proofs.service.converse.Given as goal
 
@@ -15,6 +15,6 @@ invariant-loop-exit g l =
       counts : NoneFalls l.fn.conn.counts l.conn.counts;
     }
 
--- how many more responses the connection may have
+-- how many more times something may become pending
 abbrev pub decreases-loop-exit : goal.decreases-loop-exit
-decreases-loop-exit g l = answers_left l.board.book.state l.conn
+decreases-loop-exit g l = sends_left l.board.book.state l.conn

@@ -1,17 +1,26 @@
-use Rattle.std.proofs.Common.{length, refl, ap, ◌∙◌, sym, arith}
-use Rattle.std.proofs.lemmas.List.{nil_from_length}
-use Rattle.std.proofs.lemmas.Bool.{eqb-true}
+use Rattle.std.proofs.Common.{◌≡◌, ℕ, ◌<◌, Bool, true, false, ◌||◌, length, IfNone, refl, ap, ◌∙◌, sym, subst, arith}
 use Rattle.std.proofs.lemmas.Bool.Decides.{nat_tests}
 use Rattle.mpm_base.specs.declared.conn.Cause.TheVariants as cause
 use Rattle.conn_state.specs.declared.turn.WriteTurn.TheVariants as write
 use Rattle.conn_state.specs.declared.turn.ReadTurn.TheVariants as read
+use Rattle.conn_state.specs.Reader.{SeenReader}
+use Rattle.conn_state.specs.Rest.{is_awaited}
 use Rattle.worker_group.specs.declared.service.Exit.TheVariants as exit
+use Rattle.worker_group.specs.InHandInside.{sends_left}
 use Rattle.worker_group.proofs.LingerLemmas.{exits-out, last-lingers, last-shows, leaves-out}
 use Rattle.worker_group.proofs.ServeLemmas.{in-hand, served-written, served-read, closes-failed_write, closes-done, closes-failed_read, closes-unread}
-use Rattle.worker_group.proofs.AnswerLemmas.{answers_none}
+use Rattle.worker_group.proofs.AnswerLemmas.{answers_none, fewer-told, sends-same}
 use Rattle.worker_group.proofs.ExitLemmas.{exits-written, exits-read, keeps-alive}
 use Rattle.worker_group.proofs.TurnedLemmas.{turned-answer, turned-on, turned-shut, turned-written}
 use Rattle.worker_group.proofs.service.serve_turn.Goals as goal
+
+or-true : (b : Bool) → (b || true) ≡ true
+or-true true = refl
+or-true false = refl
+
+or-false : (b : Bool) → (b || false) ≡ b
+or-false true = refl
+or-false false = refl
 
 pub returns-in-LinkFailed-clause-may : goal.returns-in-LinkFailed-clause-may
 returns-in-LinkFailed-clause-may g c =
@@ -61,11 +70,11 @@ returns-then-last-clause-exits g c =
 pub returns-in-More-clause-may : goal.returns-in-More-clause-may
 returns-in-More-clause-may g c =
     let served = served-written c.args.board.now.book.state c.args.conn.now c.write_turn.new.self write.Done c.requires.served c.in-Done.ensures refl in
-    let empty = eqb-true (length c.read_turn.new.self.rest) 0 (sym c.rest_empty.ensures ∙ c.if-rest_empty.true) in (
+    (
       served-read c.args.board.now.book.state c.write_turn.new.self c.read_turn.new.self read.More served c.in-More.ensures.reads refl,
       record {
         turn = c.in-More.ensures.reads.turn;
-        rest = nil_from_length c.read_turn.new.self.rest empty;
+        none_kept = sym c.rest_empty.ensures.kept ∙ c.if-rest_empty.true;
       },
       grind (arith, nat_tests, c.noted.ensures, c.if-noted.true),
     )
@@ -77,7 +86,7 @@ returns-in-More-clause-acts g c =
 pub returns-in-More-clause-exits : goal.returns-in-More-clause-exits
 returns-in-More-clause-exits g c =
     exits-read c.write_turn.new.self c.read_turn.new.self read.More _ c.in-More.ensures.reads
-    (ap exit.Park (keeps-alive c.read_turn.new.self (sym c.noted.ensures ∙ c.if-noted.true) (sym c.rest_empty.ensures ∙ c.if-rest_empty.true)))
+    (ap exit.Park (keeps-alive c.read_turn.new.self (sym c.noted.ensures ∙ c.if-noted.true) (sym c.rest_empty.ensures.kept ∙ c.if-rest_empty.true)))
 
 pub returns-in-Gone-clause-acts : goal.returns-in-Gone-clause-acts
 returns-in-Gone-clause-acts g c =
@@ -136,3 +145,32 @@ pub returns-in-Asked-clause-turned : goal.returns-in-Asked-clause-turned
 returns-in-Asked-clause-turned g c =
     turned-answer c.args.conn.now c.write_turn.new.self c.read_turn.new.self c.answer.new.conn write.Done _ c.in-Done.ensures c.in-Asked.ensures.reads
     c.answer.ensures.turned
+
+pub returns-in-Interim-clause-acts : goal.returns-in-Interim-clause-acts
+returns-in-Interim-clause-acts g c =
+    answers_none c.args.who c.args.conn.now.name c.args.board.now.book c.args.board.now.book refl c.requires.row
+
+pub returns-in-Interim-clause-served : goal.returns-in-Interim-clause-served
+returns-in-Interim-clause-served g c =
+    let served = served-written c.args.board.now.book.state c.args.conn.now c.write_turn.new.self write.Done c.requires.served c.in-Done.ensures refl in
+    served-read c.args.board.now.book.state c.write_turn.new.self c.read_turn.new.self read.Interim served c.in-Interim.ensures.reads refl
+
+pub returns-in-Interim-clause-fewer : goal.returns-in-Interim-clause-fewer
+returns-in-Interim-clause-fewer g c =
+    let reads = c.in-Interim.ensures.reads in
+    let writes = c.in-Done.ensures in
+    fewer-told c.args.board.now.book.state c.args.conn.now c.read_turn.new.self (reads.child ∙ writes.child) (reads.notes ∙ writes.notes)
+    (ap (λ (r : SeenReader). is_awaited r.stage) (sym writes.reader) ∙ reads.not_twice refl) (reads.told_once ∙ or-true (is_awaited c.write_turn.new.self.reader.stage))
+
+pub returns-in-Interim-clause-turned : goal.returns-in-Interim-clause-turned
+returns-in-Interim-clause-turned g c =
+    turned-on c.args.conn.now c.write_turn.new.self c.read_turn.new.self write.Done read.Interim c.in-Done.ensures c.in-Interim.ensures.reads
+
+pub returns-in-Asked-clause-fewer : goal.returns-in-Asked-clause-fewer
+returns-in-Asked-clause-fewer g c =
+    let reads = c.in-Asked.ensures.reads in
+    let writes = c.in-Done.ensures in
+    subst (λ (n : ℕ). IfNone c.answer.result (sends_left c.answer.new.board.book.state c.answer.new.conn < n))
+    (sends-same c.args.board.now.book.state c.args.conn.now c.read_turn.new.self (reads.child ∙ writes.child) (reads.notes ∙ writes.notes)
+    (reads.told_once ∙ or-false (is_awaited c.write_turn.new.self.reader.stage) ∙ ap (λ (r : SeenReader). is_awaited r.stage) writes.reader))
+    c.answer.ensures.fewer
