@@ -29,6 +29,7 @@ use Rattle.conn_state.specs.Conn.{SeenConn, is_usable, Streams, StreamsWhile, Tu
 use Rattle.conn_state.specs.Turns.{IsNoteOf, LeavesItem, TakesNote}
 use Rattle.conn_state.specs.ConnInside.{IsPlanOf, IsPlanned, IsHeld}
 use Rattle.conn_state.proofs.ConnLemmas.{FollowsMay, usable-streams, sent-breaks}
+use Rattle.conn_state.proofs.KnownLemmas.{outside-kept}
 use Rattle.conn_state.proofs.OpenLemmas.{open-link, IsOnItsWay, still-open}
 
 -- what was asked, and the note for it

@@ -73,7 +73,8 @@ outside-shut known told told' limits site made is outside =
     outside-changed known told told' limits limits site (after_shut made) (leaves-shut made) is refl outside
 
 -- the link is closed
-pub outside-closed : (known : Option KnownOutside) (told told' : Option LinkTold) (limits : Limits) (site : SeenSite)
-    → told' ≡ option_map after_close told → IsOfOutside known told limits site → IsOfOutside known told' limits site
-outside-closed known told told' limits site is outside =
-    outside-changed known told told' limits limits site after_close (record { offered = λ t. refl; rank = λ t. refl }) is refl outside
+pub outside-closed : (known : Option KnownOutside) (told told' : Option LinkTold) (limits limits' : Limits) (site site' : SeenSite)
+    → told' ≡ option_map after_close told → limits' ≡ limits → site' ≡ site → IsOfOutside known told limits site → IsOfOutside known told' limits' site'
+outside-closed known told told' limits limits' site site' is same same_site outside =
+    subst (λ (x : SeenSite). IsOfOutside known told' limits' x) (sym same_site)
+    (outside-changed known told told' limits limits' site after_close (record { offered = λ t. refl; rank = λ t. refl }) is same outside)

@@ -14,6 +14,7 @@ mod closing;
 mod config_reading;
 mod config_test;
 mod counting;
+mod edition;
 mod exit_status;
 mod invocation;
 mod listen;

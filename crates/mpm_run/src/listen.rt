@@ -10,7 +10,7 @@ ghost use Rattle.conn_machine.specs.Made.{AreOfPasses};
 ghost use Rattle.conn_machine.specs.Runs.{after};
 ghost use Rattle.conn_machine.specs.Sound.{IsSound};
 ghost use Rattle.conn_machine.specs.States.{is_halted};
-ghost use Rattle.conn_state.specs.Known.{IsOfClient};
+ghost use Rattle.conn_state.specs.Known.{IsOfClient, IsOfEdition};
 ghost use Rattle.board.specs.Finds.{acceptable, next_deadline_of};
 ghost use Rattle.board.specs.Book.{row_in};
 ghost use Rattle.worker_group.specs.Service.{IsUp, LeavesRest};
@@ -22,9 +22,10 @@ ghost use Rattle.mpm_run.specs.Times.{IsInformed, IsInformedSoFar, WasInformed, 
 ghost use Rattle.mpm_run.specs.Watched.{IsHushed};
 
 use crate::closing::close_all;
+use crate::edition::{Edition, NamedEdition};
 use crate::round::{
-    accept, find_rest, halt, has_live, let_go_of_conns, moment_of, pass_time, retire_all,
-    serve_all, settle, show_state, signal_all, start_children,
+    accept, fault_without_memory, find_rest, halt, has_live, let_go_of_conns, moment_of, pass_time,
+    retire_all, serve_all, settle, show_state, signal_all, start_children,
 };
 use board::{Board, BoardFault};
 use conn_machine::Why;
@@ -92,6 +93,8 @@ pub struct Listener<L: Link + Send, F: Front<L = L>, C: Clock, N: Known> {
     pub front: F,
     /// The clock of the run.
     pub clock: C,
+    /// What new connections are served by.
+    pub edition: NamedEdition<N>,
     /// The slots that the last wait gave.
     pub ready: Ready,
 }
@@ -282,7 +285,8 @@ impl<L: Link + Send, F: Front<L = L>, C: Clock, N: Known> Listener<L, F, C, N> {
         self.take_all(rt)
     }
 
-    /// Takes the connections that have arrived, while a child admits one and a slot is vacant.
+    /// Takes the connections that have arrived, while a child admits one and a slot is vacant. Before the front is asked for one
+    /// there is a share of the site for it.
     fn take_all<R: Wait>(&mut self, rt: &R) -> Result<(), BoardFault>
         requires passes { 0 < self.old.board.book.passes }
         requires free { row_in 0 self.old.board.book ≡ None }
@@ -307,8 +311,11 @@ impl<L: Link + Send, F: Front<L = L>, C: Clock, N: Known> Listener<L, F, C, N> {
             if self.board.can_accept().is_none() {
                 return Ok(());
             }
+            let Ok(edition) = self.edition.share() else {
+                return Err(fault_without_memory(&self.board));
+            };
             match self.front.accept() {
-                Arrival::Some(link) => self.take(link)?,
+                Arrival::Some(link) => self.take(link, edition)?,
                 Arrival::None | Arrival::Failed => return Ok(()),
             }
         }
@@ -317,13 +324,14 @@ impl<L: Link + Send, F: Front<L = L>, C: Clock, N: Known> Listener<L, F, C, N> {
 
     /// Takes the connection of the link into the table, and has the front watch it under its name. Where the table refuses the
     /// link the front turns it away, and where the front can't watch it its connection is closed.
-    fn take(&mut self, link: L) -> Result<(), BoardFault>
+    fn take(&mut self, link: L, edition: Edition) -> Result<(), BoardFault>
         requires passes { 0 < self.old.board.book.passes }
         requires free { row_in 0 self.old.board.book ≡ None }
         requires acceptable { is_some (acceptable self.old.board.book.state) ≡ true }
         requires up { IsUp self.old.board.book.state.going }
         requires arrival { IsArrival self.old.board.book.state.accepted (L.seen link).told }
         requires client { IsOfClient N.known (L.seen link).told }
+        requires edition { IsOfEdition N.known edition.limits edition.site.value }
         requires healthy { (L.seen link).counts.faults ≡ 0 }
         ensures takes { OnOk result (IsTaking (L.seen link).told self.old self.new) }
         ensures until { IfErr result (λ fault. FailsTaking fault self.old.board.book self.new.board.book) }
@@ -351,7 +359,15 @@ impl<L: Link + Send, F: Front<L = L>, C: Clock, N: Known> Listener<L, F, C, N> {
         };
         show_state(&self.board);
         let watched = self.front.watch(taken.name, &mut link);
-        let conn = Conn::new(self.alloc, taken.name, taken.child, taken.generation, link);
+        let conn = Conn::new(
+            self.alloc,
+            taken.name,
+            taken.child,
+            taken.generation,
+            edition.limits,
+            edition.site,
+            link,
+        );
         conn.show();
         settle(&mut self.board, conn, watched)
     }

@@ -123,6 +123,19 @@ pub fn find_rest<L: Link, N: Known>(board: &Board<L, N>) -> Rest
     }
 }
 
+/// For what a round is broken off where memory lacks: a history that is full comes first.
+pub fn fault_without_memory<L: Link, N: Known>(board: &Board<L, N>) -> BoardFault
+    requires { is_halted board.now.book.state.going ≡ false }
+    ensures why { IsRefusedFor result board.now.book }
+    ensures must { MustStop result board.now.book }
+{
+    if board.is_full() {
+        BoardFault::Full
+    } else {
+        BoardFault::NoMemory
+    }
+}
+
 /// Whether a connection is live: one in hand, or one that waits.
 pub fn has_live<L: Link, N: Known>(board: &Board<L, N>) -> bool
     ensures { result ≡ list_any is_live board.now.book.state.rows }

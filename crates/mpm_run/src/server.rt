@@ -4,6 +4,7 @@ ghost use Rattle.mpm_base.specs.Count.{NeverFalls};
 ghost use Rattle.mpm_base.specs.Front.{Binds};
 ghost use Rattle.mpm_run.specs.UnusedInside.{IsUnused};
 ghost use Rattle.conn_machine.specs.Made.{AreOfPasses};
+ghost use Rattle.conn_state.specs.Known.{IsOfEdition};
 ghost use Rattle.board.specs.Board.{AreOfOutside};
 ghost use Rattle.mpm_run.specs.ExitStatusesInside.{WritesAll};
 ghost use Rattle.mpm_run.specs.FirstNumbers.{opened_by};
@@ -16,6 +17,7 @@ ghost use Rattle.mpm_run.specs.Started.{AreAskedFor, IsStartedFirst};
 ghost use Rattle.mpm_run.specs.Times.{WasInformed};
 ghost use Rattle.mpm_run.specs.Watched.{AreWatched, IsOpenedAndHushed};
 
+use crate::edition::{Edition, NamedEdition};
 use crate::listen::Listener;
 use crate::run_numbers::RunNumbers;
 use crate::writing::write_all;
@@ -49,10 +51,11 @@ pub enum OpenFault<F> {
     NoMemory,
 }
 
-/// Runs a server by the numbers, over the front and the clock, to its end. The front is bound before, and once the table is there the
+/// Runs a server by the numbers, over the front and the clock, to its end, and serves by the edition. The front is bound before, and once the table is there the
 /// text is written; where that fails the server runs all the same.
 ///
-/// The name says what the front tells of its clients, so that what connections received of them is a fact of the board's type.
+/// The name says what the front tells of its clients, and by which editions connections are served, so that what they received and what
+/// they are served by are facts of the board's type.
 pub fn run_server<
     R: Wait,
     L: Link + Send,
@@ -64,19 +67,21 @@ pub fn run_server<
     rt: &R,
     alloc: Global,
     numbers: RunNumbers,
+    edition: Edition,
     front: F,
     clock: C,
     out: &mut K,
     text: &[u8],
 ) -> Result<ServedRun<L, F, C>, OpenFault<F>>
     requires numbers { AreNumbers numbers }
+    requires edition { IsOfEdition N.known edition.limits edition.site.value }
     requires named { IsKnownOfFront N.known L.seen (F.seen front).told }
     requires unused { IfSome (F.seen front).told IsUnused }
     requires unasked { IfSome (C.told clock) (λ calls. calls ≡ []) }
     ensures run { IfOk result (λ s. IsRunFrom numbers s.board) }
     ensures unfolded { IfOk result (λ s. NeverFolded numbers s.board.book) }
     ensures closed { IfOk result (λ s. HasClosedAll s.board) }
-    ensures clients { IfOk result (λ s. AreOfOutside N.known s.board) }
+    ensures outside { IfOk result (λ s. AreOfOutside N.known s.board) }
     ensures stopped { IfOk result (λ s. HasStopped (F.seen front) (F.seen s.front) s.board.book.state) }
     ensures follows { IfOk result (λ s. Follows (F.seen front) (F.seen s.front)) }
     ensures front { IfOk result (λ s. IfSome (F.seen s.front).told (IsOpenedAndHushed numbers)) }
@@ -109,6 +114,7 @@ pub fn run_server<
         board,
         front,
         clock,
+        edition: NamedEdition::of(edition),
         ready,
     };
     listener.listen(rt);
@@ -117,6 +123,7 @@ pub fn run_server<
         board,
         front,
         clock,
+        edition: _,
         ready: _,
     } = listener;
     show_run(&board, numbers);
@@ -169,7 +176,7 @@ fn show_run<L: Link, N: Known>(board: &Board<L, N>, numbers: RunNumbers)
     ensures run { IsRunFrom numbers board.now }
     ensures closed { IsClosedDown board.now.book.state → HasClosedAll board.now }
     ensures links { IsClosedDown board.now.book.state → is_some N.known ≡ true → EndsLinks board.now }
-    ensures clients { AreOfOutside N.known board.now }
+    ensures outside { AreOfOutside N.known board.now }
 {
     events_keep_states_sound();
     accepted_connections_are_closed_or_live();

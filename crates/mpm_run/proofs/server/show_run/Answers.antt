@@ -38,4 +38,4 @@ returns-clause-links g c down knows =
     (λ number. c.ended_links_are_of_closed_connections.ensures.once n.slots n.children n.shape b.book.history b.ended number)
     (λ number. c.ended_links_are_of_closed_connections.ensures.no_other n.slots n.children n.shape b.book.history b.ended number)
     (c.accepted_connections_are_closed_or_live.ensures.accepted n.slots n.children n.shape b.book.history) closed
-    (known-tell g.N.Known.known b.ended knows c.show.ensures.clients.ended)
+    (known-tell g.N.Known.known b.ended knows c.show.ensures.outside.ended)

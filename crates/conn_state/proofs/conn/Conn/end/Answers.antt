@@ -16,4 +16,4 @@ returns-clause-ended g c =
     (search rules) (search rules)
 
 pub returns-clause-outside : goal.returns-clause-outside
-returns-clause-outside g c = outside-closed _ _ _ _ _ c.close.ensures.told_is c.self.invariant.outside
+returns-clause-outside g c = outside-closed _ _ _ _ _ _ _ c.close.ensures.told_is (search rules) (search rules) c.self.invariant.outside
