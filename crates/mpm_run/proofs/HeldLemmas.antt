@@ -28,10 +28,10 @@ use Rattle.conn_state.specs.declared.turn.LastLinger.TheVariants as linger
 use Rattle.conn_state.specs.declared.turn.LingerTurn.{LingerTurn}
 use Rattle.conn_state.specs.declared.turn.LingerTurn.TheVariants as left
 use Rattle.conn_state.specs.Conn.{IsConn, IsWaiting, SeenConn, TurnFits, is_half_closed, is_usable, lingers}
-use Rattle.conn_state.specs.Answered.{IsLeft, MayLinger, SentAll, ShowsCause}
+use Rattle.conn_state.specs.Answered.{IsLeft, MayLinger, SentAll, ShowsCause, waits_on}
 use Rattle.conn_state.specs.Turns.{LingersOn, after_linger}
 use Rattle.board.specs.Book.{full_stop}
-use Rattle.board.specs.Fits.{Fits, FoundNoMore, IsOnItsWay, IsSettled, IsSettledFrom, IsTakenUp, LingersFor, NotesEnd, WaitsAs}
+use Rattle.board.specs.Fits.{Fits, FoundNoMore, IsOnItsWay, IsSettled, IsSettledFrom, IsTakenUp, LingersFor, NotesEnd, WaitsAs, WaitsForNext}
 use Rattle.board.specs.Finds.{cause_of, kind_of, waits_for}
 use Rattle.worker_group.specs.InHand.{IsClosable, IsInHand}
 use Rattle.mpm_run.specs.ClosingInside.{IsLingeringFor, cause_of_late, tail_of}
@@ -144,22 +144,23 @@ lingers-by kind was why waits some = waits.lingers ∙ ap (λ (o : Option Cause)
 
 -- the law of connections: one of which nothing was read may linger as one that is late with its request
 abbrev pub MayBeLate : Type 0
-MayBeLate = (c : SeenConn) → IsConn c → c.turn ≡ turn.New → MayLinger cause.ReadLate c
+MayBeLate = (c : SeenConn) → c.turn ≡ turn.New → MayLinger cause.ReadLate c
 
-waiting-sent : (c : SeenConn) → c.turn ≡ turn.More → IsConn c → SentAll c
-waiting-sent c more is =
-    let fits : IsWaiting c = subst (λ (t : LastTurn). TurnFits t c) more is.turn_fits in
-    record { none_pending = fits.none_pending; none_whole = fits.none_whole }
+-- one that waits for the next request has sent all, and nothing of it came
+waiting-sent : (c : SeenConn) → WaitsForNext c → IsConn c → SentAll c
+waiting-sent c waits is =
+    let fits : IsWaiting c is.rest = subst (λ (t : LastTurn). TurnFits t c is.rest) waits.turn is.turn_fits in
+    record { none_pending = fits.none_pending; none_kept = waits.none_kept }
 
 -- a connection that waited for this shows the cause for which it lingers where it is late
 shows-late : MayBeLate → (kind : Kind) (why : Option Cause) (c : SeenConn) → is_linger_kind kind ≡ false → IsSettled kind why c → MayLinger (cause_of_late kind) c
 shows-late law Reading why c serves settled =
     elim settled.waits [
-      | inl new ↦ law c settled.is_conn new
-      | inr more ↦ record { usable = ap is_usable more; shows = waiting-sent c more settled.is_conn }
+      | inl new ↦ law c new
+      | inr more ↦ record { usable = ap is_usable more; shows = ap waits_on more }
     ]
 shows-late law KeepAlive why c serves settled =
-    record { usable = ap is_usable settled.waits.turn; shows = waiting-sent c settled.waits.turn settled.is_conn }
+    record { usable = ap is_usable settled.waits.turn; shows = waiting-sent c settled.waits settled.is_conn }
 shows-late law Writing why c serves settled = record { usable = ap is_usable settled.waits; shows = tt }
 shows-late law Linger why c serves settled = absurd (cc)
 shows-late law ShortLinger why c serves settled = absurd (cc)
@@ -172,7 +173,7 @@ late-shows law s was c kind held waits serves = shows-late law kind was.cause c 
 pub retiring-shows : (s : State) (was : Row) (c : SeenConn) → IsHeldFrom s was c → was.from ≡ Some KeepAlive → MayLinger cause.Retiring c
 retiring-shows s was c held from =
     let settled = settled-as KeepAlive was.from was.cause c from held.settled in
-    record { usable = ap is_usable settled.waits.turn; shows = waiting-sent c settled.waits.turn settled.is_conn }
+    record { usable = ap is_usable settled.waits.turn; shows = waiting-sent c settled.waits settled.is_conn }
 
 -- ## That it may linger
 

@@ -145,14 +145,14 @@ receives clients e tells ended =
 -- so did each
 pub all-receive : (k : KnownOutside) (ended : List SeenEnded) → AreEnded ended → EndedOfOutside (Some k) ended → AllReceive k.clients ended
 all-receive k [] are ends = tt
-all-receive k (e ∷ ended) are ends = (receives k.clients e ends.0 are.0, all-receive k ended are.1 ends.1)
+all-receive k (e ∷ ended) are ends = (receives k.clients e ends.0.client are.0, all-receive k ended are.1 ends.1)
 
 -- ## The links of ended connections
 
 -- each is that of a client, and tells, where the type knows the clients
 all-tell : (k : KnownOutside) (ended : List SeenEnded) → EndedOfOutside (Some k) ended → AllTell ended
 all-tell k [] ends = tt
-all-tell k (e ∷ ended) ends = ((ends.0.t, ends.0.told_is), all-tell k ended ends.1)
+all-tell k (e ∷ ended) ends = ((ends.0.client.t, ends.0.client.told_is), all-tell k ended ends.1)
 
 pub known-tell : (known : Option KnownOutside) (ended : List SeenEnded) → is_some known ≡ true → EndedOfOutside known ended → AllTell ended
 known-tell None ended is ends = absurd (cc is)

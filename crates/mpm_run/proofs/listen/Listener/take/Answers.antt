@@ -2,7 +2,7 @@ use Rattle.std.proofs.Common.{Option, None, Some, IfSome, inl, inr, ap, subst, s
 use Rattle.std.proofs.lemmas.Result.{on_ok_weaker}
 use Rattle.mpm_base.specs.Front.{FrontSeen}
 use Rattle.mpm_base.specs.Link.{LinkTold}
-use Rattle.conn_state.specs.Conn.{SeenConn}
+use Rattle.mpm_base.specs.declared.conn.ConnName.{ConnName}
 use Rattle.conn_state.specs.Known.{IsOfClient}
 use Rattle.board.specs.declared.faults.BoardFault.{BoardFault}
 use Rattle.board.specs.Board.{SeenBoard}
@@ -30,7 +30,7 @@ new-conn-requires-clause-client g c =
     subst (λ (o : Option LinkTold). IsOfClient g.N.Known.known o) (sym c.watch-watched.ensures.watches.link_is) c.requires.client
 
 pub settle-requires-clause-row : goal.settle-requires-clause-row
-settle-requires-clause-row g c = c.in-Ok.ensures.acts.row ∙ ap (λ (x : SeenConn). Some x.name) (sym c.new-conn.ensures)
+settle-requires-clause-row g c = c.in-Ok.ensures.acts.row ∙ ap (λ (n : ConnName). Some n) (sym c.new-conn.ensures.name)
 
 pub returns-in-Err-clause-until : goal.returns-in-Err-clause-until
 returns-in-Err-clause-until g c =
@@ -64,7 +64,7 @@ returns-clause-takes g c =
           takes-one c.passes_act_in_steps.ensures.acts c.in-Ok.taken.name (way_of c.watch-watched.result) c.self.inside.board.book c.accept.new.board.book c.settle.new.board.book
           c.in-Ok.ensures.acts
           (acts-spelled _ (left_events (way_of c.watch-watched.result) c.in-Ok.taken.name) c.accept.new.board.book c.settle.new.board.book left
-          (ap (λ (x : SeenConn). left_events (way_of c.watch-watched.result) x.name) c.new-conn.ensures));
+          (ap (left_events (way_of c.watch-watched.result)) c.new-conn.ensures.name));
     }) c.settle.ensures.left)
 
 pub returns-clause-until : goal.returns-clause-until
@@ -79,7 +79,7 @@ returns-clause-until g c =
       took = c.in-Ok.ensures.acts;
       state = c.show_state.ensures.after;
       why = why;
-      acts = subst (λ (x : SeenConn). GivesUp f x.name c.accept.new.board.book c.settle.new.board.book) c.new-conn.ensures given;
+      acts = subst (λ (n : ConnName). GivesUp f n c.accept.new.board.book c.settle.new.board.book) c.new-conn.ensures.name given;
     }))
     c.settle.ensures.why c.settle.ensures.given_up)
 
@@ -129,6 +129,6 @@ returns-clause-watched g c =
     (g.F.Front.seen c.watch-watched.new.self).told c.self.inside.board.book c.settle.new.board.book link.1 arrives.rank
     (ap (λ (f : FrontSeen). f.told) c.watch-watched.ensures.watches.front)
     (takes-one-left c.histories_go_on_by_one_entry.ensures.row c.settle.result c.in-Ok.taken.name c.new-conn.result.name c.watch-watched.result c.self.inside.board.book c.accept.new.board.book
-    c.settle.new.board.book c.in-Ok.ensures.acts (ap (λ (x : SeenConn). x.name) c.new-conn.ensures) c.settle.ensures.left c.settle.ensures.given_up
+    c.settle.new.board.book c.in-Ok.ensures.acts c.new-conn.ensures.name c.settle.ensures.left c.settle.ensures.given_up
     c.settle.ensures.closed)
     (c.settle.ensures.rest.accepted ∙ c.in-Ok.ensures.taken) (before tells))
