@@ -1,8 +1,6 @@
-//! Tests of the board, by its public calls alone: lives of connections through them, which of those that wait is late first,
-//! lingering to each tail, and what passes find that take turns with one under the lock.
+//! A test of the board under the lock. What the board does with connections is shown by scripts (`run_tests`), and what its table does
+//! by the tests of `conn_machine` (`table_tests`).
 #![tactic(auto)]
 
-#[cfg(test)]
-mod boards;
 #[cfg(test)]
 mod passes;
