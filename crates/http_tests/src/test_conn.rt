@@ -125,7 +125,7 @@ impl<L: Link> TestConn<L> {
 
     /// Half-closes the link. False where it may not be.
     pub fn shut(&mut self) -> bool {
-        if !matches!(self.linger, LastLinger::Open) {
+        if !self.is_open() {
             return false;
         }
         self.linger = if self.conn.shut() {
