@@ -1,0 +1,32 @@
+//! What an operator may ask of a running server.
+//!
+//! `read_command` reads a command line: exactly one of three words, which stand in `specs/Spelling.antt`. To come: `reload`, which
+//! makes the configuration and the site of a new generation.
+#![tactic(auto)]
+
+ghost use Rattle.std.specs.Prelude.{◌≡◌, ◌≢◌, MatchResult};
+ghost use Rattle.mpm_base.specs.declared.script_line.CommandWord.{CommandWord};
+ghost use Rattle.restart_control.specs.Spelling.{spelling};
+
+pub use mpm_base::CommandWord as Command;
+use thiserror::Error;
+
+/// The line asks for nothing that the server does.
+#[derive(Clone, Copy, Debug, PartialEq, Eq, Error)]
+#[error("no such command")]
+pub struct Unknown;
+
+/// The command that the line asks for: the line is its word, with nothing before or behind it. Unknown where it is no such word.
+/// Takes no memory.
+pub fn read_command(line: &str) -> Result<Command, Unknown>
+    ensures { MatchResult result
+        (λ command. line.now ≡ spelling command)
+        (λ unknown. (command : CommandWord) → line.now ≢ spelling command) }
+{
+    match line {
+        "graceful" => Ok(Command::Graceful),
+        "graceful-stop" => Ok(Command::GracefulStop),
+        "stop" => Ok(Command::Stop),
+        _ => Err(Unknown),
+    }
+}
