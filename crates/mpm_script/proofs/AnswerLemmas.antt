@@ -9,7 +9,7 @@ use Rattle.mpm_base.specs.declared.script_line.ScriptLine.TheVariants as line
 use Rattle.mpm_script.specs.declared.script.ScriptFault.{ScriptFault}
 use Rattle.mpm_script.specs.declared.script.ScriptFault.TheVariants as fault
 use Rattle.mpm_script.proofs.AgreementLemmas.{agrees_at}
-use Rattle.mpm_script.proofs.BuiltFrontLemmas.{no_first_unbuilt, one_place}
+use Rattle.mpm_script.proofs.BuiltLineLemmas.{no_first_unbuilt, one_place}
 use Rattle.mpm_script.proofs.SequenceLemmas.{OneLine, line_once, line_some, two_sequences}
 
 -- ## How far the bytes are good
@@ -77,7 +77,7 @@ no_next_failing one fails disagrees lines rest failing line behind h agree =
 -- ## What an answer says of the longest good reading
 
 abbrev pub Says : Result (List ScriptLine) ScriptFault → List ScriptLine → List ℕ → Type 0
-Says (Ok script) lines rest = (script ≡ lines) × (rest ≡ []) × AreBuilt [] lines
+Says (Ok script) lines rest = (script ≡ lines) × (rest ≡ []) × AreBuilt lines
 Says (Err (fault.BadLine n)) lines rest = (n ≡ suc (length lines)) × IsBadLine lines rest
 Says (Err (fault.MomentBackwards n)) lines rest = (n ≡ suc (length lines)) × BeginsFailing is_backwards lines rest
 Says (Err (fault.UnknownName n)) lines rest = (n ≡ suc (length lines)) × BeginsFailing is_unknown lines rest

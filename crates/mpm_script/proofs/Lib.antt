@@ -1,10 +1,6 @@
 pub mod AgreementLemmas
 pub mod AnswerLemmas
-pub mod BuiltClientLemmas
-pub mod BuiltFrontLemmas
-pub mod BuiltLemmas
-pub mod BuiltProgressLemmas
-pub mod BuiltSpotLemmas
+pub mod BuiltLineLemmas
 pub mod CutLemmas
 pub mod EscapeLemmas
 pub mod FileNameLemmas

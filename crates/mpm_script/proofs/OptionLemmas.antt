@@ -1,6 +1,5 @@
 -- What is said of the value of an option, or of its absence, from what is said of both.
-use Rattle.std.proofs.Common.{◌≡◌, false, Option, None, Some, IfSome, IfNone, MatchOption}
-use Rattle.std.specs.Prelude.{is_some}
+use Rattle.std.proofs.Common.{Option, None, Some, IfSome, IfNone, MatchOption}
 
 pub some_from_match : {X : Type 0} (o : Option X) (P : Type 0) (Q R : X → Type 0) → ((x : X) → Q x → R x) → MatchOption o P Q → IfSome o R
 some_from_match None P Q R f h = tt
@@ -9,11 +8,3 @@ some_from_match (Some x) P Q R f h = f x h
 pub none_from_match : {X : Type 0} (o : Option X) (P R : Type 0) (Q : X → Type 0) → (P → R) → MatchOption o P Q → IfNone o R
 none_from_match None P R Q f h = f h
 none_from_match (Some x) P R Q f h = tt
-
-pub at_absence : {X : Type 0} (o : Option X) (P : Type 0) → is_some o ≡ false → IfNone o P → P
-at_absence None P e h = h
-at_absence (Some x) P e h = absurd (cc)
-
-pub at_none : {X : Type 0} (o : Option X) (P : Type 0) → P → IfNone o P
-at_none None P h = h
-at_none (Some x) P h = tt

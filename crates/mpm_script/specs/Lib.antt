@@ -1,6 +1,5 @@
-pub mod BuiltClientsInside
 pub mod BuiltLines
-pub mod BuiltProgressInside
+pub mod BuiltLinesInside
 pub mod Clients
 pub mod Escapes
 pub mod EscapesInside

@@ -127,7 +127,7 @@ pub record IsNotYetAt (bytes : List ℕ) (number : ℕ) : Type 0 where
 
 -- the answer says what the bytes are
 abbrev pub ScriptIs : List ℕ → Result (List ScriptLine) ScriptFault → Type 0
-ScriptIs bytes (Ok script) = IsScript bytes script × AreBuilt [] script
+ScriptIs bytes (Ok script) = IsScript bytes script × AreBuilt script
 ScriptIs bytes (Err (fault.BadLine n)) = IsRefusedAt bytes n IsBadLine
 ScriptIs bytes (Err (fault.MomentBackwards n)) = IsRefusedAt bytes n (BeginsFailing is_backwards)
 ScriptIs bytes (Err (fault.UnknownName n)) = IsRefusedAt bytes n (BeginsFailing is_unknown)

@@ -2,26 +2,22 @@
 //!
 //! `read_script` reads the bytes of a script exactly where they are one, and else refuses the earliest line that is wrong;
 //! only where there is none it refuses the first line that isn't built yet. `one_answer` says that bytes have one answer as
-//! a script, `one_line` that a text is one line at most, and `is_pipelined` tells requests of the known form, one behind
-//! the other; `file_names_are_texts` says that the files of a script have UTF-8 names. `NamePlaces` has names in order, and
-//! finds each by a map. Which text is which line stands in `specs/ScriptLine.antt`, which lines are a script in
-//! `specs/Script.antt`, and what its clients send and which calls of their links fail in `specs/Clients.antt`.
+//! a script, and `one_line` that a text is one line at most; `file_names_are_texts` says that the files of a script have
+//! UTF-8 names. `NamePlaces` has names in order, and finds each by a map. Which text is which line stands in
+//! `specs/ScriptLine.antt`, which lines are a script in `specs/Script.antt`, and what its clients send and which calls of
+//! their links fail in `specs/Clients.antt`.
 //!
-//! The files whose names begin with `built` say which lines are built: each but commands, those that
-//! set or remove a file, and sends of other requests. They go when every line is (`specs/BuiltLines.antt`).
+//! Each line is built but a command (`specs/BuiltLines.antt`).
 #![tactic(auto)]
 
 mod agreement;
-mod built_clients;
 mod built_lines;
-mod built_requests;
 mod escapes;
 mod line_reader;
 mod line_words;
 mod name_places;
 mod script;
 
-pub use built_requests::is_pipelined;
 pub use line_reader::one_line;
 pub use name_places::NamePlaces;
 pub use script::{Script, ScriptFault, file_names_are_texts, one_answer, read_script};

@@ -105,7 +105,7 @@ pub fn read_script(alloc: Global, bytes: &[u8]) -> Result<Script, ScriptFault>
 {
     file_names_are_texts();
     let script = read_lines(alloc, bytes)?;
-    match first_unbuilt(alloc, script.lines())? {
+    match first_unbuilt(script.lines()) {
         Some(place) => Err(ScriptFault::NotYet(place as u64 + 1)),
         None => Ok(script),
     }
