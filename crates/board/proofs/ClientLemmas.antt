@@ -47,4 +47,4 @@ ended_clients known (e ∷ ended) x clients client = (clients.0, ended_clients k
 -- a type that knows nothing says nothing of those that ended
 pub ended_unknown : (ended : List SeenEnded) → EndedOfOutside None ended
 ended_unknown [] = tt
-ended_unknown (e ∷ ended) = (tt, ended_unknown ended)
+ended_unknown (e ∷ ended) = (record { client = tt; edition = tt }, ended_unknown ended)

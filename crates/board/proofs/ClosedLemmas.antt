@@ -129,7 +129,7 @@ pub board_forgotten : (known : Option KnownOutside) (b : SeenBoard) (slots : Lis
     → IsBoard known b slots queues room → IsBoard None b slots queues room
 board_forgotten known b slots queues room is = record {
   agrees = is.agrees;
-  outside = record { conns = λ slot c has. tt; ended = ended_unknown b.ended };
+  outside = record { conns = λ slot c has. record { client = tt; edition = tt }; ended = ended_unknown b.ended };
   used = is.used;
   queued = is.queued;
   has_room = is.has_room;

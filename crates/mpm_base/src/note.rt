@@ -4,6 +4,7 @@ ghost use Rattle.mpm_base.specs.Notes.{says_last};
 
 use crate::octets::Octets;
 use crate::sequence::Sequence;
+use std::mem::size_of;
 
 /// The numbers and letters of a status page.
 #[derive(Debug, Drop)]
@@ -40,6 +41,9 @@ pub struct Note {
     /// What the status page shows, where the response is one. There is no such response yet.
     pub page: Option<Box<Snapshot>>,
 }
+
+// A connection keeps its notes as long as it lives.
+const _: () = prove!(size_of::<Note>() <= 32);
 
 /// A list of notes, as contracts see it, in the order of the responses.
 pub type Notes = Sequence<Note>;
