@@ -10,8 +10,7 @@ use Rattle.mpm_base.specs.declared.script_line.SiteLine.TheVariants as site
 use Rattle.mpm_base.specs.declared.script_line.ScriptLine.{ScriptLine}
 use Rattle.mpm_base.specs.declared.script_line.ScriptLine.TheVariants as line
 use Rattle.stand_ins.specs.Files.{with_file, without_file}
-use Rattle.stand_ins.specs.MemStore.{SeenMemStore}
-use Rattle.stand_ins.specs.PlainStore.{no_store_counts}
+use Rattle.stand_ins.specs.PlainStore.{SeenStore, no_store_counts}
 
 -- ## What the lines of the site leave
 
@@ -102,5 +101,5 @@ abbrev pub editions_of : List ScriptLine → StoreTold
 editions_of lines = record { files = edition_of (opening_lines lines); later = editions_behind [] lines }
 
 -- the store of a script, none of whose calls fails
-abbrev pub store_of : List ScriptLine → SeenMemStore
-store_of lines = record { told = editions_of lines; counts = no_store_counts; calls = 0; fails = [] }
+abbrev pub store_of : List ScriptLine → SeenStore
+store_of lines = record { told = editions_of lines; counts = no_store_counts }

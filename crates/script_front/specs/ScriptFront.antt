@@ -2,11 +2,12 @@
 use Rattle.std.specs.Prelude.{◌≡◌, ℕ, suc, ◌+◌, ◌<◌, ◌≤◌, Bool, true, false, max, nat_le, if◌then◌else◌, List, [], ◌∷◌, drop, take, length, map, Option, None, Some, option_map, ⊤}
 use Rattle.std.specs.List.{flat_map}
 use Rattle.mpm_script.specs.Clients.{clients_of, fails_of, is_dropped, name_at, names_of}
-use Rattle.mpm_base.specs.Front.{BoundTold, FrontSeen, FrontTold, HasAllTaken, WaitTold, Backlog, WatchTold, client_at, earlier, next_coming}
+use Rattle.mpm_base.specs.Front.{BoundTold, DialTold, FrontSeen, FrontTold, HasAllTaken, WaitTold, Backlog, WatchTold, client_at, earlier, next_coming}
 use Rattle.mpm_base.specs.Link.{LinkTold}
 use Rattle.stand_ins.specs.ScriptLink.{SeenScriptLink, new_paced_link}
 use Rattle.script_front.specs.Signals.{SeenClient, Gives, client_after_lines, all_closed, new_client}
 use Rattle.script_front.specs.declared.wait_end.WaitEnd.{WaitEnd}
+use Rattle.http_server.specs.declared.log.Log.{Log}
 use Rattle.mpm_base.specs.declared.addr.Addr.{Addr}
 use Rattle.mpm_base.specs.declared.conn.ConnName.{ConnName}
 use Rattle.mpm_base.specs.declared.front.Arrival.{Arrival}
@@ -54,6 +55,10 @@ turned_told turned = turned.1.told
 -- what it was bound to, from the address and the port for command lines
 abbrev pub bound_told : Addr × Option ℕ → BoundTold
 bound_told bound = record { listen = bound.0; control = bound.1 }
+
+-- a dial of it, from the port and the bytes of the word: none fails
+abbrev pub dial_told : ℕ × Log ℕ Bool → DialTold
+dial_told dial = record { port = dial.0; word = map (λ byte. byte.0) dial.1.items; answer = true }
 
 -- it as each front is seen: it has a script and tells, and of its calls none fails and none gives a command line
 abbrev pub front_seen : SeenFront → FrontSeen

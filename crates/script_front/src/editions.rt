@@ -12,7 +12,7 @@ ghost use Rattle.script_front.specs.Editions.{conf_after, conf_file, conf_name, 
 
 use mpm_base::{CommandWord, NoMemory, Octets, ScriptLine, SiteLine};
 use mpm_script::Script;
-use stand_ins::{Calls, Files, MemStore};
+use stand_ins::{Files, PlainStore};
 use std::alloc::Global;
 
 /// The name of the configuration among the files of a script.
@@ -20,14 +20,14 @@ pub const CONF_NAME: &str = "httpd.conf";
 
 /// The store of the script. Its first edition has the effect of the lines of the site before all others, and is there from
 /// the start; each later one has that of all lines of the site before a `command graceful`, and comes with `renew`. No call
-/// of it fails.
-pub fn script_store(alloc: Global, script: &Script) -> Result<MemStore, NoMemory>
+/// of it fails, as of any such store.
+pub fn script_store(alloc: Global, script: &Script) -> Result<PlainStore, NoMemory>
     requires { HaveTextNames script.now }
     ensures { IfOk result (λ store. store ≡ store_of script.now) }
 {
     let lines = script.lines();
     let opening = edition_of(alloc, opening_lines(lines))?;
-    let mut store = MemStore::make(alloc, opening, Calls::make(alloc));
+    let mut store = PlainStore::make(alloc, opening);
     for (place, line) in lines.iter().enumerate() {
         if is_graceful(line) {
             store.later(edition_of(alloc, &lines[..place])?)?;

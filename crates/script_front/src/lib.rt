@@ -13,12 +13,15 @@ mod coming_lines;
 mod due_places;
 mod editions;
 mod name_chains;
+mod script_bell;
 mod script_client;
 mod script_clients;
 mod script_clock;
 mod script_front;
 mod wait_end;
+mod word_log;
 
 pub use editions::{CONF_NAME, editions_have_a_configuration, script_store};
+pub use script_bell::ScriptBell;
 pub use script_clock::ScriptClock;
 pub use script_front::ScriptFront;

@@ -1,7 +1,7 @@
 //! The front that plays a script.
-ghost use Rattle.std.specs.Prelude.{◌≡◌, ◌<◌, ◌≤◌, ◌&&◌, max, nat_lt, not, true, false, None, Some, [], take, drop, length, slice_set, IfOk};
+ghost use Rattle.std.specs.Prelude.{◌≡◌, ◌<◌, ◌≤◌, ◌&&◌, max, nat_lt, not, true, false, None, Some, [], take, drop, length, slice_set, IfOk, IsOk};
 ghost use Rattle.mpm_base.specs.Count.{Rises};
-ghost use Rattle.mpm_base.specs.Front.{Accepts, Binds, Commands, HasAllTaken, StandsStill, Waits, Watches, accept_failed, after_bind, after_hush, after_turning_away, front_after_turning_away, hushed_front, is_handed, next_coming};
+ghost use Rattle.mpm_base.specs.Front.{Accepts, Binds, Commands, Dials, HasAllTaken, StandsStill, Waits, Watches, accept_failed, after_bind, after_dial, after_hush, after_turning_away, front_after_turning_away, hushed_front, is_handed, next_coming};
 ghost use Rattle.mpm_base.specs.Link.{telling_link};
 ghost use Rattle.script_front.specs.DuePlacesInside.{AllLook};
 ghost use Rattle.script_front.specs.PlayedFrontInside.{KeepsRest, arrivals_waiting, gone_to, with_begun, with_clients, with_end, with_lines, with_moment, with_wait};
@@ -10,8 +10,10 @@ ghost use Rattle.script_front.specs.Signals.{Gives, after_watch_of};
 ghost use Rattle.stand_ins.specs.ScriptLink.{SeenScriptLink};
 
 use crate::coming_lines::{arrivals, earlier, lines_by, lines_now, next_lines, next_moment};
+use crate::script_bell::ScriptBell;
 use crate::script_clients::ScriptClients;
 use crate::wait_end::{WaitEnd, passed_between};
+use crate::word_log::log_of;
 use http_server::Log;
 use mpm_base::{
     Addr, Arrival, ConnName, Front, Line, Link, Moment, NoMemory, Ready, ScriptLine, Woke,
@@ -37,6 +39,7 @@ pub struct ScriptFront {
     ends: u64,
     // Kept for clauses alone: they take no memory.
     binds: Log<Addr, Option<u16>>,
+    dials: Log<u16, Log<u8, bool>>,
     watches: Log<u64, ConnName>,
     turned_away: Log<u64, ScriptLink>,
     waits: Log<Ready, WaitEnd>,
@@ -44,7 +47,7 @@ pub struct ScriptFront {
 
 impl Model for ScriptFront {
     ghost use Rattle.std.specs.Prelude.{◌-◌, false, Some, [], length, map};
-    ghost use Rattle.script_front.specs.ScriptFront.{SeenFront, bound_told, comings_of, turned_told, wait_told, watch_told};
+    ghost use Rattle.script_front.specs.ScriptFront.{SeenFront, bound_told, comings_of, dial_told, turned_told, wait_told, watch_told};
 
     ghost Value = { SeenFront };
 
@@ -66,7 +69,7 @@ impl Model for ScriptFront {
         lines = [];
         read = 0;
         bound = map bound_told f.binds.items;
-        dialled = [];
+        dialled = map dial_told f.dials.items;
         hushed = f.hushed;
         left = length f.script - f.happened;
         moment = f.moment;
@@ -101,6 +104,7 @@ impl ScriptFront {
             clients,
             ends: 0,
             binds: Log::new(),
+            dials: Log::new(),
             watches: Log::new(),
             turned_away: Log::new(),
             waits: Log::new(),
@@ -263,6 +267,8 @@ impl ScriptFront {
 impl Front for ScriptFront {
     type L = ScriptLink;
 
+    type B = ScriptBell;
+
     ghost seen = { λ f. front_seen f };
 
     /// No call fails.
@@ -372,5 +378,26 @@ impl Front for ScriptFront {
     {
         self.show();
         None
+    }
+
+    /// The call does not fail.
+    fn dial(&mut self, port: u16, word: &str) -> bool
+        ensures dials { Dials (front_seen self.old) (front_seen self.new) port word.now result }
+        ensures sure { result ≡ true }
+        ensures rest { self.new ≡ record self.old { told = after_dial port word.now true self.old.told } }
+    {
+        let told = log_of(word);
+        self.dials = self.dials.and(&port, &told);
+        true
+    }
+
+    /// Takes no memory.
+    fn bell(&mut self, alloc: Global) -> Result<ScriptBell, NoMemory>
+        ensures same { front_seen self.new ≡ front_seen self.old }
+        ensures sure { IsOk result }
+        ensures rest { self.new ≡ self.old }
+    {
+        let _ = alloc;
+        Ok(ScriptBell)
     }
 }

@@ -3,8 +3,8 @@
 use crate::by_hand::script_by_hand;
 use crate::links::show_link_call;
 use crate::texts::{grown, small_of, words};
-use mpm_base::{Addr, Arrival, ConnName, Front, Moment, NoMemory, Ready, Woke};
-use script_front::ScriptFront;
+use mpm_base::{Addr, Arrival, Bell, ConnName, Front, Moment, NoMemory, Ready, Woke};
+use script_front::{ScriptBell, ScriptFront};
 use stand_ins::ScriptLink;
 use std::alloc::Global;
 use std::io::{self, ErrorKind};
@@ -72,6 +72,8 @@ fn show_call<R: Print + Wait>(
         "watch" => show_watch(rt, play, rest),
         "all" => show_all(rt, play),
         "bind" | "hush" | "command" => show_told(rt, play, word),
+        "dial" => show_dial(rt, play, rest),
+        "bell" => show_bell(rt, alloc, play),
         _ => show_link_call(rt, alloc, play.links.as_mut_slice(), word, rest),
     }
 }
@@ -184,4 +186,28 @@ fn hush(play: &mut Play) {
 /// Whether a command line came.
 fn has_command(play: &mut Play) -> bool {
     play.front.command().is_some()
+}
+
+/// Shows the answer of a dial.
+fn show_dial(rt: &impl Print, play: &mut Play, rest: &str) -> io::Result<()> {
+    let (port, word) = words(rest);
+    println!(rt;
+        "{}",
+        is_dialled(play, port.parse::<u16>().unwrap_or(0), word)
+    )
+}
+
+fn is_dialled(play: &mut Play, port: u16, word: &str) -> bool {
+    play.front.dial(port, word)
+}
+
+/// Makes a bell of the front and rings it.
+fn show_bell(rt: &impl Print, alloc: Global, play: &mut Play) -> io::Result<()> {
+    let bell = grown(bell_of(alloc, play))?;
+    bell.ring();
+    println!(rt; "done")
+}
+
+fn bell_of(alloc: Global, play: &mut Play) -> Result<ScriptBell, NoMemory> {
+    play.front.bell(alloc)
 }

@@ -6,14 +6,13 @@
 //! and a number and a text between backquotes for the text so many times.
 //!
 //! - `script`: scripts, of each of which the lines are shown, or why it is refused.
-//! - `requests`: bytes, of which is shown whether they are requests of the known form.
 //! - `front`: a front. Its first row is a script that is made by hand, each of whose lines ends with `|`; it need not be one that is
 //!   read. The others are calls. A link is named by its place among those that were taken and not turned away, from 0.
 //!   - `wait MOMENT WORD`: until the moment, which is `-` for none; the word is `quiet` where no connection is being served.
 //!   - `accept`, and `turn`, which turns the link away that was taken last; `watch LINK SLOT`; `all`, which takes each link that waits,
 //!     and watches it in a slot from 0 on.
 //!   - `read LINK ROOM`, with room for eight bytes at most; `write LINK TEXT`, `shut LINK`, `close LINK`, and `show LINK`.
-//!   - `bind`, `hush`, `command`.
+//!   - `bind`, `hush`, `command`, `dial PORT WORD`, and `bell`, which makes a bell and rings it.
 #![tactic(auto)]
 
 mod by_hand;
@@ -53,7 +52,6 @@ fn show_section<R: Print + Wait>(rt: &R, alloc: Global, section: &str) -> io::Re
 fn show_rows<R: Print + Wait>(rt: &R, alloc: Global, kind: &str, rows: &str) -> io::Result<()> {
     match kind {
         "script" => scripts::show_scripts(rt, alloc, rows),
-        "requests" => scripts::show_requests(rt, alloc, rows),
         _ => fronts::show_front(rt, alloc, rows),
     }
 }

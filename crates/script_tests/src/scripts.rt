@@ -1,7 +1,7 @@
 //! Scripts as they are read.
 use crate::texts::{grown, show_bytes, text_of};
 use mpm_base::{ClientAct, ScriptLine, SiteLine};
-use mpm_script::{Script, ScriptFault, is_pipelined, read_script};
+use mpm_script::{Script, ScriptFault, read_script};
 use std::alloc::Global;
 use std::io;
 
@@ -71,13 +71,4 @@ fn show_site(rt: &impl Print, alloc: Global, site: &SiteLine) -> io::Result<()> 
         }
         SiteLine::Unfile(name) => show_bytes(rt, alloc, " unfile", name.as_slice()),
     }
-}
-
-/// Shows of each row whether its bytes are requests and a front of one.
-pub fn show_requests(rt: &impl Print, alloc: Global, rows: &str) -> io::Result<()> {
-    for row in rows.lines() {
-        let text = grown(text_of(alloc, row))?;
-        println!(rt; "{row} => {}", is_pipelined(text.as_slice()))?;
-    }
-    Ok(())
 }
