@@ -9,9 +9,11 @@ use Rattle.mpm_script.specs.Clients.{clients_of}
 use Rattle.mpm_script.specs.Script.{ScriptIs}
 use Rattle.mpm_script.specs.declared.script.ScriptFault.{ScriptFault}
 use Rattle.mpm_run.specs.Configured.{HasConfig}
-use Rattle.mpm_run.specs.ExitStatuses.{Call, EndsConfigRefused, EndsRefused, EndsUnread, HasFile, HasPlayed, HasRun, HasScript, IsRefusedAsLarge, fault_at, most_script}
+use Rattle.mpm_run.specs.ExitStatuses.{Call, EndsConfigRefused, EndsRefused, EndsSiteRefused, EndsUnread, HasFile, HasPlayed, HasRun, HasScript, IsRefusedAsLarge, fault_at, most_script}
 use Rattle.mpm_run.specs.ExitStatusesInside.{IsConfigRefusalOf, IsPlayed, IsRefusalOf, RefusesRun}
 use Rattle.mpm_run.specs.Invocations.{NamesFile, script_words}
+use Rattle.mpm_run.specs.Sites.{HasSite}
+use Rattle.mpm_run.specs.SitesInside.{IsSiteRefusalOf}
 use Rattle.mpm_run.specs.Texts.{script_refused, store_fault}
 use Rattle.mpm_run.specs.declared.outcome.Scripted.{Scripted}
 use Rattle.mpm_run.specs.declared.texts.ScriptRefusal.{ScriptRefusal}
@@ -61,13 +63,15 @@ played (Some s) call name bytes script command has is shows run =
       name = name;
       bytes = bytes;
       config = run.text;
+      site = run.site;
       command = command;
       has = has;
       script = subst (λ (lines : List ScriptLine). ScriptIs bytes (Ok lines)) same is;
       config_is = subst (λ (lines : List ScriptLine). HasConfig lines run.text) same run.text_is;
       accepted = run.accepted;
+      site_is = subst (λ (lines : List ScriptLine). HasSite lines s.config run.site) same run.site_is;
       shows = shows refl;
-      has_run = subst (λ (lines : List ScriptLine). HasRun s.config (clients_of lines) s.board) same run.has_run;
+      has_run = subst (λ (lines : List ScriptLine). HasRun s.config run.site (clients_of lines) s.board) same run.has_run;
     }
 
 -- a script is refused at a line
@@ -105,6 +109,26 @@ misconfigured call name bytes lines command has is refusal =
       shows = refusal.shows;
       text = refusal.text;
     })
+
+-- the site of a script is refused
+pub unsited : (call : Call) (name bytes : List ℕ) (lines : List ScriptLine) → call.words ≡ script_words name → HasScript call name bytes
+    → ScriptIs bytes (Ok lines) → IsSiteRefusalOf call.sink call.sink' lines call.shown → EndsSiteRefused call
+unsited call name bytes lines command has is refusal = record {
+  name = name;
+  bytes = bytes;
+  lines = lines;
+  config_text = refusal.config_text;
+  config = refusal.config;
+  refused_for = refusal.refusal.name;
+  command = command;
+  has = has;
+  script = is;
+  config_is = refusal.text_is;
+  accepted = refusal.accepted;
+  refused = refusal.refusal.refused;
+  shows = refusal.refusal.shows;
+  text = refusal.refusal.text;
+}
 
 -- the file is missing
 pub unread-missing : (call : Call) (most : ℕ) (name : List ℕ) (answer : Result (List ℕ) StoreFault) → NamesFile call.words name

@@ -21,6 +21,8 @@ use Rattle.mpm_run.specs.ConfiguredInside.{IsAccepted, HasReadConfig, IsConfigFr
 use Rattle.mpm_run.specs.ExitStatuses.{Call, EndsConfigRefused, EndsTested, EndsTestUnwritten, HasRun, HasTested}
 use Rattle.mpm_run.specs.ExitStatusesInside.{IsConfigRefusalOf, IsPlayed, RefusesRun, RefusesConfig}
 use Rattle.mpm_run.specs.Invocations.{test_words}
+use Rattle.mpm_run.specs.Sites.{HasSite}
+use Rattle.mpm_run.specs.SitesInside.{IsServedRun}
 use Rattle.mpm_run.specs.Texts.{config_refused, syntax_ok}
 use Rattle.mpm_run.specs.declared.config_reading.NoConfig.{NoConfig}
 use Rattle.mpm_run.specs.declared.config_reading.NoConfig.TheVariants as no
@@ -256,13 +258,14 @@ config-refusal sink sink' lines shown no.Failed bad refused = absurd refused
 
 -- a script that was played by the configuration that was read
 pub is-played : (o : Option Scripted) (lines : List ScriptLine) (c : Configuration) (told : List ℕ) → HasReadConfig lines c told
-    → IfSome o (λ s. HasRun c (clients_of lines) s.board) → IfSome o (λ s. s.front.script ≡ lines) → IfSome o (λ s. s.config ≡ c)
-    → IfSome o (IsPlayed lines)
-is-played None lines c told has run script config = tt
-is-played (Some s) lines c told has run script config = record {
-  script = script;
+    → IfSome o (IsServedRun lines c) → IfSome o (IsPlayed lines)
+is-played None lines c told has run = tt
+is-played (Some s) lines c told has run = record {
+  script = run.script;
   text = has.text;
+  site = run.site;
   text_is = has.text_is;
-  accepted = subst (Configures has.text) (sym config) has.accepted;
-  has_run = subst (λ (x : Configuration). HasRun x (clients_of lines) s.board) (sym config) run;
+  accepted = subst (Configures has.text) (sym run.config) has.accepted;
+  site_is = subst (λ (x : Configuration). HasSite lines x run.site) (sym run.config) run.site_is;
+  has_run = subst (λ (x : Configuration). HasRun x run.site (clients_of lines) s.board) (sym run.config) run.has_run;
 }

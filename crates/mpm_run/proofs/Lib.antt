@@ -22,6 +22,7 @@ pub mod PatientLemmas
 pub mod ReportLemmas
 pub mod RoundLemmas
 pub mod RunLemmas
+pub mod SiteLemmas
 pub mod StartedLemmas
 pub mod StopLemmas
 pub mod TakeLemmas

@@ -133,7 +133,7 @@ all-came sent t offered none = sym (append-nil t.received) ∙ ap (λ (xs : List
 -- a connection that ended received a front of what its client sends, and all of it where the client had done
 receives : (clients : List (List ℕ)) (e : SeenEnded) → TellsFrom clients e.told → IsEnded e → Receives clients e
 receives clients e tells ended =
-    let answered : IsAnswered e.cause e.tail e.notes tells.t = subst (λ (o : Option LinkTold). IfSome o (IsAnswered e.cause e.tail e.notes)) tells.told_is ended.answered in
+    let answered : IsAnswered e.cause e.tail e.site e.limits e.notes tells.t = subst (λ (o : Option LinkTold). IfSome o (IsAnswered e.cause e.tail e.site e.limits e.notes)) tells.told_is ended.answered in
     record {
       t = tells.t;
       told_is = tells.told_is;

@@ -18,14 +18,16 @@ use Rattle.conn_machine.specs.Runs.{full_load, load}
 use Rattle.board.specs.Book.{HasEntryOf, full_stop}
 use Rattle.board.specs.Board.{SeenBoard}
 use Rattle.mpm_config.specs.Config.{Configuration}
+use Rattle.file_table.specs.Site.{SeenSite}
 use Rattle.mpm_run.specs.Configured.{Configures, HasConfig, IsNoConfig, IsRefused, most_config, warnings_of}
 use Rattle.mpm_run.specs.Invocations.{IsNoInvocation, NamesFile, script_words, test_words}
 use Rattle.mpm_run.specs.FirstNumbers.{numbers_of}
 use Rattle.mpm_run.specs.Listen.{HasClosedAll, IsRunFrom}
 use Rattle.mpm_run.specs.Patient.{ArePatient}
 use Rattle.mpm_run.specs.Report.{report_of}
+use Rattle.mpm_run.specs.Sites.{AllServedBy, HasSite, IsSiteRefused, head_limits_of}
 use Rattle.mpm_run.specs.Tells.{AllReceive}
-use Rattle.mpm_run.specs.Texts.{config_refused, script_refused, store_fault, syntax_ok, usage}
+use Rattle.mpm_run.specs.Texts.{config_refused, script_refused, site_refused, store_fault, syntax_ok, usage}
 use Rattle.mpm_run.specs.Times.{WasInformed}
 use Rattle.mpm_run.specs.declared.outcome.Scripted.{Scripted}
 use Rattle.mpm_run.specs.declared.texts.ConfigRefusal.{ConfigRefusal}
@@ -182,6 +184,25 @@ pub record EndsMisconfigured (call : Call) : Type 0 where
 abbrev pub EndsConfigRefused : Call → Type 0
 EndsConfigRefused call = EndsMisconfigured call ⊎ EndsTestTooLarge call ⊎ EndsTestRefused call
 
+-- ## Where a site is refused
+
+-- with exit status 9: the script was read, and its configuration accepted, but there is no site by it
+pub record EndsSiteRefused (call : Call) : Type 0 where
+  pub name : List ℕ
+  pub bytes : List ℕ
+  pub lines : List ScriptLine
+  pub config_text : List ℕ
+  pub config : Configuration
+  pub refused_for : List ℕ
+  pub command : call.words ≡ script_words name
+  pub has : HasScript call name bytes
+  pub script : ScriptIs bytes (Ok lines)
+  pub config_is : HasConfig lines config_text
+  pub accepted : Configures config_text config
+  pub refused : IsSiteRefused lines config refused_for
+  pub shows : call.shown ≡ None
+  pub text : WritesText call.sink call.sink' (site_refused refused_for)
+
 -- ## Where a configuration was tested
 
 -- the words have a configuration tested, which is accepted
@@ -219,25 +240,30 @@ run_text c b = warnings_of c ++ board_report b
 abbrev pub Reports : SinkSeen → SinkSeen → Configuration → SeenBoard → Type 0
 Reports old new c b = new.told ≡ option_map (λ written. written ++ run_text c b) old.told
 
--- what is left of a run of this configuration and these clients: it closed each connection that it took, each child is gone, and each
--- connection received a front of what its client sends, and all of it where the client had done
-pub record HasRun (c : Configuration) (clients : List (List ℕ)) (b : SeenBoard) : Type 0 where
+-- what is left of a run of this configuration, this site and these clients: it closed each connection that it took, each child is
+-- gone, and each connection received a front of what its client sends, and all of it where the client had done, and was served by
+-- the limits of the configuration and the site
+pub record HasRun (c : Configuration) (site : SeenSite) (clients : List (List ℕ)) (b : SeenBoard) : Type 0 where
   pub run : IsRunFrom (numbers_of c) b
   pub closed : HasClosedAll b
   pub receive : AllReceive clients b.ended
+  pub served : AllServedBy (head_limits_of c) site b.ended
 
--- a script was read, and what is left is of a run of it by its configuration: a board, and the front that played the script
+-- a script was read, and what is left is of a run of it by its configuration and its site: a board, and the front that played the
+-- script
 pub record HasPlayed (call : Call) (c : Configuration) (b : SeenBoard) (f : SeenFront) : Type 0 where
   pub name : List ℕ
   pub bytes : List ℕ
   pub config : List ℕ
+  pub site : SeenSite
   pub command : call.words ≡ script_words name
   pub has : HasScript call name bytes
   pub script : ScriptIs bytes (Ok f.script)
   pub config_is : HasConfig f.script config
   pub accepted : Configures config c
+  pub site_is : HasSite f.script c site
   pub shows : call.shown ≡ None
-  pub has_run : HasRun c (clients_of f.script) b
+  pub has_run : HasRun c site (clients_of f.script) b
 
 -- the clock was told exactly the moments that the waits of the front gave, in order, and answered each; and the history's ticks
 -- and signals come from them
@@ -281,7 +307,7 @@ pub record EndsFull (sink sink' : SinkSeen) (c : Configuration) (b : SeenBoard) 
 
 -- the exit statuses that there are
 abbrev pub IsExitStatus : ℕ → Type 0
-IsExitStatus s = (s ≡ 0) ⊎ (s ≡ 1) ⊎ (s ≡ 2) ⊎ (s ≡ 3) ⊎ (s ≡ 5) ⊎ (s ≡ 6) ⊎ (s ≡ 7) ⊎ (s ≡ 8)
+IsExitStatus s = (s ≡ 0) ⊎ (s ≡ 1) ⊎ (s ≡ 2) ⊎ (s ≡ 3) ⊎ (s ≡ 5) ⊎ (s ≡ 6) ⊎ (s ≡ 7) ⊎ (s ≡ 8) ⊎ (s ≡ 9)
 
 -- ## Of a run, or of a test
 

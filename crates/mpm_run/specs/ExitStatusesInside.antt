@@ -6,6 +6,7 @@ use Rattle.mpm_base.specs.declared.script_line.ScriptLine.{ScriptLine}
 use Rattle.mpm_script.specs.Clients.{clients_of}
 use Rattle.mpm_script.specs.declared.script.ScriptFault.{ScriptFault}
 use Rattle.script_front.specs.Editions.{editions_of}
+use Rattle.file_table.specs.Site.{SeenSite}
 use Rattle.conn_machine.specs.Runs.{full_load, load}
 use Rattle.board.specs.Board.{SeenBoard}
 use Rattle.board.specs.Book.{HasEntryOf, full_stop}
@@ -17,6 +18,7 @@ use Rattle.mpm_run.specs.ConfiguredInside.{HasBadConfig}
 use Rattle.mpm_run.specs.ExitStatuses.{HasEnd, HasRun, KeepsPatience, KeepsTime, WritesText, fault_at}
 use Rattle.mpm_run.specs.FirstNumbers.{numbers_of}
 use Rattle.mpm_run.specs.Links.{KeepsLinks}
+use Rattle.mpm_run.specs.Sites.{HasSite}
 use Rattle.mpm_run.specs.Listen.{NeverFolded}
 use Rattle.mpm_run.specs.Started.{IsStartedFirst}
 use Rattle.mpm_run.specs.Texts.{config_refused, script_refused}
@@ -49,13 +51,13 @@ abbrev pub status_of_writes : Bool → ℕ → ℕ
 status_of_writes true status = status
 status_of_writes false status = if status == 0 then 5 else status
 
--- the exit statuses of a script that was read, and whose configuration is accepted
+-- the exit statuses of a script that was read, whose configuration is accepted, and which has a site
 abbrev pub IsPlayedStatus : ℕ → Type 0
 IsPlayedStatus s = (s ≡ 0) ⊎ (s ≡ 5) ⊎ (s ≡ 6) ⊎ (s ≡ 7)
 
 -- the exit statuses of a script
 abbrev pub IsScriptStatus : ℕ → Type 0
-IsScriptStatus s = (s ≡ 0) ⊎ (s ≡ 1) ⊎ (s ≡ 3) ⊎ (s ≡ 5) ⊎ (s ≡ 6) ⊎ (s ≡ 7) ⊎ (s ≡ 8)
+IsScriptStatus s = (s ≡ 0) ⊎ (s ≡ 1) ⊎ (s ≡ 3) ⊎ (s ≡ 5) ⊎ (s ≡ 6) ⊎ (s ≡ 7) ⊎ (s ≡ 8) ⊎ (s ≡ 9)
 
 -- the exit statuses of a test
 abbrev pub IsTestStatus : ℕ → Type 0
@@ -75,13 +77,15 @@ pub record IsLeftOfRun (s : Scripted) : Type 0 where
   pub patient : KeepsPatience s.board s.front
   pub ended : s.board.book.state.going ≡ Halted why.FrontEnded → HasEnd s.board s.front
 
--- what is left is of a run of the script, by the configuration that its lines write
+-- what is left is of a run of the script, by the configuration that its lines write, and the site that they have by it
 pub record IsPlayed (lines : List ScriptLine) (s : Scripted) : Type 0 where
   pub script : s.front.script ≡ lines
   pub text : List ℕ
+  pub site : SeenSite
   pub text_is : HasConfig lines text
   pub accepted : Configures text s.config
-  pub has_run : HasRun s.config (clients_of lines) s.board
+  pub site_is : HasSite lines s.config site
+  pub has_run : HasRun s.config site (clients_of lines) s.board
 
 -- the history has a stop because it is full, at a load that is at its limit
 pub record IsFullStop (b : SeenBoard) : Type 0 where

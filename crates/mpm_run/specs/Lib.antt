@@ -14,6 +14,8 @@ pub mod Patient
 pub mod PatientInside
 pub mod Report
 pub mod RoundInside
+pub mod Sites
+pub mod SitesInside
 pub mod Started
 pub mod Tells
 pub mod Texts

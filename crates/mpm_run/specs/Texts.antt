@@ -38,6 +38,10 @@ config_word TooDeep = codes "TooDeep"
 abbrev pub config_refused : ℕ → ConfigRefusal → List ℕ
 config_refused number why = codes "configuration refused at " ++ decimal number ++ codes ": " ++ config_word why ++ codes "\n"
 
+-- the site is refused for the file or the folder of that name
+abbrev pub site_refused : List ℕ → List ℕ
+site_refused name = codes "site refused: " ++ name ++ codes "\n"
+
 -- the configuration that was tested is accepted
 abbrev pub syntax_ok : List ℕ
 syntax_ok = codes "Syntax OK\n"

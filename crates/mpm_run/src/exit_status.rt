@@ -23,3 +23,6 @@ pub(crate) const FULL: u8 = 7;
 
 /// The script is refused.
 pub(crate) const REFUSED: u8 = 8;
+
+/// The files of the site are more, or larger, than a site takes.
+pub(crate) const SITE_REFUSED: u8 = 9;

@@ -25,6 +25,7 @@ mod round;
 mod run_numbers;
 mod script_run;
 mod server;
+mod site_loading;
 mod texts;
 mod top_call;
 mod writing;

@@ -6,7 +6,7 @@ use board::Board;
 use conn_state::Nothing;
 use mpm_config::Config;
 use script_front::{ScriptClock, ScriptFront};
-use stand_ins::{MemStore, ScriptLink};
+use stand_ins::{PlainStore, ScriptLink};
 
 /// What is left of a run over a script.
 #[derive(Drop)]
@@ -18,7 +18,7 @@ pub struct Scripted {
     /// The clock of the run.
     pub clock: ScriptClock,
     /// The site of the script, at the edition at which the run left it.
-    pub store: MemStore,
+    pub store: PlainStore,
     /// The configuration by which the run worked.
     pub config: Config,
 }
@@ -28,7 +28,7 @@ pub struct Scripted {
 pub struct Outcome {
     /// The exit status of the process: 0 for a run that came to its end, and for a configuration that was tested and is accepted,
     /// 1 for one that is refused, 2 for words that are no command, 3 for a file that can't be read, 5 for an output that failed,
-    /// 6 for want of memory, 7 for a full history, 8 for a script that is refused.
+    /// 6 for want of memory, 7 for a full history, 8 for a script that is refused, 9 for a site that is.
     pub status: u8,
     /// The line, from 1, at which the script or the configuration is refused, or the place, from 0, at which the latter is no
     /// text; 0 for its size. 0 where the file is missing.

@@ -1,13 +1,13 @@
 //! The ends of runs that are refused: each writes its text, unless memory lacks for it.
 ghost use Rattle.std.specs.Prelude.{◌≡◌, ◌⊎◌, None, Some, IsNone};
 ghost use Rattle.mpm_run.specs.ExitStatusesInside.{RefusesRun};
-ghost use Rattle.mpm_run.specs.Texts.{config_refused, script_refused, store_fault, usage};
+ghost use Rattle.mpm_run.specs.Texts.{config_refused, script_refused, site_refused, store_fault, usage};
 
 use crate::exit_status;
 use crate::outcome::{Outcome, no_memory, unopened};
 use crate::texts::{
-    ConfigRefusal, ScriptRefusal, config_refused_text, script_refused_text, store_fault_text,
-    usage_text,
+    ConfigRefusal, ScriptRefusal, config_refused_text, script_refused_text, site_refused_text,
+    store_fault_text, usage_text,
 };
 use crate::writing::write_all;
 use mpm_base::{Octets, Sink};
@@ -66,6 +66,19 @@ pub fn refuse_config<K: Sink>(
 {
     match config_refused_text(alloc, number, why) {
         Ok(text) => refuse(out, exit_status::MISCONFIGURED, Some(number), &text),
+        Err(_) => no_memory(),
+    }
+}
+
+/// The site is refused for the file of that name, or for the files of the folder of that name.
+pub fn refuse_site<K: Sink>(alloc: Global, name: &[u8], out: &mut K) -> Outcome
+    ensures known { (result.status ≡ 9) ⊎ (result.status ≡ 6) }
+    ensures scripted { IsNone result.scripted }
+    ensures refused { result.status ≡ 9 → RefusesRun (K.seen out.old) (K.seen out.new) None (site_refused name.now) result.shown }
+    ensures silent { result.status ≡ 6 → (K.seen out.new).told ≡ (K.seen out.old).told }
+{
+    match site_refused_text(alloc, name) {
+        Ok(text) => refuse(out, exit_status::SITE_REFUSED, None, &text),
         Err(_) => no_memory(),
     }
 }

@@ -2,7 +2,9 @@
 ghost use Rattle.std.specs.Prelude.{◌≡◌};
 ghost use Rattle.mpm_run.specs.FirstNumbers as spec;
 ghost use Rattle.mpm_run.specs.FirstNumbersInside.{AreNumbers};
+ghost use Rattle.mpm_run.specs.Sites as sites;
 
+use http_read::Limits;
 use mpm_base::{Addr, Shape};
 use mpm_config::{Config, shape_of};
 
@@ -38,5 +40,16 @@ pub fn numbers_of(config: &Config) -> RunNumbers
         shape: shape_of(config),
         listen: config.listen,
         control: config.control,
+    }
+}
+
+/// How long the head of a request may be by the configuration.
+pub fn head_limits_of(config: &Config) -> Limits
+    ensures { result ≡ sites.head_limits_of config.entry.now }
+{
+    Limits {
+        line: config.now.line,
+        field: config.now.field,
+        fields: config.now.fields,
     }
 }

@@ -1,48 +1,54 @@
 //! The run of a script: `--script FILE`.
-ghost use Rattle.std.specs.Prelude.{◌≡◌, ◌⊎◌, ◌&&◌, None, Some, IfOk, IfSome, IsSome, IsSomeAnd, IsNone};
+ghost use Rattle.std.specs.Prelude.{◌≡◌, ◌⊎◌, ◌&&◌, false, None, Some, IfOk, IfSome, IsSome, IsSomeAnd, IsNone};
 ghost use Rattle.mpm_script.specs.Clients.{clients_of};
 ghost use Rattle.mpm_script.specs.FileNames.{HaveTextNames};
 ghost use Rattle.conn_machine.specs.declared.event.Why.TheVariants as why;
 ghost use Rattle.conn_machine.specs.declared.state.Going.TheVariants.{Halted};
+ghost use Rattle.file_table.specs.Load.{is_store_fault};
 ghost use Rattle.script_front.specs.Editions.{editions_of, store_of};
 ghost use Rattle.script_front.specs.ScriptClock.{AreEchoes};
 ghost use Rattle.script_front.specs.ScriptFront.{IsOfScript};
 ghost use Rattle.mpm_run.specs.Configured.{warnings_of};
 ghost use Rattle.mpm_run.specs.ConfiguredInside.{IsOfText, IsScriptConfig};
-ghost use Rattle.mpm_run.specs.ExitStatuses.{EndsConfigRefused, MayEndWith, EndsFull, EndsRefused, EndsUnread, EndsUnwritten, EndsWell, HasPlayed, HasRun, board_report, fault_at, seen_call};
+ghost use Rattle.mpm_run.specs.ExitStatuses.{EndsConfigRefused, MayEndWith, EndsFull, EndsRefused, EndsSiteRefused, EndsUnread, EndsUnwritten, EndsWell, HasPlayed, HasRun, board_report, fault_at, seen_call};
 ghost use Rattle.mpm_run.specs.ExitStatusesInside.{EndsReport, IsConfigRefusalOf, IsExitStatusOf, IsFullStop, IsLeftOfRun, IsPlayed, IsPlayedStatus, IsRefusalOf, IsScriptStatus, IsStoppedStatus, RefusesConfig, ReportsAs, status_of_writes};
 ghost use Rattle.mpm_run.specs.Invocations.{script_words};
 ghost use Rattle.mpm_run.specs.ListenInside.{IsEnd};
+ghost use Rattle.mpm_run.specs.Sites.{head_limits_of};
+ghost use Rattle.mpm_run.specs.SitesInside.{IsServedRun, IsSiteRefusalOf, RefusesLoad, RefusesSite};
 
 use crate::config_reading::{MOST_CONFIG, NoConfig, config_from};
 use crate::counting::tally;
+use crate::edition::Edition;
 use crate::exit_status;
 use crate::outcome::{Outcome, Scripted, no_memory};
-use crate::refusal::{refuse_config, refuse_script, refuse_unread};
+use crate::refusal::{refuse_config, refuse_script, refuse_site, refuse_unread};
 use crate::report::report_text;
-use crate::run_numbers::numbers_of;
+use crate::run_numbers::{head_limits_of, numbers_of};
 use crate::server::{OpenFault, ServedRun, run_server};
+use crate::site_loading::load_site;
 use crate::texts::ScriptRefusal;
 use crate::writing::write_all;
 use board::Board;
 use conn_machine::{Going, Why};
 use conn_state::Known;
+use file_table::LoadFault;
 use mpm_base::{Link, NoMemory, Octets, Sink, Store, StoreFault};
 use mpm_config::Config;
 use mpm_script::{Script, ScriptFault, read_script};
 use script_front::{
     CONF_NAME, ScriptClock, ScriptFront, editions_have_a_configuration, script_store,
 };
-use stand_ins::{MemStore, ScriptLink};
+use stand_ins::{PlainStore, ScriptLink};
 use std::alloc::Global;
 use std::marker::Brand;
-use std::sync::Wait;
+use std::sync::{Arc, Wait};
 
 /// The most bytes that a script may have.
 const MOST_SCRIPT: u64 = 67_108_864;
 
-/// Plays the script of that name in the store, by the configuration that its lines write, and writes the warnings and the report, or why
-/// there is none.
+/// Plays the script of that name in the store, by the configuration and the site that its lines write, and writes the warnings and the
+/// report, or why there is none.
 pub fn run_script<R: Wait, D: Store, K: Sink>(
     rt: &R,
     alloc: Global,
@@ -57,6 +63,7 @@ pub fn run_script<R: Wait, D: Store, K: Sink>(
     ensures served { result.status ≡ 0 → IsSomeAnd result.scripted (λ s. EndsWell (K.seen out.old) (K.seen out.new) s.config s.board) }
     ensures misconfigured { result.status ≡ 1 → EndsConfigRefused (seen_call (script_words name.now) (D.seen store.old) (D.seen store.new) (K.seen out.old) (K.seen out.new) result.shown) }
     ensures unread { result.status ≡ 3 → EndsUnread (seen_call (script_words name.now) (D.seen store.old) (D.seen store.new) (K.seen out.old) (K.seen out.new) result.shown) }
+    ensures site_refused { result.status ≡ 9 → EndsSiteRefused (seen_call (script_words name.now) (D.seen store.old) (D.seen store.new) (K.seen out.old) (K.seen out.new) result.shown) }
     ensures refused { result.status ≡ 8 → EndsRefused (seen_call (script_words name.now) (D.seen store.old) (D.seen store.new) (K.seen out.old) (K.seen out.new) result.shown) }
     ensures unwritten { result.status ≡ 5 → IsSomeAnd result.scripted (λ s. EndsUnwritten (K.seen out.old) (K.seen out.new) s.board) }
     ensures full { result.status ≡ 7 → IsSomeAnd result.scripted (λ s. EndsFull (K.seen out.old) (K.seen out.new) s.config s.board) }
@@ -101,16 +108,17 @@ fn refusal_at(fault: ScriptFault) -> Option<(u64, ScriptRefusal)>
     }
 }
 
-/// Plays the script by the configuration that its lines write.
+/// Plays the script by the configuration and the site that its lines write.
 fn play_script<R: Wait, K: Sink>(rt: &R, alloc: Global, script: Script, out: &mut K) -> Outcome
     requires { HaveTextNames script }
     ensures kept { IfSome result.scripted (λ s. IsPlayed script s) }
     ensures left { IfSome result.scripted IsLeftOfRun }
     ensures stopped { IfSome result.scripted (λ s. MayEndWith s.board.book.state.going result.status) }
     ensures shown { IsSome result.scripted → result.shown ≡ None }
-    ensures known { IsPlayedStatus result.status ⊎ (result.status ≡ 1) }
+    ensures known { IsPlayedStatus result.status ⊎ (result.status ≡ 1) ⊎ (result.status ≡ 9) }
     ensures served { result.status ≡ 0 → IsSomeAnd result.scripted (λ s. EndsWell (K.seen out.old) (K.seen out.new) s.config s.board) }
     ensures misconfigured { result.status ≡ 1 → IsConfigRefusalOf (K.seen out.old) (K.seen out.new) script result.shown }
+    ensures site_refused { result.status ≡ 9 → IsSiteRefusalOf (K.seen out.old) (K.seen out.new) script result.shown }
     ensures unwritten { result.status ≡ 5 → IsSomeAnd result.scripted (λ s. EndsUnwritten (K.seen out.old) (K.seen out.new) s.board) }
     ensures full { result.status ≡ 7 → IsSomeAnd result.scripted (λ s. EndsFull (K.seen out.old) (K.seen out.new) s.config s.board) }
     ensures silent { result.status ≡ 6 → IsNone result.scripted → (K.seen out.new).told ≡ (K.seen out.old).told }
@@ -119,8 +127,65 @@ fn play_script<R: Wait, K: Sink>(rt: &R, alloc: Global, script: Script, out: &mu
         return no_memory();
     };
     match script_config(alloc, &script, &mut store) {
-        Ok((config, told)) => serve_script(rt, alloc, script, store, config, &told, out),
+        Ok((config, told)) => play_site(rt, alloc, script, store, config, &told, out),
         Err(why) => refuse_unconfigured(alloc, why, out),
+    }
+}
+
+/// Plays the script by the configuration, of which this is told, and the site that its store has by that.
+fn play_site<R: Wait, K: Sink>(
+    rt: &R,
+    alloc: Global,
+    script: Script,
+    store: PlainStore,
+    config: Config,
+    told: &Octets,
+    out: &mut K,
+) -> Outcome
+    requires told { told.now ≡ warnings_of config }
+    requires store { store.told ≡ editions_of script }
+    ensures kept { IfSome result.scripted (λ s. IsServedRun script config s) }
+    ensures left { IfSome result.scripted IsLeftOfRun }
+    ensures stopped { IfSome result.scripted (λ s. MayEndWith s.board.book.state.going result.status) }
+    ensures shown { IsSome result.scripted → result.shown ≡ None }
+    ensures known { IsPlayedStatus result.status ⊎ (result.status ≡ 9) }
+    ensures served { result.status ≡ 0 → IsSomeAnd result.scripted (λ s. EndsWell (K.seen out.old) (K.seen out.new) s.config s.board) }
+    ensures site_refused { result.status ≡ 9 → RefusesSite (K.seen out.old) (K.seen out.new) script config result.shown }
+    ensures unwritten { result.status ≡ 5 → IsSomeAnd result.scripted (λ s. EndsUnwritten (K.seen out.old) (K.seen out.new) s.board) }
+    ensures full { result.status ≡ 7 → IsSomeAnd result.scripted (λ s. EndsFull (K.seen out.old) (K.seen out.new) s.config s.board) }
+    ensures silent { result.status ≡ 6 → IsNone result.scripted → (K.seen out.new).told ≡ (K.seen out.old).told }
+{
+    let mut store = store;
+    let site = match load_site(alloc, &mut store, &config) {
+        Ok(site) => site,
+        Err(fault) => return refuse_unloaded(alloc, fault, &config, out),
+    };
+    let Ok(site) = Arc::new(alloc, site) else {
+        return no_memory();
+    };
+    let limits = head_limits_of(&config);
+    let edition = Edition { limits, site };
+    serve_script(rt, alloc, script, store, config, edition, told, out)
+}
+
+/// The end of a run of a script whose site is refused for the fault, or for which memory lacked.
+fn refuse_unloaded<K: Sink>(
+    alloc: Global,
+    fault: LoadFault,
+    config: &Config,
+    out: &mut K,
+) -> Outcome
+    requires { is_store_fault fault ≡ false }
+    ensures known { (result.status ≡ 9) ⊎ (result.status ≡ 6) }
+    ensures scripted { IsNone result.scripted }
+    ensures refused { result.status ≡ 9 → RefusesLoad (K.seen out.old) (K.seen out.new) config.entry.now fault result.shown }
+    ensures silent { result.status ≡ 6 → (K.seen out.new).told ≡ (K.seen out.old).told }
+{
+    match fault {
+        LoadFault::TooMany => refuse_site(alloc, config.root.as_slice(), out),
+        LoadFault::TooLarge(name, _) => refuse_site(alloc, name.as_slice(), out),
+        LoadFault::NoMemory => no_memory(),
+        LoadFault::StoreFault => unreachable!(),
     }
 }
 
@@ -143,7 +208,7 @@ fn refuse_unconfigured<K: Sink>(alloc: Global, why: NoConfig, out: &mut K) -> Ou
 fn script_config(
     alloc: Global,
     script: &Script,
-    store: &mut MemStore,
+    store: &mut PlainStore,
 ) -> Result<(Config, Octets), NoConfig>
     requires { store.old ≡ store_of script.now }
     ensures store { store.new.told ≡ editions_of script.now }
@@ -154,19 +219,21 @@ fn script_config(
     config_from(alloc, answer)
 }
 
-/// Plays the script by the configuration, and writes the warnings and the report.
+/// Plays the script by the configuration and the edition, and writes the warnings and the report.
 fn serve_script<R: Wait, K: Sink>(
     rt: &R,
     alloc: Global,
     script: Script,
-    store: MemStore,
+    store: PlainStore,
     config: Config,
+    edition: Edition,
     told: &Octets,
     out: &mut K,
 ) -> Outcome
     requires told { told.now ≡ warnings_of config }
     requires store { store.told ≡ editions_of script }
-    ensures kept { IfSome result.scripted (λ s. HasRun config (clients_of script) s.board) }
+    requires limits { edition.limits ≡ head_limits_of config }
+    ensures kept { IfSome result.scripted (λ s. HasRun config edition.site.value (clients_of script) s.board) }
     ensures script { IfSome result.scripted (λ s. s.front.script ≡ script) }
     ensures config { IfSome result.scripted (λ s. s.config ≡ config) }
     ensures left { IfSome result.scripted IsLeftOfRun }
@@ -187,6 +254,7 @@ fn serve_script<R: Wait, K: Sink>(
         rt,
         alloc,
         numbers,
+        edition,
         front,
         clock,
         out,
@@ -204,7 +272,7 @@ fn serve_script<R: Wait, K: Sink>(
 /// What is left of a run, with what its front and its clock show.
 fn played(
     served: ServedRun<ScriptLink, ScriptFront, ScriptClock>,
-    store: MemStore,
+    store: PlainStore,
     config: Config,
 ) -> Scripted
     ensures whole { result ≡ record { board = served.board; front = served.front; clock = served.clock; store = store; config = config } }

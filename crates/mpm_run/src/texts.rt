@@ -88,6 +88,16 @@ fn add_place(text: &mut Octets, number: u64, word: &[u8]) -> Result<(), NoMemory
     text.add(b"\n")
 }
 
+/// The text where the site is refused for the file or the folder of that name.
+pub fn site_refused_text(alloc: Global, name: &[u8]) -> Result<Octets, NoMemory>
+    ensures { IfOk result (λ text. text ≡ spec.site_refused name.now) }
+{
+    let mut text = Octets::of(alloc, b"site refused: ")?;
+    text.add(name)?;
+    text.add(b"\n")?;
+    Ok(text)
+}
+
 /// Puts behind the warnings that the configuration is accepted.
 pub fn add_syntax_ok(told: &mut Octets) -> Result<(), NoMemory>
     ensures { OnOk result (told.new ≡ told.old ++ spec.syntax_ok) }

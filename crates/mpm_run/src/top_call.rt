@@ -3,7 +3,7 @@ ghost use Rattle.std.specs.Prelude.{◌≡◌, IfSome, IsSomeAnd, IsNone};
 ghost use Rattle.conn_machine.specs.declared.event.Why.TheVariants as why;
 ghost use Rattle.conn_machine.specs.declared.state.Going.TheVariants.{Halted};
 ghost use Rattle.script_front.specs.Editions.{editions_of};
-ghost use Rattle.mpm_run.specs.ExitStatuses.{EndsConfigRefused, EndsFull, EndsRefused, EndsUnknown, EndsUnread, HasEnd, HasPlayed, IsExitStatus, KeepsPatience, KeepsTime, LacksOutput, MayEndWith, Succeeds, seen_call};
+ghost use Rattle.mpm_run.specs.ExitStatuses.{EndsConfigRefused, EndsFull, EndsRefused, EndsSiteRefused, EndsUnknown, EndsUnread, HasEnd, HasPlayed, IsExitStatus, KeepsPatience, KeepsTime, LacksOutput, MayEndWith, Succeeds, seen_call};
 ghost use Rattle.mpm_run.specs.FirstNumbers as opening;
 ghost use Rattle.mpm_run.specs.Links.{KeepsLinks};
 ghost use Rattle.mpm_run.specs.Listen.{NeverFolded};
@@ -21,7 +21,7 @@ use std::sync::Wait;
 use std::thread::Threads;
 
 /// Runs the command that the words give, over the store and the output: `--script FILE` plays the script of that name, by the
-/// configuration that its own lines write, and `-t -f FILE` tests the configuration of that name.
+/// configuration and the site that its own lines write, and `-t -f FILE` tests the configuration of that name.
 ///
 /// All texts go to `out`: the warnings and the report of a run, what a test found, or why there is neither.
 pub fn run<R: Threads + Wait + Sync, D: Store, K: Sink>(
@@ -31,8 +31,9 @@ pub fn run<R: Threads + Wait + Sync, D: Store, K: Sink>(
     store: &mut D,
     out: &mut K,
 ) -> Outcome
-    // Whatever the exit status, what is left of a run is of one of the script that was read, by the configuration that it writes: it
-    // closed each connection that it took, and each child is gone.
+    // Whatever the exit status, what is left of a run is of one of the script that was read, by the configuration that it writes and
+    // the site that it has by that: it closed each connection that it took, each child is gone, and each connection was served by the
+    // site, and by the configuration's limits of heads.
     ensures kept { IfSome result.scripted (λ s. HasPlayed (seen_call words.now (D.seen store.old) (D.seen store.new) (K.seen out.old) (K.seen out.new) result.shown) s.config s.board s.front) }
 
     // Nothing of what it did was folded: the history is all of it.
@@ -76,6 +77,7 @@ pub fn run<R: Threads + Wait + Sync, D: Store, K: Sink>(
     ensures unknown { result.status ≡ 2 → EndsUnknown (seen_call words.now (D.seen store.old) (D.seen store.new) (K.seen out.old) (K.seen out.new) result.shown) }
     ensures unread { result.status ≡ 3 → EndsUnread (seen_call words.now (D.seen store.old) (D.seen store.new) (K.seen out.old) (K.seen out.new) result.shown) }
     ensures refused { result.status ≡ 8 → EndsRefused (seen_call words.now (D.seen store.old) (D.seen store.new) (K.seen out.old) (K.seen out.new) result.shown) }
+    ensures site_refused { result.status ≡ 9 → EndsSiteRefused (seen_call words.now (D.seen store.old) (D.seen store.new) (K.seen out.old) (K.seen out.new) result.shown) }
     ensures unwritten { result.status ≡ 5 → LacksOutput (seen_call words.now (D.seen store.old) (D.seen store.new) (K.seen out.old) (K.seen out.new) result.shown) result.scripted }
     ensures full { result.status ≡ 7 → IsSomeAnd result.scripted (λ s. EndsFull (K.seen out.old) (K.seen out.new) s.config s.board) }
 

@@ -1,10 +1,16 @@
 use Rattle.mpm_run.proofs.ConfigLemmas.{config-refusal, is-played, of-text}
+use Rattle.mpm_run.proofs.SiteLemmas.{site-refusal}
 use Rattle.mpm_run.proofs.script_run.play_script.Goals as goal
 
 pub returns-in-Ok-script_config-clause-kept : goal.returns-in-Ok-script_config-clause-kept
 returns-in-Ok-script_config-clause-kept g c =
-    is-played c.serve_script.result.scripted c.args.script c.in-Ok-script_config.config c.in-Ok-script_config.told c.in-Ok-script_config.ensures.config
-    c.serve_script.ensures.kept c.serve_script.ensures.script c.serve_script.ensures.config
+    is-played c.play_site.result.scripted c.args.script c.in-Ok-script_config.config c.in-Ok-script_config.told c.in-Ok-script_config.ensures.config
+    c.play_site.ensures.kept
+
+pub returns-in-Ok-script_config-clause-site_refused : goal.returns-in-Ok-script_config-clause-site_refused
+returns-in-Ok-script_config-clause-site_refused g c nine =
+    site-refusal _ _ c.args.script c.in-Ok-script_config.config c.in-Ok-script_config.told c.play_site.result.shown c.in-Ok-script_config.ensures.config
+    (c.play_site.ensures.site_refused nine)
 
 pub refuse_unconfigured-requires : goal.refuse_unconfigured-requires
 refuse_unconfigured-requires g c = of-text c.args.script c.in-Err.why c.in-Err.ensures.config

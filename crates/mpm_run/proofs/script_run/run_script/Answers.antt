@@ -1,7 +1,7 @@
 use Rattle.std.proofs.Common.{ℕ, List, Ok, Err, inl, ap, refl, subst, ◌∙◌}
 use Rattle.mpm_script.specs.Script.{ScriptIs}
 use Rattle.mpm_run.specs.ExitStatuses.{most_script}
-use Rattle.mpm_run.proofs.CauseLemmas.{at-line, has_file, misconfigured, played, refused-large, unread-failed, unread-missing}
+use Rattle.mpm_run.proofs.CauseLemmas.{at-line, has_file, misconfigured, played, refused-large, unread-failed, unread-missing, unsited}
 use Rattle.mpm_run.proofs.script_run.run_script.Goals as goal
 
 pub returns-in-Ok-read_script-clause-kept : goal.returns-in-Ok-read_script-clause-kept
@@ -17,6 +17,13 @@ returns-in-Ok-read_script-clause-misconfigured g c one =
     (has_file most_script _ c.args.name.now c.in-Ok.bytes c.read.result c.read.ensures c.in-Ok.is)
     (subst (λ (bytes : List ℕ). ScriptIs bytes (Ok c.in-Ok-read_script.script)) c.as_slice.ensures c.in-Ok-read_script.ensures.answer)
     (c.play_script.ensures.misconfigured one)
+
+pub returns-in-Ok-read_script-clause-site_refused : goal.returns-in-Ok-read_script-clause-site_refused
+returns-in-Ok-read_script-clause-site_refused g c nine =
+    unsited _ c.args.name.now c.in-Ok.bytes c.in-Ok-read_script.script refl
+    (has_file most_script _ c.args.name.now c.in-Ok.bytes c.read.result c.read.ensures c.in-Ok.is)
+    (subst (λ (bytes : List ℕ). ScriptIs bytes (Ok c.in-Ok-read_script.script)) c.as_slice.ensures c.in-Ok-read_script.ensures.answer)
+    (c.play_script.ensures.site_refused nine)
 
 pub returns-clause-refused : goal.returns-clause-refused
 returns-clause-refused g c eight =

@@ -1,5 +1,6 @@
-use Rattle.std.proofs.Common.{◌≡◌, ◌∙◌, List, ℕ, Some, inl, inr, refl, ap, sym, subst, arith}
+use Rattle.std.proofs.Common.{◌≡◌, ◌∙◌, List, [], ◌∷◌, ℕ, Some, inl, inr, refl, ap, sym, subst, arith}
 use Rattle.mpm_script.specs.Clients.{clients_of}
+use Rattle.http_read.specs.declared.request.Limits.{Limits}
 use Rattle.script_front.specs.Editions.{editions_of}
 use Rattle.script_front.specs.ScriptFront.{SeenFront, comings_of}
 use Rattle.mpm_run.specs.Configured.{warnings_of}
@@ -7,6 +8,7 @@ use Rattle.mpm_run.specs.ExitStatuses.{EndsFull, EndsUnwritten, EndsWell, HasRun
 use Rattle.mpm_run.specs.ExitStatusesInside.{IsLeftOfRun, WritesAll}
 use Rattle.mpm_run.specs.Listen.{IsRunFrom, NeverFolded}
 use Rattle.mpm_run.specs.ListenInside.{IsEnd}
+use Rattle.mpm_run.specs.Sites.{AllServedBy}
 use Rattle.mpm_run.specs.Started.{IsStartedFirst}
 use Rattle.mpm_run.specs.Tells.{AllReceive}
 use Rattle.mpm_run.specs.Watched.{IsOpenedAndHushed}
@@ -15,11 +17,15 @@ use Rattle.mpm_run.specs.declared.run_numbers.RunNumbers.{RunNumbers}
 use Rattle.mpm_run.proofs.EndLemmas.{ends-for, has-end, keeps-time, left-and, left-if, report-full, report-unwritten, report-well}
 use Rattle.mpm_run.proofs.PaceLemmas.{patience-of}
 use Rattle.mpm_run.proofs.RunLemmas.{all-receive}
+use Rattle.mpm_run.proofs.SiteLemmas.{all-served}
 use Rattle.mpm_run.proofs.script_run.serve_script.Goals as goal
 
 pub run_server-requires-clause-named : goal.run_server-requires-clause-named
 run_server-requires-clause-named g c κs within =
     record { front = (c.in-Ok.front.told, refl, refl); links = λ known. record { each = λ link. (link.told, refl) } }
+
+pub run_server-requires-clause-edition : goal.run_server-requires-clause-edition
+run_server-requires-clause-edition g c κs within = record { place = 0; found = refl }
 
 pub run_server-requires-clause-numbers : goal.run_server-requires-clause-numbers
 run_server-requires-clause-numbers g c κs within = c.numbers_of-numbers.ensures.allowed
@@ -41,13 +47,17 @@ returns-in-Ok-run_server-clause-kept g c =
     let v = c.in-Ok-run_server.served in
     let s : Scripted = record { board = v.board; front = v.front; clock = v.clock; store = c.args.store; config = c.args.config } in
     let run = subst (λ (n : RunNumbers). IsRunFrom n v.board) c.numbers_of-numbers.ensures.value c.in-Ok-run_server.ensures.run in
-    left-if c.finish.result.scripted s (λ s. HasRun c.args.config (clients_of c.args.script) s.board) (c.finish.ensures.scripted ∙ ap (λ (x : Scripted). Some x) c.played.ensures.whole)
+    left-if c.finish.result.scripted s (λ s. HasRun c.args.config c.args.edition.site.value (clients_of c.args.script) s.board) (c.finish.ensures.scripted ∙ ap (λ (x : Scripted). Some x) c.played.ensures.whole)
     (record {
       run = run;
       closed = c.in-Ok-run_server.ensures.closed;
       receive =
           subst (λ (clients : List (List ℕ)). AllReceive clients v.board.ended) (ap (λ (f : SeenFront). f.told.clients) c.in-Ok.ensures)
-          (all-receive (record { clients = c.in-Ok.front.told.clients }) v.board.ended run.agrees.answered c.in-Ok-run_server.ensures.clients.ended);
+          (all-receive (record { clients = c.in-Ok.front.told.clients; editions = Some (record { limits = c.args.edition.limits; site = c.args.edition.site.value }) ∷ [] }) v.board.ended run.agrees.answered
+          c.in-Ok-run_server.ensures.outside.ended);
+      served =
+          subst (λ (limits : Limits). AllServedBy limits c.args.edition.site.value v.board.ended) c.requires.limits
+          (all-served c.in-Ok.front.told.clients c.args.edition.limits c.args.edition.site.value v.board.ended c.in-Ok-run_server.ensures.outside.ended);
     })
 
 pub returns-in-Ok-run_server-clause-left : goal.returns-in-Ok-run_server-clause-left

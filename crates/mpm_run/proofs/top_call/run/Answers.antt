@@ -1,6 +1,6 @@
 use Rattle.std.proofs.Common.{ℕ, List, IfSome, inl, inr, sym, subst}
 use Rattle.std.proofs.lemmas.Option.{IfSome_then}
-use Rattle.mpm_run.specs.ExitStatuses.{EndsConfigRefused, EndsRefused, EndsTestUnwritten, EndsTested, EndsUnread, HasPlayed, seen_call}
+use Rattle.mpm_run.specs.ExitStatuses.{EndsConfigRefused, EndsRefused, EndsSiteRefused, EndsTestUnwritten, EndsTested, EndsUnread, HasPlayed, seen_call}
 use Rattle.mpm_run.specs.InvocationsInside.{IsInvocation}
 use Rattle.mpm_run.specs.declared.invocation.Invocation.{Invocation}
 use Rattle.mpm_run.proofs.top_call.run.Goals as goal
@@ -24,6 +24,11 @@ pub returns-in-Some-Script-clause-refused : goal.returns-in-Some-Script-clause-r
 returns-in-Some-Script-clause-refused g c eight =
     subst (λ (w : List (List ℕ)). EndsRefused (seen_call w (g.D.Store.seen c.args.store.now) (g.D.Store.seen c.run_script.new.store) (g.K.Sink.seen c.args.out.now) (g.K.Sink.seen c.run_script.new.out) c.run_script.result.shown))
     (sym (subst (λ (i : Invocation). IsInvocation i c.args.words.now) c.in-Some-Script.field-0-is c.in-Some-Script.ensures.some)) (c.run_script.ensures.refused eight)
+
+pub returns-in-Some-Script-clause-site_refused : goal.returns-in-Some-Script-clause-site_refused
+returns-in-Some-Script-clause-site_refused g c nine =
+    subst (λ (w : List (List ℕ)). EndsSiteRefused (seen_call w (g.D.Store.seen c.args.store.now) (g.D.Store.seen c.run_script.new.store) (g.K.Sink.seen c.args.out.now) (g.K.Sink.seen c.run_script.new.out) c.run_script.result.shown))
+    (sym (subst (λ (i : Invocation). IsInvocation i c.args.words.now) c.in-Some-Script.field-0-is c.in-Some-Script.ensures.some)) (c.run_script.ensures.site_refused nine)
 
 pub returns-in-Some-Script-clause-unfolded : goal.returns-in-Some-Script-clause-unfolded
 returns-in-Some-Script-clause-unfolded g c = IfSome_then c.run_script.result.scripted c.run_script.ensures.left (λ s left. left.unfolded)

@@ -1,0 +1,54 @@
+-- The site that a run serves: the files of the script's first edition under the DocumentRoot of its configuration. And why it has
+-- none.
+use Rattle.std.specs.Prelude.{◌≡◌, ◌⊎◌, ℕ, List, [], ◌∷◌, Err, ⊤}
+use Rattle.mpm_base.specs.declared.script_line.ScriptLine.{ScriptLine}
+use Rattle.mpm_config.specs.Config.{Configuration}
+use Rattle.http_read.specs.declared.request.Limits.{Limits}
+use Rattle.file_table.specs.declared.load_fault.LoadFault.TheVariants as fault
+use Rattle.file_table.specs.declared.site.SiteOrder.{SiteOrder}
+use Rattle.file_table.specs.Load.{MayLoad}
+use Rattle.file_table.specs.Site.{SeenSite, IsSiteOf}
+use Rattle.script_front.specs.Editions.{editions_of}
+use Rattle.conn_state.specs.Answered.{SeenEnded}
+
+-- ## By the configuration
+
+-- what a site is made of: DocumentRoot, and DirectoryIndex as the name of the file that stands for a folder
+abbrev pub order_of : Configuration → SiteOrder
+order_of c = record { root = c.root; index = c.index }
+
+-- how long the head of a request may be: LimitRequestLine, LimitRequestFieldSize and LimitRequestFields
+abbrev pub head_limits_of : Configuration → Limits
+head_limits_of c = record { line = c.current.line; field = c.current.field; fields = c.current.fields }
+
+-- ## The site
+
+-- the script's first edition has this site by the configuration
+abbrev pub HasSite : List ScriptLine → Configuration → SeenSite → Type 0
+HasSite script c site = IsSiteOf (order_of c) (editions_of script).files site
+
+-- the files are too many for a site, and the name is that of the folder in which they are
+pub record HasTooMany (script : List ScriptLine) (c : Configuration) (name : List ℕ) : Type 0 where
+  pub many : MayLoad (order_of c) (editions_of script).files (Err fault.TooMany)
+  pub named : name ≡ c.root
+
+-- the file of that name is the first one that is too large, or with which the files are
+pub record HasTooLarge (script : List ScriptLine) (c : Configuration) (name : List ℕ) : Type 0 where
+  pub size : ℕ
+  pub large : MayLoad (order_of c) (editions_of script).files (Err (fault.TooLarge name size))
+
+-- the site of the script's first edition is refused by the configuration, for the folder or the file of that name
+abbrev pub IsSiteRefused : List ScriptLine → Configuration → List ℕ → Type 0
+IsSiteRefused script c name = HasTooMany script c name ⊎ HasTooLarge script c name
+
+-- ## What connections were served by
+
+-- the connection was served by these limits and this site
+pub record IsServedBy (limits : Limits) (site : SeenSite) (e : SeenEnded) : Type 0 where
+  pub limits_are : e.limits ≡ limits
+  pub site_is : e.site ≡ site
+
+-- so was each
+abbrev pub AllServedBy : Limits → SeenSite → List SeenEnded → Type 0
+AllServedBy limits site [] = ⊤
+AllServedBy limits site (e ∷ ended) = IsServedBy limits site e × AllServedBy limits site ended
