@@ -72,6 +72,11 @@ pub(crate) struct Parts<L: Link> {
     pub(crate) queues: Queues,
 }
 
+// A connection that waits after a hundred responses takes less than four thousand bytes, its notes among them.
+const _: () = prove!(
+    size_of::<Conn<PlainLink, Nothing>>() + 104 * size_of::<Note>() < 4000
+);
+
 // A board is moved in few bytes, whatever its links are.
 const _: () = prove!(size_of::<Board<PlainLink, Nothing>>() <= 100);
 

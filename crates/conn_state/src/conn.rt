@@ -38,6 +38,9 @@ use std::marker::{Model, PhantomData};
 use std::snapshot::Snapshot;
 use std::sync::Arc;
 
+/// For how many notes room is taken at once: so a connection with many of them has little that it doesn't use.
+const NOTES_AT_ONCE: usize = 8;
+
 /// A connection over a link, served of the site of its generation. Where `N` knows the outside, the link is that of one of the
 /// clients, and its limits and its site are those of one of the editions.
 #[derive(Drop)]
@@ -379,6 +382,9 @@ fn take_note(
     ensures of { IfOk result (IsUnsentOf site.now) }
     ensures err { OnErr result (notes.new ≡ notes.old) }
 {
+    if notes.len() % NOTES_AT_ONCE == 0 {
+        notes.reserve_exact(NOTES_AT_ONCE)?;
+    }
     match plan {
         Some(plan) => {
             let unsent = respond(alloc, site, plan, &note)?;

@@ -69,6 +69,16 @@ impl<T: Drop> Sequence<T> {
         }
     }
 
+    /// Takes the room for that many more items at once, and for no others. The list stays as it is.
+    pub fn reserve_exact(&mut self, more: usize) -> Result<(), NoMemory>
+        ensures { self.new ≡ self.old }
+    {
+        match self.items.reserve_exact(more) {
+            Ok(()) => Ok(()),
+            Err(_) => Err(NoMemory),
+        }
+    }
+
     /// Puts an item at the end. Where memory lacks nothing changes, and the item is dropped.
     pub fn push(&mut self, item: T) -> Result<(), NoMemory>
         ensures ok { OnOk result (self.new ≡ self.old ++ item ∷ []) }
