@@ -7,6 +7,7 @@ pub mod FoldsInside
 pub mod Laws
 pub mod Lists
 pub mod Made
+pub mod NotesInside
 pub mod Passes
 pub mod Rows
 pub mod Runs

@@ -501,7 +501,7 @@ reply s (event.StartChild k) = Done
 reply s (event.Command c) = Done
 reply s (event.Retire k) = Done
 
--- doing the event takes memory: a response is noted
+-- doing the event may take memory: a response is noted
 abbrev pub takes_memory : Event → Bool
 takes_memory (event.Accept slot) = false
 takes_memory (event.Park name kind) = false

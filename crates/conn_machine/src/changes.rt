@@ -1,10 +1,10 @@
 //! What each event does to a row.
-ghost use Rattle.std.specs.Prelude.{◌≡◌, ◌+◌, false, [], ◌∷◌, ◌++◌, OnOk, OnErr};
+ghost use Rattle.std.specs.Prelude.{◌≡◌, ◌+◌, false, [], ◌∷◌, ◌++◌};
 ghost use Rattle.conn_machine.specs.Table.{closed_row, held_row, mid_after, queued_row, with_note};
 ghost use Rattle.conn_machine.specs.declared.row.Place.TheVariants.{Held, Parked, Working};
 
 use crate::row::{Phase, Place, Row};
-use mpm_base::{Cause, Kind, Moment, NoMemory, Note};
+use mpm_base::{Cause, Kind, Moment, Note};
 
 impl Row {
     /// A connection arrived, and the listener holds it.
@@ -81,18 +81,19 @@ impl Row {
         self.notes.clear();
     }
 
-    /// The response is decided, and noted. Where memory lacks nothing changes.
-    pub fn answer(&mut self, note: Note, short: bool) -> Result<(), NoMemory>
-        ensures ok { OnOk result (self.new ≡ with_note note short self.old) }
-        ensures err { OnErr result (self.new ≡ self.old) }
+    /// The response is decided, and noted.
+    pub fn answer(&mut self, note: &Note, short: bool)
+        ensures { self.new ≡ with_note note.now short self.old }
     {
-        let last = note.last;
-        self.notes.push(note)?;
-        let next = if last { Phase::Close } else { Phase::Write };
+        self.notes.add(note);
+        let next = if note.last {
+            Phase::Close
+        } else {
+            Phase::Write
+        };
         self.place = self.place.in_phase(next);
         self.mid = true;
-        self.last = last;
+        self.last = note.last;
         self.short = short;
-        Ok(())
     }
 }

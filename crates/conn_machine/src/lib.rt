@@ -5,7 +5,7 @@
 //! are filters. Histories of the machine, the order of each pass's entries, and what a pass may add stand in
 //! `specs/Runs.antt`. `may` and `step` are the same table as a plain program. What the table is worth is said by `laws`, how
 //! histories go on by `laws_of_runs`. A list of rows keeps its counts beside it, so no event but a Tick makes `may` or `step`
-//! go over the rows.
+//! go over the rows. A row keeps the number of its responses, and no memory for any of them.
 //!
 //! A value that is `Kept` tells a ledger: a history, the state before it, and a record of the entries before that state, which
 //! were folded. What a fold makes stands in `specs/Folds.antt`.
@@ -21,6 +21,7 @@ mod kept;
 pub mod laws;
 pub mod laws_of_runs;
 mod row;
+mod row_notes;
 mod rows;
 mod state;
 mod stepping;
@@ -31,6 +32,7 @@ pub use event::{BoxedShape, Commanded, Entry, Event, Refusal, Reply, Why};
 pub use folded::{Edition, Editions, Folded, Ordinals, PassRows};
 pub use kept::{Kept, Ledger};
 pub use row::{Owner, Phase, Place, Row};
+pub use row_notes::RowNotes;
 pub use rows::Rows;
 pub use state::{Going, Signals, State};
 pub use stepping::step;

@@ -3,8 +3,9 @@ ghost use Rattle.std.specs.Prelude.{◌≡◌};
 ghost use Rattle.conn_machine.specs.Rows as rows;
 ghost use Rattle.conn_machine.specs.States.{unused_row};
 
-use mpm_base::{Cause, Kind, Moment, Notes};
-use std::alloc::Global;
+use crate::row_notes::RowNotes;
+use mpm_base::{Cause, Kind, Moment};
+use std::mem::size_of;
 
 /// What a worker does with the connection that it serves.
 #[derive(Clone, Copy, Debug, PartialEq, Eq)]
@@ -168,8 +169,11 @@ pub struct Row {
     /// Why its service ended, once it lingers.
     pub cause: Option<Cause>,
     /// Its responses so far.
-    pub notes: Notes,
+    pub notes: RowNotes,
 }
+
+// A table has a row for each slot, used or not, and a row keeps nothing elsewhere.
+const _: () = prove!(size_of::<Row>() <= 64);
 
 /// A number for each kind, to tell two apart by.
 fn kind_number(kind: Kind) -> u8
@@ -186,7 +190,7 @@ fn kind_number(kind: Kind) -> u8
 
 impl Row {
     /// A slot that was never used.
-    pub fn unused(alloc: Global) -> Row
+    pub fn unused() -> Row
         ensures { result ≡ unused_row }
     {
         Row {
@@ -201,7 +205,7 @@ impl Row {
             last: false,
             short: false,
             cause: None,
-            notes: Notes::make(alloc),
+            notes: RowNotes::make(),
         }
     }
 

@@ -1,6 +1,6 @@
 //! The list of rows, its counts, and a change of one row. The counts are kept beside the rows, so that no call goes over these but the
 //! condition of a Tick.
-ghost use Rattle.std.specs.Prelude.{◌≡◌, ◌==◌, ◌+◌, ◌≤◌, ◌<◌, false, Some, [], ◌∷◌, ◌++◌, count_by, length, replicate, IfOk, IfSome, OnOk, OnErr, OnSome, find, slice_get};
+ghost use Rattle.std.specs.Prelude.{◌≡◌, ◌==◌, ◌+◌, ◌≤◌, ◌<◌, false, Some, [], ◌∷◌, ◌++◌, count_by, length, replicate, IfOk, IfSome, OnSome, find, slice_get};
 ghost use Rattle.std.specs.List.{list_any, range_with_len};
 ghost use Rattle.std.specs.Option.{option_copied};
 ghost use Rattle.conn_machine.specs.Lists.{update};
@@ -44,7 +44,7 @@ impl Rows {
         let counts = Counts::opening(alloc, slots)?;
         let mut items = Vec::new(alloc);
         for _ in 0..slots {
-            if items.push(Row::unused(alloc)).is_err() {
+            if items.push(Row::unused()).is_err() {
                 return Err(NoMemory);
             }
         }
@@ -320,18 +320,16 @@ impl Rows {
         self.counts.change(before, now);
     }
 
-    /// Of the row of the slot: the response is decided, and noted. Where memory lacks nothing changes.
+    /// Of the row of the slot: the response is decided, and noted.
     #[tactic(auto, using(crate::proofs::ListLemmas::set_is_update))]
-    pub fn answer(&mut self, slot: u32, note: Note, short: bool) -> Result<(), NoMemory>
+    pub fn answer(&mut self, slot: u32, note: &Note, short: bool)
         requires { slot < length self.old }
-        ensures ok { OnOk result (self.new ≡ update self.old slot (with_note note short)) }
-        ensures err { OnErr result (self.new ≡ self.old) }
+        ensures { self.new ≡ update self.old slot (with_note note.now short) }
     {
         let row = &mut self.items[slot as usize];
         let before = row.standing();
-        let answered = row.answer(note, short);
+        row.answer(note, short);
         let now = row.standing();
         self.counts.change(before, now);
-        answered
     }
 }

@@ -13,8 +13,8 @@ use crate::state::{Going, State};
 use mpm_base::{Ask, Cause, ConnName, Kind, Moment, NoMemory, Note};
 use std::alloc::Global;
 
-/// Does what the event table says of the event, and gives its reply. Only a noted response takes memory;
-/// where it lacks the state stays as it was. The state has at most 8,192 rows and 32 children, and as many
+/// Does what the event table says of the event, and gives its reply. Only a response that has a page may
+/// take memory; where it lacks the state stays as it was. The state has at most 8,192 rows and 32 children, and as many
 /// signals as rows.
 #[tactic(auto, using(crate::proofs::SoundRuns::sound_step, crate::proofs::SizeLemmas::sizes_step, crate::proofs::SizeLemmas::sized_step))]
 pub fn step(alloc: Global, state: &mut State, event: &Event) -> Result<Reply, NoMemory>
@@ -37,7 +37,7 @@ pub fn step(alloc: Global, state: &mut State, event: &Event) -> Result<Reply, No
         Event::Hold(name) => Ok(hold(state, name)),
         Event::Queue(name) => Ok(queue(state, name)),
         Event::Start(name) => Ok(start(state, name)),
-        Event::Answer(name, ask) => answer(state, name, &ask),
+        Event::Answer(name, ask) => Ok(answer(state, name, &ask)),
         Event::Linger(name, cause) => Ok(linger(state, name, cause)),
         Event::Close(name, _, _) => Ok(close(state, name)),
         Event::Ready(slot) => Ok(ready(state, slot)),
@@ -158,17 +158,16 @@ fn is_last_for(state: &State, ask: &Ask, row: &Row) -> bool
     let child = state.child_of(row);
     ask.asked_close
         || ask.refused
-        || row.notes.as_slice().len() as u64 + 1 == child.shape.most as u64
+        || row.notes.count() as u64 + 1 == child.shape.most as u64
         || !child.shape.keep
         || !child.phase.is_running()
 }
 
 #[tactic(auto, using(crate::proofs::ListLemmas::update_as))]
-fn answer(state: &mut State, name: ConnName, ask: &Ask) -> Result<Reply, NoMemory>
+fn answer(state: &mut State, name: ConnName, ask: &Ask) -> Reply
     requires { table.may_answer state.old name ≡ true }
-    ensures state { OnOk result (state.new ≡ table.next_answer state.old name ask.now) }
-    ensures reply { IfOk result (λ answer. answer ≡ Noted (table.noted_at state.old name.slot ask.now)) }
-    ensures err { OnErr result (state.new ≡ state.old) }
+    ensures state { state.new ≡ table.next_answer state.old name ask.now }
+    ensures reply { result ≡ Noted (table.noted_at state.old name.slot ask.now) }
 {
     let Some(row) = state.rows.live(name) else {
         unreachable!()
@@ -181,8 +180,8 @@ fn answer(state: &mut State, name: ConnName, ask: &Ask) -> Result<Reply, NoMemor
         code: ask.code,
         page: None,
     };
-    state.rows.answer(name.slot, note, ask.refused)?;
-    Ok(Reply::Noted(last))
+    state.rows.answer(name.slot, &note, ask.refused);
+    Reply::Noted(last)
 }
 
 #[tactic(auto, using(crate::proofs::ListLemmas::update_as))]

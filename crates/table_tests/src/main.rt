@@ -30,6 +30,7 @@ mod admitting;
 mod calls;
 mod counts;
 mod events;
+mod noted;
 mod numbers;
 mod plain_queues;
 mod plain_rings;

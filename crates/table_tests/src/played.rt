@@ -113,7 +113,7 @@ fn make_changes(
     for _ in 0..changes {
         let number = numbers.next();
         let detail = numbers.next();
-        grown(change_row(rows, bounds, number, detail))?;
+        change_row(rows, bounds, number, detail);
         if show_other(rt, rows, children, cells)? {
             return println!(rt; "");
         }
@@ -122,10 +122,10 @@ fn make_changes(
 }
 
 /// Makes the change that the numbers ask for. It has no clause, so that what the calls say isn't carried through all that follows.
-fn change_row(rows: &mut Rows, bounds: Bounds, number: u64, detail: u64) -> Result<(), NoMemory> {
+fn change_row(rows: &mut Rows, bounds: Bounds, number: u64, detail: u64) {
     let slot = below(number / 16, rows.len());
     if slot as usize >= rows.len() {
-        return Ok(());
+        return;
     }
     match number % 8 {
         0 => rows.take(slot, detail, below(detail, bounds.children), 0),
@@ -134,13 +134,12 @@ fn change_row(rows: &mut Rows, bounds: Bounds, number: u64, detail: u64) -> Resu
         3 => rows.queue(slot),
         4 => rows.linger(slot, kind_from(detail), detail, cause_from(detail / 8)),
         5 => rows.close(slot),
-        6 => return rows.answer(slot, note_of(detail), false),
+        6 => rows.answer(slot, &note_of(detail), false),
         _ => {
             let cell = cell_from(rows, slot, bounds, detail);
             rows.start(slot, cell, Phase::Read);
         }
     }
-    Ok(())
 }
 
 /// The cell in which the row of the slot is to be served.

@@ -1,5 +1,7 @@
 //! What is seen of a state.
+use crate::tables::Table;
 use conn_machine::{Row, State};
+use mpm_base::Notes;
 use std::io;
 
 /// Shows how many rows and children there are, and what the state says of itself.
@@ -18,8 +20,9 @@ pub fn show_sizes(rt: &impl Print, state: &State) -> io::Result<()> {
     )
 }
 
-/// Shows the whole state: what it has once, each child, and each row with its signal.
-pub fn show_state(rt: &impl Print, state: &State) -> io::Result<()> {
+/// Shows the whole state: what it has once, each child, and each row with its notes and its signal.
+pub fn show_state(rt: &impl Print, table: &Table) -> io::Result<()> {
+    let state = &table.state;
     println!(rt;
         "  {:?} at {}, newest {}, accepted {}, {:?}",
         state.going, state.moment, state.newest, state.accepted, state.shape
@@ -34,7 +37,11 @@ pub fn show_state(rt: &impl Print, state: &State) -> io::Result<()> {
         let Some(row) = state.rows.get(slot) else {
             return Ok(());
         };
+        let Some(notes) = table.notes.get(slot) else {
+            return Ok(());
+        };
         show_row(rt, slot, row)?;
+        show_notes(rt, row, notes)?;
         println!(rt; ", signal {}", state.signals.get(slot))?;
     }
     Ok(())
@@ -55,10 +62,19 @@ fn show_row(rt: &impl Print, slot: u32, row: &Row) -> io::Result<()> {
     print!(rt;
         ", from {:?} until {}, mid {}, last {}, short {}, cause {:?}",
         row.from, row.deadline, row.mid, row.last, row.short, row.cause
-    )?;
+    )
+}
+
+/// Shows the notes of the row, and where the row counts others.
+fn show_notes(rt: &impl Print, row: &Row, notes: &Notes) -> io::Result<()> {
     print!(rt;
         ", notes {:?}, says last {}",
-        row.notes.as_slice(),
+        notes.as_slice(),
         row.notes.says_last()
-    )
+    )?;
+    let count = row.notes.count() as usize;
+    if count != notes.len() || row.notes.is_empty() != notes.is_empty() {
+        print!(rt; ", but {count} counted")?;
+    }
+    Ok(())
 }

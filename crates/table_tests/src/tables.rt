@@ -2,6 +2,7 @@
 ghost use Rattle.conn_machine.specs.Sizes.{IsSized};
 
 use crate::events::{event_of, restart_to, shape_of};
+use crate::noted::NotesBySlot;
 use crate::shown::{show_sizes, show_state};
 use crate::texts::{grown, number_of, small_of, words};
 use conn_machine::{Event, Reply, State, is_in_bounds, may, step};
@@ -9,10 +10,11 @@ use mpm_base::NoMemory;
 use std::alloc::Global;
 use std::io;
 
-/// A state of a size that the machine takes.
+/// A state of a size that the machine takes, with the notes of its responses.
 #[derive(Drop)]
 pub struct Table {
     pub state: State,
+    pub notes: NotesBySlot,
     ghost sized: { IsSized state },
 }
 
@@ -25,7 +27,8 @@ impl Table {
         let slots = small_of(slots).min(8192);
         let children = small_of(children).min(32);
         let state = State::opening(alloc, slots, children, shape_of(shape))?;
-        Ok(Table { state })
+        let notes = NotesBySlot::make(alloc, slots)?;
+        Ok(Table { state, notes })
     }
 
     /// Whether the state allows the event.
@@ -40,6 +43,7 @@ impl Table {
             return Ok(None);
         }
         let reply = step(alloc, &mut self.state, event)?;
+        self.notes.follow(self.state.moment, event, reply)?;
         Ok(Some(reply))
     }
 }
@@ -91,9 +95,9 @@ fn show_step(
 ) -> io::Result<()> {
     let (before, last) = events_of(row);
     let mut table = open_behind(rt, alloc, opening, first, before)?;
-    show_state(rt, &table.state)?;
+    show_state(rt, &table)?;
     show_event(rt, alloc, &mut table, last)?;
-    show_state(rt, &table.state)
+    show_state(rt, &table)
 }
 
 /// The state that the words ask for, behind the first events and further ones.
@@ -131,7 +135,7 @@ fn show_row_of_play(
     match word {
         "show" => {
             show_sizes(rt, &table.state)?;
-            show_state(rt, &table.state)
+            show_state(rt, table)
         }
         "accepted" => {
             table.state.accepted = number_of(number);
