@@ -5,6 +5,7 @@ pub mod Escapes
 pub mod EscapesInside
 pub mod FileNames
 pub mod LineWordsInside
+pub mod Load
 pub mod NamePlaces
 pub mod NamePlacesInside
 pub mod Script

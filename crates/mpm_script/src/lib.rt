@@ -5,7 +5,7 @@
 //! a script, and `one_line` that a text is one line at most; `file_names_are_texts` says that the files of a script have
 //! UTF-8 names. `NamePlaces` has names in order, and finds each by a map. Which text is which line stands in
 //! `specs/ScriptLine.antt`, which lines are a script in `specs/Script.antt`, and what its clients send and which calls of
-//! their links fail in `specs/Clients.antt`.
+//! their links fail in `specs/Clients.antt`. `load_script` makes the script of a load (`specs/Load.antt`).
 //!
 //! Each line is built but a command (`specs/BuiltLines.antt`).
 #![tactic(auto)]
@@ -15,9 +15,11 @@ mod built_lines;
 mod escapes;
 mod line_reader;
 mod line_words;
+mod load;
 mod name_places;
 mod script;
 
 pub use line_reader::one_line;
+pub use load::load_script;
 pub use name_places::NamePlaces;
 pub use script::{Script, ScriptFault, file_names_are_texts, one_answer, read_script};

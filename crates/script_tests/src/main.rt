@@ -6,6 +6,7 @@
 //! and a number and a text between backquotes for the text so many times.
 //!
 //! - `script`: scripts, of each of which the lines are shown, or why it is refused.
+//! - `load`: numbers, for each of which the script of a load of so many connections is shown.
 //! - `front`: a front. Its first row is a script that is made by hand, each of whose lines ends with `|`; it need not be one that is
 //!   read. The others are calls. A link is named by its place among those that were taken and not turned away, from 0.
 //!   - `wait MOMENT WORD`: until the moment, which is `-` for none; the word is `quiet` where no connection is being served.
@@ -52,6 +53,7 @@ fn show_section<R: Print + Wait>(rt: &R, alloc: Global, section: &str) -> io::Re
 fn show_rows<R: Print + Wait>(rt: &R, alloc: Global, kind: &str, rows: &str) -> io::Result<()> {
     match kind {
         "script" => scripts::show_scripts(rt, alloc, rows),
+        "load" => scripts::show_loads(rt, alloc, rows),
         _ => fronts::show_front(rt, alloc, rows),
     }
 }

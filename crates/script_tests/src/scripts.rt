@@ -1,7 +1,9 @@
-//! Scripts as they are read.
-use crate::texts::{grown, show_bytes, text_of};
-use mpm_base::{ClientAct, ScriptLine, SiteLine};
-use mpm_script::{Script, ScriptFault, read_script};
+//! Scripts as they are read, and those of loads.
+ghost use Rattle.std.specs.Prelude.{◌≤◌};
+
+use crate::texts::{grown, show_bytes, small_of, text_of};
+use mpm_base::{ClientAct, NoMemory, ScriptLine, SiteLine};
+use mpm_script::{Script, ScriptFault, load_script, read_script};
 use std::alloc::Global;
 use std::io;
 
@@ -71,4 +73,29 @@ fn show_site(rt: &impl Print, alloc: Global, site: &SiteLine) -> io::Result<()> 
         }
         SiteLine::Unfile(name) => show_bytes(rt, alloc, " unfile", name.as_slice()),
     }
+}
+
+/// Shows the script of a load of so many connections, for each row.
+pub fn show_loads(rt: &impl Print, alloc: Global, rows: &str) -> io::Result<()> {
+    for row in rows.lines() {
+        print!(rt; "{row} =>")?;
+        show_load(rt, alloc, small_of(row))?;
+    }
+    Ok(())
+}
+
+fn show_load(rt: &impl Print, alloc: Global, count: u32) -> io::Result<()> {
+    if count < 1 || count > 100_000 {
+        return println!(rt; " no load");
+    }
+    let script = grown(load(alloc, count))?;
+    show_lines(rt, alloc, script.lines())
+}
+
+/// The script of the load. It has no clause, so that what `load_script` says isn't carried through what is shown.
+fn load(alloc: Global, count: u32) -> Result<Script, NoMemory>
+    requires some { 1 ≤ count }
+    requires few { count ≤ 100000 }
+{
+    load_script(alloc, count)
 }
