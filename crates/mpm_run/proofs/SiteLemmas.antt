@@ -11,7 +11,7 @@ use Rattle.file_table.specs.Load.{MayLoad}
 use Rattle.file_table.specs.Site.{SeenSite}
 use Rattle.script_front.specs.Editions.{editions_of}
 use Rattle.conn_state.specs.Answered.{SeenEnded}
-use Rattle.conn_state.specs.Known.{HaveEdition, KnownEdition}
+use Rattle.conn_state.specs.Known.{KnownEdition}
 use Rattle.board.specs.Board.{EndedOfOutside}
 use Rattle.mpm_run.specs.ConfiguredInside.{HasReadConfig}
 use Rattle.mpm_run.specs.ExitStatuses.{HasRun}
