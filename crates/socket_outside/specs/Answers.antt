@@ -1,5 +1,5 @@
--- What the system's answers to reads and writes of a socket come to.
-use Rattle.std.specs.Prelude.{ℕ, ◌==◌, ◌&&◌, Bool, true, not, if◌then◌else◌, List, take, Option, None, Some}
+-- What the system's answers to reads and writes of a socket, and to a wait, come to.
+use Rattle.std.specs.Prelude.{ℕ, ◌==◌, ◌&&◌, Bool, true, false, not, if◌then◌else◌, List, take, Option, None, Some}
 use Rattle.std.specs.Io.KnownBytes.{Appends, Consumes, IsAtEnd, Keeps}
 use Rattle.std.specs.declared.io.ErrorKind.{ErrorKind}
 use Rattle.std.specs.declared.io.ErrorKind.TheVariants as kind
@@ -27,6 +27,11 @@ abbrev pub sent_of_error : ErrorKind → Option Sent
 sent_of_error kind.WouldBlock = Some sent.NotReady
 sent_of_error kind.Interrupted = None
 sent_of_error k = Some sent.Failed
+
+-- whether a wait that the system refused so woke: none where it was interrupted, and is asked again
+abbrev pub woke_of_error : ErrorKind → Option Bool
+woke_of_error kind.Interrupted = None
+woke_of_error k = Some false
 
 -- of what the reader had left, where it tells that, a read took just the bytes that it gave, and found the end only where
 -- none was left

@@ -15,6 +15,7 @@ source_of_event e = source_of_number (event_token e).0
 abbrev pub is_of_listener : Source → Bool
 is_of_listener source.Listener = true
 is_of_listener source.Control = false
+is_of_listener source.Bell = false
 is_of_listener (source.Slot slot) = false
 is_of_listener source.Nothing = false
 
@@ -22,6 +23,7 @@ is_of_listener source.Nothing = false
 abbrev pub is_of_control : Source → Bool
 is_of_control source.Listener = false
 is_of_control source.Control = true
+is_of_control source.Bell = false
 is_of_control (source.Slot slot) = false
 is_of_control source.Nothing = false
 
@@ -29,6 +31,7 @@ is_of_control source.Nothing = false
 abbrev pub is_of_slot : ℕ → Source → Bool
 is_of_slot slot source.Listener = false
 is_of_slot slot source.Control = false
+is_of_slot slot source.Bell = false
 is_of_slot slot (source.Slot n) = n == slot
 is_of_slot slot source.Nothing = false
 

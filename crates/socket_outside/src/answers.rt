@@ -1,16 +1,16 @@
 //! From the system's answer to a call of a socket to the answer of a link.
-ghost use Rattle.std.specs.Prelude.{◌≡◌, ◌++◌, Some, IfSome, length, is_ok, MatchOption, MatchResult};
+ghost use Rattle.std.specs.Prelude.{◌≡◌, ◌++◌, Some, true, IfSome, length, is_ok, MatchOption, MatchResult};
 ghost use Rattle.std.specs.Io.KnownBytes.{Keeps};
 ghost use Rattle.std.specs.IoError.{error_kind};
 ghost use Rattle.mpm_base.specs.Link.{FitsBuffer, FitsPiece};
-ghost use Rattle.socket_outside.specs.Answers.{ReadsSome, WritesSome, got_of_count, got_of_error, leaves_some, sent_of_count, sent_of_error};
+ghost use Rattle.socket_outside.specs.Answers.{ReadsSome, WritesSome, got_of_count, got_of_error, leaves_some, sent_of_count, sent_of_error, woke_of_error};
 
 use mio::net::TcpStream;
 use mpm_base::{Got, Sent};
 use std::io::{self, ErrorKind, IoSlice, Read, Write};
 
 /// How often a call is made at most where it is interrupted: once, and asked again 64 times.
-const CALLS: u32 = 65;
+pub(crate) const CALLS: u32 = 65;
 
 /// What a read into so much room answers, or none where it was interrupted and is asked again.
 pub fn got_for(answer: io::Result<usize>, room: usize) -> Option<Got>
@@ -49,6 +49,19 @@ pub fn lacks_room(sent: Sent, size: usize) -> bool
     match sent {
         Sent::Put(count) => count != size as u64,
         Sent::NotReady | Sent::Failed => true,
+    }
+}
+
+/// Whether a wait woke, or none where it was interrupted and is asked again.
+pub fn woke_for(answer: io::Result<()>) -> Option<bool>
+    ensures { MatchResult answer (λ woke. result ≡ Some true) (λ e. result ≡ woke_of_error (error_kind e)) }
+{
+    match answer {
+        Ok(()) => Some(true),
+        Err(error) => match error.kind() {
+            ErrorKind::Interrupted => None,
+            _ => Some(false),
+        },
     }
 }
 

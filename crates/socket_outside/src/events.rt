@@ -17,6 +17,8 @@ pub enum Source {
     Listener,
     /// The socket that takes command lines, and each connection that brings one.
     Control,
+    /// The bells.
+    Bell,
     /// The link of that slot.
     Slot(u32),
     /// Nothing of the front's.
@@ -29,6 +31,9 @@ pub(crate) const LISTENER: Token = Token(usize::MAX);
 /// The token of the sockets that bring command lines.
 pub(crate) const CONTROL: Token = Token(usize::MAX - 1);
 
+/// The token of the bells.
+pub(crate) const BELL: Token = Token(usize::MAX - 2);
+
 /// What is registered under the token.
 pub fn source_of(token: Token) -> Source
     ensures { result ≡ source_of_number token.0 }
@@ -38,6 +43,9 @@ pub fn source_of(token: Token) -> Source
     }
     if token == CONTROL {
         return Source::Control;
+    }
+    if token == BELL {
+        return Source::Bell;
     }
     match u32::try_from(token.0) {
         Ok(slot) => Source::Slot(slot),
@@ -104,7 +112,7 @@ fn note_event(event: &Event, marks: &RoomMarks, ready: &mut Ready, noticed: &mut
                 give(ready, slot);
             }
         }
-        Source::Nothing => (),
+        Source::Bell | Source::Nothing => (),
     }
 }
 
@@ -130,12 +138,9 @@ pub(crate) fn give_slots(events: &Events, marks: &RoomMarks, ready: &mut Ready) 
 }
 
 /// How many milliseconds a wait that begins at the moment lasts at most.
-pub fn longest_wait(now: Moment, until: Option<Moment>, quiet: bool, pressed: bool) -> Option<u64>
-    ensures { result ≡ longest_wait now until quiet pressed }
+pub fn longest_wait(now: Moment, until: Option<Moment>, pressed: bool) -> Option<u64>
+    ensures { result ≡ longest_wait now until pressed }
 {
-    if !quiet {
-        return Some(0);
-    }
     let left = until.map(|until| until.saturating_sub(now));
     match left {
         Some(left) if pressed => Some(left.min(100)),

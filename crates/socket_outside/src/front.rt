@@ -1,9 +1,12 @@
 //! The front over sockets.
-ghost use Rattle.std.specs.Prelude.{◌≡◌, ◌==◌, None};
+ghost use Rattle.std.specs.Prelude.{◌≡◌, ◌==◌, ◌≤◌, [], None, false, length};
 ghost use Rattle.std.specs.List.{IsDistinct};
 ghost use Rattle.mpm_base.specs.Front.{Waits, accept_failed};
 
+use crate::answers::CALLS;
+use crate::bell::SocketBell;
 use crate::clock::SystemClock;
+use crate::dial::dial;
 use crate::events::longest_wait;
 use crate::front_counters::FrontCounters;
 use crate::link::SocketLink;
@@ -52,10 +55,33 @@ impl<'a, R: Net + time::Clock> SocketFront<'a, R> {
     pub fn control_at(&self) -> Option<SocketAddr> {
         self.sockets.control_at()
     }
+
+    #[tactic(auto, using(crate::proofs::EventLemmas::distinct_none))]
+    /// Waits until something comes or until the moment, and gives the slots for which something came. A wait that is interrupted
+    /// is asked again, and fails at last.
+    fn wait_until(&mut self, until: Option<Moment>, pressed: bool, ready: &mut Ready) -> bool
+        ensures counters { self.new.counters ≡ self.old.counters }
+        ensures none { result ≡ false → ready.new ≡ [] }
+        ensures few { length ready.new ≤ 256 }
+        ensures once { IsDistinct (λ a b. a == b) ready.new }
+    {
+        for _ in 0..CALLS {
+            let last = self.clock.last();
+            let now = self.clock.now(last);
+            match self.sockets.wait(longest_wait(now, until, pressed), ready) {
+                Some(woke) => return woke,
+                None => (),
+            }
+        }
+        ready.clear();
+        false
+    }
 }
 
 impl<'a, R: Net + time::Clock> Front for SocketFront<'a, R> {
     type L = SocketLink;
+
+    type B = SocketBell;
 
     ghost seen = { λ f. record { script = None; told = None; counts = f.counters } };
 
@@ -65,28 +91,25 @@ impl<'a, R: Net + time::Clock> Front for SocketFront<'a, R> {
         bound
     }
 
-    /// Lasts no longer than a tenth of a second behind a failed accept, and not at all where a connection is being served. No slot
-    /// is given twice.
+    /// Lasts no longer than a tenth of a second behind a failed accept, and not at all where the bell was rung since the last
+    /// wait; `quiet` means nothing to it. No slot is given twice.
     fn wait<W: Wait>(
         &mut self,
         _rt: &W,
         until: Option<Moment>,
-        quiet: bool,
+        _quiet: bool,
         ready: &mut Ready,
     ) -> Woke
-        ensures waits { Waits (record { script = None; told = None; counts = self.old.counters }) (record { script = None; told = None; counts = self.new.counters }) until quiet result ready.new }
+        ensures waits { Waits (record { script = None; told = None; counts = self.old.counters }) (record { script = None; told = None; counts = self.new.counters }) until _quiet result ready.new }
         ensures once { IsDistinct (λ a b. a == b) ready.new }
     {
-        let last = self.clock.last();
-        let now = self.clock.now(last);
         let pressed = self.pressed || self.sockets.asks_control();
         self.pressed = false;
-        let woke = self
-            .sockets
-            .wait(longest_wait(now, until, quiet, pressed), ready);
+        let woke = self.wait_until(until, pressed, ready);
         self.counters.test(woke);
         if woke {
-            Woke::Woke(self.clock.now(now))
+            let last = self.clock.last();
+            Woke::Woke(self.clock.now(last))
         } else {
             Woke::Failed
         }
@@ -118,6 +141,18 @@ impl<'a, R: Net + time::Clock> Front for SocketFront<'a, R> {
         let line = self.sockets.take_line();
         self.counters.command(line.is_some());
         line
+    }
+
+    /// Connects to the port, sends the word and a line feed, and reads until the server closes.
+    fn dial(&mut self, port: u16, word: &str) -> bool {
+        let dialled = dial(self.net, port, word);
+        self.counters.test(dialled);
+        dialled
+    }
+
+    /// NoMemory also where the system has no bell to give.
+    fn bell(&mut self, alloc: Global) -> Result<SocketBell, NoMemory> {
+        self.sockets.bell(self.net, alloc)
     }
 }
 

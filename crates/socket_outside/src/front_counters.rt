@@ -4,7 +4,7 @@ ghost use Rattle.mpm_base.specs.Count.{RisesWhere, RisesExactlyWhere};
 
 use std::marker::Model;
 
-/// Counts of binds and waits that failed, of accepts that failed, and of command lines that were given. No wait answers that
+/// Counts of binds, waits and dials that failed, of accepts that failed, and of command lines that were given. No wait answers that
 /// nothing comes any more.
 #[derive(Drop)]
 pub(crate) struct FrontCounters {
@@ -38,7 +38,7 @@ impl FrontCounters {
         }
     }
 
-    /// A bind or a wait succeeded, or failed.
+    /// A bind, a wait or a dial succeeded, or failed.
     pub(crate) fn test(&mut self, succeeded: bool)
         ensures others { self.new ≡ record self.old { faults = self.new.faults } }
         ensures faults { RisesWhere (not succeeded) self.old.faults self.new.faults }

@@ -1,17 +1,20 @@
 //! The outside of the server over the system: links, front and clock over real sockets and the system's time.
 //!
-//! `SocketLink`, `SocketFront` and `SystemClock` keep the traits `Link`, `Front` and `Clock` of `mpm_base`. They tell nothing: no
-//! clause says what a socket gives or takes. So each step from an answer of the system to one of a trait is a function of its own,
-//! and what it makes of that stands in `specs/`: reads and writes (`Answers`), connections (`Accepting`), events and how long a
-//! wait lasts (`Events`), what came on a control connection (`CommandLines`), and what the clock answers (`Moments`).
+//! `SocketLink`, `SocketFront`, `SocketBell` and `SystemClock` keep the traits `Link`, `Front`, `Bell` and `Clock` of `mpm_base`.
+//! They tell nothing: no clause says what a socket gives or takes. So each step from an answer of the system to one of a trait is
+//! a function of its own, and what it makes of that stands in `specs/`: reads, writes and waits (`Answers`), connections
+//! (`Accepting`), events and how long a wait lasts (`Events`), what came on a control connection (`CommandLines`), and what the
+//! clock answers (`Moments`).
 #![tactic(auto)]
 
 mod accepting;
 mod answers;
+mod bell;
 mod clock;
 mod command_lines;
 mod control;
 mod counters;
+mod dial;
 mod events;
 mod front;
 mod front_counters;
@@ -21,9 +24,11 @@ mod short_queue;
 mod sockets;
 
 pub use accepting::{NoStream, none_for};
-pub use answers::{got_for, lacks_room, read_some, sent_for, shut_for, write_some};
+pub use answers::{got_for, lacks_room, read_some, sent_for, shut_for, woke_for, write_some};
+pub use bell::SocketBell;
 pub use clock::{SystemClock, moment_behind, next_answer};
 pub use command_lines::{Heard, Spoken, heard_in};
+pub use dial::{read_out, send_line};
 pub use events::{Source, gives_slot, longest_wait, source_of};
 pub use front::SocketFront;
 pub use link::SocketLink;

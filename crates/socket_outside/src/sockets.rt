@@ -1,5 +1,5 @@
 //! The sockets of a front, and what the system says of them.
-ghost use Rattle.std.specs.Prelude.{◌≡◌, ◌==◌, ◌≤◌, None, [], length, not, false};
+ghost use Rattle.std.specs.Prelude.{◌≡◌, ◌≢◌, ◌==◌, ◌≤◌, None, Some, [], length, not, true, false};
 ghost use Rattle.std.specs.List.{IsDistinct};
 ghost use Rattle.mio.specs.Events.{capacity as events_capacity};
 ghost use Rattle.mpm_base.specs.Front.{Hands};
@@ -7,12 +7,14 @@ ghost use Rattle.mpm_base.specs.Link.{OnlyFaults};
 ghost use Rattle.socket_outside.specs.AskingInside.{asks_again};
 
 use crate::accepting::{NoStream, accept_next};
+use crate::answers::woke_for;
+use crate::bell::SocketBell;
 use crate::control::ControlPort;
-use crate::events::{CONTROL, LISTENER, give_slots};
+use crate::events::{BELL, CONTROL, LISTENER, give_slots};
 use crate::link::SocketLink;
 use crate::room::RoomMarks;
 use mio::net::TcpListener;
-use mio::{Events, Interest, Poll, Registry, Token};
+use mio::{Events, Interest, Poll, Registry, Token, Waker};
 use mpm_base::{Addr, Arrival, Line, Link, NoMemory, Ready};
 use std::alloc::Global;
 use std::io;
@@ -26,7 +28,9 @@ const MOST_EVENTS: usize = 256;
 /// The sockets of a front, where it is bound, and what it knows of them.
 #[derive(Drop)]
 pub(crate) struct Sockets {
+    // What waits, from the first bind or bell on.
     poll: Option<Poll>,
+    waker: Option<Arc<Waker>>,
     events: Events,
     listener: Option<TcpListener>,
     // The system is asked for a connection only while this mark stands.
@@ -39,7 +43,6 @@ pub(crate) struct Sockets {
 /// The sockets that a bind opens, which are watched.
 #[derive(Drop)]
 struct Opened {
-    poll: Poll,
     listener: TcpListener,
     control: Option<TcpListener>,
 }
@@ -56,6 +59,7 @@ impl Sockets {
         };
         Ok(Sockets {
             poll: None,
+            waker: None,
             events,
             listener: None,
             asks: false,
@@ -77,9 +81,15 @@ impl Sockets {
     /// Gives up the sockets that are open, and opens these. False where one can't be opened: then none is open.
     pub(crate) fn open<R: Net>(&mut self, net: &R, listen: Addr, control: Option<u16>) -> bool {
         self.give_up();
-        match open_sockets(net, listen, control) {
+        if !self.begin(net) {
+            return false;
+        }
+        let opened = match &self.poll {
+            Some(poll) => open_sockets(net, poll.registry(), listen, control),
+            None => return false,
+        };
+        match opened {
             Ok(opened) => {
-                self.poll = Some(opened.poll);
                 self.listener = Some(opened.listener);
                 self.control.open(opened.control);
                 self.asks = true;
@@ -89,11 +99,49 @@ impl Sockets {
         }
     }
 
+    /// Begins to wait for what is watched, where it didn't yet. False where that failed.
+    fn begin<R: Net>(&mut self, net: &R) -> bool {
+        if self.poll.is_none() {
+            self.poll = Poll::new(net).ok();
+        }
+        self.poll.is_some()
+    }
+
     /// Gives up all sockets.
     fn give_up(&mut self) {
         self.hush();
         self.control.open(None);
-        self.poll = None;
+    }
+
+    /// The bell that brings a wait back. NoMemory where the system has none to give.
+    pub(crate) fn bell<R: Net>(&mut self, net: &R, alloc: Global) -> Result<SocketBell, NoMemory> {
+        self.hang_bell(net, alloc)?;
+        let Some(waker) = &self.waker else {
+            return Err(NoMemory);
+        };
+        match Arc::try_clone(waker) {
+            Ok(waker) => Ok(SocketBell::of(waker)),
+            Err(_) => Err(NoMemory),
+        }
+    }
+
+    /// Has a bell bring waits back from now on, where none did yet.
+    fn hang_bell<R: Net>(&mut self, net: &R, alloc: Global) -> Result<(), NoMemory> {
+        if self.waker.is_some() {
+            return Ok(());
+        }
+        self.begin(net);
+        let Some(poll) = &self.poll else {
+            return Err(NoMemory);
+        };
+        let Ok(waker) = Waker::new(poll.registry(), BELL) else {
+            return Err(NoMemory);
+        };
+        let Ok(waker) = Arc::new(alloc, waker) else {
+            return Err(NoMemory);
+        };
+        self.waker = Some(waker);
+        Ok(())
     }
 
     /// Gives up the listening socket.
@@ -123,28 +171,28 @@ impl Sockets {
     }
 
     #[tactic(auto, using(crate::proofs::EventLemmas::distinct_none))]
-    /// Waits so many milliseconds at most, and gives the slots for which something came. False where the wait failed.
-    pub(crate) fn wait(&mut self, longest: Option<u64>, ready: &mut Ready) -> bool
-        ensures none { result ≡ false → ready.new ≡ [] }
+    /// Waits so many milliseconds at most, and gives the slots for which something came. False where the wait failed, and None
+    /// where it was interrupted and is asked again.
+    pub(crate) fn wait(&mut self, longest: Option<u64>, ready: &mut Ready) -> Option<bool>
+        ensures none { result ≢ Some true → ready.new ≡ [] }
         ensures few { length ready.new ≤ 256 }
         ensures once { IsDistinct (λ a b. a == b) ready.new }
     {
         ready.clear();
         let Some(poll) = &mut self.poll else {
-            return false;
+            return Some(false);
         };
-        if poll
-            .poll(&mut self.events, longest.map(Duration::from_millis))
-            .is_err()
-        {
-            return false;
+        let answer = poll.poll(&mut self.events, longest.map(Duration::from_millis));
+        let woke = woke_for(answer);
+        if woke != Some(true) {
+            return woke;
         }
         let noticed = give_slots(&self.events, &self.marks, ready);
         self.asks = self.asks || noticed.arrivals;
         if noticed.control || self.control.asks() {
             self.control.attend(poll.registry());
         }
-        true
+        Some(true)
     }
 
     /// The next connection. The mark stands until none waits, and none is asked for where it doesn't stand.
@@ -192,20 +240,20 @@ fn listen_at<R: Net>(
 }
 
 /// The listening socket, and behind it that of command lines on this machine, both watched.
-fn open_sockets<R: Net>(net: &R, listen: Addr, control: Option<u16>) -> io::Result<Opened> {
-    let poll = Poll::new(net)?;
+fn open_sockets<R: Net>(
+    net: &R,
+    registry: &Registry,
+    listen: Addr,
+    control: Option<u16>,
+) -> io::Result<Opened> {
     let address = SocketAddr::from((Ipv4Addr::from(listen.host), listen.port));
-    let listener = listen_at(net, poll.registry(), address, LISTENER)?;
+    let listener = listen_at(net, registry, address, LISTENER)?;
     let control = match control {
         Some(port) => {
             let address = SocketAddr::from((Ipv4Addr::LOCALHOST, port));
-            Some(listen_at(net, poll.registry(), address, CONTROL)?)
+            Some(listen_at(net, registry, address, CONTROL)?)
         }
         None => None,
     };
-    Ok(Opened {
-        poll,
-        listener,
-        control,
-    })
+    Ok(Opened { listener, control })
 }
