@@ -26,7 +26,11 @@ served-by : (limits : Limits) (site : SeenSite) (e : SeenEnded) (place : ℕ)
     → slice_get (let one : KnownEdition = record { limits = limits; site = site } in Some one ∷ []) place
     ≡ (let its : KnownEdition = record { limits = e.limits; site = e.site } in Some (Some its))
     → IsServedBy limits site e
-served-by limits site e zero found = record { limits_are = cc found; site_is = cc found }
+served-by limits site e zero found =
+    let one : KnownEdition = record { limits = limits; site = site } in
+    let its : KnownEdition = record { limits = e.limits; site = e.site } in
+    let same : its ≡ one = cc found in
+    record { limits_are = ap (λ (k : KnownEdition). k.limits) same; site_is = ap (λ (k : KnownEdition). k.site) same }
 served-by limits site e (suc place) found = absurd (cc found)
 
 -- so each connection was served by it
