@@ -32,7 +32,7 @@ pub record HasTooMany (script : List ScriptLine) (c : Configuration) (name : Lis
   pub many : MayLoad (order_of c) (editions_of script).files (Err fault.TooMany)
   pub named : name ≡ c.root
 
--- the file of that name is the first one that is too large, or with which the files are
+-- the file of that name is the first one that is too large, or with which the files together are
 pub record HasTooLarge (script : List ScriptLine) (c : Configuration) (name : List ℕ) : Type 0 where
   pub size : ℕ
   pub large : MayLoad (order_of c) (editions_of script).files (Err (fault.TooLarge name size))
