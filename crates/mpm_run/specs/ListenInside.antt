@@ -74,7 +74,7 @@ pub record SeenListener : Type 0 where
   pub calls : Option (List (ℕ × ℕ))
   pub ready : List ℕ
 
--- what is known of the outside is what the front tells, and then each link of the type tells
+-- what is known of the clients is what the front tells of them, and where something is known each link of the type tells
 pub record IsKnownOfFront {L : Type 0} (known : Option KnownOutside) (link_seen : L → LinkSeen) (told : Option FrontTold) : Type 0 where
   pub front : IfSome known (λ k. HasClients k.clients told)
   pub links : is_some known ≡ true → LinksTell link_seen

@@ -6,7 +6,7 @@ use Rattle.mpm_config.specs.Config.{Configuration}
 use Rattle.http_read.specs.declared.request.Limits.{Limits}
 use Rattle.file_table.specs.declared.load_fault.LoadFault.TheVariants as fault
 use Rattle.file_table.specs.declared.site.SiteOrder.{SiteOrder}
-use Rattle.file_table.specs.Load.{MayLoad}
+use Rattle.file_table.specs.Load.{IsWithinLimits, MayLoad}
 use Rattle.file_table.specs.Site.{SeenSite, IsSiteOf}
 use Rattle.script_front.specs.Editions.{editions_of}
 use Rattle.conn_state.specs.Answered.{SeenEnded}
@@ -23,9 +23,10 @@ head_limits_of c = record { line = c.current.line; field = c.current.field; fiel
 
 -- ## The site
 
--- the script's first edition has this site by the configuration
-abbrev pub HasSite : List ScriptLine → Configuration → SeenSite → Type 0
-HasSite script c site = IsSiteOf (order_of c) (editions_of script).files site
+-- the script's first edition has this site by the configuration, and its files are no more and no larger than a site may have
+pub record HasSite (script : List ScriptLine) (c : Configuration) (site : SeenSite) : Type 0 where
+  pub is_site : IsSiteOf (order_of c) (editions_of script).files site
+  pub within : IsWithinLimits site
 
 -- the files are too many for a site, and the name is that of the folder in which they are
 pub record HasTooMany (script : List ScriptLine) (c : Configuration) (name : List ℕ) : Type 0 where

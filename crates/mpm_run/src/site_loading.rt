@@ -1,6 +1,6 @@
 //! The site that a configuration makes of a store.
 ghost use Rattle.std.specs.Prelude.{◌≡◌, false, IfOk};
-ghost use Rattle.file_table.specs.Load.{MayLoad, answers_for, is_store_fault};
+ghost use Rattle.file_table.specs.Load.{IsWithinLimits, MayLoad, answers_for, is_store_fault};
 ghost use Rattle.mpm_run.specs.Sites.{order_of};
 
 use file_table::{LoadFault, Site, SiteOrder, load};
@@ -9,7 +9,8 @@ use mpm_config::Config;
 use stand_ins::PlainStore;
 use std::alloc::Global;
 
-/// The site of the files under the configuration's DocumentRoot. Never answers that a call of the store failed.
+/// The site of the files under the configuration's DocumentRoot. TooMany or TooLarge where they are more, or larger, than a site takes,
+/// NoMemory where memory lacks; never that a call of the store failed.
 pub fn load_site(
     alloc: Global,
     store: &mut PlainStore,
@@ -17,6 +18,7 @@ pub fn load_site(
 ) -> Result<Site, LoadFault>
     ensures told { store.new.told ≡ store.old.told }
     ensures site { MayLoad (order_of config.entry.now) store.old.told.files result }
+    ensures limits { IfOk result IsWithinLimits }
     ensures unfailed { answers_for is_store_fault result ≡ false }
 {
     config.show();
