@@ -11,7 +11,8 @@ use Rattle.conn_state.specs.declared.turn.ReadTurn.TheVariants as read
 use Rattle.conn_state.specs.declared.turn.WriteTurn.{WriteTurn}
 use Rattle.conn_state.specs.declared.turn.WriteTurn.TheVariants as write
 use Rattle.conn_state.specs.Conn.{SeenConn}
-use Rattle.conn_state.specs.Turns.{ReadsOn, ShutsOn, TakesNote, WritesOn, after_reading, after_writing, is_gone, is_more, is_not_ready, is_read_failure, is_write_failure}
+use Rattle.conn_state.specs.Turns.{ReadsOn, ShutsOn, TakesNote, WritesOn, after_reading, after_writing, is_gone, is_more, is_read_failure}
+use Rattle.conn_state.specs.Writing.{is_not_ready, is_write_failure}
 use Rattle.worker_group.specs.Service.{CountsTurn, HasTurned, NoneFalls}
 
 -- ## Counts
