@@ -73,9 +73,7 @@ pub(crate) struct Parts<L: Link> {
 }
 
 // A connection that waits after a hundred responses takes less than four thousand bytes, its notes among them.
-const _: () = prove!(
-    size_of::<Conn<PlainLink, Nothing>>() + 104 * size_of::<Note>() < 4000
-);
+const _: () = prove!(size_of::<Conn<PlainLink, Nothing>>() + 104 * size_of::<Note>() < 4000);
 
 // A board is moved in few bytes, whatever its links are.
 const _: () = prove!(size_of::<Board<PlainLink, Nothing>>() <= 100);

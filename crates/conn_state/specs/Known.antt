@@ -1,4 +1,4 @@
--- What a type knows of the outside, and what that says of a link.
+-- What a type knows of the outside, and what that says of a connection: of its link, the limits of its heads and its site.
 use Rattle.std.specs.Prelude.{◌≡◌, ℕ, ◌<◌, List, ◌++◌, length, Option, Some, IfSome, slice_get}
 use Rattle.mpm_base.specs.Front.{client_at}
 use Rattle.mpm_base.specs.Link.{LinkTold}
@@ -10,8 +10,8 @@ pub record KnownEdition : Type 0 where
   pub limits : Limits
   pub site : SeenSite
 
--- what a type knows of the outside: what each client sends, in the order of arrival, and the limits and the site of each edition of
--- the configuration: none where the configuration or the site of the edition is refused or missing
+-- what a type knows of the outside: what each client sends, in the order of arrival, and the editions by which connections are
+-- served, in their order, where there is one at a place
 pub record KnownOutside : Type 0 where
   pub clients : List (List ℕ)
   pub editions : List (Option KnownEdition)

@@ -230,7 +230,8 @@ impl<L: Link, N: Known> Conn<L, N> {
     }
 
     /// Reads until a request is whole or refused, its client is to be told to send the body, or the link gives no more. The link is
-    /// asked only while there is none of these.
+    /// asked only while there is none of these. LinkFailed where a call of the link failed, NoMemory where memory lacked for what came
+    /// or for the answer; then the connection can only be ended.
     pub fn read_turn(&mut self) -> ReadTurn
         requires usable { is_usable self.old.turn ≡ true }
         requires sent { self.old.pending ≡ [] }
@@ -285,7 +286,8 @@ impl<L: Link, N: Known> Conn<L, N> {
         }
     }
 
-    /// Sends what is pending, until the link has no room. Takes no memory, and holds none for what is pending where nothing is.
+    /// Sends what is pending, until the link has no room. LinkFailed where a call of the link failed; then the connection can only be
+    /// ended. Takes no memory, and holds none for what is pending where nothing is.
     pub fn write_turn(&mut self) -> WriteTurn
         requires usable { is_usable self.old.turn ≡ true }
         requires not_shut { self.old.linger ≡ linger.Open }
@@ -297,7 +299,8 @@ impl<L: Link, N: Known> Conn<L, N> {
         turn
     }
 
-    /// Half-closes the link: the client is told that no more comes. False where the call failed. Takes no memory.
+    /// Half-closes the link: the client is told that no more comes. False where the call failed. It is made only while nothing failed
+    /// before. Takes no memory.
     pub fn shut(&mut self) -> bool
         requires usable { is_usable self.old.turn ≡ true }
         requires not_shut { self.old.linger ≡ linger.Open }

@@ -1,5 +1,4 @@
-//! One connection over its link, for whole HTTP: requests with their bodies, and the responses that are decided. It is to take the
-//! place of `conn_state`.
+//! One connection over its link: requests with their bodies, and the responses that are decided.
 //!
 //! `Conn` is a connection. What it keeps at every turn stands in `specs/Conn.antt`: what was sent and what is pending are the
 //! replies to the first items that were received, and what follows them. What each turn does stands in `specs/Turns.antt`. Behind the

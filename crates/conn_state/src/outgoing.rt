@@ -18,7 +18,9 @@ const PIECE: u64 = 65_536;
 pub struct FileRange {
     /// The place of the file in the site.
     pub file: u32,
+    /// The first byte that is one, from 0.
     pub from: u64,
+    /// The first byte behind them.
     pub to: u64,
 }
 
@@ -116,7 +118,7 @@ fn piece_of(site: &Site, range: FileRange) -> &[u8]
 }
 
 /// Sends what is left, until the link has no room. Each call of the link is offered what is left of the head, and behind it a
-/// piece of the body. Where nothing is left, no memory is held for it then.
+/// piece of the body, 65,536 bytes at most. LinkFailed where a call failed. Where nothing is left, no memory is held for it then.
 pub fn send<L: Link>(alloc: Global, link: &mut L, site: &Site, unsent: &mut Outgoing) -> WriteTurn
     requires { IsUnsentOf site.now unsent.old }
     ensures sends { SendsOn (L.seen link.old).told (L.seen link.new).told (L.seen link.old).counts (L.seen link.new).counts

@@ -34,7 +34,7 @@ fn outgoing_of(reply: Reply) -> Result<Outgoing, NoMemory>
     }
 }
 
-/// The response of this plan with the note, as it is to be sent.
+/// The response of this plan with the note, as it is to be sent. NoMemory where memory lacks for its head.
 pub fn respond(alloc: Global, site: &Site, plan: &Plan, note: &Note) -> Result<Outgoing, NoMemory>
     requires date { IsSecond note.now.date }
     requires served { IsServedOf site.now plan.now.served }
@@ -46,7 +46,7 @@ pub fn respond(alloc: Global, site: &Site, plan: &Plan, note: &Note) -> Result<O
     outgoing_of(reply)
 }
 
-/// The response to a refusal by the note's code, as it is to be sent.
+/// The response to a refusal by the note's code, as it is to be sent. NoMemory where memory lacks for it.
 pub fn refuse(alloc: Global, note: &Note) -> Result<Outgoing, NoMemory>
     requires date { IsSecond note.now.date }
     requires code { refuses_head note.now.code ≡ true }
@@ -58,7 +58,7 @@ pub fn refuse(alloc: Global, note: &Note) -> Result<Outgoing, NoMemory>
     outgoing_of(reply)
 }
 
-/// What tells a client to send its body, as it is to be sent.
+/// What tells a client to send its body (RFC 9110, section 15.2.1), as it is to be sent. NoMemory where memory lacks for it.
 pub fn tell_to_send(alloc: Global) -> Result<Outgoing, NoMemory>
     ensures { IfOk result (λ out. out ≡ record { head = spec.continue_text; body = None }) }
 {

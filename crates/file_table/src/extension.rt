@@ -62,7 +62,7 @@ fn type_of_name(name: &[u8]) -> &'static [u8]
     }
 }
 
-/// The content type of a file of the site (RFC 9110, section 8.3).
+/// The content type of a file of the site (RFC 9110, section 8.3). Takes no memory.
 pub fn content_type(site: &Site, file: u32) -> &[u8]
     requires { file < length site.now.files }
     ensures { option_map (λ f. type_of_name f.name) (slice_get site.now.files file) ≡ Some result.now }

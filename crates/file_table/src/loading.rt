@@ -194,7 +194,8 @@ fn read_site<D: Store>(
 }
 
 /// The site of the files under the root, which with `index` is UTF-8. A file that is listed and then missing counts
-/// as empty.
+/// as empty. StoreFault where a call of the store failed; TooMany above 65,536 names; TooLarge for the first file, in the order of names,
+/// with more than 16,777,216 bytes or with which they are more than 67,108,864; NoMemory where memory lacks.
 pub fn load<D: Store>(alloc: Global, store: &mut D, order: &SiteOrder) -> Result<Site, LoadFault>
     requires root { IsUtf8 order.now.root }
     requires index { IsUtf8 order.now.index }

@@ -144,7 +144,8 @@ fn find_path(alloc: Global, site: &Site, path: &[u8]) -> Result<Found, NoMemory>
     find_decoded(alloc, site, decoded.as_slice())
 }
 
-/// What a path, which is the part of a target before its query, names in the site.
+/// What a path, which is the part of a target before its query, names in the site. NoMemory where memory lacks for its decoded form
+/// or for a redirect.
 pub fn find(alloc: Global, site: &Site, path: &[u8]) -> Result<Found, NoMemory>
     ensures resource { IfOk result (λ found. found ≡ resource_of site.now path.now) }
     ensures there { IfOk result (IsFoundIn site.now) }

@@ -9,7 +9,9 @@ use std::marker::Model;
 /// What a site is made of: the folder whose files it has, and the name of the file that stands for a folder.
 #[derive(Debug, Drop)]
 pub struct SiteOrder {
+    /// The name of the folder, without a slash at its end; UTF-8.
     pub root: Octets,
+    /// The name of the file; UTF-8.
     pub index: Octets,
 }
 
@@ -74,7 +76,7 @@ impl Site {
     }
 }
 
-/// The bytes of a file of the site, which are not copied.
+/// The bytes of a file of the site, which are not copied. Takes no memory.
 pub fn bytes(site: &Site, file: u32) -> &[u8]
     requires { file < length site.now.files }
     ensures { option_map (λ f. f.bytes) (slice_get site.now.files file) ≡ Some result.now }

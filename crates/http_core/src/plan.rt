@@ -9,7 +9,9 @@ use mpm_base::Octets;
 pub struct FilePart {
     /// The place of the file in the site.
     pub file: u32,
+    /// The first of its bytes that are sent, from 0.
     pub from: u64,
+    /// The first behind them.
     pub to: u64,
     /// How many bytes the file has.
     pub size: u64,
@@ -35,6 +37,7 @@ pub enum Served {
 /// The plan of a response.
 #[derive(Debug, Drop)]
 pub struct Plan {
+    /// What is served: a file, a part of one, or an answer of the server's own.
     pub served: Served,
     /// The response has no body (RFC 9110, section 9.3.2).
     pub only_head: bool,

@@ -153,7 +153,7 @@ fn is_head(method: &[u8]) -> bool
     matches!(method, b"HEAD")
 }
 
-/// What a request asks for, and the plan of its response.
+/// What a request asks for, and the plan of its response. NoMemory where memory lacks for its path.
 pub fn ask_of(alloc: Global, site: &Site, request: &Request) -> Result<(Ask, Plan), NoMemory>
     ensures ask { IfOk result (λ asked. asked.0 ≡ spec.ask_for site.now request.now) }
     ensures plan { IfOk result (λ asked. asked.1 ≡ spec.plan_for site.now request.now) }

@@ -29,7 +29,9 @@ pub enum Body {
 /// A response, its head as bytes.
 #[derive(Debug, Drop)]
 pub struct Reply {
+    /// The head, with the empty line behind it.
     pub head: Octets,
+    /// What follows it.
     pub body: Body,
 }
 
@@ -96,7 +98,8 @@ pub fn response(
     Ok(Reply { head, body })
 }
 
-/// The response to a head that was refused by the note's code.
+/// The response to a head that was refused by the note's code: its head is written behind what the buffer holds, which is dropped where
+/// memory lacks.
 pub fn refusal(alloc: Global, head: Octets, note: &Note) -> Result<Reply, NoMemory>
     requires date { IsSecond note.now.date }
     requires code { refuses_head note.now.code ≡ true }

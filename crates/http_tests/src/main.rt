@@ -7,7 +7,6 @@
 //!
 //! - `body KIND`: bodies. `gibibyte`: a kind and how the body begins. `body looks`: chunked bodies.
 //! - `heads LINE FIELD FIELDS`: heads, by these limits. `requests`: heads, and what they ask. `hosts`: no rows, for each byte in a host.
-//! - `root`: heads of the one form that the program reads.
 //! - `answers SECOND LAST`: heads that are answered at the second. `refusals`: codes. `continue`: no rows.
 //! - `conn`: the first row has the bytes that a client sends; each other one has the turns of a connection, what happens to its link
 //!   between them, and how it ends. `cuts`: what clients send; each is cut behind each of its bytes.
@@ -20,7 +19,6 @@ mod heads;
 mod leaving;
 mod pages;
 mod responses;
-mod root_heads;
 mod test_conn;
 mod texts;
 mod turn_answers;
@@ -57,7 +55,6 @@ fn show_section(
         "heads" => heads::show_heads(rt, alloc, kind, rows),
         "requests" => heads::show_requests(rt, alloc, rows),
         "hosts" => heads::show_hosts(rt, alloc),
-        "root" => root_heads::show_root_heads(rt, alloc, rows),
         "answers" => responses::show_answers(rt, alloc, kind, rows),
         "refusals" => responses::show_refusals(rt, alloc, rows),
         "continue" => responses::show_continue(rt, alloc),

@@ -7,8 +7,8 @@ ghost use Rattle.conn_state.specs.declared.turn.LastLinger.TheVariants as linger
 use crate::heads::LIMITS;
 use crate::leaving::may_end;
 use crate::turn_answers::{is_usable, left_by_drop, left_by_read, left_by_write, lingers};
-use file_table::Site;
 use conn_state::{Conn, Ended, LastLinger, LastTurn, LingerTurn, Nothing, ReadTurn, WriteTurn};
+use file_table::Site;
 use mpm_base::{Ask, Cause, ConnName, Link, NoMemory, Note, Tail};
 use std::alloc::Global;
 use std::io;

@@ -1,7 +1,8 @@
 //! The run of the server: the listener, the top call and its report.
 //!
 //! `run` is the one call that the program makes. What it promises stands in `specs/ExitStatuses.antt`, `Listen.antt`,
-//! `Started.antt`, `Times.antt`, `Watched.antt`, `Links.antt`, `Patient.antt` and `Tells.antt`: the history that the board
+//! `Configured.antt`, `FirstNumbers.antt`, `Sites.antt`, `Started.antt`, `Times.antt`, `Watched.antt`, `Links.antt`, `Patient.antt`
+//! and `Tells.antt`: it works by the configuration and the site that the script's lines write; the history that the board
 //! keeps is a run of the connection machine from its opening state, in the order of its passes, and each state on its way is
 //! sound; the connections agree with it; each connection that was taken ended, and each child is gone; the children were
 //! started before all else, and each one where it was asked for; the front was bound once, watched each connection under its name, and listens no more in the end;

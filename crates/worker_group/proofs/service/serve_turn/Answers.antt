@@ -69,8 +69,7 @@ returns-then-last-clause-exits g c =
 
 pub returns-in-More-clause-may : goal.returns-in-More-clause-may
 returns-in-More-clause-may g c =
-    let served = served-written c.args.board.now.book.state c.args.conn.now c.write_turn.new.self write.Done c.requires.served c.in-Done.ensures refl in
-    (
+    let served = served-written c.args.board.now.book.state c.args.conn.now c.write_turn.new.self write.Done c.requires.served c.in-Done.ensures refl in (
       served-read c.args.board.now.book.state c.write_turn.new.self c.read_turn.new.self read.More served c.in-More.ensures.reads refl,
       record {
         turn = c.in-More.ensures.reads.turn;
