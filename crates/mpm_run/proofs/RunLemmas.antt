@@ -139,7 +139,7 @@ receives clients e tells ended =
       told_is = tells.told_is;
       known = tells.known;
       front = (tells.t.coming, sym tells.offered);
-      whole = λ done. all-came (client_at clients tells.t.rank) tells.t tells.offered (answered.answers.received done);
+      whole = λ done. all-came (client_at clients tells.t.rank) tells.t tells.offered (answered.answers.received done).came;
     }
 
 -- so did each
