@@ -1,6 +1,6 @@
 use Rattle.std.proofs.Common.{ℕ, ◌<◌, refl, sym, subst, ◌∙◌, rules}
 use Rattle.mpm_run.specs.RoundInside.{TakesUntil, way_of}
-use Rattle.mpm_run.proofs.FrontLemmas.{arrives-next, follows-accept, follows-same, follows-trans, handed-known, step-none, step-taken, takes-accept, takes-same, takes-trans}
+use Rattle.mpm_run.proofs.FrontLemmas.{arrives-next, follows-accept, follows-same, follows-trans, handed-known, named-follows, step-none, step-taken, takes-accept, takes-same, takes-trans}
 use Rattle.mpm_run.proofs.LinkLemmas.{hands-ended}
 use Rattle.mpm_run.proofs.RoundLemmas.{on-err, takes-more, takes-none}
 use Rattle.mpm_run.proofs.TakeLemmas.{took-none}
@@ -41,6 +41,16 @@ pub take-requires-clause-client : goal.take-requires-clause-client
 take-requires-clause-client g c κs within =
     handed-known g.N.Known.known g.L.Link.seen (g.F.Front.seen c.self.inside.front).told c.in-Some-accept.link c.self.invariant
     c.in-Some-accept.ensures.accepts.hands.1
+
+pub invariant_of-self : goal.invariant_of-self
+invariant_of-self g c =
+    named-follows g.N.Known.known g.L.Link.seen (g.F.Front.seen c.self.inside.front) (g.F.Front.seen c.accept.new.self)
+    (follows-accept g.L.Link.seen _ _ _ c.accept.ensures.accepts) c.self.invariant
+
+pub invariant_of-self-in-None-accept : goal.invariant_of-self-in-None-accept
+invariant_of-self-in-None-accept g c =
+    named-follows g.N.Known.known g.L.Link.seen (g.F.Front.seen c.self.inside.front) (g.F.Front.seen c.accept.new.self)
+    (follows-accept g.L.Link.seen _ _ _ c.accept.ensures.accepts) c.self.invariant
 
 pub loop-preserved : goal.loop-preserved
 loop-preserved g c =
