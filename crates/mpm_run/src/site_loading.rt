@@ -11,11 +11,7 @@ use std::alloc::Global;
 
 /// The site of the files under the configuration's DocumentRoot. TooMany or TooLarge where they are more, or larger, than a site takes,
 /// NoMemory where memory lacks; never that a call of the store failed.
-pub fn load_site(
-    alloc: Global,
-    store: &mut PlainStore,
-    config: &Config,
-) -> Result<Site, LoadFault>
+pub fn load_site(alloc: Global, store: &mut PlainStore, config: &Config) -> Result<Site, LoadFault>
     ensures told { store.new.told ≡ store.old.told }
     ensures site { MayLoad (order_of config.entry.now) store.old.told.files result }
     ensures limits { IfOk result IsWithinLimits }
