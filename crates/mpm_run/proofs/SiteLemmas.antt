@@ -1,9 +1,8 @@
--- What is loaded of the site of a script, and what a run serves of it.
-use Rattle.std.proofs.Common.{◌≡◌, ℕ, suc, zero, List, [], ◌∷◌, Option, None, Some, IfSome, Err, slice_get, inl, inr, refl, ap}
+-- What a run serves of the site of a script, and why it is refused.
+use Rattle.std.proofs.Common.{◌≡◌, ℕ, suc, zero, List, [], ◌∷◌, Option, Some, Err, slice_get, inl, inr, refl, ap}
 use Rattle.mpm_base.specs.Sink.{SinkSeen}
 use Rattle.mpm_base.specs.declared.script_line.ScriptLine.{ScriptLine}
 use Rattle.mpm_config.specs.Config.{Configuration}
-use Rattle.mpm_script.specs.Clients.{clients_of}
 use Rattle.http_read.specs.declared.request.Limits.{Limits}
 use Rattle.file_table.specs.declared.load_fault.LoadFault.{LoadFault}
 use Rattle.file_table.specs.declared.load_fault.LoadFault.TheVariants as fault
@@ -14,10 +13,8 @@ use Rattle.conn_state.specs.Answered.{SeenEnded}
 use Rattle.conn_state.specs.Known.{KnownEdition}
 use Rattle.board.specs.Board.{EndedOfOutside}
 use Rattle.mpm_run.specs.ConfiguredInside.{HasReadConfig}
-use Rattle.mpm_run.specs.ExitStatuses.{HasRun}
-use Rattle.mpm_run.specs.Sites.{AllServedBy, HasSite, IsServedBy, order_of}
-use Rattle.mpm_run.specs.SitesInside.{IsServedRun, IsSiteRefusalOf, RefusesLoad, RefusesSite}
-use Rattle.mpm_run.specs.declared.outcome.Scripted.{Scripted}
+use Rattle.mpm_run.specs.Sites.{AllServedBy, IsServedBy, order_of}
+use Rattle.mpm_run.specs.SitesInside.{IsSiteRefusalOf, RefusesLoad, RefusesSite}
 
 -- ## What connections were served by
 
@@ -40,16 +37,6 @@ pub all-served : (clients : List (List ℕ)) (limits : Limits) (site : SeenSite)
 all-served clients limits site [] ends = tt
 all-served clients limits site (e ∷ ended) ends =
     (served-by limits site e ends.0.edition.place ends.0.edition.found, all-served clients limits site ended ends.1)
-
--- ## A site that was loaded
-
--- what is left of a run by it
-pub served-run : (o : Option Scripted) (lines : List ScriptLine) (c : Configuration) (site : SeenSite) → HasSite lines c site
-    → IfSome o (λ s. HasRun c site (clients_of lines) s.board) → IfSome o (λ s. s.front.script ≡ lines) → IfSome o (λ s. s.config ≡ c)
-    → IfSome o (IsServedRun lines c)
-served-run None lines c site has run script config = tt
-served-run (Some s) lines c site has run script config =
-    record { script = script; config = config; site = site; site_is = has; has_run = run }
 
 -- ## A site that is refused
 
