@@ -1,5 +1,5 @@
 -- How the listener lets go of connections that wait: the events by which it does, and how it leaves each.
-use Rattle.std.specs.Prelude.{◌≡◌, ◌⊎◌, ℕ, ◌+◌, ◌&&◌, not, true, false, List, [], ◌∷◌, ◌++◌, count_by, Option, None, Some, ⊤}
+use Rattle.std.specs.Prelude.{◌≡◌, ◌⊎◌, ℕ, ◌+◌, ◌&&◌, not, true, false, List, [], ◌∷◌, count_by, Option, None, Some, ⊤}
 use Rattle.std.specs.List.{flat_map}
 use Rattle.mpm_base.specs.declared.conn.ConnName.{ConnName}
 use Rattle.mpm_base.specs.declared.conn.Cause.{Cause}

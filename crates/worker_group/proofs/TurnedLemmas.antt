@@ -1,7 +1,7 @@
 -- What the counts of a link show of the last turn of its connection.
 use Rattle.std.proofs.Common.{◌≡◌, ℕ, Bool, true, false, not, sym, subst, ◌∙◌, arith}
 use Rattle.mpm_base.specs.Count.{NeverFalls, Rises, RisesWhere, RisesExactlyWhere}
-use Rattle.mpm_base.specs.Link.{LinkCounts, OnlyFaults}
+use Rattle.mpm_base.specs.Link.{LinkCounts}
 use Rattle.mpm_base.specs.declared.conn.Ask.{Ask}
 use Rattle.mpm_base.specs.declared.note.Note.{Note}
 use Rattle.conn_state.specs.declared.turn.LastTurn.{LastTurn}
