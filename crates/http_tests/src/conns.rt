@@ -15,7 +15,7 @@ use std::str;
 use std::sync::Arc;
 
 /// The second of the example in RFC 9110, section 5.6.7.
-const SECOND: u64 = 784_111_777;
+pub const SECOND: u64 = 784_111_777;
 
 /// The link of a client that sends the text as the wire says, the first read and the first write of which fail where the wire says so.
 fn link_of(alloc: Global, text: &[u8], wire: Arc<Wire>) -> Result<ScriptLink, NoMemory>
@@ -30,7 +30,7 @@ fn link_of(alloc: Global, text: &[u8], wire: Arc<Wire>) -> Result<ScriptLink, No
 }
 
 /// The connection of a client that sends the text as the wire says.
-fn conn_of(
+pub fn conn_of(
     alloc: Global,
     site: &Arc<Site>,
     text: &[u8],
@@ -45,7 +45,7 @@ fn conn_of(
 }
 
 /// The site of each connection.
-fn site_of(alloc: Global) -> io::Result<Arc<Site>> {
+pub fn site_of(alloc: Global) -> io::Result<Arc<Site>> {
     match digits_site(alloc) {
         Ok(site) => Ok(Arc::new(alloc, site)?),
         Err(_) => Err(io::Error::from(ErrorKind::OutOfMemory)),
@@ -159,7 +159,7 @@ fn show_ended(rt: &impl Print, ended: &Ended<ScriptLink>) -> io::Result<()> {
 }
 
 /// Prints the bytes under the name, in the same line; of more than 600 their number.
-fn show_bytes(rt: &impl Print, name: &str, bytes: &[u8]) -> io::Result<()> {
+pub fn show_bytes(rt: &impl Print, name: &str, bytes: &[u8]) -> io::Result<()> {
     match str::from_utf8(bytes) {
         Ok(text) if bytes.len() <= 600 => print!(rt; "{name} {text:?}"),
         _ => print!(rt; "{name} {} bytes", bytes.len()),
@@ -242,7 +242,7 @@ fn talk_cut(
 }
 
 /// For what a connection ends whose last turn answered so.
-fn cause_after(turn: LastTurn) -> Cause {
+pub fn cause_after(turn: LastTurn) -> Cause {
     match turn {
         LastTurn::Gone => Cause::ClientDone,
         LastTurn::LinkFailed => Cause::LinkFailed,

@@ -10,13 +10,17 @@
 //! - `answers SECOND LAST`: heads that are answered at the second. `refusals`: codes. `continue`: no rows.
 //! - `conn`: the first row has the bytes that a client sends; each other one has the turns of a connection, what happens to its link
 //!   between them, and how it ends. `cuts`: what clients send; each is cut behind each of its bytes.
+//! - `long`: what a client sends first, how often it sends a further text, that text, and what it sends last. `slow`: how many bytes
+//!   the file has that a client asks for, and for how many its link has room in each turn.
 //! - `pages`: the letters and the numbers of a snapshot.
 #![tactic(auto)]
 
 mod bodies;
 mod conns;
 mod heads;
+mod large;
 mod leaving;
+mod long_link;
 mod pages;
 mod responses;
 mod test_conn;
@@ -60,6 +64,8 @@ fn show_section(
         "continue" => responses::show_continue(rt, alloc),
         "conn" => conns::show_turns(rt, alloc, rows),
         "cuts" => conns::show_cuts(rt, alloc, rows),
+        "long" => large::show_long(rt, alloc, rows),
+        "slow" => large::show_slow(rt, alloc, rows),
         _ => pages::show_pages(rt, alloc, rows),
     }
 }

@@ -35,6 +35,15 @@ pub fn digits_site(alloc: Global) -> Result<Site, LoadFault> {
     load(alloc, &mut store, &order)
 }
 
+/// A site of one file, `large.bin`, with these bytes.
+pub fn large_site(alloc: Global, bytes: &[u8]) -> Result<Site, LoadFault> {
+    let mut files = Files::make(alloc);
+    files.set("htdocs/large.bin", bytes)?;
+    let mut store = MemStore::make(alloc, files, Calls::make(alloc));
+    let order = htdocs(alloc)?;
+    load(alloc, &mut store, &order)
+}
+
 /// What a request asks for, and a plan that is one of the site.
 fn plan_of(alloc: Global, site: &Site, request: &Request) -> Result<(Ask, Plan), NoMemory>
     ensures { IfOk result (λ asked. IsServedOf site.now asked.1.served) }

@@ -1,0 +1,116 @@
+//! What is large: a body that is dropped as it comes, and a file that goes out as its link has room.
+
+use crate::conns::{SECOND, cause_after, conn_of, show_bytes, site_of};
+use crate::long_link::LongLink;
+use crate::responses::large_site;
+use crate::test_conn::TestConn;
+use crate::texts::{grown, number_of, text_of, words};
+use conn_state::{Ended, LastTurn};
+use file_table::Site;
+use mpm_base::{Cause, NoMemory, Octets, Tail};
+use stand_ins::{ScriptLink, Wire};
+use std::alloc::Global;
+use std::io::{self, ErrorKind};
+use std::sync::Arc;
+
+/// The request for the large file.
+const REQUEST: &[u8] = b"GET /large.bin HTTP/1.1\r\nHost: a\r\n\r\n";
+
+/// More turns than a file takes.
+const MOST_TURNS: u64 = 1_000_000;
+
+/// Shows what comes of each client that sends a front, a unit so many times, and a back.
+pub fn show_long(rt: &impl Print, alloc: Global, rows: &str) -> io::Result<()> {
+    let site = site_of(alloc)?;
+    for row in rows.lines() {
+        let link = grown(long_link_of(alloc, row))?;
+        let mut conn = TestConn::new(alloc, Arc::try_clone(&site)?, link);
+        let _ = conn.talk(SECOND);
+        let cause = cause_after(conn.turn());
+        print!(rt; "{row} => ")?;
+        match conn.end(cause, Tail::Direct) {
+            Some(ended) => show_end(rt, &ended)?,
+            None => println!(rt; "may not be")?,
+        }
+    }
+    Ok(())
+}
+
+/// The link of the client of the row.
+fn long_link_of(alloc: Global, row: &str) -> Result<LongLink, NoMemory> {
+    let (front, rest) = row.split_once("; ").unwrap_or((row, ""));
+    let (times, rest) = rest.split_once("; ").unwrap_or((rest, ""));
+    let (unit, back) = rest.split_once("; ").unwrap_or((rest, ""));
+    let front = text_of(alloc, front)?;
+    let unit = text_of(alloc, unit)?;
+    let back = text_of(alloc, back)?;
+    Ok(LongLink::make(alloc, front, unit, number_of(times), back))
+}
+
+/// Shows what came of a connection over such a link.
+fn show_end(rt: &impl Print, ended: &Ended<LongLink>) -> io::Result<()> {
+    let notes = ended.notes.len();
+    print!(rt; "{:?} {:?}, {notes} notes", ended.cause, ended.tail)?;
+    show_bytes(rt, ", sent", ended.link.sent())?;
+    println!(rt;)
+}
+
+/// Shows what comes of each client that asks for a file of so many bytes, and whose link has room for so many bytes in each turn.
+pub fn show_slow(rt: &impl Print, alloc: Global, rows: &str) -> io::Result<()> {
+    for row in rows.lines() {
+        let (size, room) = words(row);
+        let file = grown(large_file(alloc, number_of(size)))?;
+        let site = site_of_file(alloc, &file)?;
+        let wire = Arc::new(alloc, Wire::make())?;
+        let mut conn = conn_of(alloc, &site, REQUEST, &wire)?;
+        let turns = send_slowly(&mut conn, &wire, number_of(room));
+        print!(rt; "{row} => {turns} turns, {:?}", conn.turn())?;
+        match conn.end(Cause::Stopped, Tail::Direct) {
+            Some(ended) => show_sent(rt, &ended, &file)?,
+            None => println!(rt; ", may not be")?,
+        }
+    }
+    Ok(())
+}
+
+/// A file of so many bytes, at most 4,095 more.
+fn large_file(alloc: Global, size: u64) -> Result<Octets, NoMemory> {
+    let piece = text_of(alloc, "`256 0123456789abcdef`")?;
+    let mut file = Octets::make(alloc);
+    for _ in 0..size.div_ceil(4096) {
+        file.add(piece.as_slice())?;
+    }
+    Ok(file)
+}
+
+/// A site of the file.
+fn site_of_file(alloc: Global, file: &Octets) -> io::Result<Arc<Site>> {
+    match large_site(alloc, file.as_slice()) {
+        Ok(site) => Ok(Arc::new(alloc, site)?),
+        Err(_) => Err(io::Error::from(ErrorKind::OutOfMemory)),
+    }
+}
+
+/// Asks for the file, and sends it, in each turn as many bytes as there is room for. How many turns it took.
+fn send_slowly(conn: &mut TestConn<ScriptLink>, wire: &Wire, room: u64) -> u64 {
+    wire.bring(REQUEST.len() as u64);
+    let _ = conn.read();
+    let _ = conn.answer(SECOND, false);
+    for turns in 0..MOST_TURNS {
+        if !matches!(conn.turn(), LastTurn::Answered | LastTurn::NotReady) {
+            return turns;
+        }
+        wire.allow(Some(room));
+        let _ = conn.write();
+    }
+    MOST_TURNS
+}
+
+/// Shows the head that was sent, how many bytes were, and whether they end with the file.
+fn show_sent(rt: &impl Print, ended: &Ended<ScriptLink>, file: &Octets) -> io::Result<()> {
+    let sent = ended.link.sent();
+    let head = sent.len() - sent.len().min(file.len());
+    show_bytes(rt, ", head", &sent[..head])?;
+    let is_sent = sent.ends_with(file.as_slice());
+    println!(rt; ", sent {} bytes, the file is sent: {is_sent}", sent.len())
+}

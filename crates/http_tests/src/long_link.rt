@@ -1,0 +1,135 @@
+//! A link in memory whose client sends more than is kept anywhere.
+ghost use Rattle.std.specs.Prelude.{None};
+
+use mpm_base::{Got, Link, NoMemory, Octets, Sent};
+use std::alloc::Global;
+
+/// Which part of its bytes a client sends now.
+#[derive(Clone, Copy, Debug, PartialEq, Eq)]
+enum Part {
+    Front,
+    Unit,
+    Back,
+    Nothing,
+}
+
+/// A link whose client sends a front, a unit so many times, and a back, none of which is empty. It makes these bytes as they are read,
+/// and has room for all that is written to it. It tells nothing.
+#[derive(Drop)]
+pub struct LongLink {
+    front: Octets,
+    unit: Octets,
+    back: Octets,
+    part: Part,
+    // How many bytes of the part were given, and how many units follow it.
+    given: usize,
+    times: u64,
+    taken: Octets,
+    faults: u64,
+    late_reads: u64,
+    ends: u64,
+}
+
+impl LongLink {
+    /// A link of which nothing was read.
+    pub fn make(alloc: Global, front: Octets, unit: Octets, times: u64, back: Octets) -> LongLink {
+        LongLink {
+            front,
+            unit,
+            back,
+            part: Part::Front,
+            given: 0,
+            times,
+            taken: Octets::make(alloc),
+            faults: 0,
+            late_reads: 0,
+            ends: 0,
+        }
+    }
+
+    /// The bytes that its writes took.
+    pub fn sent(&self) -> &[u8] {
+        self.taken.as_slice()
+    }
+
+    /// The bytes of the part that were not given yet.
+    fn rest(&self) -> &[u8] {
+        let part = match self.part {
+            Part::Front => self.front.as_slice(),
+            Part::Unit => self.unit.as_slice(),
+            Part::Back => self.back.as_slice(),
+            Part::Nothing => &[],
+        };
+        &part[self.given.min(part.len())..]
+    }
+
+    /// The client goes on with the part behind the one that was given.
+    fn go_on(&mut self) {
+        self.given = 0;
+        self.part = match self.part {
+            Part::Front | Part::Unit if self.times > 0 => {
+                self.times -= 1;
+                Part::Unit
+            }
+            Part::Front | Part::Unit => Part::Back,
+            Part::Back | Part::Nothing => Part::Nothing,
+        };
+    }
+
+    /// Copies what is left of the part to the front of the buffer, as far as it fits, and says how many bytes.
+    fn copy(&mut self, buffer: &mut [u8]) -> usize {
+        let rest = self.rest();
+        let count = rest.len().min(buffer.len());
+        let is_whole = count == rest.len();
+        buffer[..count].copy_from_slice(&rest[..count]);
+        if is_whole {
+            self.go_on();
+        } else {
+            self.given = self.given.saturating_add(count);
+        }
+        count
+    }
+}
+
+impl Link for LongLink {
+    ghost seen = { λ l. record { told = None; counts = record { faults = l.faults; late_reads = l.late_reads; late_writes = 0; ends = l.ends } } };
+
+    /// Gives bytes of one part.
+    fn read(&mut self, buffer: &mut [u8]) -> Got {
+        if matches!(self.part, Part::Nothing) {
+            self.ends = self.ends.saturating_add(1);
+            return Got::End;
+        }
+        let count = self.copy(&mut *buffer);
+        if count == 0 {
+            self.late_reads = self.late_reads.saturating_add(1);
+            return Got::NotReady;
+        }
+        Got::Got(count as u64)
+    }
+
+    fn write(&mut self, bytes: &[u8]) -> Sent {
+        match self.taken.add(bytes) {
+            Ok(()) => Sent::Put(bytes.len() as u64),
+            Err(NoMemory) => {
+                self.faults = self.faults.saturating_add(1);
+                Sent::Failed
+            }
+        }
+    }
+
+    /// Takes the one piece, or the other where that is empty.
+    fn write_pair(&mut self, first: &[u8], second: &[u8]) -> Sent {
+        if first.is_empty() {
+            self.write(second)
+        } else {
+            self.write(first)
+        }
+    }
+
+    fn shut(&mut self) -> bool {
+        true
+    }
+
+    fn close(&mut self) {}
+}
