@@ -58,9 +58,17 @@ fn show_connection(rt: &impl Print, alloc: Global, ended: &Ended<ScriptLink>) ->
     }
     let link = &ended.link;
     println!(rt; ", shuts {}, closes {}", link.shuts(), link.closes())?;
-    show_bytes(rt, alloc, "received", link.received())?;
-    show_bytes(rt, alloc, "left", link.left())?;
+    show_few(rt, alloc, "received", link.received())?;
+    show_few(rt, alloc, "left", link.left())?;
     show_bytes(rt, alloc, "sent", link.sent())
+}
+
+/// Prints the bytes under the name; of more than 600 their number.
+fn show_few(rt: &impl Print, alloc: Global, name: &str, bytes: &[u8]) -> io::Result<()> {
+    if bytes.len() > 600 {
+        return println!(rt; "{name} {} bytes", bytes.len());
+    }
+    show_bytes(rt, alloc, name, bytes)
 }
 
 /// Prints the bytes under the name.
