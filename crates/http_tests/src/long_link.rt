@@ -1,5 +1,5 @@
 //! A link in memory whose client sends more than is kept anywhere.
-ghost use Rattle.std.specs.Prelude.{None};
+ghost use Rattle.std.specs.Prelude.{◌≡◌, ◌≤◌, None, length};
 
 use mpm_base::{Got, Link, NoMemory, Octets, Sent};
 use std::alloc::Global;
@@ -13,10 +13,9 @@ enum Part {
     Nothing,
 }
 
-/// A link whose client sends a front, a unit so many times, and a back, none of which is empty. It makes these bytes as they are read,
-/// and has room for all that is written to it. It tells nothing.
+/// A client that sends a front, a unit so many times, and a back, none of which is empty. It makes these bytes as they are read.
 #[derive(Drop)]
-pub struct LongLink {
+struct LongClient {
     front: Octets,
     unit: Octets,
     back: Octets,
@@ -24,34 +23,9 @@ pub struct LongLink {
     // How many bytes of the part were given, and how many units follow it.
     given: usize,
     times: u64,
-    taken: Octets,
-    faults: u64,
-    late_reads: u64,
-    ends: u64,
 }
 
-impl LongLink {
-    /// A link of which nothing was read.
-    pub fn make(alloc: Global, front: Octets, unit: Octets, times: u64, back: Octets) -> LongLink {
-        LongLink {
-            front,
-            unit,
-            back,
-            part: Part::Front,
-            given: 0,
-            times,
-            taken: Octets::make(alloc),
-            faults: 0,
-            late_reads: 0,
-            ends: 0,
-        }
-    }
-
-    /// The bytes that its writes took.
-    pub fn sent(&self) -> &[u8] {
-        self.taken.as_slice()
-    }
-
+impl LongClient {
     /// The bytes of the part that were not given yet.
     fn rest(&self) -> &[u8] {
         let part = match self.part {
@@ -77,7 +51,10 @@ impl LongLink {
     }
 
     /// Copies what is left of the part to the front of the buffer, as far as it fits, and says how many bytes.
-    fn copy(&mut self, buffer: &mut [u8]) -> usize {
+    fn copy(&mut self, buffer: &mut [u8]) -> usize
+        ensures fits { result ≤ length buffer.old }
+        ensures room { length buffer.new ≡ length buffer.old }
+    {
         let rest = self.rest();
         let count = rest.len().min(buffer.len());
         let is_whole = count == rest.len();
@@ -91,16 +68,51 @@ impl LongLink {
     }
 }
 
+/// The link of such a client, which has room for all that is written to it. It tells nothing.
+#[derive(Drop)]
+pub struct LongLink {
+    client: LongClient,
+    taken: Octets,
+    faults: u64,
+    late_reads: u64,
+    ends: u64,
+}
+
+impl LongLink {
+    /// A link of which nothing was read.
+    pub fn make(alloc: Global, front: Octets, unit: Octets, times: u64, back: Octets) -> LongLink {
+        LongLink {
+            client: LongClient {
+                front,
+                unit,
+                back,
+                part: Part::Front,
+                given: 0,
+                times,
+            },
+            taken: Octets::make(alloc),
+            faults: 0,
+            late_reads: 0,
+            ends: 0,
+        }
+    }
+
+    /// The bytes that its writes took.
+    pub fn sent(&self) -> &[u8] {
+        self.taken.as_slice()
+    }
+}
+
 impl Link for LongLink {
     ghost seen = { λ l. record { told = None; counts = record { faults = l.faults; late_reads = l.late_reads; late_writes = 0; ends = l.ends } } };
 
     /// Gives bytes of one part.
     fn read(&mut self, buffer: &mut [u8]) -> Got {
-        if matches!(self.part, Part::Nothing) {
+        if matches!(self.client.part, Part::Nothing) {
             self.ends = self.ends.saturating_add(1);
             return Got::End;
         }
-        let count = self.copy(&mut *buffer);
+        let count = self.client.copy(buffer);
         if count == 0 {
             self.late_reads = self.late_reads.saturating_add(1);
             return Got::NotReady;
@@ -118,12 +130,14 @@ impl Link for LongLink {
         }
     }
 
-    /// Takes the one piece, or the other where that is empty.
     fn write_pair(&mut self, first: &[u8], second: &[u8]) -> Sent {
-        if first.is_empty() {
-            self.write(second)
-        } else {
-            self.write(first)
+        let before = self.taken.len();
+        match self.taken.add_pair(first, second) {
+            Ok(()) => Sent::Put((self.taken.len() - before) as u64),
+            Err(NoMemory) => {
+                self.faults = self.faults.saturating_add(1);
+                Sent::Failed
+            }
         }
     }
 
