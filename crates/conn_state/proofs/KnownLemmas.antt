@@ -1,5 +1,5 @@
 -- What a type knows of a link stays over the turns of a connection.
-use Rattle.std.proofs.Common.{◌≡◌, ℕ, ◌<◌, Bool, true, false, List, ◌++◌, length, take, drop, Option, Some, None, option_map, refl, sym, ap, subst, ◌∙◌, append_assoc}
+use Rattle.std.proofs.Common.{◌≡◌, ℕ, ◌<◌, Bool, true, false, List, ◌++◌, length, take, drop, Option, Some, None, IfSome, option_map, refl, sym, ap, subst, ◌∙◌, append_assoc}
 use Rattle.std.proofs.lemmas.List.{take-append-drop}
 use Rattle.mpm_base.specs.Front.{client_at}
 use Rattle.mpm_base.specs.Link.{LinkTold, with_received, after_shut, after_close}
@@ -23,11 +23,17 @@ tells-changed clients told told' change leaves is tells = record {
   offered = leaves.offered tells.t ∙ tells.offered ∙ ap (client_at clients) (sym (leaves.rank tells.t));
 }
 
+-- the same where the clients may be unknown
+tells-still : (clients : Option (List (List ℕ))) (told told' : Option LinkTold) (change : LinkTold → LinkTold) → LeavesClient change
+    → told' ≡ option_map change told → IfSome clients (λ all. TellsFrom all told) → IfSome clients (λ all. TellsFrom all told')
+tells-still None told told' change leaves is client = tt
+tells-still (Some clients) told told' change leaves is client = tells-changed clients told told' change leaves is client
+
 -- the same of what a type knows
 client-changed : (known : Option KnownOutside) (told told' : Option LinkTold) (change : LinkTold → LinkTold) → LeavesClient change
     → told' ≡ option_map change told → IsOfClient known told → IsOfClient known told'
 client-changed None told told' change leaves is client = tt
-client-changed (Some k) told told' change leaves is client = tells-changed k.clients told told' change leaves is client
+client-changed (Some k) told told' change leaves is client = tells-still k.clients told told' change leaves is client
 
 -- the same of a connection whose limits and site stay
 outside-changed : (known : Option KnownOutside) (told told' : Option LinkTold) (limits limits' : Limits) (site : SeenSite) (change : LinkTold → LinkTold) → LeavesClient change

@@ -10,10 +10,10 @@ pub record KnownEdition : Type 0 where
   pub limits : Limits
   pub site : SeenSite
 
--- what a type knows of the outside: what each client sends, in the order of arrival, and the editions by which connections are
--- served, in their order, where there is one at a place
+-- what a type knows of the outside: what each client sends, in the order of arrival, where the front tells that, and the editions by
+-- which connections are served, in their order, where there is one at a place
 pub record KnownOutside : Type 0 where
-  pub clients : List (List ℕ)
+  pub clients : Option (List (List ℕ))
   pub editions : List (Option KnownEdition)
 
 -- the link tells, and is that of one of these clients: what it received, and what still comes behind it, are what that
@@ -29,9 +29,9 @@ pub record HaveEdition (editions : List (Option KnownEdition)) (limits : Limits)
   pub place : ℕ
   pub found : slice_get editions place ≡ Some (Some (record { limits = limits; site = site }))
 
--- where the type knows the outside, the link is that of one of the known clients
+-- where the type knows the clients, the link is that of one of them
 abbrev pub IsOfClient : Option KnownOutside → Option LinkTold → Type 0
-IsOfClient known told = IfSome known (λ k. TellsFrom k.clients told)
+IsOfClient known told = IfSome known (λ k. IfSome k.clients (λ clients. TellsFrom clients told))
 
 -- where the type knows the outside, the limits and the site are those of one of the known editions
 abbrev pub IsOfEdition : Option KnownOutside → Limits → SeenSite → Type 0

@@ -6,8 +6,8 @@ ghost use Rattle.std.specs.IoError.{error_kind};
 ghost use Rattle.std.specs.Process.{exit_status};
 ghost use Rattle.std.specs.declared.io.ErrorKind.TheVariants as kind;
 
-use mpm_base::{NoMemory, Words};
-use mpm_run::{Outcome, no_memory};
+use mpm_base::{Link, NoMemory, Words};
+use mpm_run::{Outcome, lacks_memory};
 use std::alloc::Global;
 use std::env::Args;
 use std::io::{self, ErrorKind};
@@ -42,12 +42,12 @@ fn words_after_name(alloc: Global, args: Args) -> Result<Words, NoMemory>
     Ok(words)
 }
 
-/// The process ends with the status of the run, or with that for want of memory where there were no words to run.
-pub fn exit_of(outcome: Result<Outcome, NoMemory>) -> ExitCode
+/// The process ends with the status of the run, or with that for want of memory where the run could not begin.
+pub fn exit_of<L: Link>(outcome: Result<Outcome<L>, NoMemory>) -> ExitCode
     ensures { MatchResult outcome (λ o. exit_status result ≡ o.status) (λ _. exit_status result ≡ 6) }
 {
     match outcome {
         Ok(outcome) => ExitCode::from(outcome.status),
-        Err(NoMemory) => ExitCode::from(no_memory().status),
+        Err(NoMemory) => ExitCode::from(lacks_memory::<L>().status),
     }
 }

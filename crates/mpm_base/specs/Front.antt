@@ -244,9 +244,9 @@ pub record IsNext (t : FrontTold) (link : LinkTold) : Type 0 where
   pub known : t.accepted < length t.clients
   pub fresh : link ≡ fresh_link t.accepted (client_at t.clients t.accepted)
 
--- where the link tells, so does the front, and it is the next one
+-- the link tells exactly where the front does, and then it is the next one
 abbrev pub IsHandedOut : Option FrontTold → Option LinkTold → Type 0
-IsHandedOut told None = ⊤
+IsHandedOut told None = told ≡ None
 IsHandedOut told (Some link) = (t : FrontTold) × (told ≡ Some t) × IsNext t link
 
 -- none waits, or listening was stopped

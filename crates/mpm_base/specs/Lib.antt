@@ -1,5 +1,6 @@
 pub mod Cause
 pub mod Clock
+pub mod CommandWord
 pub mod Count
 pub mod Digits
 pub mod Front

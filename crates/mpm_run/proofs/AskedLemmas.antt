@@ -1,8 +1,10 @@
--- That children are started only where they are asked for.
+-- That children are started only where they are asked for, and that each command is a stop.
 use Rattle.std.proofs.Common.{◌≡◌, ◌≢◌, ℕ, Bool, true, false, if◌then◌else◌, List, [], ◌∷◌, ◌++◌, map, None, Some, Result, Ok, Err, refl, sym, ap, subst, ◌∙◌, eqb-true}
 use Rattle.std.specs.List.{flat_map}
 use Rattle.mpm_base.specs.declared.conn.Cause.{Cause}
 use Rattle.mpm_base.specs.declared.conn.ConnName.{ConnName}
+use Rattle.conn_machine.specs.declared.event.Commanded.{Commanded}
+use Rattle.conn_machine.specs.declared.event.Commanded.TheVariants.{Graceful, GracefulStop, Refused, Stop}
 use Rattle.conn_machine.specs.declared.event.Entry.{Entry}
 use Rattle.conn_machine.specs.declared.event.Event.{Event}
 use Rattle.conn_machine.specs.declared.event.Event.TheVariants as event
@@ -26,9 +28,16 @@ use Rattle.mpm_run.proofs.AddedLemmas.{added-events, events_in}
 use Rattle.mpm_run.proofs.EventLemmas.{in-both}
 use Rattle.mpm_run.proofs.PatientLemmas.{all-both}
 
--- ## Events in which no child is started
+-- ## Events in which no child is started, and none but stops is commanded
 
--- the child that an event starts
+-- a command other than a stop counts as one
+abbrev pub orders_in : Commanded → List ℕ
+orders_in (Graceful shape) = 0 ∷ []
+orders_in (Refused reason) = 0 ∷ []
+orders_in (GracefulStop until) = 0 ∷ []
+orders_in (Stop why) = []
+
+-- the child that an event starts, or a command other than a stop
 abbrev pub starts_in : Event → List ℕ
 starts_in (event.Accept slot) = []
 starts_in (event.Park name kind) = []
@@ -41,7 +50,7 @@ starts_in (event.Close name cause tail) = []
 starts_in (event.Ready slot) = []
 starts_in (event.Tick m) = []
 starts_in (event.StartChild k) = k ∷ []
-starts_in (event.Command c) = []
+starts_in (event.Command c) = orders_in c
 starts_in (event.Retire k) = []
 
 -- the events start none
@@ -121,7 +130,10 @@ startless-by (event.Close name cause tail) entries s none rest = (tt, rest none)
 startless-by (event.Ready slot) entries s none rest = (tt, rest none)
 startless-by (event.Tick m) entries s none rest = (tt, rest none)
 startless-by (event.StartChild k) entries s none rest = absurd (cc none)
-startless-by (event.Command c) entries s none rest = (tt, rest none)
+startless-by (event.Command (Graceful shape)) entries s none rest = absurd (cc none)
+startless-by (event.Command (Refused reason)) entries s none rest = absurd (cc none)
+startless-by (event.Command (GracefulStop until)) entries s none rest = absurd (cc none)
+startless-by (event.Command (Stop why)) entries s none rest = (tt, rest none)
 startless-by (event.Retire k) entries s none rest = (tt, rest none)
 
 asked-startless : (s : State) (entries : List Entry) → AreStartless (events_in entries) → AreAskedFor s entries
@@ -153,7 +165,10 @@ serves-startless p had weight (event.Close name cause tail) other may = refl
 serves-startless p had weight (event.Ready slot) other may = refl
 serves-startless p had weight (event.Tick m) other may = refl
 serves-startless p had weight (event.StartChild k) other may = absurd (other (eqb-true p 0 may))
-serves-startless p had weight (event.Command c) other may = refl
+serves-startless p had weight (event.Command (Graceful shape)) other may = absurd (other (eqb-true p 0 may))
+serves-startless p had weight (event.Command (Refused reason)) other may = absurd (other (eqb-true p 0 may))
+serves-startless p had weight (event.Command (GracefulStop until)) other may = absurd (other (eqb-true p 0 may))
+serves-startless p had weight (event.Command (Stop why)) other may = refl
 serves-startless p had weight (event.Retire k) other may = refl
 
 served-startless : (p : ℕ) (base : State) (f : Folded) (before added : List Entry) → p ≢ 0 → AreEntriesOf p base f before added → AreStartless (events_in added)

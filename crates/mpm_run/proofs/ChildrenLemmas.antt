@@ -31,12 +31,13 @@ use Rattle.mpm_run.specs.declared.listen.Rest.{Rest}
 use Rattle.mpm_run.specs.declared.run_numbers.RunNumbers.{RunNumbers}
 use Rattle.mpm_run.specs.ClosingInside.{IsHaltedWay, LetsGo}
 use Rattle.mpm_run.specs.FirstNumbers.{opened_by}
-use Rattle.mpm_run.specs.ListenInside.{IsOpening, SeenListener, asked_children, waits_of}
+use Rattle.mpm_run.specs.ListenInside.{IsOpening, asked_children}
+use Rattle.mpm_run.specs.Times.{waits_of}
 use Rattle.mpm_run.specs.RoundInside.{BreaksOff, RetiresSome, halt_events}
 use Rattle.mpm_run.specs.Started.{BeginsWithStarts, IsStartedFirst, starts_of}
 use Rattle.mpm_run.proofs.BrokenLemmas.{ends-silently}
 use Rattle.mpm_run.proofs.ListenLemmas.{child-by, count-cons, is-startable}
-use Rattle.mpm_run.proofs.WaitLemmas.{HasWaited}
+use Rattle.mpm_run.proofs.WaitLemmas.{HasWaited, SeenListener}
 
 -- ## Searches
 

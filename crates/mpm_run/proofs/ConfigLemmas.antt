@@ -3,7 +3,8 @@ use Rattle.std.proofs.Common.{◌≡◌, inl, inr, ℕ, ◌≤◌, ◌⊎◌, �
 use Rattle.std.proofs.lemmas.Bool.Decides.{nat_tests}
 use Rattle.mpm_base.specs.Count.{Rises}
 use Rattle.mpm_base.specs.Sink.{SinkSeen}
-use Rattle.mpm_base.specs.Store.{ReadsFile, bytes_of}
+use Rattle.mpm_base.specs.Store.{ReadsFile, StoreSeen, bytes_of}
+use Rattle.mpm_base.specs.declared.script_line.CommandWord.{CommandWord}
 use Rattle.mpm_base.specs.declared.script_line.ScriptLine.{ScriptLine}
 use Rattle.mpm_base.specs.declared.store.StoreFault.{StoreFault}
 use Rattle.mpm_base.specs.declared.store.StoreFault.TheVariants as store
@@ -13,23 +14,24 @@ use Rattle.mpm_config.specs.Reading.{ConfigAndWarnings, Refuses as refuses, and_
 use Rattle.mpm_config.specs.Settings.{Settings}
 use Rattle.mpm_config.specs.Warning.{Notice}
 use Rattle.mpm_config.specs.declared.fault.ConfFault.{ConfFault}
-use Rattle.mpm_script.specs.Clients.{clients_of}
 use Rattle.stand_ins.specs.PlainStore.{AnswersUnlessNoMemory, file_answer}
 use Rattle.script_front.specs.Editions.{editions_of}
+use Rattle.mpm_run.specs.Calls.{Call, HasAccepted}
 use Rattle.mpm_run.specs.Configured.{Configures, HasConfig, config_fault, most_config, warnings_of}
 use Rattle.mpm_run.specs.ConfiguredInside.{IsAccepted, HasReadConfig, IsConfigFrom, IsConfigOf, IsOfText, IsRefusalFor, IsScriptConfig}
-use Rattle.mpm_run.specs.ExitStatuses.{Call, EndsConfigRefused, EndsTested, EndsTestUnwritten, HasRun, HasTested}
-use Rattle.mpm_run.specs.ExitStatusesInside.{IsConfigRefusalOf, IsPlayed, RefusesRun, RefusesConfig}
-use Rattle.mpm_run.specs.Invocations.{test_words}
+use Rattle.mpm_run.specs.ExitStatuses.{EndsConfigRefused, EndsTested, EndsTestUnwritten, EndsUncontrolled, EndsUnread, HasRun, Sends}
+use Rattle.mpm_run.specs.ExitStatusesInside.{IsConfigRefusalOf, IsPlayed, RefusesConfig, RefusesConfigOf, RefusesRun}
+use Rattle.command_words.specs.Invocations.{IsSendWords, IsTestWords, NamesConfig}
 use Rattle.mpm_run.specs.Sites.{HasSite}
 use Rattle.mpm_run.specs.SitesInside.{IsServedRun}
-use Rattle.mpm_run.specs.Texts.{config_refused, syntax_ok}
+use Rattle.mpm_run.specs.Texts.{config_refused, no_control_line, syntax_ok}
 use Rattle.mpm_run.specs.declared.config_reading.NoConfig.{NoConfig}
 use Rattle.mpm_run.specs.declared.config_reading.NoConfig.TheVariants as no
 use Rattle.mpm_run.specs.declared.outcome.Scripted.{Scripted}
 use Rattle.mpm_run.specs.declared.texts.ConfigRefusal.{ConfigRefusal}
 use Rattle.mpm_run.specs.declared.texts.ConfigRefusal.TheVariants.{NotText, UnknownDirective, BadValue, BadSection, Unclosed, TooDeep}
-use Rattle.mpm_run.proofs.CauseLemmas.{has_file, too_large}
+use Rattle.mpm_run.proofs.CauseLemmas.{has_file, too_large, unread-failed, unread-missing}
+use Rattle.mpm_run.proofs.InvocationLemmas.{config-file}
 
 -- ## Warnings
 
@@ -128,48 +130,26 @@ from-refused (Err (store.Large size)) why number is = inr (record { size = size;
 from-refused (Err store.Many) why number is = absurd (cc is)
 from-refused (Err store.NoMemory) why number is = absurd (cc is)
 
--- ## Tests
+-- ## The configuration that the words name
 
--- a configuration was tested that is accepted
-has-tested : (call : Call) (name : List ℕ) (answer : Result (List ℕ) StoreFault) (read : Configuration × List ℕ) → call.words ≡ test_words name
-    → ReadsFile call.store call.store' name most_config answer → IsConfigFrom answer (Ok read) → call.shown ≡ None → HasTested call read.0
-has-tested call name answer read command reads is shows =
-    let text = from-ok answer read is in
-    let has = has_file most_config call name text.0 answer reads text.1 in
-    record {
-      name = name;
-      bytes = text.0;
-      command = command;
-      has = has;
-      accepted = record { few = has.few; accepted = text.2.accepted };
-      shows = shows;
-    }
+-- it is accepted, where the store tells on what it told after it was read
+pub has-accepted : (call : Call) (read : StoreSeen) (name : List ℕ) (answer : Result (List ℕ) StoreFault) (conf : Configuration × List ℕ)
+    → ReadsFile call.store read name most_config answer → call.store'.told ≡ read.told → IsConfigFrom answer (Ok conf) → HasAccepted call name conf.0
+has-accepted call read name answer conf reads stays is =
+    let text = from-ok answer conf is in
+    let has = has_file most_config call read name text.0 answer reads stays text.1 in
+    record { bytes = text.0; has = has; accepted = record { few = has.few; accepted = text.2.accepted } }
 
--- that was written
-pub ends-tested : (call : Call) (name : List ℕ) (answer : Result (List ℕ) StoreFault) (read : Configuration × List ℕ) → call.words ≡ test_words name
-    → ReadsFile call.store call.store' name most_config answer → IsConfigFrom answer (Ok read) → call.shown ≡ None
-    → call.sink'.told ≡ option_map (λ written. written ++ (read.1 ++ syntax_ok)) call.sink.told → EndsTested call
-ends-tested call name answer read command reads is shows text =
-    let told = (from-ok answer read is).2.told_is in
-    record {
-      config = read.0;
-      tested = has-tested call name answer read command reads is shows;
-      text = text ∙ ap (λ (t : List ℕ). option_map (λ (written : List ℕ). written ++ (t ++ syntax_ok)) call.sink.told) told;
-    }
+-- and this is told of its corrections
+pub told-of : (answer : Result (List ℕ) StoreFault) (conf : Configuration × List ℕ) → IsConfigFrom answer (Ok conf) → conf.1 ≡ warnings_of conf.0
+told-of answer conf is = (from-ok answer conf is).2.told_is
 
--- or a write of it failed
-pub ends-test-unwritten : (call : Call) (name : List ℕ) (answer : Result (List ℕ) StoreFault) (read : Configuration × List ℕ) → call.words ≡ test_words name
-    → ReadsFile call.store call.store' name most_config answer → IsConfigFrom answer (Ok read) → call.shown ≡ None
-    → Rises call.sink.faults call.sink'.faults → EndsTestUnwritten call
-ends-test-unwritten call name answer read command reads is shows failed =
-    record { config = read.0; tested = has-tested call name answer read command reads is shows; failed = failed }
-
--- a configuration was tested that is refused
-test-refusal : (call : Call) (name : List ℕ) (answer : Result (List ℕ) StoreFault) (why : ConfigRefusal) (number : ℕ) → call.words ≡ test_words name
+-- it is refused
+refuses-named : (call : Call) (name : List ℕ) (answer : Result (List ℕ) StoreFault) (why : ConfigRefusal) (number : ℕ) → NamesConfig call.words name
     → ReadsFile call.store call.store' name most_config answer → RefusesText answer why number ⊎ RefusesSize answer why number
     → RefusesRun call.sink call.sink' (Some number) (config_refused number why) call.shown → EndsConfigRefused call
-test-refusal call name answer why number command reads (inl refuses) refused =
-    let has = has_file most_config call name refuses.text answer reads refuses.is in
+refuses-named call name answer why number command reads (inl refuses) refused =
+    let has = has_file most_config call call.store' name refuses.text answer reads refl refuses.is in
     inr (inr (record {
       name = name;
       bytes = refuses.text;
@@ -181,7 +161,7 @@ test-refusal call name answer why number command reads (inl refuses) refused =
       shows = refused.shows;
       text = refused.writes;
     }))
-test-refusal call name answer why number command reads (inr refuses) refused =
+refuses-named call name answer why number command reads (inr refuses) refused =
     let here =
     subst (λ (w : ConfigRefusal). RefusesRun call.sink call.sink' (Some 0) (config_refused 0 w) call.shown) refuses.why_is
     (subst (λ (n : ℕ). RefusesRun call.sink call.sink' (Some n) (config_refused n why) call.shown) refuses.number_is refused) in
@@ -194,11 +174,84 @@ test-refusal call name answer why number command reads (inr refuses) refused =
       text = here.writes;
     }))
 
-pub ends-test-refused : (call : Call) (name : List ℕ) (answer : Result (List ℕ) StoreFault) (why : ConfigRefusal) (number : ℕ)
-    → call.words ≡ test_words name → ReadsFile call.store call.store' name most_config answer → IsConfigFrom answer (Err (no.Refused why number))
-    → RefusesRun call.sink call.sink' (Some number) (config_refused number why) call.shown → EndsConfigRefused call
-ends-test-refused call name answer why number command reads is refused =
-    test-refusal call name answer why number command reads (from-refused answer why number is) refused
+-- with exit status 1
+pub config-refused : (call : Call) (name : List ℕ) (answer : Result (List ℕ) StoreFault) (why : NoConfig) (status : ℕ) → NamesConfig call.words name
+    → ReadsFile call.store call.store' name most_config answer → IsConfigFrom answer (Err why)
+    → RefusesConfigOf call.sink call.sink' name why status call.shown → status ≡ 1 → EndsConfigRefused call
+config-refused call name answer (no.Refused why number) status command reads is refused one =
+    refuses-named call name answer why number command reads (from-refused answer why number is) refused.1
+config-refused call name answer no.Missing status command reads is refused one = absurd (omega (arith, refused.0, one))
+config-refused call name answer no.Failed status command reads is refused one = absurd (omega (arith, refused.0, one))
+config-refused call name answer no.NoMemory status command reads is refused one = absurd refused
+
+-- or it can't be read, with exit status 3
+pub config-unread : (call : Call) (name : List ℕ) (answer : Result (List ℕ) StoreFault) (why : NoConfig) (status : ℕ) → NamesConfig call.words name
+    → ReadsFile call.store call.store' name most_config answer → IsConfigFrom answer (Err why)
+    → RefusesConfigOf call.sink call.sink' name why status call.shown → status ≡ 3 → EndsUnread call
+config-unread call name answer (no.Refused why number) status command reads is refused three = absurd (omega (arith, refused.0, three))
+config-unread call name answer no.Missing status command reads is refused three =
+    unread-missing call most_config name answer (config-file call.words name command) reads (from-missing answer is) refused.1
+config-unread call name answer no.Failed status command reads is refused three =
+    unread-failed call most_config name answer (config-file call.words name command) reads (from-failed answer is) refused.1
+config-unread call name answer no.NoMemory status command reads is refused three = absurd refused
+
+-- ## Tests
+
+-- a configuration was tested that is accepted, and that was written
+pub ends-tested : (call : Call) (name : List ℕ) (answer : Result (List ℕ) StoreFault) (conf : Configuration × List ℕ) → IsTestWords call.words name
+    → ReadsFile call.store call.store' name most_config answer → IsConfigFrom answer (Ok conf) → call.shown ≡ None
+    → call.sink'.told ≡ option_map (λ written. written ++ (conf.1 ++ syntax_ok)) call.sink.told → EndsTested call
+ends-tested call name answer conf command reads is shows text = record {
+  name = name;
+  config = conf.0;
+  command = command;
+  accepted = has-accepted call call.store' name answer conf reads refl is;
+  shows = shows;
+  text = text ∙ ap (λ (t : List ℕ). option_map (λ (written : List ℕ). written ++ (t ++ syntax_ok)) call.sink.told) (told-of answer conf is);
+}
+
+-- or a write of it failed
+pub ends-test-unwritten : (call : Call) (name : List ℕ) (answer : Result (List ℕ) StoreFault) (conf : Configuration × List ℕ) → IsTestWords call.words name
+    → ReadsFile call.store call.store' name most_config answer → IsConfigFrom answer (Ok conf) → call.shown ≡ None
+    → Rises call.sink.faults call.sink'.faults → EndsTestUnwritten call
+ends-test-unwritten call name answer conf command reads is shows failed = record {
+  name = name;
+  config = conf.0;
+  command = command;
+  accepted = has-accepted call call.store' name answer conf reads refl is;
+  shows = shows;
+  failed = failed;
+}
+
+-- ## Commands
+
+-- the command was to be sent to this port
+pub sends : (call : Call) (word : CommandWord) (name : List ℕ) (port : ℕ) (answer : Result (List ℕ) StoreFault) (conf : Configuration × List ℕ)
+    → IsSendWords call.words word name → ReadsFile call.store call.store' name most_config answer → IsConfigFrom answer (Ok conf)
+    → conf.0.control ≡ Some port → call.shown ≡ None → Sends call word port
+sends call word name port answer conf command reads is control shows = record {
+  name = name;
+  config = conf.0;
+  command = command;
+  accepted = has-accepted call call.store' name answer conf reads refl is;
+  control = control;
+  shows = shows;
+}
+
+-- there is none
+pub ends-uncontrolled : (call : Call) (word : CommandWord) (name : List ℕ) (answer : Result (List ℕ) StoreFault) (conf : Configuration × List ℕ)
+    → IsSendWords call.words word name → ReadsFile call.store call.store' name most_config answer → IsConfigFrom answer (Ok conf)
+    → conf.0.control ≡ None → RefusesRun call.sink call.sink' None no_control_line call.shown → EndsUncontrolled call
+ends-uncontrolled call word name answer conf command reads is control refused = record {
+  word = word;
+  name = name;
+  config = conf.0;
+  command = command;
+  accepted = has-accepted call call.store' name answer conf reads refl is;
+  control = control;
+  shows = refused.shows;
+  text = refused.writes;
+}
 
 -- ## The configuration of a script
 
@@ -267,5 +320,6 @@ is-played (Some s) lines c told has run = record {
   text_is = has.text_is;
   accepted = subst (Configures has.text) (sym run.config) has.accepted;
   site_is = subst (λ (x : Configuration). HasSite lines x run.site) (sym run.config) run.site_is;
-  has_run = subst (λ (x : Configuration). HasRun x run.site (clients_of lines) s.board) (sym run.config) run.has_run;
+  has_run = subst (λ (x : Configuration). HasRun x run.site s.board) (sym run.config) run.has_run;
+  receive = run.receive;
 }

@@ -1,33 +1,96 @@
--- How a run of a script ends.
-use Rattle.std.proofs.Common.{◌≡◌, ◌<◌, ◌++◌, inl, inr, ℕ, Bool, true, false, List, length, map, Option, None, Some, option_map, IfSome, IsSomeAnd, ◌&&◌, refl, sym, ap, subst, ◌∙◌, arith}
+-- How a run ends: why its server stopped, with which exit status, and what was written.
+use Rattle.std.proofs.Common.{◌≡◌, ◌<◌, ◌⊎◌, ◌++◌, inl, inr, ℕ, Bool, true, false, List, length, map, Option, None, Some, option_map, IfSome, IsSome, IsSomeAnd, ◌&&◌, refl, sym, ap, subst, ◌∙◌, arith}
+use Rattle.std.proofs.lemmas.Bool.Decides.{nat_tests}
 use Rattle.std.proofs.lemmas.List.{append_assoc, length-map}
 use Rattle.mpm_base.specs.Count.{NeverFalls, Rises}
 use Rattle.mpm_script.specs.Clients.{clients_of, names_of, sent_by}
 use Rattle.mpm_base.specs.Front.{FrontTold, FrontSeen}
 use Rattle.mpm_base.specs.Sink.{SinkSeen}
 use Rattle.script_front.specs.ScriptClock.{AreEchoes, echo}
-use Rattle.script_front.specs.ScriptFront.{SeenFront, IsOfScript}
+use Rattle.script_front.specs.ScriptFront.{SeenFront, IsOfScript, comings_of}
 use Rattle.mpm_base.specs.declared.script_line.ScriptLine.{ScriptLine}
 use Rattle.conn_machine.specs.declared.event.Why.TheVariants as why
 use Rattle.conn_machine.specs.declared.state.Going.{Going}
 use Rattle.conn_machine.specs.declared.state.Going.TheVariants.{Halted}
 use Rattle.conn_machine.specs.declared.state.State.{State}
-use Rattle.board.specs.Book.{StopsByLoad, TellsFullStop}
+use Rattle.mpm_config.specs.Config.{Configuration}
+use Rattle.board.specs.Book.{SeenBook, StopsByLoad, TellsFullStop}
 use Rattle.board.specs.Board.{SeenBoard}
-use Rattle.mpm_run.specs.ListenInside.{HasEnded, HasGivenAll, HasStopped, IsEnd, IsInTime, StoppedFor, waits_of}
-use Rattle.mpm_run.specs.ExitStatuses.{HasEnd, KeepsTime, WritesText}
-use Rattle.mpm_run.specs.ExitStatusesInside.{EndsReport, IsExitStatusOf, IsFullStop, IsStoppedStatus, ReportsAs, WritesAll, status_of_writes}
-use Rattle.mpm_run.specs.Times.{WasInformed}
-use Rattle.mpm_run.proofs.FrontLemmas.{rises-after}
+use Rattle.mpm_run.specs.Calls.{WritesText}
+use Rattle.mpm_run.specs.Configured.{warnings_of}
+use Rattle.mpm_run.specs.ListenInside.{IsEnd}
+use Rattle.mpm_run.specs.Patient.{ArePatient, IsPatientRun}
+use Rattle.mpm_run.specs.Stops.{HasEnded, HasGivenAll, StoppedFor}
+use Rattle.mpm_run.specs.ExitStatuses.{EndsAs, EndsFailed, EndsFull, EndsUnwritten, EndsWell, HasEnd, IsGoodEnd, KeepsTime, MayEndWith, board_report, run_text}
+use Rattle.mpm_run.specs.ExitStatusesInside.{EndsReport, IsExitStatusOf, IsFullStop, IsPlayedStatus, IsStoppedStatus, ReportsAs, WritesAll, status_of_writes}
+use Rattle.mpm_run.specs.Times.{IsInTime, WasInformed, waits_of}
+use Rattle.mpm_run.proofs.CountLemmas.{never-rises, rises-before, rises-behind}
 
 -- ## Why the server stopped
 
 -- it stopped because nothing more could come
 stopped-ended : (old new : FrontSeen) (s : State) → StoppedFor old new s → s.going ≡ Halted why.FrontEnded → HasEnded old new s
 stopped-ended old new s (inl ended) going = ended
-stopped-ended old new s (inr (inl failed)) going = absurd (cc (failed.going, going))
-stopped-ended old new s (inr (inr (inl full))) going = absurd (cc (full, going))
-stopped-ended old new s (inr (inr (inr no_memory))) going = absurd (cc (no_memory, going))
+stopped-ended old new s (inr (inl asked)) going = absurd (cc (asked.going, going))
+stopped-ended old new s (inr (inr (inl failed))) going = absurd (cc (failed.going, going))
+stopped-ended old new s (inr (inr (inr (inl full)))) going = absurd (cc (full, going))
+stopped-ended old new s (inr (inr (inr (inr no_memory)))) going = absurd (cc (no_memory, going))
+
+-- it stopped for one of these
+pub stopped-end : (old new : FrontSeen) (s : State) → StoppedFor old new s → IsEnd s.going
+stopped-end old new s (inl ended) = inl ended.going
+stopped-end old new s (inr (inl asked)) = inr (inl asked.going)
+stopped-end old new s (inr (inr (inl failed))) = inr (inr (inl failed.going))
+stopped-end old new s (inr (inr (inr rest))) = inr (inr (inr rest))
+
+-- one whose front never failed didn't stop for that
+never-failed : (old new : FrontSeen) (s : State) → StoppedFor old new s → new.counts.faults ≡ 0 → s.going ≡ Halted why.FrontFailed → ⊥
+never-failed old new s (inl ended) still going = absurd (cc (ended.going, going))
+never-failed old new s (inr (inl asked)) still going = absurd (cc (asked.going, going))
+never-failed old new s (inr (inr (inl failed))) still going = never-rises old.counts.faults new.counts.faults failed.failed still
+never-failed old new s (inr (inr (inr (inl full)))) still going = absurd (cc (full, going))
+never-failed old new s (inr (inr (inr (inr no_memory)))) still going = absurd (cc (no_memory, going))
+
+-- ## With which exit status
+
+may-end : (going going' : Going) (status : ℕ) → going ≡ going' → MayEndWith going status → MayEndWith going' status
+may-end going going' status is may = subst (λ (g : Going). MayEndWith g status) is may
+
+-- with these it stopped because nothing more could come, or because it was asked to
+pub good-end : (going : Going) (status : ℕ) → IsEnd going → MayEndWith going status → (status ≡ 0) ⊎ (status ≡ 5) → IsGoodEnd going
+good-end going status (inl ended) may good = inl ended
+good-end going status (inr (inl asked)) may good = inr asked
+good-end going status (inr (inr (inl failed))) may good = absurd (omega (arith, may-end going _ status failed may, good))
+good-end going status (inr (inr (inr (inl full)))) may good = absurd (omega (arith, may-end going _ status full may, good))
+good-end going status (inr (inr (inr (inr no_memory)))) may good = absurd (omega (arith, may-end going _ status no_memory may, good))
+
+-- with this one for a wait that failed
+failed-end : (going : Going) (status : ℕ) → IsEnd going → MayEndWith going status → status ≡ 4 → going ≡ Halted why.FrontFailed
+failed-end going status (inl ended) may four = absurd (omega (arith, may-end going _ status ended may, four))
+failed-end going status (inr (inl asked)) may four = absurd (omega (arith, may-end going _ status asked may, four))
+failed-end going status (inr (inr (inl failed))) may four = failed
+failed-end going status (inr (inr (inr (inl full)))) may four = absurd (omega (arith, may-end going _ status full may, four))
+failed-end going status (inr (inr (inr (inr no_memory)))) may four = absurd (omega (arith, may-end going _ status no_memory may, four))
+
+-- a server whose front never failed ends with none of these
+played-statuses : (status : ℕ) → (status ≡ 0) ⊎ (status ≡ 5) ⊎ (status ≡ 6) → IsPlayedStatus status
+played-statuses status (inl zero) = inl zero
+played-statuses status (inr (inl five)) = inr (inl five)
+played-statuses status (inr (inr six)) = inr (inr (inl six))
+
+pub played-status : (old new : FrontSeen) (s : State) (status : ℕ) → StoppedFor old new s → new.counts.faults ≡ 0 → MayEndWith s.going status
+    → IsPlayedStatus status
+played-status old new s status stopped still may = by (stopped-end old new s stopped) where
+  by : IsEnd s.going → IsPlayedStatus status
+  by (inl ended) = played-statuses status (may-end s.going _ status ended may)
+  by (inr (inl asked)) = played-statuses status (may-end s.going _ status asked may)
+  by (inr (inr (inl failed))) = absurd (never-failed old new s stopped still failed)
+  by (inr (inr (inr (inl full)))) =
+      elim (may-end s.going _ status full may) [
+        | inl seven ↦ inr (inr (inr seven))
+        | inr six ↦ inr (inr (inl six))
+      ]
+  by (inr (inr (inr (inr no_memory)))) = inr (inr (inl (may-end s.going _ status no_memory may)))
 
 -- a report makes no other status 7
 of-seven : (status status' : ℕ) → ReportsAs status status' → status' ≡ 7 → status ≡ 7
@@ -39,8 +102,12 @@ of-seven status status' (inr (inr no_memory)) seven = absurd (omega (arith, no_m
 seven-full : (going : Going) (status : ℕ) → IsEnd going → IsExitStatusOf going status → status ≡ 7 → going ≡ Halted why.Full
 seven-full going status (inl ended) is seven =
     absurd (omega (arith, subst (λ (g : Going). IsExitStatusOf g status) ended is, seven))
-seven-full going status (inr (inl full)) is seven = full
-seven-full going status (inr (inr no_memory)) is seven =
+seven-full going status (inr (inl asked)) is seven =
+    absurd (omega (arith, subst (λ (g : Going). IsExitStatusOf g status) asked is, seven))
+seven-full going status (inr (inr (inl failed))) is seven =
+    absurd (omega (arith, subst (λ (g : Going). IsExitStatusOf g status) failed is, seven))
+seven-full going status (inr (inr (inr (inl full)))) is seven = full
+seven-full going status (inr (inr (inr (inr no_memory)))) is seven =
     absurd (omega (arith, subst (λ (g : Going). IsExitStatusOf g status) no_memory is, seven))
 
 -- then the history has a stop for that
@@ -69,25 +136,23 @@ ended-end old new b f ended told of_script none ends =
     }
 
 -- so it was where the server stopped because nothing more could come
-pub has-end : (old new : FrontSeen) (b : SeenBoard) (f : SeenFront) → HasStopped old new b.book.state → new.told ≡ Some f.told → IsOfScript f
+pub has-end : (old new : FrontSeen) (b : SeenBoard) (f : SeenFront) → StoppedFor old new b.book.state → new.told ≡ Some f.told → IsOfScript f
     → old.counts.ends ≡ 0 → new.counts.ends ≡ f.ends → b.book.state.going ≡ Halted why.FrontEnded → HasEnd b f
 has-end old new b f stopped told of_script none ends going =
-    ended-end old new b f (stopped-ended old new b.book.state stopped.cause going) told of_script none ends
+    ended-end old new b f (stopped-ended old new b.book.state stopped going) told of_script none ends
 
--- a server whose front never failed stopped for one of these
-pub ends-for : (old new : FrontSeen) (s : State) → HasStopped old new s → old.counts.faults ≡ 0 → new.counts.faults ≡ 0 → IsEnd s.going
-ends-for old new s stopped none still = by stopped.cause where
-  by : StoppedFor old new s → IsEnd s.going
-  by (inl ended) = inl ended.going
-  by (inr (inl failed)) = absurd (omega (arith, none, still, failed.failed.1 (omega (arith, none))))
-  by (inr (inr full)) = inr full
-
--- ## The front
+-- ## The front and the clock of a script
 
 -- the clock of a front that was new with it was told what its waits gave, and answered that
 pub keeps-time : (b : SeenBoard) (f : SeenFront) (calls : List (ℕ × ℕ)) → AreEchoes calls → IsInTime (waits_of (Some f.told)) (Some calls)
-    → WasInformed (Some f.told.waits) (Some calls) b.book → KeepsTime b f calls
+    → WasInformed (waits_of (Some f.told)) (Some calls) b.book → KeepsTime b f calls
 keeps-time b f calls echoes time informed = record { asked = echoes ∙ ap (map echo) time; informed = informed }
+
+-- they are steady
+pub patience-of : (comings : List ℕ) (t : FrontTold) (calls : List (ℕ × ℕ)) (b : SeenBook) → t.comings ≡ Some comings → AreEchoes calls
+    → IsPatientRun (Some t) (Some calls) b → ArePatient comings t.waits b.base b.history
+patience-of comings t calls b is echoes patient =
+    patient (record { front = t; tells = refl; comings = comings; patient = is; asked = calls; clock = refl; echoes = echoes })
 
 -- ## What is left
 
@@ -98,6 +163,11 @@ left-if o left P is holds = subst (λ (o' : Option _). IfSome o' P) (sym is) hol
 -- the same of what has to be left
 pub left-and : {X : Type 0} (o : Option X) (left : X) (P : X → Type 0) → o ≡ Some left → P left → IsSomeAnd o P
 left-and o left P is holds = subst (λ (o' : Option _). IsSomeAnd o' P) (sym is) holds
+
+-- what follows of it, where something is
+pub left-some : {X : Type 0} (o : Option X) {P Q : X → Type 0} → IsSome o → IfSome o P → ((x : X) → P x → Q x) → IsSomeAnd o Q
+left-some None some holds means = absurd (cc some)
+left-some (Some x) some holds means = means x holds
 
 -- ## What was written
 
@@ -115,18 +185,15 @@ report-well old mid new first second true status warned report zero =
     told-both old.told mid.told new.told first second warned (report.well zero).1
 report-well old mid new first second false status warned report zero = absurd (cc (report.well zero).0)
 
-rises-later : (a b c : ℕ) → Rises a b → NeverFalls b c → Rises a c
-rises-later a b c rises more = (omega (arith, rises.0, more), λ below. let more_than : a < b = rises.1 below in omega (arith, more_than, more))
-
 -- a write of the warnings or of the report failed
 pub report-unwritten : (old mid new : SinkSeen) (first second : List ℕ) (written : Bool) (status : ℕ) → WritesAll old mid first written
     → NeverFalls old.faults mid.faults → EndsReport mid new second written status → status ≡ 5 → Rises old.faults new.faults
 report-unwritten old mid new first second true status warned faults report five =
     elim (report.failed five) [
       | inl unwarned ↦ absurd (cc unwarned)
-      | inr failed ↦ rises-after old.faults mid.faults new.faults faults failed
+      | inr failed ↦ rises-behind old.faults mid.faults new.faults faults failed
     ]
-report-unwritten old mid new first second false status warned faults report five = rises-later old.faults mid.faults new.faults warned report.faults
+report-unwritten old mid new first second false status warned faults report five = rises-before old.faults mid.faults new.faults warned report.faults
 
 -- both were written whole, or a write failed
 both-whole : (old mid new : SinkSeen) (first second : List ℕ) → mid.told ≡ option_map (λ written. written ++ first) old.told
@@ -136,64 +203,93 @@ both-whole old mid new first second warned faults writes = record {
   whole =
       elim writes.whole [
         | inl whole ↦ inl (told-both old.told mid.told new.told first second warned whole)
-        | inr failed ↦ inr (rises-after old.faults mid.faults new.faults faults failed)
+        | inr failed ↦ inr (rises-behind old.faults mid.faults new.faults faults failed)
       ];
 }
 
-pub report-full : (old mid new : SinkSeen) (first second : List ℕ) (written : Bool) (status : ℕ) → WritesAll old mid first written
-    → NeverFalls old.faults mid.faults → EndsReport mid new second written status → status ≡ 7 → WritesText old new (first ++ second)
-report-full old mid new first second true status warned faults report seven =
-    both-whole old mid new first second warned faults (report.full seven)
-report-full old mid new first second false status warned faults report seven = record {
+pub report-text : (old mid new : SinkSeen) (first second : List ℕ) (written : Bool) (status : ℕ) → WritesAll old mid first written
+    → NeverFalls old.faults mid.faults → EndsReport mid new second written status → (status ≡ 4) ⊎ (status ≡ 7) → WritesText old new (first ++ second)
+report-text old mid new first second true status warned faults report is =
+    both-whole old mid new first second warned faults (report.writes is)
+report-text old mid new first second false status warned faults report is = record {
   faults = omega (arith, faults, report.faults);
-  whole = inr (rises-later old.faults mid.faults new.faults warned report.faults);
+  whole = inr (rises-before old.faults mid.faults new.faults warned report.faults);
+}
+
+-- how a run ends with its exit status, whose warnings were written or not, and then its report
+pub ends-as : (old mid new : SinkSeen) (c : Configuration) (b : SeenBoard) (written : Bool) (status : ℕ) → WritesAll old mid (warnings_of c) written
+    → NeverFalls old.faults mid.faults → IsEnd b.book.state.going → MayEndWith b.book.state.going status → EndsReport mid new (board_report b) written status
+    → (status ≡ 7 → IsFullStop b) → EndsAs old new c b status
+ends-as old mid new c b written status warned faults end may report full = record {
+  may = may;
+  well = λ zero. record {
+    going = good-end b.book.state.going status end may (inl zero);
+    report = report-well old mid new (warnings_of c) (board_report b) written status warned report zero;
+  };
+  failed = λ four. record {
+    going = failed-end b.book.state.going status end may four;
+    text = report-text old mid new (warnings_of c) (board_report b) written status warned faults report (inl four);
+  };
+  unwritten = λ five. record {
+    going = good-end b.book.state.going status end may (inr five);
+    failed = report-unwritten old mid new (warnings_of c) (board_report b) written status warned faults report five;
+  };
+  full = λ seven. record {
+    stop = (full seven).stop;
+    full = (full seven).full;
+    text = report-text old mid new (warnings_of c) (board_report b) written status warned faults report (inr seven);
+  };
 }
 
 -- ## The report
 
-report-zero : (old new : SinkSeen) (text : List ℕ) (whole written : Bool) → WritesAll old new text whole → NeverFalls old.faults new.faults
-    → EndsReport old new text written (status_of_writes (whole && written) 0)
-report-zero old new text true true all faults =
-    record { faults = faults; well = λ zero. (refl, all); failed = λ five. absurd (omega (arith, five)); full = λ seven. absurd (omega (arith, seven)) }
-report-zero old new text true false all faults =
-    record { faults = faults; well = λ zero. absurd (omega (arith, zero)); failed = λ five. inl refl; full = λ seven. absurd (omega (arith, seven)) }
-report-zero old new text false written all faults =
-    record { faults = faults; well = λ zero. absurd (omega (arith, zero)); failed = λ five. inr all; full = λ seven. absurd (omega (arith, seven)) }
+-- all was written
+report-whole : (old new : SinkSeen) (text : List ℕ) (status : ℕ) → IsStoppedStatus status → WritesAll old new text true
+    → NeverFalls old.faults new.faults → EndsReport old new text true status
+report-whole old new text status stopped all faults = record {
+  faults = faults;
+  well = λ zero. (refl, all);
+  failed = λ five. absurd (omega (arith, stopped, five));
+  writes = λ is. record { faults = faults; whole = inl all };
+}
 
-report-six : (old new : SinkSeen) (text : List ℕ) (all written : Bool) → NeverFalls old.faults new.faults
-    → EndsReport old new text written (status_of_writes all 6)
-report-six old new text true written faults =
-    record { faults = faults; well = λ zero. absurd (omega (arith, zero)); failed = λ five. absurd (omega (arith, five)); full = λ seven. absurd (omega (arith, seven)) }
-report-six old new text false written faults =
-    record { faults = faults; well = λ zero. absurd (omega (arith, zero)); failed = λ five. absurd (omega (arith, five)); full = λ seven. absurd (omega (arith, seven)) }
+-- the report was, and the warnings were not
+report-unwarned : (old new : SinkSeen) (text : List ℕ) (status : ℕ) → WritesAll old new text true → NeverFalls old.faults new.faults
+    → (status ≡ 0 → ⊥) → EndsReport old new text false status
+report-unwarned old new text status all faults other = record {
+  faults = faults;
+  well = λ zero. absurd (other zero);
+  failed = λ five. inl refl;
+  writes = λ is. record { faults = faults; whole = inl all };
+}
 
-whole-or-failed : (old new : SinkSeen) (text : List ℕ) (whole : Bool) → WritesAll old new text whole → NeverFalls old.faults new.faults
-    → WritesText old new text
-whole-or-failed old new text true all faults = record { faults = faults; whole = inl all }
-whole-or-failed old new text false all faults = record { faults = faults; whole = inr all }
+-- a write of the report failed
+report-failed : (old new : SinkSeen) (text : List ℕ) (written : Bool) (status : ℕ) → WritesAll old new text false
+    → NeverFalls old.faults new.faults → (status ≡ 0 → ⊥) → EndsReport old new text written status
+report-failed old new text written status all faults other = record {
+  faults = faults;
+  well = λ zero. absurd (other zero);
+  failed = λ five. inr all;
+  writes = λ is. record { faults = faults; whole = inr all };
+}
 
-report-seven : (old new : SinkSeen) (text : List ℕ) (all written : Bool) → WritesText old new text → EndsReport old new text written (status_of_writes all 7)
-report-seven old new text true written writes =
-    record { faults = writes.faults; well = λ zero. absurd (omega (arith, zero)); failed = λ five. absurd (omega (arith, five)); full = λ seven. writes }
-report-seven old new text false written writes =
-    record { faults = writes.faults; well = λ zero. absurd (omega (arith, zero)); failed = λ five. absurd (omega (arith, five)); full = λ seven. writes }
+-- where a write failed the status isn't 0
+not-zero : (status : ℕ) → status_of_writes false status ≡ 0 → ⊥
+not-zero status zero = grind (arith, nat_tests, zero)
 
 -- what was written of the report, by the exit status
 pub report-of : (old new : SinkSeen) (text : List ℕ) (whole written : Bool) (status : ℕ) → IsStoppedStatus status → WritesAll old new text whole
     → NeverFalls old.faults new.faults → EndsReport old new text written (status_of_writes (whole && written) status)
-report-of old new text whole written status (inl zero) all faults =
-    subst (λ (n : ℕ). EndsReport old new text written (status_of_writes (whole && written) n)) (sym zero) (report-zero old new text whole written all faults)
-report-of old new text whole written status (inr (inl six)) all faults =
-    subst (λ (n : ℕ). EndsReport old new text written (status_of_writes (whole && written) n)) (sym six) (report-six old new text (whole && written) written faults)
-report-of old new text whole written status (inr (inr seven)) all faults =
-    subst (λ (n : ℕ). EndsReport old new text written (status_of_writes (whole && written) n)) (sym seven)
-    (report-seven old new text (whole && written) written (whole-or-failed old new text whole all faults))
+report-of old new text true true status stopped all faults = report-whole old new text status stopped all faults
+report-of old new text true false status stopped all faults = report-unwarned old new text (status_of_writes false status) all faults (not-zero status)
+report-of old new text false written status stopped all faults = report-failed old new text written (status_of_writes false status) all faults (not-zero status)
 
 reports-as : (all : Bool) (status : ℕ) → IsStoppedStatus status → ReportsAs status (status_of_writes all status)
 reports-as true status stopped = inl refl
 reports-as false status (inl zero) = inr (inl (zero, subst (λ (n : ℕ). status_of_writes false n ≡ 5) (sym zero) refl))
-reports-as false status (inr (inl six)) = inl (subst (λ (n : ℕ). status_of_writes false n ≡ n) (sym six) refl)
-reports-as false status (inr (inr seven)) = inl (subst (λ (n : ℕ). status_of_writes false n ≡ n) (sym seven) refl)
+reports-as false status (inr (inl four)) = inl (subst (λ (n : ℕ). status_of_writes false n ≡ n) (sym four) refl)
+reports-as false status (inr (inr (inl six))) = inl (subst (λ (n : ℕ). status_of_writes false n ≡ n) (sym six) refl)
+reports-as false status (inr (inr (inr seven))) = inl (subst (λ (n : ℕ). status_of_writes false n ≡ n) (sym seven) refl)
 
 -- and what becomes of the status
 pub reports-status : (all : Bool) (status status' : ℕ) → IsStoppedStatus status → status' ≡ status_of_writes all status → ReportsAs status status'

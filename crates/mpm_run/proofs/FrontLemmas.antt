@@ -1,7 +1,7 @@
 -- What the calls of a front leave of it, and whether the table is in step with it.
-use Rattle.std.proofs.Common.{◌≡◌, ◌⊎◌, inl, inr, ℕ, Bool, true, false, not, List, [], ◌∷◌, ◌++◌, map, Option, None, Some, option_map, IfSome, refl, sym, ap, subst, ◌∙◌, arith}
+use Rattle.std.proofs.Common.{◌≡◌, ◌⊎◌, inl, inr, ℕ, Bool, true, false, not, List, [], ◌∷◌, ◌++◌, map, Option, None, Some, is_some, option_map, IfSome, refl, sym, ap, subst, ◌∙◌, arith}
 use Rattle.mpm_base.specs.Count.{next_count, NeverFalls, Rises, RisesWhere, RisesExactlyWhere}
-use Rattle.mpm_base.specs.Front.{FrontTold, FrontSeen, BoundTold, TellsOn, GoesForward, Waits, Binds, HasAllTaken, IsHandedOut, Accepts, WaitTold, after_accept, after_bind, after_hush, after_turning_away, after_watch, front_after_turning_away, front_after_watch, hushed_front, is_ended, moments_in, moments_of, wait_failed}
+use Rattle.mpm_base.specs.Front.{FrontTold, FrontSeen, BoundTold, Commands, TellsOn, GoesForward, Waits, Binds, HasAllTaken, IsHandedOut, Accepts, WaitTold, after_accept, after_bind, after_command, after_hush, after_turning_away, after_watch, front_after_turning_away, front_after_watch, hushed_front, is_ended, moments_in, moments_of, wait_failed}
 use Rattle.mpm_base.specs.Clock.{asked_at}
 use Rattle.mpm_base.specs.declared.addr.Addr.{Addr}
 use Rattle.mpm_base.specs.declared.conn.ConnName.{ConnName}
@@ -16,7 +16,9 @@ use Rattle.conn_machine.specs.declared.state.State.{State}
 use Rattle.conn_state.specs.Conn.{IsFresh}
 use Rattle.conn_state.specs.Known.{IsOfClient, KnownOutside, TellsFrom}
 use Rattle.mpm_run.specs.Watched.{IsHushed}
-use Rattle.mpm_run.specs.ListenInside.{AsksFor, Follows, HasClients, HasGivenAll, IsArrival, IsInStep, IsInTime, IsKnownOfFront, KeepsStep, OnlyTakes, bound_of, waits_of}
+use Rattle.mpm_run.specs.ListenInside.{AsksFor, Follows, clients_told, IsArrival, IsInStep, IsKnownOfFront, KeepsStep, OnlyReads, OnlyReadsAndTakes, OnlyTakes, TellsAlike, bound_of}
+use Rattle.mpm_run.specs.Stops.{HasGivenAll}
+use Rattle.mpm_run.specs.Times.{IsInTime, waits_of}
 
 -- ## Counts
 
@@ -38,36 +40,42 @@ rises-after a b c first second = (omega (arith, first, second.0), λ less. grind
 pub follows-trans : (a b c : FrontSeen) → Follows a b → Follows b c → Follows a c
 follows-trans a b c first second = record {
   script = second.script ∙ first.script;
-  clients = λ clients has. second.clients clients (first.clients clients has);
+  clients = second.clients ∙ first.clients;
   faults = omega (arith, first.faults, second.faults);
   ends = omega (arith, first.ends, second.ends);
+  commands = omega (arith, first.commands, second.commands);
 }
 
 pub follows-same : (a : FrontSeen) → Follows a a
-follows-same a = record { script = refl; clients = λ clients has. has; faults = omega arith; ends = omega arith }
+follows-same a = record { script = refl; clients = refl; faults = omega arith; ends = omega arith; commands = omega arith }
+
+-- a part that a change keeps
+mapped-part : {X : Type 0} (part : FrontTold → X) (change : FrontTold → FrontTold) (told told' : Option FrontTold)
+    → ((t : FrontTold) → part (change t) ≡ part t) → told' ≡ option_map change told → option_map part told' ≡ option_map part told
+mapped-part part change None told' keeps is = ap (option_map part) is
+mapped-part part change (Some t) told' keeps is = ap (option_map part) is ∙ ap (λ (x : _). Some x) (keeps t)
 
 -- its clients stay in a change that keeps them
-clients-mapped : (clients : List (List ℕ)) (told told' : Option FrontTold) (change : FrontTold → FrontTold)
-    → ((t : FrontTold) → (change t).clients ≡ t.clients) → told' ≡ option_map change told → HasClients clients told → HasClients clients told'
-clients-mapped clients told told' change keeps is has = (change has.0, is ∙ ap (option_map change) has.1, keeps has.0 ∙ has.2)
+clients-mapped : (told told' : Option FrontTold) (change : FrontTold → FrontTold) → ((t : FrontTold) → (change t).clients ≡ t.clients)
+    → told' ≡ option_map change told → clients_told told' ≡ clients_told told
+clients-mapped told told' change keeps is = mapped-part (λ (t : FrontTold). t.clients) change told told' keeps is
 
 -- and in a wait
-waits-clients : (until : Option ℕ) (quiet : Bool) (answer : Woke) (ready : List ℕ) (told told' : Option FrontTold) (clients : List (List ℕ))
-    → TellsOn (GoesForward until quiet answer ready) told told' → HasClients clients told → HasClients clients told'
-waits-clients until quiet answer ready None told' clients tells has = let at = has.1 in absurd (cc at)
-waits-clients until quiet answer ready (Some t) told' clients tells has =
-    let at = has.1 in
-    let same : t ≡ has.0 = cc at in
-    (tells.0, tells.1, tells.2.clients ∙ ap (λ (u : FrontTold). u.clients) same ∙ has.2)
+waits-clients : (until : Option ℕ) (quiet : Bool) (answer : Woke) (ready : List ℕ) (told told' : Option FrontTold)
+    → TellsOn (GoesForward until quiet answer ready) told told' → clients_told told' ≡ clients_told told
+waits-clients until quiet answer ready None told' tells = ap clients_told tells
+waits-clients until quiet answer ready (Some t) told' tells =
+    ap clients_told tells.1 ∙ ap (λ (clients : List (List ℕ)). Some clients) tells.2.clients
 
 -- after a wait
 pub follows-wait : (old new : FrontSeen) (until : Option ℕ) (quiet : Bool) (answer : Woke) (ready : List ℕ) → Waits old new until quiet answer ready
     → Follows old new
 follows-wait old new until quiet answer ready waits = record {
   script = waits.script;
-  clients = λ clients has. waits-clients until quiet answer ready old.told new.told clients waits.tells has;
+  clients = waits-clients until quiet answer ready old.told new.told waits.tells;
   faults = rises-where (wait_failed answer) old.counts.faults new.counts.faults waits.faults;
   ends = rises-exactly (is_ended answer) old.counts.ends new.counts.ends waits.ends;
+  commands = omega (arith, waits.commands);
 }
 
 after_accept-clients : {L : Type 0} (answer : Arrival L) (t : FrontTold) → (after_accept answer t).clients ≡ t.clients
@@ -79,9 +87,10 @@ after_accept-clients arrival.Failed t = refl
 pub follows-accept : {L : Type 0} (link_seen : L → LinkSeen) (old new : FrontSeen) (answer : Arrival L) → Accepts link_seen old new answer → Follows old new
 follows-accept link_seen old new answer accepts = record {
   script = accepts.script;
-  clients = λ clients has. clients-mapped clients old.told new.told (after_accept answer) (after_accept-clients answer) accepts.told_is has;
+  clients = clients-mapped old.told new.told (after_accept answer) (after_accept-clients answer) accepts.told_is;
   faults = omega (arith, accepts.faults);
   ends = omega (arith, accepts.ends);
+  commands = omega (arith, accepts.commands);
 }
 
 -- ## Links that are taken
@@ -135,16 +144,62 @@ pub takes-turned : (link : Option LinkTold) (told told' : Option FrontTold) → 
     → TellsOn OnlyTakes told told'
 takes-turned link told told' is = takes-mapped told told' (after_turning_away link) (after_turning_away-only link) is
 
+-- it is one way of reading and taking
+takes-also : (t t' : FrontTold) → OnlyTakes t t' → OnlyReadsAndTakes t t'
+takes-also t t' only = record {
+  rest =
+      only.rest
+      ∙ ap (λ (read : ℕ). record t { accepted = t'.accepted; watches = t'.watches; turned_away = t'.turned_away; read = read; failed = t'.failed })
+      (sym (ap (λ (x : FrontTold). x.read) only.rest));
+}
+
+reads-also : (t t' : FrontTold) → OnlyReads t t' → OnlyReadsAndTakes t t'
+reads-also t t' only = record {
+  rest =
+      only.rest
+      ∙ ap (λ (x : FrontTold). record t { accepted = x.accepted; watches = x.watches; turned_away = x.turned_away; read = t'.read; failed = x.failed })
+      (sym only.rest);
+}
+
+reads-takes : (a b c : FrontTold) → OnlyReads a b → OnlyTakes b c → OnlyReadsAndTakes a c
+reads-takes a b c first second = record {
+  rest =
+      second.rest
+      ∙ ap (λ (x : FrontTold). record x { accepted = c.accepted; watches = c.watches; turned_away = c.turned_away; failed = c.failed }) first.rest
+      ∙ ap (λ (read : ℕ). record a { accepted = c.accepted; watches = c.watches; turned_away = c.turned_away; read = read; failed = c.failed })
+      (sym (ap (λ (x : FrontTold). x.read) second.rest));
+}
+
+tells-weaker : (P Q : FrontTold → FrontTold → Type 0) → ((t t' : FrontTold) → P t t' → Q t t') → (told told' : Option FrontTold) → TellsOn P told told'
+    → TellsOn Q told told'
+tells-weaker P Q weaker None told' tells = tells
+tells-weaker P Q weaker (Some t) told' tells = (tells.0, tells.1, weaker t tells.0 tells.2)
+
+-- links were taken
+pub only-takes : (told told' : Option FrontTold) → TellsOn OnlyTakes told told' → TellsOn OnlyReadsAndTakes told told'
+only-takes told told' takes = tells-weaker OnlyTakes OnlyReadsAndTakes takes-also told told' takes
+
+-- command lines were read
+pub only-reads : (told told' : Option FrontTold) → TellsOn OnlyReads told told' → TellsOn OnlyReadsAndTakes told told'
+only-reads told told' reads = tells-weaker OnlyReads OnlyReadsAndTakes reads-also told told' reads
+
+-- command lines were read, and then links taken
+pub both-only : (a b c : Option FrontTold) → TellsOn OnlyReads a b → TellsOn OnlyTakes b c → TellsOn OnlyReadsAndTakes a c
+both-only None b c reads takes = only-takes None c (subst (λ (o : Option FrontTold). TellsOn OnlyTakes o c) reads takes)
+both-only (Some t) b c reads takes =
+    let later = subst (λ (o : Option FrontTold). TellsOn OnlyTakes o c) reads.1 takes in
+    (later.0, later.1, reads-takes t reads.0 later.0 reads.2 later.2)
+
 -- a part that stays then
-kept-part : {X : Type 0} (part : FrontTold → X) (told told' : Option FrontTold) → ((t t' : FrontTold) → OnlyTakes t t' → part t' ≡ part t)
-    → TellsOn OnlyTakes told told' → option_map part told' ≡ option_map part told
+kept-part : {X : Type 0} (part : FrontTold → X) (told told' : Option FrontTold) → ((t t' : FrontTold) → OnlyReadsAndTakes t t' → part t' ≡ part t)
+    → TellsOn OnlyReadsAndTakes told told' → option_map part told' ≡ option_map part told
 kept-part part None told' keeps takes = ap (option_map part) takes
 kept-part part (Some t) told' keeps takes = ap (option_map part) takes.1 ∙ ap (λ (x : _). Some x) (keeps t takes.0 takes.2)
 
-pub waits-kept : (told told' : Option FrontTold) → TellsOn OnlyTakes told told' → waits_of told' ≡ waits_of told
+pub waits-kept : (told told' : Option FrontTold) → TellsOn OnlyReadsAndTakes told told' → waits_of told' ≡ waits_of told
 waits-kept told told' takes = kept-part (λ (t : FrontTold). t.waits) told told' (λ t t' only. ap (λ (x : FrontTold). x.waits) only.rest) takes
 
-pub bound-kept : (told told' : Option FrontTold) → TellsOn OnlyTakes told told' → bound_of told' ≡ bound_of told
+pub bound-kept : (told told' : Option FrontTold) → TellsOn OnlyReadsAndTakes told told' → bound_of told' ≡ bound_of told
 bound-kept told told' takes = kept-part (λ (t : FrontTold). t.bound) told told' (λ t t' only. ap (λ (x : FrontTold). x.bound) only.rest) takes
 
 -- it stays in a wait too
@@ -315,36 +370,47 @@ arrives-next told (Some l) s handed step =
     }
 
 -- it tells from one of the clients
-tells-known : (clients : List (List ℕ)) (told : Option FrontTold) (link : Option LinkTold) (l : LinkTold) → HasClients clients told → link ≡ Some l
-    → IsHandedOut told (Some l) → TellsFrom clients link
-tells-known clients told link l has is handed =
+tells-known : (clients : List (List ℕ)) (told : Option FrontTold) (l : LinkTold) → clients_told told ≡ Some clients → IsHandedOut told (Some l)
+    → TellsFrom clients (Some l)
+tells-known clients told l are handed =
     let at = handed.1 in
-    let at' = has.1 in
     let next = handed.2 in
-    let same : handed.0 ≡ has.0 = cc (at, at') in
-    let clients_are : handed.0.clients ≡ clients = ap (λ (t : FrontTold). t.clients) same ∙ has.2 in
-    subst (λ (cs : List (List ℕ)). TellsFrom cs link) clients_are
-    (subst (λ (o : Option LinkTold). TellsFrom handed.0.clients o) (sym (is ∙ ap Some next.fresh))
+    let there : Some handed.0.clients ≡ Some clients = ap clients_told (sym at) ∙ are in
+    let clients_are : handed.0.clients ≡ clients = cc there in
+    subst (λ (cs : List (List ℕ)). TellsFrom cs (Some l)) clients_are
+    (subst (λ (x : LinkTold). TellsFrom handed.0.clients (Some x)) (sym next.fresh)
     (record { t = _; told_is = refl; known = next.known; offered = refl }))
 
-pub tells-next : (clients : List (List ℕ)) (told : Option FrontTold) (link : Option LinkTold) (l : LinkTold) → HasClients clients told → link ≡ Some l
-    → IsHandedOut told link → TellsFrom clients link
-tells-next clients told link l has is handed =
-    tells-known clients told link l has is (subst (λ (o : Option LinkTold). IsHandedOut told o) is handed)
+known-clients : (clients : Option (List (List ℕ))) (told : Option FrontTold) (link : Option LinkTold) → clients ≡ clients_told told → IsHandedOut told link
+    → IfSome clients (λ all. TellsFrom all link)
+known-clients None told link named handed = tt
+known-clients (Some clients) told None named handed =
+    let none = handed in
+    let untold : clients_told told ≡ None = ap clients_told none in
+    absurd (cc (named, untold))
+known-clients (Some clients) told (Some l) named handed = tells-known clients told l (sym named) handed
 
 -- so it is of a known client
-pub handed-known : {L : Type 0} (known : Option KnownOutside) (link_seen : L → LinkSeen) (told : Option FrontTold) (link : L)
-    → IsKnownOfFront known link_seen told → IsHandedOut told (link_seen link).told → IsOfClient known (link_seen link).told
-handed-known None link_seen told link named handed = tt
-handed-known (Some k) link_seen told link named handed =
-    let tells = (named.links refl).each link in
-    tells-next k.clients told (link_seen link).told tells.0 named.front tells.1 handed
+pub handed-known : (known : Option KnownOutside) (told : Option FrontTold) (link : Option LinkTold) → IsKnownOfFront known told → IsHandedOut told link
+    → IsOfClient known link
+handed-known None told link named handed = tt
+handed-known (Some k) told link named handed = known-clients k.clients told link named handed
 
 -- what is known stays so while the front is the one that it was
-pub named-follows : {L : Type 0} (known : Option KnownOutside) (link_seen : L → LinkSeen) (old new : FrontSeen) → Follows old new
-    → IsKnownOfFront known link_seen old.told → IsKnownOfFront known link_seen new.told
-named-follows None link_seen old new follows named = record { front = tt; links = named.links }
-named-follows (Some k) link_seen old new follows named = record { front = follows.clients k.clients named.front; links = named.links }
+pub named-follows : (known : Option KnownOutside) (old new : FrontSeen) → Follows old new → IsKnownOfFront known old.told → IsKnownOfFront known new.told
+named-follows known old new follows named = named ∙ sym follows.clients
+
+-- it tells where the front does
+pub handed-tells : (told : Option FrontTold) (link : Option LinkTold) → IsHandedOut told link → TellsAlike told link
+handed-tells None link handed = tt
+handed-tells (Some t) None handed = let none = handed in absurd (cc none)
+handed-tells (Some t) (Some l) handed = (l, refl)
+
+-- so it does behind a change of the front
+pub alike-mapped : (change : FrontTold → FrontTold) (told told' : Option FrontTold) (link : Option LinkTold) → told' ≡ option_map change told
+    → TellsAlike told link → TellsAlike told' link
+alike-mapped change None told' link is alike = subst (λ (o : Option FrontTold). TellsAlike o link) (sym is) tt
+alike-mapped change (Some t) told' link is alike = subst (λ (o : Option FrontTold). TellsAlike o link) (sym is) alike
 
 -- ## A watch
 
@@ -364,10 +430,10 @@ pub follows-watch : (old new : FrontSeen) (name : ConnName) (answer : Bool) (lin
 follows-watch old new name answer link is = record {
   script = ap (λ (f : FrontSeen). f.script) is;
   clients =
-      λ clients has. clients-mapped clients old.told new.told (after_watch name answer link) (after_watch-clients name answer link)
-      (ap (λ (f : FrontSeen). f.told) is) has;
+      clients-mapped old.told new.told (after_watch name answer link) (after_watch-clients name answer link) (ap (λ (f : FrontSeen). f.told) is);
   faults = omega (arith, ap (λ (f : FrontSeen). f.counts.faults) is);
   ends = omega (arith, ap (λ (f : FrontSeen). f.counts.ends) is);
+  commands = omega (arith, ap (λ (f : FrontSeen). f.counts.commands) is);
 }
 
 -- and the table in step with it
@@ -387,10 +453,10 @@ pub follows-turned : (old new : FrontSeen) (link : Option LinkTold) → new ≡ 
 follows-turned old new link is = record {
   script = ap (λ (f : FrontSeen). f.script) is;
   clients =
-      λ clients has. clients-mapped clients old.told new.told (after_turning_away link) (after_turning_away-clients link)
-      (ap (λ (f : FrontSeen). f.told) is) has;
+      clients-mapped old.told new.told (after_turning_away link) (after_turning_away-clients link) (ap (λ (f : FrontSeen). f.told) is);
   faults = omega (arith, ap (λ (f : FrontSeen). f.counts.faults) is);
   ends = omega (arith, ap (λ (f : FrontSeen). f.counts.ends) is);
+  commands = omega (arith, ap (λ (f : FrontSeen). f.counts.commands) is);
 }
 
 -- ## The end of listening
@@ -399,9 +465,10 @@ follows-turned old new link is = record {
 pub follows-hushed : (old new : FrontSeen) → new ≡ after_hush old → Follows old new
 follows-hushed old new is = record {
   script = ap (λ (f : FrontSeen). f.script) is;
-  clients = λ clients has. clients-mapped clients old.told new.told hushed_front (λ t. refl) (ap (λ (f : FrontSeen). f.told) is) has;
+  clients = clients-mapped old.told new.told hushed_front (λ t. refl) (ap (λ (f : FrontSeen). f.told) is);
   faults = omega (arith, ap (λ (f : FrontSeen). f.counts.faults) is);
   ends = omega (arith, ap (λ (f : FrontSeen). f.counts.ends) is);
+  commands = omega (arith, ap (λ (f : FrontSeen). f.counts.commands) is);
 }
 
 hushed-part : {X : Type 0} (part : FrontTold → X) (told told' : Option FrontTold) → ((t : FrontTold) → part (hushed_front t) ≡ part t)
@@ -441,7 +508,58 @@ pub follows-bind : (old new : FrontSeen) (listen : Addr) (control : Option ℕ) 
 follows-bind old new listen control answer binds = record {
   script = binds.script;
   clients =
-      λ clients has. clients-mapped clients old.told new.told (after_bind answer listen control) (after_bind-clients answer listen control) binds.told_is has;
+      clients-mapped old.told new.told (after_bind answer listen control) (after_bind-clients answer listen control) binds.told_is;
   faults = rises-where (not answer) old.counts.faults new.counts.faults binds.faults;
   ends = omega (arith, binds.ends);
+  commands = omega (arith, binds.commands);
 }
+
+-- ## Command lines
+
+after_command-clients : (given : Bool) (t : FrontTold) → (after_command given t).clients ≡ t.clients
+after_command-clients true t = refl
+after_command-clients false t = refl
+
+-- after a call for one the front is still the one that it was
+pub follows-command : (old new : FrontSeen) (answer : Option (List ℕ)) → Commands old new answer → Follows old new
+follows-command old new answer commands = record {
+  script = commands.script;
+  clients = clients-mapped old.told new.told (after_command (is_some answer)) (after_command-clients (is_some answer)) commands.told_is;
+  faults = omega (arith, commands.faults);
+  ends = omega (arith, commands.ends);
+  commands = rises-exactly (is_some answer) old.counts.commands new.counts.commands commands.commands;
+}
+
+after_command-only : (given : Bool) (t : FrontTold) → OnlyReads t (after_command given t)
+after_command-only true t = record { rest = refl }
+after_command-only false t = record { rest = refl }
+
+-- and only read one
+pub reads-command : (answer : Option (List ℕ)) (told told' : Option FrontTold) → told' ≡ option_map (after_command (is_some answer)) told
+    → TellsOn OnlyReads told told'
+reads-command answer None told' is = is
+reads-command answer (Some t) told' is = (after_command (is_some answer) t, is, after_command-only (is_some answer) t)
+
+pub reads-same : (told : Option FrontTold) → TellsOn OnlyReads told told
+reads-same None = refl
+reads-same (Some t) = (t, refl, record { rest = refl })
+
+pub reads-trans : (a b c : Option FrontTold) → TellsOn OnlyReads a b → TellsOn OnlyReads b c → TellsOn OnlyReads a c
+reads-trans None b c first second = subst (λ (o : Option FrontTold). TellsOn OnlyReads o c) first second
+reads-trans (Some t) b c first second =
+    let later = subst (λ (o : Option FrontTold). TellsOn OnlyReads o c) first.1 second in
+    (later.0, later.1, record { rest = later.2.rest ∙ ap (λ (x : FrontTold). record x { read = later.0.read }) first.2.rest })
+
+-- the table is in step with it
+pub step-reads : (told told' : Option FrontTold) (s : State) → TellsOn OnlyReads told told' → IsInStep told s → IsInStep told' s
+step-reads None told' s reads step = subst (λ (o : Option FrontTold). IsInStep o s) (sym reads) tt
+step-reads (Some t) told' s reads step =
+    subst (λ (o : Option FrontTold). IsInStep o s) (sym reads.1)
+    (record {
+      listens = ap (λ (x : FrontTold). x.hushed) reads.2.rest ∙ step.listens;
+      taken =
+          record {
+            accepted = ap (λ (x : FrontTold). x.accepted) reads.2.rest ∙ step.taken.accepted;
+            none = ap (λ (x : FrontTold). x.turned_away) reads.2.rest ∙ step.taken.none;
+          };
+    })

@@ -4,7 +4,9 @@ pub mod BrokenLemmas
 pub mod CauseLemmas
 pub mod ChildrenLemmas
 pub mod ClosingLemmas
+pub mod CommandLemmas
 pub mod ConfigLemmas
+pub mod CountLemmas
 pub mod EndLemmas
 pub mod EventLemmas
 pub mod ExitStatusLemmas
@@ -12,6 +14,7 @@ pub mod FoundLemmas
 pub mod FrontLemmas
 pub mod HeldLemmas
 pub mod InformLemmas
+pub mod InvocationLemmas
 pub mod LeavingLemmas
 pub mod LinkLemmas
 pub mod ListenLemmas
@@ -22,10 +25,12 @@ pub mod PatientLemmas
 pub mod ReportLemmas
 pub mod RoundLemmas
 pub mod RunLemmas
+pub mod ServeLemmas
 pub mod SiteLemmas
 pub mod StartedLemmas
 pub mod StopLemmas
 pub mod TakeLemmas
+pub mod TellLemmas
 pub mod TimeLemmas
 pub mod TurnLemmas
 pub mod UnsignalledLemmas

@@ -1,15 +1,14 @@
 -- What became of the links that the front handed out.
-use Rattle.std.proofs.Common.{◌≡◌, ◌⊎◌, inl, inr, true, is_some, ◌++◌, ◌∷◌, [], List, Option, None, Some, option_map, IfSome, OnErr, OnOk, Result, Ok, Err, refl, sym, ap, subst, ◌∙◌}
+use Rattle.std.proofs.Common.{◌≡◌, ◌⊎◌, inl, inr, ◌++◌, ◌∷◌, [], List, Option, None, Some, option_map, IfSome, OnErr, OnOk, Result, Ok, Err, refl, sym, ap, subst, ◌∙◌}
 use Rattle.mpm_base.specs.Count.{next_count}
 use Rattle.mpm_base.specs.Front.{FrontTold, IsHandedOut, IsNext, after_accept, after_turning_away, client_at, hushed_front}
-use Rattle.mpm_base.specs.Link.{LinkSeen, LinkTold, after_close, fresh_link}
+use Rattle.mpm_base.specs.Link.{LinkTold, after_close, fresh_link}
 use Rattle.mpm_base.specs.declared.front.Arrival.TheVariants as arrival
 use Rattle.conn_machine.specs.declared.state.State.{State}
-use Rattle.conn_state.specs.Known.{KnownOutside}
 use Rattle.board.specs.declared.faults.BoardFault.{BoardFault}
 use Rattle.mpm_run.specs.declared.listen.End.{End}
 use Rattle.mpm_run.specs.Links.{HandsOutTaken, TakesLinks, TurnsOneAway}
-use Rattle.mpm_run.specs.ListenInside.{HaltsAs, HandedOut, HandsOut, IsInStep, KeepsStep, LinksTell, SeenListener}
+use Rattle.mpm_run.specs.ListenInside.{HaltsAs, HandedOut, HandsOut, IsInStep, KeepsStep}
 use Rattle.mpm_run.specs.RoundInside.{EndsTaking}
 use Rattle.mpm_run.specs.Times.{IsBrokenOff}
 use Rattle.mpm_run.proofs.FrontLemmas.{step-taken}
@@ -21,8 +20,8 @@ step-links : (told : Option FrontTold) (s : State) → IsInStep told s → IfSom
 step-links None s step = tt
 step-links (Some t) s step = inl step.taken
 
-pub hands-step : (known : Option KnownOutside) (told : Option FrontTold) (s : State) → IsInStep told s → HandsOut known told s
-hands-step known told s step tells = step-links told s step
+pub hands-step : (told : Option FrontTold) (s : State) → IsInStep told s → HandsOut told s
+hands-step told s step = step-links told s step
 
 -- ## A link that the table refuses
 
@@ -51,17 +50,23 @@ turned-away link l (Some t) told' told'' s s' handed step is same turned =
     subst (λ (o : Option FrontTold). IfSome o (λ u. HandsOutTaken s' u ⊎ TurnsOneAway s' u))
     (sym (turned ∙ ap (option_map (after_turning_away (Some l))) is)) (inr (turned-next t l s s' step next same))
 
+-- the same of any front
+turned-handed : {L : Type 0} (link : L) (told told' told'' : Option FrontTold) (l : Option LinkTold) (s s' : State) → IsHandedOut told l → IsInStep told s
+    → told' ≡ option_map (after_accept (arrival.Some link)) told → s'.accepted ≡ s.accepted → told'' ≡ option_map (after_turning_away l) told'
+    → HandsOut told'' s'
+turned-handed link told told' told'' None s s' handed step is same turned =
+    let none = handed in
+    let gone : told' ≡ None = is ∙ ap (option_map (after_accept (arrival.Some link))) none in
+    subst (λ (o : Option FrontTold). HandsOut o s') (sym (turned ∙ ap (option_map (after_turning_away None)) gone)) tt
+turned-handed link told told' told'' (Some l) s s' handed step is same turned = turned-away link l told told' told'' s s' handed step is same turned
+
 -- a connection was taken and given up, or its link was turned away
-pub hands-ended : {L : Type 0} (known : Option KnownOutside) (link_seen : L → LinkSeen) → (is_some known ≡ true → LinksTell link_seen) → (link : L) (told : Option FrontTold) (s : State) (a b : SeenListener)
-    → IsHandedOut told (link_seen link).told → IsInStep told s → a.front.told ≡ option_map (after_accept (arrival.Some link)) told
-    → a.board.book.state.accepted ≡ s.accepted → EndsTaking (link_seen link).told a b → HandsOut known b.front.told b.board.book.state
-hands-ended known link_seen all link told s a b handed step is same (inl taken) =
-    hands-step known b.front.told b.board.book.state
-    (taken.step (step-taken link told a.front.told s b.board.book.state is (taken.accepted ∙ ap next_count same) step))
-hands-ended known link_seen all link told s a b handed step is same (inr refused) =
-    λ tells. let links = (all tells).each link in
-    turned-away link links.0 told a.front.told b.front.told s b.board.book.state (subst (IsHandedOut told) links.1 handed) step is (refused.accepted ∙ same)
-    (subst (λ (o : Option LinkTold). b.front.told ≡ option_map (after_turning_away o) a.front.told) links.1 refused.told)
+pub hands-ended : {L : Type 0} (link : L) (l : Option LinkTold) (told told' told'' : Option FrontTold) (s a b : State) → IsHandedOut told l → IsInStep told s
+    → told' ≡ option_map (after_accept (arrival.Some link)) told → a.accepted ≡ s.accepted → EndsTaking l told' told'' a b → HandsOut told'' b
+hands-ended link l told told' told'' s a b handed step is same (inl taken) =
+    hands-step told'' b (taken.step (step-taken link told told' s b is (taken.accepted ∙ ap next_count same) step))
+hands-ended link l told told' told'' s a b handed step is same (inr refused) =
+    turned-handed link told told' told'' l s b handed step is (refused.accepted ∙ same) refused.told_is
 
 -- ## Where nothing was taken
 
@@ -95,14 +100,8 @@ handed-down (Ok end) (Some t) s s' halts same step links =
 handed-down (Err fault) (Some t) s s' halts same step links =
     takes-links (hushed_front t) s' (still-handed t (hushed_front t) s s' refl refl refl same links) halts
 
-on-err-tells : {T : Type 0} (turns : Result T BoardFault) (P Q : Type 0) → OnErr turns (P → Q) → P → OnErr turns Q
-on-err-tells (Ok x) P Q holds p = tt
-on-err-tells (Err f) P Q holds p = holds p
-
 -- what became of the links once the server has stopped
-pub handed-out : (known : Option KnownOutside) (turns : Result End BoardFault) (told told' : Option FrontTold) (s s' : State) → HaltsAs turns s'.going
-    → s'.accepted ≡ s.accepted → told' ≡ option_map hushed_front told → OnOk turns (IsInStep told s) → OnErr turns (HandsOut known told s)
-    → HandedOut known told' s'
-handed-out known turns told told' s s' halts same is step links tells =
-    subst (λ (o : Option FrontTold). IfSome o (TakesLinks s')) (sym is)
-    (handed-down turns told s s' halts same step (on-err-tells turns (is_some known ≡ true) _ links tells))
+pub handed-out : (turns : Result End BoardFault) (told told' : Option FrontTold) (s s' : State) → HaltsAs turns s'.going → s'.accepted ≡ s.accepted
+    → told' ≡ option_map hushed_front told → OnOk turns (IsInStep told s) → OnErr turns (HandsOut told s) → HandedOut told' s'
+handed-out turns told told' s s' halts same is step links =
+    subst (λ (o : Option FrontTold). IfSome o (TakesLinks s')) (sym is) (handed-down turns told s s' halts same step links)

@@ -1,5 +1,5 @@
 -- That the listener keeps pace with a patient front, and lets time pass only where nothing is left to be done.
-use Rattle.std.proofs.Common.{◌≡◌, ◌≢◌, ◌⊎◌, ◌<◌, ◌≤◌, ◌-◌, inl, inr, ℕ, Bool, true, false, cond, if◌then◌else◌, List, [], ◌∷◌, ◌++◌, find, max, min, nat_le, nat_lt, Option, None, Some, is_some, option_map, IfSome, Contains, Result, refl, sym, ap, subst, ◌∙◌, append-nil, arith}
+use Rattle.std.proofs.Common.{◌≡◌, ◌≢◌, ◌⊎◌, ◌<◌, ◌≤◌, ◌-◌, inl, inr, ℕ, Bool, true, false, cond, if◌then◌else◌, List, [], ◌∷◌, ◌++◌, find, length, max, min, nat_le, nat_lt, Option, None, Some, is_some, option_map, IfSome, Contains, Result, refl, sym, ap, subst, ◌∙◌, append-nil, arith}
 use Rattle.std.proofs.lemmas.Bool.Decides.{nat_tests}
 use Rattle.std.proofs.lemmas.List.Elements.{Contains-append_left, Contains-append_right}
 use Rattle.std.specs.List.{flat_map}
@@ -23,9 +23,8 @@ use Rattle.mpm_run.specs.declared.listen.End.{End}
 use Rattle.mpm_run.specs.declared.listen.Pause.{Pause}
 use Rattle.mpm_run.specs.declared.listen.Rest.{Rest}
 use Rattle.mpm_run.specs.ClosingInside.{IsHaltedWay, LetsGo}
-use Rattle.mpm_run.specs.ListenInside.{IsAtStart, IsInStep, IsRestful, KeepsStep, NoneOverdue, OnlyTakes, SeenListener, TookAll}
-use Rattle.mpm_run.specs.Patient.{ArePatient, IsAtRest, PassesPatiently}
-use Rattle.mpm_run.specs.PatientInside.{IsPatientRun, IsSteady}
+use Rattle.mpm_run.specs.ListenInside.{HasReadAll, IsAtStart, IsInStep, IsRestful, KeepsStep, NoneOverdue, OnlyReadsAndTakes, TookAll}
+use Rattle.mpm_run.specs.Patient.{ArePatient, IsAtRest, IsPatientRun, IsSteady, PassesPatiently}
 use Rattle.mpm_run.specs.RoundInside.{AreServed, BreaksOff, GoesRound, RetiresSome, Round, StartsSome, halt_events, round_events}
 use Rattle.mpm_run.specs.Times.{moment_for, ticks_in, ticks_to}
 use Rattle.mpm_run.proofs.BrokenLemmas.{ends-silently}
@@ -36,7 +35,7 @@ use Rattle.mpm_run.proofs.StopLemmas.{silent-halts}
 use Rattle.mpm_run.proofs.TurnLemmas.{HasServed}
 use Rattle.mpm_run.proofs.UnsignalledLemmas.{none-signalled}
 use Rattle.mpm_run.proofs.PatientLemmas.{MomentOf, echoed-before, none-late-then, patient-round, patient-served, patient-silent, patient-weaker, told-before}
-use Rattle.mpm_run.proofs.WaitLemmas.{HasWaited}
+use Rattle.mpm_run.proofs.WaitLemmas.{HasWaited, SeenListener}
 
 -- ## What the listener keeps
 
@@ -53,6 +52,7 @@ pub record Rests (rest : Rest) (l : SeenListener) : Type 0 where
   pub until : rest.until ≡ next_deadline_of l.board.book.state
   pub at_rest : IsAtRest l.board.book.state
   pub took : TookAll l.front.told l.board.book.state
+  pub read : HasReadAll l.front.told
 
 -- between two turns
 pub record KeepsPace (rest : Rest) (l : SeenListener) : Type 0 where
@@ -114,14 +114,14 @@ pub record Unwound (rest : Rest) (pause : Pause) (a w b : SeenListener) (steady 
   pub before : IsSteady a.front.told a.calls
   pub waited : FrontTold
   pub forward : GoesForward rest.until rest.quiet pause.woke w.ready before.front waited
-  pub only : OnlyTakes waited steady.front
+  pub only : OnlyReadsAndTakes waited steady.front
   pub comings : before.comings ≡ steady.comings
   pub moment : MomentOf pause.woke a.board.book.state.moment pause.moment
 
-pub unwound : (rest : Rest) (pause : Pause) (a w b : SeenListener) → HasWaited rest pause a w → TellsOn OnlyTakes w.front.told b.front.told → b.calls ≡ w.calls
+pub unwound : (rest : Rest) (pause : Pause) (a w b : SeenListener) → HasWaited rest pause a w → TellsOn OnlyReadsAndTakes w.front.told b.front.told → b.calls ≡ w.calls
     → (steady : IsSteady b.front.told b.calls) → Unwound rest pause a w b steady
 unwound rest pause a w b waited takes calls steady =
-    let there = told-before OnlyTakes w.front.told b.front.told steady.front takes steady.tells in
+    let there = told-before OnlyReadsAndTakes w.front.told b.front.told steady.front takes steady.tells in
     let here = told-before (GoesForward rest.until rest.quiet pause.woke w.ready) a.front.told w.front.told there.0 waited.waits.tells there.1 in
     let echoed =
     echoed-before pause.woke a.board.book.state.moment pause.moment a.calls w.calls steady.asked waited.asks (sym calls ∙ steady.clock) steady.echoes in
@@ -188,6 +188,12 @@ none-waits told t s is step steady (inr (inr failed)) waits =
     let has : t.failed ≡ true = subst (λ (o : Option FrontTold). IfSome o (λ x. x.failed ≡ true)) is failed in
     absurd (cc (has, steady))
 
+-- no command line waits where each was read
+none-unread : (told : Option FrontTold) (t : FrontTold) → told ≡ Some t → HasReadAll told → length t.lines - t.read ≡ 0
+none-unread told t is read =
+    let all : t.read ≡ length t.lines = subst HasReadAll is read in
+    omega (arith, all)
+
 -- what holds of a wait in which time passed
 record PassedIn (comings : List ℕ) (rest : Rest) (answer : Woke) (passed : Option Backlog) (t t' : FrontTold) : Type 0 where
   pub waited : Backlog
@@ -231,6 +237,7 @@ passes-at rest pause a w b steady paced sound step u p =
             taken =
                 λ waits. none-waits a.front.told u.before.front a.board.book.state u.before.tells step p.lets.steady rests.took
                 (subst (λ (x : Backlog). 0 < x.arrivals) p.lets.waited_is waits);
+            read = ap (λ (x : Backlog). x.lines) p.lets.waited_is ∙ none-unread a.front.told u.before.front u.before.tells rests.read;
           };
     }
 
@@ -238,7 +245,7 @@ passes-at rest pause a w b steady paced sound step u p =
 pub patience : (rest : Rest) (pause : Pause) (a w b : SeenListener) (r : Round) → KeepsPace rest a → HasWaited rest pause a w
     → IsInStep a.front.told a.board.book.state → (acts : Acts 0 (round_events r) None a.board.book b.board.book)
     → IsFrontOf (ticks_to a.board.book.state.moment (moment_for pause.moment)) r.ticks
-    → (r.ticks ≡ []) ⊎ (NoneOverdue a.board.book.state → r.early ≡ []) → TellsOn OnlyTakes w.front.told b.front.told → b.calls ≡ w.calls → HasPatience b
+    → (r.ticks ≡ []) ⊎ (NoneOverdue a.board.book.state → r.early ≡ []) → TellsOn OnlyReadsAndTakes w.front.told b.front.told → b.calls ≡ w.calls → HasPatience b
 patience rest pause a w b r paced waited step acts front soon takes calls steady =
     let u = unwound rest pause a w b waited takes calls steady in
     let before = patience-before rest pause a w b steady paced.patient u in
@@ -271,7 +278,7 @@ here-front r to a is = sym is ∙ sym (append-nil r.ticks)
 
 -- it came to its end
 pub pace-round : (rest : Rest) (pause : Pause) (a w b : SeenListener) → KeepsPace rest a → HasWaited rest pause a w → IsInStep a.front.told a.board.book.state
-    → GoesRound (moment_for pause.moment) w.ready w.board.book b.board.book → TellsOn OnlyTakes w.front.told b.front.told → b.calls ≡ w.calls → HasPatience b
+    → GoesRound (moment_for pause.moment) w.ready w.board.book b.board.book → TellsOn OnlyReadsAndTakes w.front.told b.front.told → b.calls ≡ w.calls → HasPatience b
 pace-round rest pause a w b paced waited step round takes calls =
     let here : GoesRound (moment_for pause.moment) w.ready a.board.book b.board.book =
     subst (λ (v : SeenBoard). GoesRound (moment_for pause.moment) w.ready v.book b.board.book) waited.board round in
@@ -279,7 +286,7 @@ pace-round rest pause a w b paced waited step round takes calls =
 
 -- behind a round the table stands at the moment of the front
 pub abreast-round : (rest : Rest) (pause : Pause) (a w b : SeenListener) → Abreast a → HasWaited rest pause a w
-    → b.board.book.state.moment ≡ max w.board.book.state.moment (moment_for pause.moment) → TellsOn OnlyTakes w.front.told b.front.told → b.calls ≡ w.calls
+    → b.board.book.state.moment ≡ max w.board.book.state.moment (moment_for pause.moment) → TellsOn OnlyReadsAndTakes w.front.told b.front.told → b.calls ≡ w.calls
     → Abreast b
 abreast-round rest pause a w b abreast waited later takes calls steady =
     let u = unwound rest pause a w b waited takes calls steady in
@@ -291,7 +298,7 @@ abreast-round rest pause a w b abreast waited later takes calls steady =
 
 -- nothing was done behind a wait
 pub patience-waited : (rest : Rest) (pause : Pause) (a w : SeenListener) → HasPatience a → HasWaited rest pause a w
-    → TellsOn OnlyTakes w.front.told w.front.told → HasPatience w
+    → TellsOn OnlyReadsAndTakes w.front.told w.front.told → HasPatience w
 patience-waited rest pause a w patient waited same steady =
     let u = unwound rest pause a w w waited same refl steady in
     subst (λ (b : SeenBoard). ArePatient steady.comings steady.front.waits b.book.base b.book.history) (sym waited.board)
@@ -308,7 +315,7 @@ patience-silent who es has told calls a b acts none patient steady =
 -- a round was broken off
 pub pace-broken : ActsInSteps → (fault : BoardFault) (rest : Rest) (pause : Pause) (a w b : SeenListener) → KeepsPace rest a → HasWaited rest pause a w
     → IsInStep a.front.told a.board.book.state → BreaksOff fault (moment_for pause.moment) w.ready w.board.book b.board.book
-    → TellsOn OnlyTakes w.front.told b.front.told → b.calls ≡ w.calls → HasPatience b
+    → TellsOn OnlyReadsAndTakes w.front.told b.front.told → b.calls ≡ w.calls → HasPatience b
 pace-broken steps fault rest pause a w b paced waited step broken takes calls =
     let here : BreaksOff fault (moment_for pause.moment) w.ready a.board.book b.board.book =
     subst (λ (v : SeenBoard). BreaksOff fault (moment_for pause.moment) w.ready v.book b.board.book) waited.board broken in
@@ -350,7 +357,7 @@ pace-started rest l m start is starts moment until restful =
       patient =
           patience-silent 0 _ None l.front.told l.calls l.board.book m.board.book starts.acts (silent-starts starts.children).ticks
           (patience-start l.front.told l.calls l.board.book start);
-      rested = λ quiet. record { until = until; at_rest = restful.0 quiet; took = inr (inl (none-to-take l.front.told start.none)) };
+      rested = λ quiet. record { until = until; at_rest = restful.0 quiet; took = inr (inl (none-to-take l.front.told start.none)); read = start.read };
     })
 
 pub patience-started : (l m : SeenListener) → IsAtStart l.front.told l.board.book → m ≡ record l { board = m.board } → StartsSome l.board.book m.board.book
@@ -367,12 +374,13 @@ served-patience steps a b patient served =
     subst HasPatience (sym served.others)
     (patience-served 1 serves.events None a.front.told a.calls a.board.book b.board.book (λ (same : 1 ≡ 0). cc) serves.acts patient)
 
-served-rests : (rest : Rest) (a b : SeenListener) → TookAll a.front.told a.board.book.state → rest.until ≡ next_deadline_of a.board.book.state
+served-rests : (rest : Rest) (a b : SeenListener) → TookAll a.front.told a.board.book.state → HasReadAll a.front.told → rest.until ≡ next_deadline_of a.board.book.state
     → IsAtRest a.board.book.state → b.board.book.state ≡ a.board.book.state → Rests rest (record a { board = b.board })
-served-rests rest a b took until at_rest same = record {
+served-rests rest a b took read until at_rest same = record {
   until = until ∙ ap next_deadline_of (sym same);
   at_rest = subst IsAtRest (sym same) at_rest;
   took = subst (TookAll a.front.told) (sym same) took;
+  read = read;
 }
 
 -- the state of a listener's board is that after the history
@@ -380,8 +388,8 @@ abbrev pub IsAfter : SeenListener → Type 0
 IsAfter l = after l.board.book.base l.board.book.history ≡ l.board.book.state
 
 pub pace-served : ActsInSteps → GoesOnFrom → (rest : Rest) (a b : SeenListener) → IsAfter a → IsAfter b → Abreast a → HasPatience a → TookAll a.front.told a.board.book.state
-    → HasServed a b → rest.until ≡ next_deadline_of a.board.book.state → IsRestful rest.quiet a.board.book.state → KeepsPace rest b
-pace-served steps law rest a b here there abreast patient took served until restful =
+    → HasReadAll a.front.told → HasServed a b → rest.until ≡ next_deadline_of a.board.book.state → IsRestful rest.quiet a.board.book.state → KeepsPace rest b
+pace-served steps law rest a b here there abreast patient took read served until restful =
     let serves = serves-acts steps a.board b.board served.serves in
     subst (KeepsPace rest) (sym served.others)
     (record {
@@ -390,7 +398,7 @@ pace-served steps law rest a b here there abreast patient took served until rest
       rested =
           λ quiet.
           let at_rest = restful.0 quiet in
-          served-rests rest a b took until at_rest
+          served-rests rest a b took read until at_rest
           (acts-state law 1 [] None a.board.book b.board.book here there
           (subst (λ (names : List ConnName). AreServed 1 names a.board b.board) (served.serves.none at_rest.served) served.serves.served).acts);
     })

@@ -29,9 +29,11 @@ use Rattle.board.specs.Board.{SeenBoard, Agrees, AreClosed, AreEnded, ClosesFirs
 use Rattle.board.specs.Ranks.{AllTell, has_rank}
 use Rattle.mpm_run.specs.Links.{EndsLinks}
 use Rattle.mpm_run.specs.Tells.{Receives, AllReceive}
+use Rattle.mpm_run.specs.Commands.{TellsStop}
 use Rattle.mpm_run.specs.FirstNumbers.{folded_by, opened_by}
 use Rattle.mpm_run.specs.declared.run_numbers.RunNumbers.{RunNumbers}
 use Rattle.mpm_run.specs.Listen.{HasClosedAll, HasNoLive, IsClosedDown, IsRunFrom, NeverFolded}
+use Rattle.mpm_run.specs.ListenInside.{clients_known}
 use Rattle.mpm_run.specs.Started.{AreAskedFor}
 
 -- ## The history
@@ -46,8 +48,8 @@ pub run-from : (n : RunNumbers) (b : SeenBoard) → AreOfPasses n.passes b.book.
     → Run b.book.base b.book.history → IsInPassOrderFrom b.book.folded b.book.history → AreMade b.book.base b.book.folded b.book.history
     → EachHasItsOwn b.book.base (first_row b.book.folded) → after b.book.base b.book.history ≡ b.book.state → IsSound b.book.base
     → StopsByLoad b.book.history
-    → TellsFullStop b.book.state.going b.book.history → Agrees b → IsRunFrom n b
-run-from n b few asked law run order made own state sound stops full agrees = record {
+    → TellsFullStop b.book.state.going b.book.history → TellsStop b.book → Agrees b → IsRunFrom n b
+run-from n b few asked law run order made own state sound stops full stop agrees = record {
   run = run;
   order = order;
   made = made;
@@ -58,6 +60,7 @@ run-from n b few asked law run order made own state sound stops full agrees = re
   stays_sound = law b.book.base b.book.history sound run;
   stops = stops;
   full = full;
+  stop = stop;
   agrees = agrees;
 }
 
@@ -142,21 +145,36 @@ receives clients e tells ended =
       whole = λ done. all-came (client_at clients tells.t.rank) tells.t tells.offered (answered.answers.received done).came;
     }
 
+-- the client of an ended connection, where the type knows the clients
+client-of : (known : Option (List (List ℕ))) (clients : List (List ℕ)) (told : Option LinkTold) → known ≡ Some clients
+    → IfSome known (λ all. TellsFrom all told) → TellsFrom clients told
+client-of known clients told is client = subst (λ (o : Option (List (List ℕ))). IfSome o (λ all. TellsFrom all told)) is client
+
 -- so did each
-pub all-receive : (k : KnownOutside) (ended : List SeenEnded) → AreEnded ended → EndedOfOutside (Some k) ended → AllReceive k.clients ended
-all-receive k [] are ends = tt
-all-receive k (e ∷ ended) are ends = (receives k.clients e ends.0.client are.0, all-receive k ended are.1 ends.1)
+pub all-receive : (k : KnownOutside) (clients : List (List ℕ)) (ended : List SeenEnded) → k.clients ≡ Some clients → AreEnded ended
+    → EndedOfOutside (Some k) ended → AllReceive clients ended
+all-receive k clients [] is are ends = tt
+all-receive k clients (e ∷ ended) is are ends =
+    (receives clients e (client-of k.clients clients e.told is ends.0.client) are.0, all-receive k clients ended is are.1 ends.1)
 
 -- ## The links of ended connections
 
 -- each is that of a client, and tells, where the type knows the clients
-all-tell : (k : KnownOutside) (ended : List SeenEnded) → EndedOfOutside (Some k) ended → AllTell ended
-all-tell k [] ends = tt
-all-tell k (e ∷ ended) ends = ((ends.0.client.t, ends.0.client.told_is), all-tell k ended ends.1)
+all-tell : (k : KnownOutside) (clients : List (List ℕ)) (ended : List SeenEnded) → k.clients ≡ Some clients → EndedOfOutside (Some k) ended → AllTell ended
+all-tell k clients [] is ends = tt
+all-tell k clients (e ∷ ended) is ends =
+    let tells = client-of k.clients clients e.told is ends.0.client in
+    ((tells.t, tells.told_is), all-tell k clients ended is ends.1)
 
-pub known-tell : (known : Option KnownOutside) (ended : List SeenEnded) → is_some known ≡ true → EndedOfOutside known ended → AllTell ended
-known-tell None ended is ends = absurd (cc is)
-known-tell (Some k) ended is ends = all-tell k ended ends
+pub known-tell : (known : Option KnownOutside) (clients : List (List ℕ)) (ended : List SeenEnded) → clients_known known ≡ Some clients
+    → EndedOfOutside known ended → AllTell ended
+known-tell None clients ended is ends = absurd (cc is)
+known-tell (Some k) clients ended is ends = all-tell k clients ended is ends
+
+pub known-receive : (known : Option KnownOutside) (clients : List (List ℕ)) (ended : List SeenEnded) → clients_known known ≡ Some clients
+    → AreEnded ended → EndedOfOutside known ended → AllReceive clients ended
+known-receive None clients ended is are ends = absurd (cc is)
+known-receive (Some k) clients ended is are ends = all-receive k clients ended is are ends
 
 -- as many ended as the history took
 closed-plain : (n : RunNumbers) (b : SeenBoard) → b.book.folded ≡ folded_by n → HasClosedAll b → length b.ended ≡ count_events is_accept b.book.history

@@ -31,7 +31,7 @@ served-by limits site e zero found =
 served-by limits site e (suc place) found = absurd (cc found)
 
 -- so each connection was served by it
-pub all-served : (clients : List (List ℕ)) (limits : Limits) (site : SeenSite) (ended : List SeenEnded)
+pub all-served : (clients : Option (List (List ℕ))) (limits : Limits) (site : SeenSite) (ended : List SeenEnded)
     → EndedOfOutside (Some (record { clients = clients; editions = Some (record { limits = limits; site = site }) ∷ [] })) ended
     → AllServedBy limits site ended
 all-served clients limits site [] ends = tt

@@ -1,16 +1,21 @@
 -- A server that has just opened.
-use Rattle.std.proofs.Common.{◌≡◌, inl, inr, ℕ, true, List, [], ◌∷◌, ◌++◌, map, Option, None, Some, option_map, IfSome, refl, sym, ap, subst, ◌∙◌, arith}
+use Rattle.std.proofs.Common.{◌≡◌, inl, inr, ℕ, Bool, true, false, List, [], ◌∷◌, ◌++◌, length, map, take, Option, None, Some, option_map, IfSome, refl, sym, ap, subst, ◌∙◌, arith}
 use Rattle.mpm_base.specs.Clock.{asked_at}
 use Rattle.mpm_base.specs.Front.{Binds, BoundTold, FrontSeen, FrontTold, WaitTold, after_bind, moments_of}
-use Rattle.mpm_run.specs.UnusedInside.{IsUnused}
+use Rattle.mpm_run.specs.Unused.{IsUnused}
 use Rattle.mpm_base.specs.declared.addr.Addr.{Addr}
 use Rattle.conn_machine.specs.Made.{AreOfPasses, IsOpened}
 use Rattle.conn_machine.specs.declared.state.State.{State}
+use Rattle.board.specs.Board.{SeenBoard}
 use Rattle.board.specs.Book.{SeenBook}
+use Rattle.mpm_run.specs.Commands.{HeedsLines, NoneStops}
 use Rattle.mpm_run.specs.FirstNumbersInside.{AreNumbers, opened_book}
-use Rattle.mpm_run.specs.ListenInside.{Follows, HasStopped, IsAtStart, IsInStep, IsInTime, WatchesAll, bound_of, waits_of}
-use Rattle.mpm_run.specs.Started.{AreAskedFor}
-use Rattle.mpm_run.specs.Times.{AreBehind, IsInformed, SignalsAre, TicksAre}
+use Rattle.mpm_run.specs.Links.{EndsLinks, TakesLinks}
+use Rattle.mpm_run.specs.ListenInside.{clients_told, Follows, HasNoneToHeed, HasStopped, IsAtStart, IsInStep, WatchesAll, bound_of}
+use Rattle.mpm_run.specs.Outside.{KeepsFront}
+use Rattle.mpm_run.specs.Started.{AreAskedFor, IsStartedFirst}
+use Rattle.mpm_run.specs.Tells.{AllReceive}
+use Rattle.mpm_run.specs.Times.{AreBehind, IsInTime, IsInformed, SignalsAre, TicksAre, waits_of}
 use Rattle.mpm_run.specs.Watched.{AreClosedAtOnce, AreWatched, IsBoundOnce, IsHushed, IsOpenedAndHushed, link_watched}
 use Rattle.mpm_run.specs.declared.run_numbers.RunNumbers.{RunNumbers}
 use Rattle.mpm_run.proofs.FrontLemmas.{rises-after}
@@ -86,6 +91,20 @@ unused-bound listen control (Some t) told' is unused =
       stands = unused.stands;
     })
 
+-- the bind succeeded
+pub binds-true : (n : RunNumbers) (old here new : FrontSeen) (answer : Bool) → here ≡ old → answer ≡ true → Binds here new n.listen n.control answer
+    → Binds old new n.listen n.control true
+binds-true n old here new answer same is binds =
+    subst (λ (f : FrontSeen). Binds f new n.listen n.control true) same
+    (subst (λ (b : Bool). Binds here new n.listen n.control b) is binds)
+
+-- or failed
+pub binds-false : (n : RunNumbers) (old here new : FrontSeen) (answer : Bool) → here ≡ old → answer ≡ false → Binds here new n.listen n.control answer
+    → Binds old new n.listen n.control false
+binds-false n old here new answer same is binds =
+    subst (λ (f : FrontSeen). Binds f new n.listen n.control false) same
+    (subst (λ (b : Bool). Binds here new n.listen n.control b) is binds)
+
 -- nothing else was asked of it
 pub idle-bound : (n : RunNumbers) (old new : FrontSeen) (calls : Option (List (ℕ × ℕ))) → Binds old new n.listen n.control true
     → IfSome old.told IsUnused → IfSome calls (λ calls. calls ≡ []) → IsIdle new.told calls
@@ -129,11 +148,15 @@ stopped-before old bound new s follows stopped = record {
                 taken = ended.all.taken;
               };
         })
-        | inr (inl failed) ↦ inr (inl (record {
+        | inr (inl asked) ↦ inr (inl (record {
+          going = asked.going;
+          gave = rises-after old.counts.commands bound.counts.commands new.counts.commands follows.commands asked.gave;
+        }))
+        | inr (inr (inl failed)) ↦ inr (inr (inl (record {
           going = failed.going;
           failed = rises-after old.counts.faults bound.counts.faults new.counts.faults follows.faults failed.failed;
-        }))
-        | inr (inr broken) ↦ inr (inr broken)
+        })))
+        | inr (inr (inr broken)) ↦ inr (inr (inr broken))
       ];
 }
 
@@ -169,13 +192,26 @@ starts-opened n None calls b opened idle = record {
   first = tt;
   moment = ap (λ (x : SeenBook). x.state.moment) opened;
   history = ap (λ (x : SeenBook). x.history) opened;
+  read = tt;
 }
 starts-opened n (Some t) calls b opened idle = record {
   none = idle.front.accepted ∙ sym idle.front.arrived;
   first = idle.front.stands;
   moment = ap (λ (x : SeenBook). x.state.moment) opened;
   history = ap (λ (x : SeenBook). x.history) opened;
+  read = idle.front.read ∙ sym (ap length idle.front.lines);
 }
+
+-- no command line was read
+pub heeded-opened : (told : Option FrontTold) (calls : Option (List (ℕ × ℕ))) → IsIdle told calls → IfSome told HasNoneToHeed
+heeded-opened None calls idle = tt
+heeded-opened (Some t) calls idle =
+    let lines = idle.front.lines in
+    let read = idle.front.read in
+    record {
+      none = subst NoneStops (sym (ap (λ (n : ℕ). take n t.lines) read ∙ ap (take 0) lines)) tt;
+      came = omega (arith, read);
+    }
 
 -- no pass made an entry
 pub few-opened : (n : RunNumbers) (passes : ℕ) (b : SeenBook) → b ≡ opened_book n → AreOfPasses passes b.history
@@ -189,3 +225,21 @@ asked-opened n b opened = subst (λ (x : SeenBook). AreAskedFor x.base x.history
 pub unwaited : (told : Option FrontTold) (calls : Option (List (ℕ × ℕ))) → IsIdle told calls → IfSome told (λ t. t.waits ≡ [])
 unwaited None calls idle = tt
 unwaited (Some t) calls idle = idle.front.waits
+
+-- ## What a run did with its front
+
+-- all together, where the front tells
+pub keeps-front : (n : RunNumbers) (b : SeenBoard) (known : Option (List (List ℕ))) (told : Option FrontTold) → known ≡ clients_told told
+    → IfSome told (IsOpenedAndHushed n) → IfSome told (IsStartedFirst n b.book) → IfSome told (AreWatched b.book) → IfSome told (TakesLinks b.book.state)
+    → ((clients : List (List ℕ)) → known ≡ Some clients → EndsLinks b)
+    → ((clients : List (List ℕ)) → known ≡ Some clients → AllReceive clients b.ended) → IfSome told (HeedsLines b.book.state.going)
+    → IfSome told (KeepsFront n b)
+keeps-front n b known None named opened started watched taken ends receive heeded = tt
+keeps-front n b known (Some t) named opened started watched taken ends receive heeded = record {
+  opened = opened;
+  started = started;
+  watched = watched;
+  links = record { taken = taken; ended = ends t.clients named };
+  receive = receive t.clients named;
+  heeded = heeded;
+}

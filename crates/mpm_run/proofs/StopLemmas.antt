@@ -114,28 +114,39 @@ has-stopped (Ok end.Ended) first now front' b s ends halts same is down = record
             };
       });
 }
-has-stopped (Ok end.Failed) first now front' b s ends halts same is down = record {
+has-stopped (Ok end.Asked) first now front' b s ends halts same is down = record {
   down = down;
   cause =
       inr (inl (record {
         going = halts;
-        failed = subst (Rises first.counts.faults) (sym (ap (λ (f : FrontSeen). f.counts.faults) is)) ends.1;
+        gave = subst (Rises first.counts.commands) (sym (ap (λ (f : FrontSeen). f.counts.commands) is)) ends.1;
       }));
 }
-has-stopped (Err f) first now front' b s ends halts same is down = record { down = down; cause = inr (inr halts) }
+has-stopped (Ok end.Failed) first now front' b s ends halts same is down = record {
+  down = down;
+  cause =
+      inr (inr (inl (record {
+        going = halts;
+        failed = subst (Rises first.counts.faults) (sym (ap (λ (f : FrontSeen). f.counts.faults) is)) ends.1;
+      })));
+}
+has-stopped (Err f) first now front' b s ends halts same is down = record { down = down; cause = inr (inr (inr halts)) }
 
 -- the server may be stopped for what ended the turns
 pub must-halt : (turns : Result End BoardFault) (first now : FrontSeen) (b : SeenBook) → TurnsEnd turns first now b → MustHalt turns b
 must-halt (Ok end.Ended) first now b ends = (ends.going, ends.live)
+must-halt (Ok end.Asked) first now b ends = ends.0
 must-halt (Ok end.Failed) first now b ends = ends.0
 must-halt (Err f) first now b ends = ends
 
 may-stop : (e : End) (b : SeenBook) → MustHalt (Ok e) b → may_command b.state (Stop (why_of e)) ≡ true
 may-stop end.Ended b must = rw (must.0, must.1) refl
+may-stop end.Asked b must = rw must refl
 may-stop end.Failed b must = rw must refl
 
 goes-on : (e : End) (b : SeenBook) → MustHalt (Ok e) b → is_halted b.state.going ≡ false
 goes-on end.Ended b must = must.0
+goes-on end.Asked b must = must
 goes-on end.Failed b must = must
 
 -- so the command may be made

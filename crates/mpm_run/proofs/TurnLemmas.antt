@@ -16,10 +16,11 @@ use Rattle.worker_group.specs.Service.{IsUp, LeavesRest}
 use Rattle.mpm_run.specs.declared.listen.Pause.{Pause}
 use Rattle.mpm_run.specs.declared.listen.Rest.{Rest}
 use Rattle.mpm_run.specs.Listen.{HasNoLive}
-use Rattle.mpm_run.specs.ListenInside.{AsksFor, Follows, HasGivenAll, HasNothingToCome, IsInStep, IsInTime, OnlyTakes, SeenListener, WatchesAll, bound_of, waits_of}
+use Rattle.mpm_run.specs.ListenInside.{AsksFor, Follows, HasNothingToCome, IsInStep, OnlyReadsAndTakes, WatchesAll, bound_of}
+use Rattle.mpm_run.specs.Stops.{HasGivenAll}
 use Rattle.mpm_run.specs.RoundInside.{BreaksOff, GoesRound, NoneHas, ServesSome, StartsAsAsked, StartsSome}
 use Rattle.mpm_run.specs.Started.{AreAskedFor}
-use Rattle.mpm_run.specs.Times.{IsInformed, IsInformedSoFar, moment_for}
+use Rattle.mpm_run.specs.Times.{IsInTime, IsInformed, IsInformedSoFar, moment_for, waits_of}
 use Rattle.mpm_run.proofs.AskedLemmas.{asked-served, asked-silent}
 use Rattle.mpm_run.proofs.BrokenLemmas.{ends-silently}
 use Rattle.mpm_run.proofs.EventLemmas.{silent-starts}
@@ -28,11 +29,11 @@ use Rattle.mpm_run.proofs.InformLemmas.{informed-as, informed-broken, informed-i
 use Rattle.mpm_run.proofs.PassLemmas.{serves-acts}
 use Rattle.mpm_run.proofs.RoundLemmas.{none-has}
 use Rattle.mpm_run.proofs.WatchLemmas.{nobody-served, nobody-started, watched-as, watched-wait}
-use Rattle.mpm_run.proofs.WaitLemmas.{HasWaited}
+use Rattle.mpm_run.proofs.WaitLemmas.{HasWaited, SeenListener}
 
--- the front watches each link that the table took, where this holds
-abbrev pub Watching : Type 0 → SeenListener → Type 0
-Watching tells l = tells → IfSome l.front.told (WatchesAll l.board.book)
+-- the front watches each link that the table took
+abbrev pub Watching : SeenListener → Type 0
+Watching l = IfSome l.front.told (WatchesAll l.board.book)
 
 -- no pass but those of the first listener made an entry
 abbrev pub OfPasses : SeenListener → SeenListener → Type 0
@@ -45,7 +46,7 @@ few-acts steps passes who es has a b less acts few p beyond =
     steps.others who p es has a b acts (λ (same : p ≡ who). omega (arith, less, beyond, same)) ∙ few p beyond
 
 -- what holds of a listener that began as the first
-pub record IsBetween (tells : Type 0) (first now : SeenListener) : Type 0 where
+pub record IsBetween (first now : SeenListener) : Type 0 where
   pub some : 1 < first.board.book.passes
   pub few : OfPasses first first → OfPasses first now
   pub asked : StartsAsAsked first.board.book now.board.book
@@ -56,16 +57,16 @@ pub record IsBetween (tells : Type 0) (first now : SeenListener) : Type 0 where
   pub step : IsInStep now.front.told now.board.book.state
   pub follows : Follows first.front now.front
   pub bound : bound_of now.front.told ≡ bound_of first.front.told
-  pub watched : Watching tells first → Watching tells now
+  pub watched : Watching first → Watching now
   pub time : IsInTime (waits_of first.front.told) first.calls → IsInTime (waits_of now.front.told) now.calls
   pub informed : IsInformed (waits_of now.front.told) now.calls now.board.book
 
 -- at the start, once children were started
-pub between-started : ActsInSteps → (tells : Type 0) (l m : SeenListener) → 1 < l.board.book.passes → NoneHas l.board.book → is_halted l.board.book.state.going ≡ false → IsInStep l.front.told l.board.book.state
+pub between-started : ActsInSteps → (l m : SeenListener) → 1 < l.board.book.passes → NoneHas l.board.book → is_halted l.board.book.state.going ≡ false → IsInStep l.front.told l.board.book.state
     → IsInformed (waits_of l.front.told) l.calls l.board.book → m ≡ record l { board = m.board } → StartsSome l.board.book m.board.book
-    → m.board.book.state.going ≡ l.board.book.state.going → LeavesRest l.board.book m.board.book → IsBetween tells l m
-between-started steps tells l m some free going step informed is starts same rest =
-    subst (IsBetween tells l) (sym is)
+    → m.board.book.state.going ≡ l.board.book.state.going → LeavesRest l.board.book m.board.book → IsBetween l m
+between-started steps l m some free going step informed is starts same rest =
+    subst (IsBetween l) (sym is)
     (record {
       some = some;
       few = few-acts steps l.board.book.passes 0 _ None l.board.book m.board.book (omega (arith, some)) starts.acts;
@@ -78,7 +79,7 @@ between-started steps tells l m some free going step informed is starts same res
       follows = follows-same l.front;
       bound = refl;
       watched =
-          λ before holds. watched-as l.front.told l.board.book m.board.book (nobody-started l.board.book m.board.book starts) rest.accepted (before holds);
+          λ before. watched-as l.front.told l.board.book m.board.book (nobody-started l.board.book m.board.book starts) rest.accepted before;
       time = λ time. time;
       informed =
           informed-as (waits_of l.front.told) l.calls l.board.book m.board.book
@@ -97,19 +98,19 @@ so_far-still waits waits' calls calls' b same_waits same_calls informed =
     subst (λ (o : Option (List WaitTold)). IsInformedSoFar o calls' b) (sym same_waits)
     (subst (λ (o : Option (List (ℕ × ℕ))). IsInformedSoFar waits o b) (sym same_calls) informed)
 
-module _ (tells : Type 0) (rest : Rest) (pause : Pause) (first a w : SeenListener) where
+module _ (rest : Rest) (pause : Pause) (first a w : SeenListener) where
   -- the book before and after a wait is one
   waited-book : HasWaited rest pause a w → w.board.book ≡ a.board.book
   waited-book waited = ap (λ (b : SeenBoard). b.book) waited.board
 
-  waited-follows : IsBetween tells first a → HasWaited rest pause a w → Follows first.front w.front
+  waited-follows : IsBetween first a → HasWaited rest pause a w → Follows first.front w.front
   waited-follows before waited =
       follows-trans _ _ _ before.follows (follows-wait a.front w.front rest.until rest.quiet pause.woke w.ready waited.waits)
 
-  waited-bound : IsBetween tells first a → HasWaited rest pause a w → bound_of w.front.told ≡ bound_of first.front.told
+  waited-bound : IsBetween first a → HasWaited rest pause a w → bound_of w.front.told ≡ bound_of first.front.told
   waited-bound before waited = bound-wait _ _ _ _ a.front.told w.front.told waited.waits.tells ∙ before.bound
 
-  waited-step : IsBetween tells first a → HasWaited rest pause a w → IsInStep w.front.told w.board.book.state
+  waited-step : IsBetween first a → HasWaited rest pause a w → IsInStep w.front.told w.board.book.state
   waited-step before waited =
       subst (λ (b : SeenBook). IsInStep w.front.told b.state) (sym (waited-book waited))
       (step-wait _ _ _ _ a.front.told w.front.told a.board.book.state waited.waits.tells before.step)
@@ -118,19 +119,19 @@ module _ (tells : Type 0) (rest : Rest) (pause : Pause) (first a w : SeenListene
   waited-more waited = waits-after _ _ _ _ a.front.told w.front.told waited.waits.tells
 
   -- the clock is in time with the waits
-  waited-time : IsBetween tells first a → HasWaited rest pause a w → IsInTime (waits_of first.front.told) first.calls → IsInTime (waits_of w.front.told) w.calls
+  waited-time : IsBetween first a → HasWaited rest pause a w → IsInTime (waits_of first.front.told) first.calls → IsInTime (waits_of w.front.told) w.calls
   waited-time before waited time =
       time-wait pause.woke w.ready (waits_of a.front.told) (waits_of w.front.told) a.board.book.state.moment pause.moment a.calls w.calls
       (waited-more waited) waited.asks (before.time time)
 
   -- the front watches what it watched
-  waited-watched : IsBetween tells first a → HasWaited rest pause a w → Watching tells first → Watching tells w
-  waited-watched before waited began holds =
+  waited-watched : IsBetween first a → HasWaited rest pause a w → Watching first → Watching w
+  waited-watched before waited began =
       subst (λ (b : SeenBook). IfSome w.front.told (WatchesAll b)) (sym (waited-book waited))
-      (watched-wait _ _ _ _ a.front.told w.front.told a.board.book waited.waits.tells (before.watched began holds))
+      (watched-wait _ _ _ _ a.front.told w.front.told a.board.book waited.waits.tells (before.watched began))
 
   -- so it is between two turns after a wait that gave no moment
-  pub between-waited : IsBetween tells first a → HasWaited rest pause a w → moments_in pause.woke ≡ [] → w.ready ≡ [] → w.calls ≡ a.calls → IsBetween tells first w
+  pub between-waited : IsBetween first a → HasWaited rest pause a w → moments_in pause.woke ≡ [] → w.ready ≡ [] → w.calls ≡ a.calls → IsBetween first w
   between-waited before waited none empty calls =
       let book = waited-book waited in
       record {
@@ -153,10 +154,10 @@ module _ (tells : Type 0) (rest : Rest) (pause : Pause) (first a w : SeenListene
       }
 
   -- after a round
-  pub between-round : ActsInSteps → (b : SeenListener) → IsBetween tells first a → HasWaited rest pause a w → GoesRound (moment_for pause.moment) w.ready w.board.book b.board.book
+  pub between-round : ActsInSteps → (b : SeenListener) → IsBetween first a → HasWaited rest pause a w → GoesRound (moment_for pause.moment) w.ready w.board.book b.board.book
       → b.board.book.state.moment ≡ max w.board.book.state.moment (moment_for pause.moment) → IsInStep b.front.told b.board.book.state
-      → IsUp b.board.book.state.going → Follows w.front b.front → TellsOn OnlyTakes w.front.told b.front.told → (Watching tells w → Watching tells b) → b.calls ≡ w.calls
-      → IsBetween tells first b
+      → IsUp b.board.book.state.going → Follows w.front b.front → TellsOn OnlyReadsAndTakes w.front.told b.front.told → (Watching w → Watching b) → b.calls ≡ w.calls
+      → IsBetween first b
   between-round steps b before waited round later step up follows takes watched calls =
       let here : GoesRound (moment_for pause.moment) w.ready a.board.book b.board.book =
       subst (λ (v : SeenBook). GoesRound (moment_for pause.moment) w.ready v b.board.book) (waited-book waited) round in
@@ -189,17 +190,17 @@ pub another : ◌≢◌ {A = ℕ} 0 1
 another same = cc
 
 -- after a wait that answered Ended
-pub between-ended : (tells : Type 0) (rest : Rest) (pause : Pause) (first a w : SeenListener) → IsBetween tells first a → HasWaited rest pause a w → pause.woke ≡ woke.Ended
-    → IsBetween tells first w
-between-ended tells rest pause first a w before waited is =
+pub between-ended : (rest : Rest) (pause : Pause) (first a w : SeenListener) → IsBetween first a → HasWaited rest pause a w → pause.woke ≡ woke.Ended
+    → IsBetween first w
+between-ended rest pause first a w before waited is =
     let asks = subst (λ (x : Woke). AsksFor x a.board.book.state.moment a.calls w.calls pause.moment) is waited.asks in
     let empty = subst (λ (x : Woke). GivesOnlyAwake x w.ready) is waited.waits.awake in
-    between-waited tells rest pause first a w before waited (ap moments_in is) empty asks.0
+    between-waited rest pause first a w before waited (ap moments_in is) empty asks.0
 
 -- then nothing more can come, where no connection is live
-pub ends-ended : (tells : Type 0) (rest : Rest) (pause : Pause) (first a w : SeenListener) → IsBetween tells first a → HasWaited rest pause a w → pause.woke ≡ woke.Ended
+pub ends-ended : (rest : Rest) (pause : Pause) (first a w : SeenListener) → IsBetween first a → HasWaited rest pause a w → pause.woke ≡ woke.Ended
     → is_halted a.board.book.state.going ≡ false → HasNoLive w.board.book.state → HasNothingToCome first.front w.front w.board.book.state
-ends-ended tells rest pause first a w before waited is going live =
+ends-ended rest pause first a w before waited is going live =
     let forward = subst (λ (x : Woke). TellsOn (GoesForward rest.until rest.quiet x w.ready) a.front.told w.front.told) is waited.waits.tells in
     record {
       going = ap (λ (b : SeenBoard). is_halted b.book.state.going) waited.board ∙ going;
@@ -216,15 +217,15 @@ ends-ended tells rest pause first a w before waited is going live =
     }
 
 -- after one that failed
-pub between-failed : (tells : Type 0) (rest : Rest) (pause : Pause) (first a w : SeenListener) → IsBetween tells first a → HasWaited rest pause a w → pause.woke ≡ woke.Failed
-    → IsBetween tells first w
-between-failed tells rest pause first a w before waited is =
+pub between-failed : (rest : Rest) (pause : Pause) (first a w : SeenListener) → IsBetween first a → HasWaited rest pause a w → pause.woke ≡ woke.Failed
+    → IsBetween first w
+between-failed rest pause first a w before waited is =
     let asks = subst (λ (x : Woke). AsksFor x a.board.book.state.moment a.calls w.calls pause.moment) is waited.asks in
     let empty = subst (λ (x : Woke). GivesOnlyAwake x w.ready) is waited.waits.awake in
-    between-waited tells rest pause first a w before waited (ap moments_in is) empty asks.0
+    between-waited rest pause first a w before waited (ap moments_in is) empty asks.0
 
 -- what holds of a listener whose turns were broken off
-pub record HasBroken (tells : Type 0) (first now : SeenListener) : Type 0 where
+pub record HasBroken (first now : SeenListener) : Type 0 where
   pub few : OfPasses first first → OfPasses first now
   pub asked : StartsAsAsked first.board.book now.board.book
   pub base : now.board.book.base ≡ first.board.book.base
@@ -233,13 +234,13 @@ pub record HasBroken (tells : Type 0) (first now : SeenListener) : Type 0 where
   pub up : IsUp now.board.book.state.going
   pub follows : Follows first.front now.front
   pub bound : bound_of now.front.told ≡ bound_of first.front.told
-  pub watched : Watching tells first → Watching tells now
+  pub watched : Watching first → Watching now
   pub time : IsInTime (waits_of first.front.told) first.calls → IsInTime (waits_of now.front.told) now.calls
   pub so_far : IsInformedSoFar (waits_of now.front.told) now.calls now.board.book
 
 -- between two turns
-pub broken-between : (tells : Type 0) (l m : SeenListener) → IsBetween tells l m → HasBroken tells l m
-broken-between tells l m between = record {
+pub broken-between : (l m : SeenListener) → IsBetween l m → HasBroken l m
+broken-between l m between = record {
   few = between.few;
   asked = between.asked;
   base = between.base;
@@ -254,12 +255,12 @@ broken-between tells l m between = record {
 }
 
 -- in a round
-pub broken-round : ActsInSteps → (fault : BoardFault) (tells : Type 0) (rest : Rest) (pause : Pause) (first a w b : SeenListener) → IsBetween tells first a → HasWaited rest pause a w
+pub broken-round : ActsInSteps → (fault : BoardFault) (rest : Rest) (pause : Pause) (first a w b : SeenListener) → IsBetween first a → HasWaited rest pause a w
     → BreaksOff fault (moment_for pause.moment) w.ready w.board.book b.board.book → IsUp b.board.book.state.going → Follows w.front b.front
-    → TellsOn OnlyTakes w.front.told b.front.told → (Watching tells w → Watching tells b) → b.calls ≡ w.calls → HasBroken tells first b
-broken-round steps fault tells rest pause first a w b before waited round up follows takes watched calls =
+    → TellsOn OnlyReadsAndTakes w.front.told b.front.told → (Watching w → Watching b) → b.calls ≡ w.calls → HasBroken first b
+broken-round steps fault rest pause first a w b before waited round up follows takes watched calls =
     let here : BreaksOff fault (moment_for pause.moment) w.ready a.board.book b.board.book =
-    subst (λ (v : SeenBook). BreaksOff fault (moment_for pause.moment) w.ready v b.board.book) (waited-book tells rest pause first a w waited) round in
+    subst (λ (v : SeenBook). BreaksOff fault (moment_for pause.moment) w.ready v b.board.book) (waited-book rest pause first a w waited) round in
     let ends = ends-silently steps fault here.book b.board.book here.acts.row here.last in
     let some : 0 < first.board.book.passes = omega (arith, before.some) in
     let waits = waits-kept w.front.told b.front.told takes in
@@ -272,16 +273,16 @@ broken-round steps fault tells rest pause first a w b before waited round up fol
       passes = ends.acts.passes ∙ here.acts.passes ∙ before.passes;
       free = none-has steps 0 ends.events here.book b.board.book (none-has steps 0 _ a.board.book here.book before.free here.acts) ends.acts;
       up = up;
-      follows = follows-trans _ _ _ (waited-follows tells rest pause first a w before waited) follows;
-      bound = bound-kept w.front.told b.front.told takes ∙ waited-bound tells rest pause first a w before waited;
-      watched = λ began. watched (waited-watched tells rest pause first a w before waited began);
+      follows = follows-trans _ _ _ (waited-follows rest pause first a w before waited) follows;
+      bound = bound-kept w.front.told b.front.told takes ∙ waited-bound rest pause first a w before waited;
+      watched = λ began. watched (waited-watched rest pause first a w before waited began);
       time =
           λ time. subst (λ (o : Option (List (ℕ × ℕ))). IsInTime (waits_of b.front.told) o) (sym calls)
-          (time-kept (waits_of w.front.told) (waits_of b.front.told) w.calls waits (waited-time tells rest pause first a w before waited time));
+          (time-kept (waits_of w.front.told) (waits_of b.front.told) w.calls waits (waited-time rest pause first a w before waited time));
       so_far =
           so_far-still (waits_of w.front.told) (waits_of b.front.told) w.calls b.calls b.board.book waits calls
           (informed-broken steps fault pause.woke pause.moment w.ready (waits_of a.front.told) (waits_of w.front.told) a.calls w.calls a.board.book b.board.book
-          before.informed (waited-more tells rest pause first a w waited) waited.asks here);
+          before.informed (waited-more rest pause first a w waited) waited.asks here);
     }
 
 -- the service by another pass
@@ -290,25 +291,25 @@ pub record HasServed (a b : SeenListener) : Type 0 where
   pub rest : LeavesRest a.board.book b.board.book
   pub others : b ≡ record a { board = b.board }
 
-served-informed : ActsInSteps → (tells : Type 0) (first a b : SeenListener) → IsBetween tells first a → HasServed a b → IsInformed (waits_of a.front.told) a.calls b.board.book
-served-informed steps tells first a b before served =
+served-informed : ActsInSteps → (first a b : SeenListener) → IsBetween first a → HasServed a b → IsInformed (waits_of a.front.told) a.calls b.board.book
+served-informed steps first a b before served =
     let serves = serves-acts steps a.board b.board served.serves in
     informed-as (waits_of a.front.told) a.calls a.board.book b.board.book
     (tells-same a.board.book b.board.book serves.acts.base serves.acts.folded
     (ap (map (λ (e : Entry). e.event)) (steps.others 1 0 serves.events None a.board.book b.board.book serves.acts another))) served.rest.moment before.informed
 
-served-watched : ActsInSteps → (tells : Type 0) (first a b : SeenListener) → IsBetween tells first a → HasServed a b → Watching tells first → tells
+served-watched : ActsInSteps → (first a b : SeenListener) → IsBetween first a → HasServed a b → Watching first
     → IfSome a.front.told (WatchesAll b.board.book)
-served-watched steps tells first a b before served began holds =
+served-watched steps first a b before served began =
     let serves = serves-acts steps a.board b.board served.serves in
     watched-as a.front.told a.board.book b.board.book (nobody-served 1 serves.events None a.board.book b.board.book (λ (same : 1 ≡ 0). cc) serves.acts)
-    served.rest.accepted (before.watched began holds)
+    served.rest.accepted (before.watched began)
 
 -- after it
-pub between-served : ActsInSteps → (tells : Type 0) (first a b : SeenListener) → IsBetween tells first a → HasServed a b → IsBetween tells first b
-between-served steps tells first a b before served =
+pub between-served : ActsInSteps → (first a b : SeenListener) → IsBetween first a → HasServed a b → IsBetween first b
+between-served steps first a b before served =
     let serves = serves-acts steps a.board b.board served.serves in
-    subst (IsBetween tells first) (sym served.others)
+    subst (IsBetween first) (sym served.others)
     (record {
       some = before.some;
       few = λ began. few-acts steps first.board.book.passes 1 serves.events None a.board.book b.board.book before.some serves.acts (before.few began);
@@ -321,16 +322,16 @@ between-served steps tells first a b before served =
       step = step-kept a.front.told a.board.book.state b.board.book.state served.rest.accepted before.step;
       follows = before.follows;
       bound = before.bound;
-      watched = served-watched steps tells first a b before served;
+      watched = served-watched steps first a b before served;
       time = before.time;
-      informed = served-informed steps tells first a b before served;
+      informed = served-informed steps first a b before served;
     })
 
 -- where it was broken off
-pub broken-served : ActsInSteps → (tells : Type 0) (first a b : SeenListener) → IsBetween tells first a → HasServed a b → HasBroken tells first b
-broken-served steps tells first a b before served =
+pub broken-served : ActsInSteps → (first a b : SeenListener) → IsBetween first a → HasServed a b → HasBroken first b
+broken-served steps first a b before served =
     let serves = serves-acts steps a.board b.board served.serves in
-    subst (HasBroken tells first) (sym served.others)
+    subst (HasBroken first) (sym served.others)
     (record {
       few = λ began. few-acts steps first.board.book.passes 1 serves.events None a.board.book b.board.book before.some serves.acts (before.few began);
       asked =
@@ -341,7 +342,7 @@ broken-served steps tells first a b before served =
       up = served.rest.up before.up;
       follows = before.follows;
       bound = before.bound;
-      watched = served-watched steps tells first a b before served;
+      watched = served-watched steps first a b before served;
       time = before.time;
-      so_far = informed-so_far _ _ _ (served-informed steps tells first a b before served);
+      so_far = informed-so_far _ _ _ (served-informed steps first a b before served);
     })

@@ -3,9 +3,22 @@ use Rattle.std.proofs.Common.{◌≡◌, ℕ, List, Option, ap, subst}
 use Rattle.mpm_base.specs.Front.{FrontSeen, Waits}
 use Rattle.conn_machine.specs.Runs.{after}
 use Rattle.conn_machine.specs.Sound.{IsSound}
+use Rattle.board.specs.Board.{SeenBoard}
 use Rattle.mpm_run.specs.declared.listen.Pause.{Pause}
 use Rattle.mpm_run.specs.declared.listen.Rest.{Rest}
-use Rattle.mpm_run.specs.ListenInside.{AsksFor, SeenListener}
+use Rattle.mpm_run.specs.ListenInside.{AsksFor}
+
+-- what is seen of a listener with its front and its clock: the board, the front, the calls of the clock, and the slots that the last
+-- wait gave
+pub record SeenListener : Type 0 where
+  pub board : SeenBoard
+  pub front : FrontSeen
+  pub calls : Option (List (ℕ × ℕ))
+  pub ready : List ℕ
+
+-- the same, of its parts
+abbrev pub listener_of : SeenBoard → FrontSeen → Option (List (ℕ × ℕ)) → List ℕ → SeenListener
+listener_of board front calls ready = record { board = board; front = front; calls = calls; ready = ready }
 
 -- the wait was told this and answered that, the moment is the clock's behind the answer, and the board is the one that it was; its state
 -- is that after the history, and sound

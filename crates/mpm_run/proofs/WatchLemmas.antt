@@ -29,7 +29,7 @@ use Rattle.board.specs.Book.{SeenBook}
 use Rattle.worker_group.specs.declared.service.Exit.{Exit}
 use Rattle.worker_group.specs.declared.service.Exit.TheVariants as exit
 use Rattle.worker_group.specs.Acts.{Acts}
-use Rattle.mpm_run.specs.ListenInside.{WatchesAll, number_after}
+use Rattle.mpm_run.specs.ListenInside.{IsArrival, OnlyReads, TellsAlike, WatchesAll, number_after}
 use Rattle.mpm_run.specs.declared.listen.End.{End}
 use Rattle.worker_group.specs.Service.{left_events}
 use Rattle.mpm_run.specs.ClosingInside.{IsHaltedWay, LetsGo, Departure, departure_events, lingering_give_up_events}
@@ -462,6 +462,22 @@ watched-took name answer link l (Some t) told' a b told_is rank is one accepted 
     let more : told' ≡ Some (record t { watches = t.watches ++ w ∷ [] }) =
     is ∙ ap (λ (o : Option LinkTold). Some (after_watch name answer o t)) told_is in
     subst (λ (o : Option FrontTold). IfSome o (WatchesAll b)) (sym more) (watches-took w t a b rank one accepted all)
+
+-- the same of a link that tells where the front does, and is the next arrival
+pub watched-taking : (name : ConnName) (answer : Bool) (link : Option LinkTold) (told told' : Option FrontTold) (a b : SeenBook) → TellsAlike told link
+    → IsArrival a.state.accepted link → told' ≡ option_map (after_watch name answer link) told → TakesOne name answer a b
+    → b.state.accepted ≡ next_count a.state.accepted → IfSome told (WatchesAll a) → IfSome told' (WatchesAll b)
+watched-taking name answer link None told' a b alike arrival is one accepted all = subst (λ (o : Option FrontTold). IfSome o (WatchesAll b)) (sym is) tt
+watched-taking name answer link (Some t) told' a b alike arrival is one accepted all =
+    let arrives = subst (IsArrival a.state.accepted) alike.1 arrival in
+    watched-took name answer link alike.0 (Some t) told' a b alike.1 arrives.rank is one accepted all
+
+-- command lines were read
+pub watched-reads : (told told' : Option FrontTold) (b : SeenBook) → TellsOn OnlyReads told told' → IfSome told (WatchesAll b) → IfSome told' (WatchesAll b)
+watched-reads None told' b reads all = subst (λ (o : Option FrontTold). IfSome o (WatchesAll b)) (sym reads) tt
+watched-reads (Some t) told' b reads all =
+    subst (λ (o : Option FrontTold). IfSome o (WatchesAll b)) (sym reads.1)
+    (watches-still t reads.0 b (ap (λ (x : FrontTold). x.watches) reads.2.rest) all)
 
 -- ## The parts of a round
 

@@ -1,16 +1,17 @@
 -- Why a run ends with its exit status, and what it leaves of the output.
-use Rattle.std.specs.Prelude.{◌≡◌, ℕ, ◌<◌, ◌≤◌, ◌⊎◌, List, ◌++◌, length, map, Option, Some, None, option_map, IfSome, IsSomeAnd, Ok, Err}
-use Rattle.mpm_base.specs.Count.{NeverFalls, Rises}
+use Rattle.std.specs.Prelude.{◌≡◌, ℕ, ◌≤◌, ◌<◌, ◌⊎◌, true, false, List, ◌++◌, length, map, Option, Some, None, option_map, IsSome, IsSomeAnd, Ok, Err}
+use Rattle.mpm_base.specs.CommandWord.{command_word}
+use Rattle.mpm_base.specs.Count.{Rises}
+use Rattle.mpm_base.specs.Front.{Binds, Dials, FrontSeen, moments_of}
+use Rattle.mpm_base.specs.Sink.{SinkSeen}
+use Rattle.mpm_base.specs.declared.script_line.CommandWord.{CommandWord}
+use Rattle.mpm_base.specs.declared.script_line.ScriptLine.{ScriptLine}
 use Rattle.mpm_script.specs.Clients.{clients_of, names_of}
 use Rattle.mpm_script.specs.Script.{ScriptIs}
-use Rattle.script_front.specs.ScriptClock.{echo}
-use Rattle.script_front.specs.ScriptFront.{SeenFront, comings_of}
-use Rattle.mpm_base.specs.Front.{moments_of}
-use Rattle.mpm_base.specs.Sink.{SinkSeen}
-use Rattle.mpm_base.specs.Store.{StoreSeen, bytes_of}
-use Rattle.mpm_base.specs.declared.script_line.ScriptLine.{ScriptLine}
 use Rattle.mpm_script.specs.declared.script.ScriptFault.{ScriptFault}
 use Rattle.mpm_script.specs.declared.script.ScriptFault.TheVariants as script
+use Rattle.script_front.specs.ScriptClock.{echo}
+use Rattle.script_front.specs.ScriptFront.{SeenFront, comings_of}
 use Rattle.conn_machine.specs.declared.event.Why.TheVariants as why
 use Rattle.conn_machine.specs.declared.state.Going.{Going}
 use Rattle.conn_machine.specs.declared.state.Going.TheVariants.{Halted}
@@ -19,15 +20,17 @@ use Rattle.board.specs.Book.{HasEntryOf, full_stop}
 use Rattle.board.specs.Board.{SeenBoard}
 use Rattle.mpm_config.specs.Config.{Configuration}
 use Rattle.file_table.specs.Site.{SeenSite}
+use Rattle.mpm_run.specs.Calls.{Call, HasAccepted, HasFile, HasScript, IsRefusedAsLarge, IsUnread, KeepsFiles, LacksSite, LoadsSite, PlaysLines, StoreFailed, WritesText, most_script}
 use Rattle.mpm_run.specs.Configured.{Configures, HasConfig, IsNoConfig, IsRefused, most_config, warnings_of}
-use Rattle.mpm_run.specs.Invocations.{IsNoInvocation, NamesFile, script_words, test_words}
 use Rattle.mpm_run.specs.FirstNumbers.{numbers_of}
-use Rattle.mpm_run.specs.Listen.{HasClosedAll, IsRunFrom}
+use Rattle.command_words.specs.Invocations.{IsNoInvocation, IsScriptWords, IsSendWords, IsServeWords, IsTestWords, NamesConfig, NamesFile}
+use Rattle.mpm_run.specs.Listen.{HasClosedAll, IsRunFrom, NeverFolded}
+use Rattle.mpm_run.specs.Outside.{KeepsOutside}
 use Rattle.mpm_run.specs.Patient.{ArePatient}
 use Rattle.mpm_run.specs.Report.{report_of}
 use Rattle.mpm_run.specs.Sites.{AllServedBy, HasSite, IsSiteRefused, head_limits_of}
 use Rattle.mpm_run.specs.Tells.{AllReceive}
-use Rattle.mpm_run.specs.Texts.{config_refused, script_refused, site_refused, store_fault, syntax_ok, usage}
+use Rattle.mpm_run.specs.Texts.{config_refused, front_fault, no_control_line, script_refused, site_refused, store_fault, syntax_ok, usage}
 use Rattle.mpm_run.specs.Times.{WasInformed}
 use Rattle.mpm_run.specs.declared.outcome.Scripted.{Scripted}
 use Rattle.mpm_run.specs.declared.texts.ConfigRefusal.{ConfigRefusal}
@@ -35,59 +38,7 @@ use Rattle.mpm_run.specs.declared.texts.ConfigRefusal.TheVariants.{BadValue}
 use Rattle.mpm_run.specs.declared.texts.ScriptRefusal.{ScriptRefusal}
 use Rattle.mpm_run.specs.declared.texts.ScriptRefusal.TheVariants.{BadLine, MomentBackwards, UnknownName, NotYet}
 
--- ## A call
-
--- the text was written whole, unless a write failed; then nothing is said of how much of it was
-pub record WritesText (old new : SinkSeen) (text : List ℕ) : Type 0 where
-  pub faults : NeverFalls old.faults new.faults
-  pub whole : (new.told ≡ option_map (λ written. written ++ text) old.told) ⊎ Rises old.faults new.faults
-
--- the greatest size of a script, in bytes
-abbrev pub most_script : ℕ
-most_script = 67108864
-
--- a call of `run`: its words, what is seen of the store and of the output before it and after it, and the number it shows
-pub record Call : Type 0 where
-  pub words : List (List ℕ)
-  pub store : StoreSeen
-  pub store' : StoreSeen
-  pub sink : SinkSeen
-  pub sink' : SinkSeen
-  pub shown : Option ℕ
-
--- a call of `run`, of its parts
-abbrev pub seen_call : List (List ℕ) → StoreSeen → StoreSeen → SinkSeen → SinkSeen → Option ℕ → Call
-seen_call words store store' sink sink' shown =
-    record { words = words; store = store; store' = store'; sink = sink; sink' = sink'; shown = shown }
-
--- the files that the store tells are as they were
-abbrev pub KeepsFiles : Call → Type 0
-KeepsFiles call = call.store'.told ≡ call.store.told
-
--- the files of the store are as they were, where it tells them, and one of that name has these bytes, which are not too many
-pub record HasFile (most : ℕ) (call : Call) (name bytes : List ℕ) : Type 0 where
-  pub kept : KeepsFiles call
-  pub few : length bytes ≤ most
-  pub file : IfSome call.store.told (λ t. bytes_of name t.files ≡ Some bytes)
-
--- the files of the store are as they were, and the script of that name has these bytes, which are not too many
-abbrev pub HasScript : Call → List ℕ → List ℕ → Type 0
-HasScript call name bytes = HasFile most_script call name bytes
-
 -- ## Where no run opened
-
--- there is no file of that name: the store counted a refusal, and where it tells its files it has none
-pub record LacksFile (call : Call) (name : List ℕ) : Type 0 where
-  pub refused : Rises call.store.counts.refusals call.store'.counts.refusals
-  pub none : IfSome call.store.told (λ t. bytes_of name t.files ≡ None)
-
--- a call of the store failed, as it counted
-abbrev pub StoreFailed : Call → Type 0
-StoreFailed call = Rises call.store.counts.faults call.store'.counts.faults
-
--- the file is missing, which is shown as place 0, or a call of the store failed
-abbrev pub IsUnread : Call → List ℕ → Type 0
-IsUnread call name = ((call.shown ≡ Some 0) × LacksFile call name) ⊎ ((call.shown ≡ None) × StoreFailed call)
 
 -- with exit status 2
 pub record EndsUnknown (call : Call) : Type 0 where
@@ -96,23 +47,32 @@ pub record EndsUnknown (call : Call) : Type 0 where
   pub shows : call.shown ≡ None
   pub text : WritesText call.sink call.sink' usage
 
--- with exit status 3
-pub record EndsUnread (call : Call) : Type 0 where
+-- with exit status 3, for the file that the words name
+pub record EndsFileUnread (call : Call) : Type 0 where
   pub name : List ℕ
   pub command : NamesFile call.words name
   pub kept : KeepsFiles call
   pub cause : IsUnread call name
   pub text : WritesText call.sink call.sink' (store_fault name)
 
--- the file of that name is too large: the store counted a refusal, and where it tells its files that one is
-pub record IsRefusedAsLarge (most : ℕ) (call : Call) (name : List ℕ) : Type 0 where
-  pub refused : Rises call.store.counts.refusals call.store'.counts.refusals
-  pub large : IfSome call.store.told (λ t. (bytes : List ℕ) × (bytes_of name t.files ≡ Some bytes) × (most < length bytes))
+-- with exit status 3, for the files of the site: the configuration is accepted, and a call of the store failed
+pub record EndsSiteUnread (call : Call) : Type 0 where
+  pub name : List ℕ
+  pub config : Configuration
+  pub command : IsServeWords call.words name
+  pub accepted : HasAccepted call name config
+  pub failed : StoreFailed call
+  pub shows : call.shown ≡ None
+  pub text : WritesText call.sink call.sink' (store_fault config.root)
+
+-- with exit status 3
+abbrev pub EndsUnread : Call → Type 0
+EndsUnread call = EndsFileUnread call ⊎ EndsSiteUnread call
 
 -- with exit status 8, for the size
 pub record EndsTooLarge (call : Call) : Type 0 where
   pub name : List ℕ
-  pub command : call.words ≡ script_words name
+  pub command : IsScriptWords call.words name
   pub kept : KeepsFiles call
   pub cause : IsRefusedAsLarge most_script call name
   pub shows : call.shown ≡ Some 0
@@ -131,7 +91,7 @@ pub record EndsAtLine (call : Call) : Type 0 where
   pub bytes : List ℕ
   pub line : ℕ
   pub why : ScriptRefusal
-  pub command : call.words ≡ script_words name
+  pub command : IsScriptWords call.words name
   pub has : HasScript call name bytes
   pub refused : ScriptIs bytes (Err (fault_at why line))
   pub shows : call.shown ≡ Some line
@@ -143,38 +103,34 @@ EndsRefused call = EndsTooLarge call ⊎ EndsAtLine call
 
 -- ## Where a configuration is refused
 
--- with exit status 1, for the size of the configuration that was to be tested
-pub record EndsTestTooLarge (call : Call) : Type 0 where
+-- with exit status 1, for the size of the configuration that the words name
+pub record EndsConfigTooLarge (call : Call) : Type 0 where
   pub name : List ℕ
-  pub command : call.words ≡ test_words name
+  pub command : NamesConfig call.words name
   pub kept : KeepsFiles call
   pub cause : IsRefusedAsLarge most_config call name
   pub shows : call.shown ≡ Some 0
   pub text : WritesText call.sink call.sink' (config_refused 0 BadValue)
 
--- with exit status 1, for a line or a place of the configuration that was to be tested
-pub record EndsTestRefused (call : Call) : Type 0 where
+-- with exit status 1, for a line or a place of the configuration that the words name
+pub record EndsConfigUnfit (call : Call) : Type 0 where
   pub name : List ℕ
   pub bytes : List ℕ
   pub number : ℕ
   pub why : ConfigRefusal
-  pub command : call.words ≡ test_words name
+  pub command : NamesConfig call.words name
   pub has : HasFile most_config call name bytes
   pub refused : IsRefused bytes why number
   pub shows : call.shown ≡ Some number
   pub text : WritesText call.sink call.sink' (config_refused number why)
 
--- with exit status 1, for the configuration of a script that was read
+-- with exit status 1, for the configuration of a script
 pub record EndsMisconfigured (call : Call) : Type 0 where
-  pub name : List ℕ
-  pub bytes : List ℕ
   pub lines : List ScriptLine
   pub config : List ℕ
   pub number : ℕ
   pub why : ConfigRefusal
-  pub command : call.words ≡ script_words name
-  pub has : HasScript call name bytes
-  pub script : ScriptIs bytes (Ok lines)
+  pub plays : PlaysLines call lines
   pub config_is : HasConfig lines config
   pub refused : IsNoConfig config why number
   pub shows : call.shown ≡ Some number
@@ -182,49 +138,109 @@ pub record EndsMisconfigured (call : Call) : Type 0 where
 
 -- with exit status 1
 abbrev pub EndsConfigRefused : Call → Type 0
-EndsConfigRefused call = EndsMisconfigured call ⊎ EndsTestTooLarge call ⊎ EndsTestRefused call
+EndsConfigRefused call = EndsMisconfigured call ⊎ EndsConfigTooLarge call ⊎ EndsConfigUnfit call
 
 -- ## Where a site is refused
 
--- with exit status 9: the script was read, and its configuration accepted, but there is no site by it
-pub record EndsSiteRefused (call : Call) : Type 0 where
-  pub name : List ℕ
-  pub bytes : List ℕ
+-- with exit status 9, for the site of a script, whose configuration is accepted
+pub record EndsScriptSiteRefused (call : Call) : Type 0 where
   pub lines : List ScriptLine
   pub config_text : List ℕ
   pub config : Configuration
   pub refused_for : List ℕ
-  pub command : call.words ≡ script_words name
-  pub has : HasScript call name bytes
-  pub script : ScriptIs bytes (Ok lines)
+  pub plays : PlaysLines call lines
   pub config_is : HasConfig lines config_text
   pub accepted : Configures config_text config
   pub refused : IsSiteRefused lines config refused_for
   pub shows : call.shown ≡ None
   pub text : WritesText call.sink call.sink' (site_refused refused_for)
 
+-- with exit status 9, for the site that was to be served, whose configuration is accepted
+pub record EndsServedSiteRefused (call : Call) : Type 0 where
+  pub name : List ℕ
+  pub config : Configuration
+  pub refused_for : List ℕ
+  pub command : IsServeWords call.words name
+  pub accepted : HasAccepted call name config
+  pub refused : LacksSite call config refused_for
+  pub shows : call.shown ≡ None
+  pub text : WritesText call.sink call.sink' (site_refused refused_for)
+
+-- with exit status 9
+abbrev pub EndsSiteRefused : Call → Type 0
+EndsSiteRefused call = EndsScriptSiteRefused call ⊎ EndsServedSiteRefused call
+
 -- ## Where a configuration was tested
 
--- the words have a configuration tested, which is accepted
-pub record HasTested (call : Call) (c : Configuration) : Type 0 where
-  pub name : List ℕ
-  pub bytes : List ℕ
-  pub command : call.words ≡ test_words name
-  pub has : HasFile most_config call name bytes
-  pub accepted : Configures bytes c
-  pub shows : call.shown ≡ None
-
--- with exit status 0, of a test: its warnings were written, and that it is accepted
+-- with exit status 0, of a test: the configuration is accepted, its warnings were written, and that it is
 pub record EndsTested (call : Call) : Type 0 where
+  pub name : List ℕ
   pub config : Configuration
-  pub tested : HasTested call config
+  pub command : IsTestWords call.words name
+  pub accepted : HasAccepted call name config
+  pub shows : call.shown ≡ None
   pub text : call.sink'.told ≡ option_map (λ written. written ++ (warnings_of config ++ syntax_ok)) call.sink.told
 
 -- with exit status 5, of a test: the configuration is accepted, and a write of its texts failed
 pub record EndsTestUnwritten (call : Call) : Type 0 where
+  pub name : List ℕ
   pub config : Configuration
-  pub tested : HasTested call config
+  pub command : IsTestWords call.words name
+  pub accepted : HasAccepted call name config
+  pub shows : call.shown ≡ None
   pub failed : Rises call.sink.faults call.sink'.faults
+
+-- ## Where a command was sent
+
+-- the words have the command sent to the control port of the configuration of that name, which is accepted
+pub record Sends (call : Call) (word : CommandWord) (port : ℕ) : Type 0 where
+  pub name : List ℕ
+  pub config : Configuration
+  pub command : IsSendWords call.words word name
+  pub accepted : HasAccepted call name config
+  pub control : config.control ≡ Some port
+  pub shows : call.shown ≡ None
+
+-- with exit status 0, of a command: the front dialled the port with its word, and nothing was written
+pub record EndsSent (call : Call) (f f' : FrontSeen) : Type 0 where
+  pub word : CommandWord
+  pub port : ℕ
+  pub sends : Sends call word port
+  pub dials : Dials f f' port (command_word word) true
+  pub unwritten : call.sink' ≡ call.sink
+
+-- with exit status 10: the configuration is accepted, and has no control line
+pub record EndsUncontrolled (call : Call) : Type 0 where
+  pub word : CommandWord
+  pub name : List ℕ
+  pub config : Configuration
+  pub command : IsSendWords call.words word name
+  pub accepted : HasAccepted call name config
+  pub control : config.control ≡ None
+  pub shows : call.shown ≡ None
+  pub text : WritesText call.sink call.sink' no_control_line
+
+-- ## Where the front failed before a run opened
+
+-- with exit status 4, of a command: the dial failed
+pub record EndsUndialled (call : Call) (f f' : FrontSeen) : Type 0 where
+  pub word : CommandWord
+  pub port : ℕ
+  pub sends : Sends call word port
+  pub dials : Dials f f' port (command_word word) false
+  pub text : WritesText call.sink call.sink' front_fault
+
+-- with exit status 4, of a server: its configuration is accepted and its site loaded, and the front could not be bound
+pub record EndsUnbound (call : Call) (f f' : FrontSeen) : Type 0 where
+  pub name : List ℕ
+  pub config : Configuration
+  pub site : SeenSite
+  pub command : IsServeWords call.words name
+  pub accepted : HasAccepted call name config
+  pub loads : LoadsSite call config site
+  pub binds : Binds f f' config.listen config.control false
+  pub shows : call.shown ≡ None
+  pub text : WritesText call.sink call.sink' front_fault
 
 -- ## Where a run opened
 
@@ -240,30 +256,70 @@ run_text c b = warnings_of c ++ board_report b
 abbrev pub Reports : SinkSeen → SinkSeen → Configuration → SeenBoard → Type 0
 Reports old new c b = new.told ≡ option_map (λ written. written ++ run_text c b) old.told
 
--- what is left of a run of this configuration, this site and these clients: it closed each connection that it took, each child is
--- gone, and each connection received a front of what its client sends, and all of it where the client had done, and was served by
--- the limits of the configuration and the site
-pub record HasRun (c : Configuration) (site : SeenSite) (clients : List (List ℕ)) (b : SeenBoard) : Type 0 where
+-- how a run that stopped so may end: with 6 besides wherever memory lacked for its report
+abbrev pub MayEndWith : Going → ℕ → Type 0
+MayEndWith (Halted why.FrontEnded) status = (status ≡ 0) ⊎ (status ≡ 5) ⊎ (status ≡ 6)
+MayEndWith (Halted why.Asked) status = (status ≡ 0) ⊎ (status ≡ 5) ⊎ (status ≡ 6)
+MayEndWith (Halted why.FrontFailed) status = (status ≡ 4) ⊎ (status ≡ 6)
+MayEndWith (Halted why.Full) status = (status ≡ 7) ⊎ (status ≡ 6)
+MayEndWith (Halted why.NoMemory) status = status ≡ 6
+MayEndWith other status = ⊥
+
+-- the server stopped because nothing more could come, or because it was asked to
+abbrev pub IsGoodEnd : Going → Type 0
+IsGoodEnd going = (going ≡ Halted why.FrontEnded) ⊎ (going ≡ Halted why.Asked)
+
+-- with exit status 0, of a run: it stopped so, and the warnings and the report were written
+pub record EndsWell (sink sink' : SinkSeen) (c : Configuration) (b : SeenBoard) : Type 0 where
+  pub going : IsGoodEnd b.book.state.going
+  pub report : Reports sink sink' c b
+
+-- with exit status 5, of a run: the same, but a write of them failed
+pub record EndsUnwritten (sink sink' : SinkSeen) (b : SeenBoard) : Type 0 where
+  pub going : IsGoodEnd b.book.state.going
+  pub failed : Rises sink.faults sink'.faults
+
+-- with exit status 7: the history has a stop because it is full, at a load that is at its limit
+pub record EndsFull (sink sink' : SinkSeen) (c : Configuration) (b : SeenBoard) : Type 0 where
+  pub stop : HasEntryOf full_stop b.book.history
+  pub full : full_load ≤ load stop.before
+  pub text : WritesText sink sink' (run_text c b)
+
+-- with exit status 4, of a run: a wait of its front failed
+pub record EndsFailed (sink sink' : SinkSeen) (c : Configuration) (b : SeenBoard) : Type 0 where
+  pub going : b.book.state.going ≡ Halted why.FrontFailed
+  pub text : WritesText sink sink' (run_text c b)
+
+-- how a run ends with its exit status
+pub record EndsAs (sink sink' : SinkSeen) (c : Configuration) (b : SeenBoard) (status : ℕ) : Type 0 where
+  pub may : MayEndWith b.book.state.going status
+  pub well : status ≡ 0 → EndsWell sink sink' c b
+  pub failed : status ≡ 4 → EndsFailed sink sink' c b
+  pub unwritten : status ≡ 5 → EndsUnwritten sink sink' b
+  pub full : status ≡ 7 → EndsFull sink sink' c b
+
+-- what is left of a run of this configuration and this site: nothing of its history was folded, it closed each connection that it
+-- took, each child is gone, and each connection was served by the limits of the configuration and the site
+pub record HasRun (c : Configuration) (site : SeenSite) (b : SeenBoard) : Type 0 where
   pub run : IsRunFrom (numbers_of c) b
+  pub unfolded : NeverFolded (numbers_of c) b.book
   pub closed : HasClosedAll b
-  pub receive : AllReceive clients b.ended
   pub served : AllServedBy (head_limits_of c) site b.ended
 
--- a script was read, and what is left is of a run of it by its configuration and its site: a board, and the front that played the
--- script
+-- ## Of a script
+
+-- a script was played, and what is left is of a run of it by its configuration and its site: a board, and the front that played the
+-- script; each connection received a front of what its client sends, and all of it where the client had done
 pub record HasPlayed (call : Call) (c : Configuration) (b : SeenBoard) (f : SeenFront) : Type 0 where
-  pub name : List ℕ
-  pub bytes : List ℕ
   pub config : List ℕ
   pub site : SeenSite
-  pub command : call.words ≡ script_words name
-  pub has : HasScript call name bytes
-  pub script : ScriptIs bytes (Ok f.script)
+  pub plays : PlaysLines call f.script
   pub config_is : HasConfig f.script config
   pub accepted : Configures config c
   pub site_is : HasSite f.script c site
   pub shows : call.shown ≡ None
-  pub has_run : HasRun c site (clients_of f.script) b
+  pub has_run : HasRun c site b
+  pub receive : AllReceive (clients_of f.script) b.ended
 
 -- the clock was told exactly the moments that the waits of the front gave, in order, and answered each; and the history's ticks
 -- and signals come from them
@@ -276,45 +332,51 @@ pub record KeepsTime (b : SeenBoard) (f : SeenFront) (calls : List (ℕ × ℕ))
 abbrev pub KeepsPatience : SeenBoard → SeenFront → Type 0
 KeepsPatience b f = ArePatient (comings_of f.script) f.told.waits b.book.base b.book.history
 
--- how a run that stopped so may end: with 6 besides wherever memory lacked for its report
-abbrev pub MayEndWith : Going → ℕ → Type 0
-MayEndWith (Halted why.FrontEnded) status = (status ≡ 0) ⊎ (status ≡ 5) ⊎ (status ≡ 6)
-MayEndWith (Halted why.Full) status = (status ≡ 7) ⊎ (status ≡ 6)
-MayEndWith (Halted why.NoMemory) status = status ≡ 6
-MayEndWith other status = ⊥
-
 -- the script was played to its end: a wait answered Ended, all lines have happened, and each connection of the script was taken
 pub record HasEnd (b : SeenBoard) (f : SeenFront) : Type 0 where
   pub answered : 0 < f.ends
   pub happened : f.happened ≡ length f.script
   pub taken : b.book.state.accepted ≡ length (names_of f.script)
 
--- with exit status 0, of a run: the server stopped because nothing more could come, and the warnings and the report were written
-pub record EndsWell (sink sink' : SinkSeen) (c : Configuration) (b : SeenBoard) : Type 0 where
-  pub going : b.book.state.going ≡ Halted why.FrontEnded
-  pub report : Reports sink sink' c b
+-- ## Of a server
 
--- with exit status 5, of a run: the same, but a write of them failed
-pub record EndsUnwritten (sink sink' : SinkSeen) (b : SeenBoard) : Type 0 where
-  pub going : b.book.state.going ≡ Halted why.FrontEnded
-  pub failed : Rises sink.faults sink'.faults
+-- a server was run over the front and the clock, and what is left is of a run by the configuration of the file that the words name and
+-- by the site of the store; it is tied to the front and the clock, and ended as its exit status says
+pub record HasServed (call : Call) (f f' : FrontSeen) (calls : Option (List (ℕ × ℕ))) (status : ℕ) (b : SeenBoard) : Type 0 where
+  pub name : List ℕ
+  pub config : Configuration
+  pub site : SeenSite
+  pub command : IsServeWords call.words name
+  pub accepted : HasAccepted call name config
+  pub loads : LoadsSite call config site
+  pub shows : call.shown ≡ None
+  pub has_run : HasRun config site b
+  pub outside : KeepsOutside (numbers_of config) f f' calls b
+  pub ends : EndsAs call.sink call.sink' config b status
 
--- with exit status 7: the history has a stop because it is full, at a load that is at its limit
-pub record EndsFull (sink sink' : SinkSeen) (c : Configuration) (b : SeenBoard) : Type 0 where
-  pub stop : HasEntryOf full_stop b.book.history
-  pub full : full_load ≤ load stop.before
-  pub text : WritesText sink sink' (run_text c b)
+-- ## Of each
 
 -- the exit statuses that there are
 abbrev pub IsExitStatus : ℕ → Type 0
-IsExitStatus s = (s ≡ 0) ⊎ (s ≡ 1) ⊎ (s ≡ 2) ⊎ (s ≡ 3) ⊎ (s ≡ 5) ⊎ (s ≡ 6) ⊎ (s ≡ 7) ⊎ (s ≡ 8) ⊎ (s ≡ 9)
+IsExitStatus s = s ≤ 10
 
--- ## Of a run, or of a test
+-- with exit status 0: the run of a script ended well, or one over the front did, as is said of its board; or a test did, or a command
+-- was sent
+abbrev pub Succeeds : Call → FrontSeen → FrontSeen → Option Scripted → Option SeenBoard → Type 0
+Succeeds call f f' scripted board =
+    IsSomeAnd scripted (λ s. EndsWell call.sink call.sink' s.config s.board) ⊎ IsSome board ⊎ EndsTested call ⊎ EndsSent call f f'
 
--- with exit status 0: the run that is left ended well, or the test did
-abbrev pub Succeeds : Call → Option Scripted → Type 0
-Succeeds call scripted = IsSomeAnd scripted (λ s. EndsWell call.sink call.sink' s.config s.board) ⊎ EndsTested call
+-- with exit status 4: a wait failed of the run over the front, as is said of its board; or the front could not be bound; or the dial of
+-- a command failed
+abbrev pub EndsFrontFault : Call → FrontSeen → FrontSeen → Option SeenBoard → Type 0
+EndsFrontFault call f f' board = IsSome board ⊎ EndsUnbound call f f' ⊎ EndsUndialled call f f'
 
--- with exit status 5: a write failed of the texts of the run that is left, or of those of the test
-abbrev pub LacksOutput : Call → Option Scripted → Type 0
-LacksOutput call scripted = IsSomeAnd scripted (λ s. EndsUnwritten call.sink call.sink' s.board) ⊎ EndsTestUnwritten call
+-- with exit status 5: a write failed of the texts of a script's run, or of one over the front, as is said of its board; or of those of
+-- a test
+abbrev pub LacksOutput : Call → Option Scripted → Option SeenBoard → Type 0
+LacksOutput call scripted board =
+    IsSomeAnd scripted (λ s. EndsUnwritten call.sink call.sink' s.board) ⊎ IsSome board ⊎ EndsTestUnwritten call
+
+-- with exit status 7: the history of a script's run is full, or that of one over the front, as is said of its board
+abbrev pub EndsFilled : Call → Option Scripted → Option SeenBoard → Type 0
+EndsFilled call scripted board = IsSomeAnd scripted (λ s. EndsFull call.sink call.sink' s.config s.board) ⊎ IsSome board

@@ -1,5 +1,5 @@
 -- What the parts of the top call say of the exit status and of what was written.
-use Rattle.std.specs.Prelude.{◌≡◌, ◌==◌, ℕ, ◌≤◌, Bool, true, false, if◌then◌else◌, ◌⊎◌, List, ◌++◌, Option, Some, option_map}
+use Rattle.std.specs.Prelude.{◌≡◌, ◌==◌, ℕ, ◌≤◌, Bool, true, false, if◌then◌else◌, ◌⊎◌, List, ◌++◌, Option, None, Some, option_map}
 use Rattle.mpm_base.specs.Count.{NeverFalls, Rises}
 use Rattle.mpm_base.specs.Sink.{SinkSeen}
 use Rattle.mpm_base.specs.declared.script_line.ScriptLine.{ScriptLine}
@@ -15,13 +15,15 @@ use Rattle.conn_machine.specs.declared.state.Going.{Going}
 use Rattle.conn_machine.specs.declared.state.Going.TheVariants.{Halted}
 use Rattle.mpm_run.specs.Configured.{Configures, HasConfig}
 use Rattle.mpm_run.specs.ConfiguredInside.{HasBadConfig}
-use Rattle.mpm_run.specs.ExitStatuses.{HasEnd, HasRun, KeepsPatience, KeepsTime, WritesText, fault_at}
+use Rattle.mpm_run.specs.Calls.{WritesText}
+use Rattle.mpm_run.specs.Commands.{HeedsLines}
+use Rattle.mpm_run.specs.ExitStatuses.{HasEnd, HasRun, KeepsPatience, KeepsTime, fault_at}
 use Rattle.mpm_run.specs.FirstNumbers.{numbers_of}
 use Rattle.mpm_run.specs.Links.{KeepsLinks}
 use Rattle.mpm_run.specs.Sites.{HasSite}
-use Rattle.mpm_run.specs.Listen.{NeverFolded}
 use Rattle.mpm_run.specs.Started.{IsStartedFirst}
-use Rattle.mpm_run.specs.Texts.{config_refused, script_refused}
+use Rattle.mpm_run.specs.Tells.{AllReceive}
+use Rattle.mpm_run.specs.Texts.{config_refused, script_refused, store_fault}
 use Rattle.mpm_run.specs.Watched.{AreWatched, IsOpenedAndHushed}
 use Rattle.mpm_run.specs.declared.config_reading.NoConfig.{NoConfig}
 use Rattle.mpm_run.specs.declared.config_reading.NoConfig.TheVariants as no
@@ -34,13 +36,15 @@ use Rattle.mpm_run.specs.declared.texts.ScriptRefusal.{ScriptRefusal}
 -- the exit status of a run that stopped so, unless its report is not written
 abbrev pub IsExitStatusOf : Going → ℕ → Type 0
 IsExitStatusOf (Halted why.FrontEnded) status = status ≡ 0
+IsExitStatusOf (Halted why.Asked) status = status ≡ 0
+IsExitStatusOf (Halted why.FrontFailed) status = status ≡ 4
 IsExitStatusOf (Halted why.Full) status = status ≡ 7
 IsExitStatusOf (Halted why.NoMemory) status = status ≡ 6
 IsExitStatusOf other status = ⊥
 
 -- the exit statuses before the report
 abbrev pub IsStoppedStatus : ℕ → Type 0
-IsStoppedStatus s = (s ≡ 0) ⊎ (s ≡ 6) ⊎ (s ≡ 7)
+IsStoppedStatus s = (s ≡ 0) ⊎ (s ≡ 4) ⊎ (s ≡ 6) ⊎ (s ≡ 7)
 
 -- what a report makes of an exit status: a failed write changes 0 alone, and want of memory each
 abbrev pub ReportsAs : ℕ → ℕ → Type 0
@@ -63,11 +67,22 @@ IsScriptStatus s = (s ≡ 0) ⊎ (s ≡ 1) ⊎ (s ≡ 3) ⊎ (s ≡ 5) ⊎ (s �
 abbrev pub IsTestStatus : ℕ → Type 0
 IsTestStatus s = (s ≡ 0) ⊎ (s ≡ 1) ⊎ (s ≡ 3) ⊎ (s ≡ 5) ⊎ (s ≡ 6)
 
+-- the exit statuses of a server that was run, or for which the front could not be bound or memory lacked
+abbrev pub IsOpenedStatus : ℕ → Type 0
+IsOpenedStatus s = (s ≡ 0) ⊎ (s ≡ 4) ⊎ (s ≡ 5) ⊎ (s ≡ 6) ⊎ (s ≡ 7)
+
+-- the exit statuses of a server
+abbrev pub IsServedStatus : ℕ → Type 0
+IsServedStatus s = IsOpenedStatus s ⊎ (s ≡ 1) ⊎ (s ≡ 3) ⊎ (s ≡ 9)
+
+-- the exit statuses of a command
+abbrev pub IsSentStatus : ℕ → Type 0
+IsSentStatus s = (s ≡ 0) ⊎ (s ≡ 1) ⊎ (s ≡ 3) ⊎ (s ≡ 4) ⊎ (s ≡ 6) ⊎ (s ≡ 10)
+
 -- ## What is left
 
 -- what holds of what is left of each run
 pub record IsLeftOfRun (s : Scripted) : Type 0 where
-  pub unfolded : NeverFolded (numbers_of s.config) s.board.book
   pub site : s.store.told ≡ editions_of s.front.script
   pub front : IsOpenedAndHushed (numbers_of s.config) s.front.told
   pub started : IsStartedFirst (numbers_of s.config) s.board.book s.front.told
@@ -75,6 +90,7 @@ pub record IsLeftOfRun (s : Scripted) : Type 0 where
   pub links : KeepsLinks s.board s.front.told
   pub time : KeepsTime s.board s.front s.clock
   pub patient : KeepsPatience s.board s.front
+  pub heeded : HeedsLines s.board.book.state.going s.front.told
   pub ended : s.board.book.state.going ≡ Halted why.FrontEnded → HasEnd s.board s.front
 
 -- what is left is of a run of the script, by the configuration that its lines write, and the site that they have by it
@@ -85,7 +101,8 @@ pub record IsPlayed (lines : List ScriptLine) (s : Scripted) : Type 0 where
   pub text_is : HasConfig lines text
   pub accepted : Configures text s.config
   pub site_is : HasSite lines s.config site
-  pub has_run : HasRun s.config site (clients_of lines) s.board
+  pub has_run : HasRun s.config site s.board
+  pub receive : AllReceive (clients_of lines) s.board.ended
 
 -- the history has a stop because it is full, at a load that is at its limit
 pub record IsFullStop (b : SeenBoard) : Type 0 where
@@ -119,6 +136,14 @@ RefusesConfig sink sink' no.NoMemory shown = ⊥
 RefusesConfig sink sink' no.Missing shown = ⊥
 RefusesConfig sink sink' no.Failed shown = ⊥
 
+-- a command is refused with the exit status, as there is no configuration of the file of that name
+abbrev pub RefusesConfigOf : SinkSeen → SinkSeen → List ℕ → NoConfig → ℕ → Option ℕ → Type 0
+RefusesConfigOf sink sink' name (no.Refused why number) status shown =
+    (status ≡ 1) × RefusesRun sink sink' (Some number) (config_refused number why) shown
+RefusesConfigOf sink sink' name no.Missing status shown = (status ≡ 3) × RefusesRun sink sink' (Some 0) (store_fault name) shown
+RefusesConfigOf sink sink' name no.Failed status shown = (status ≡ 3) × RefusesRun sink sink' None (store_fault name) shown
+RefusesConfigOf sink sink' name no.NoMemory status shown = ⊥
+
 -- the configuration of the script is refused: what is shown of it, and its text was written
 pub record IsConfigRefusalOf (sink sink' : SinkSeen) (lines : List ScriptLine) (shown : Option ℕ) : Type 0 where
   pub number : ℕ
@@ -132,4 +157,4 @@ pub record EndsReport (sink sink' : SinkSeen) (text : List ℕ) (written : Bool)
   pub faults : NeverFalls sink.faults sink'.faults
   pub well : status ≡ 0 → (written ≡ true) × (sink'.told ≡ option_map (λ before. before ++ text) sink.told)
   pub failed : status ≡ 5 → (written ≡ false) ⊎ Rises sink.faults sink'.faults
-  pub full : status ≡ 7 → WritesText sink sink' text
+  pub writes : (status ≡ 4) ⊎ (status ≡ 7) → WritesText sink sink' text

@@ -1,12 +1,12 @@
 -- What the listener keeps on its way, of its front, its clock and its table, and how its turns end.
-use Rattle.std.specs.Prelude.{◌≡◌, ℕ, List, map, Option, IfSome, option_map, is_some, min, ◌⊎◌, ◌↔◌, ◌≤◌, Bool, true, false, [], ◌∷◌, None, Some, slice_get, length, Result, Ok, Err, ⊤}
-use Rattle.mpm_base.specs.Clock.{Answers, asked_at}
-use Rattle.mpm_base.specs.Front.{Binds, FrontTold, FrontSeen, BoundTold, WaitTold, moments_of, HasNoneToTake}
+use Rattle.std.specs.Prelude.{◌≡◌, ◌<◌, ℕ, List, map, Option, IfSome, option_map, is_some, min, ◌⊎◌, ◌↔◌, ◌≤◌, Bool, true, false, [], ◌∷◌, None, Some, slice_get, length, Result, Ok, Err, ⊤}
+use Rattle.mpm_base.specs.Clock.{Answers}
+use Rattle.mpm_base.specs.Front.{Binds, FrontTold, FrontSeen, BoundTold, WaitTold, HasNoneToTake}
 use Rattle.mpm_base.specs.declared.front.Woke.{Woke}
 use Rattle.mpm_base.specs.declared.front.Woke.TheVariants as woke
 use Rattle.std.specs.List.{list_any}
-use Rattle.mpm_base.specs.Count.{NeverFalls, Rises, next_count}
-use Rattle.mpm_base.specs.Link.{LinkTold, LinkSeen}
+use Rattle.mpm_base.specs.Count.{NeverFalls, Rises, greatest_count, next_count}
+use Rattle.mpm_base.specs.Link.{LinkTold}
 use Rattle.mpm_base.specs.declared.conn.ConnName.{ConnName}
 use Rattle.conn_machine.specs.declared.row.Row.{Row}
 use Rattle.conn_machine.specs.declared.event.Why.{Why}
@@ -23,22 +23,19 @@ use Rattle.conn_state.specs.Known.{KnownOutside}
 use Rattle.board.specs.declared.faults.BoardFault.{BoardFault}
 use Rattle.board.specs.declared.faults.BoardFault.TheVariants as fault
 use Rattle.board.specs.Book.{SeenBook}
-use Rattle.board.specs.Board.{SeenBoard}
 use Rattle.board.specs.Finds.{acceptable}
 use Rattle.mpm_run.specs.declared.listen.End.{End}
 use Rattle.mpm_run.specs.declared.listen.End.TheVariants as end
 use Rattle.mpm_run.specs.declared.run_numbers.RunNumbers.{RunNumbers}
 use Rattle.mpm_run.specs.declared.server.OpenFault.{OpenFault}
 use Rattle.mpm_run.specs.declared.server.OpenFault.TheVariants as opening
+use Rattle.mpm_run.specs.Commands.{NoneStops, StopsAtLast, lines_read}
 use Rattle.mpm_run.specs.Links.{HandsOutTaken, TakesLinks, TurnsOneAway}
 use Rattle.mpm_run.specs.Listen.{HasNoLive, IsClosedDown}
 use Rattle.mpm_run.specs.Patient.{IsAtRest}
 use Rattle.mpm_run.specs.Started.{BeginsWithStarts}
+use Rattle.mpm_run.specs.Stops.{HasTakenAll, StoppedFor}
 use Rattle.mpm_run.specs.Watched.{AreWatched, accepted_names}
-
--- the waits of a front, where it tells
-abbrev pub waits_of : Option FrontTold → Option (List WaitTold)
-waits_of told = option_map (λ t. t.waits) told
 
 -- what a front was bound to, where it tells
 abbrev pub bound_of : Option FrontTold → Option (List BoundTold)
@@ -48,9 +45,37 @@ bound_of told = option_map (λ t. t.bound) told
 pub record OnlyTakes (t t' : FrontTold) : Type 0 where
   pub rest : t' ≡ record t { accepted = t'.accepted; watches = t'.watches; turned_away = t'.turned_away; failed = t'.failed }
 
--- a clock that tells was told the moments that the waits of a front that tells gave, in order, and no others
-abbrev pub IsInTime : Option (List WaitTold) → Option (List (ℕ × ℕ)) → Type 0
-IsInTime waits calls = IfSome waits (λ waits. IfSome calls (λ calls. map asked_at calls ≡ moments_of waits))
+-- command lines were read, and nothing else happened to the front
+pub record OnlyReads (t t' : FrontTold) : Type 0 where
+  pub rest : t' ≡ record t { read = t'.read }
+
+-- both
+pub record OnlyReadsAndTakes (t t' : FrontTold) : Type 0 where
+  pub rest : t' ≡ record t { accepted = t'.accepted; watches = t'.watches; turned_away = t'.turned_away; read = t'.read; failed = t'.failed }
+
+-- no command line that was read stops the server, and none was read that didn't come
+pub record HasNoneToHeed (t : FrontTold) : Type 0 where
+  pub none : NoneStops (lines_read t)
+  pub came : t.read ≤ length t.lines
+
+-- the last one that was read stops it, while fewer were read than the greatest count
+abbrev pub HasOneToHeed : FrontTold → Type 0
+HasOneToHeed t = t.read < greatest_count → StopsAtLast t
+
+-- it does exactly where the turns end for it
+abbrev pub HeedsUntil : Result End BoardFault → FrontTold → Type 0
+HeedsUntil (Ok end.Asked) t = HasOneToHeed t
+HeedsUntil (Ok end.Ended) t = HasNoneToHeed t
+HeedsUntil (Ok end.Failed) t = HasNoneToHeed t
+HeedsUntil (Err fault) t = HasNoneToHeed t
+
+-- where the front tells, so does the link
+abbrev pub TellsAlike : Option FrontTold → Option LinkTold → Type 0
+TellsAlike told link = IfSome told (λ t. (l : LinkTold) × (link ≡ Some l))
+
+-- each command line that came was read, of a front that tells
+abbrev pub HasReadAll : Option FrontTold → Type 0
+HasReadAll told = IfSome told (λ t. t.read ≡ length t.lines)
 
 -- the moment is what the clock answered, told the one that the wait gave, where it gave one; else it is the present one, and
 -- the clock wasn't asked
@@ -59,37 +84,31 @@ AsksFor (woke.Woke m) present calls calls' moment = Answers calls calls' m momen
 AsksFor woke.Ended present calls calls' moment = (calls' ≡ calls) × (moment ≡ present)
 AsksFor woke.Failed present calls calls' moment = (calls' ≡ calls) × (moment ≡ present)
 
--- the front tells, and its clients are these
-abbrev pub HasClients : List (List ℕ) → Option FrontTold → Type 0
-HasClients clients told = (t : FrontTold) × (told ≡ Some t) × (t.clients ≡ clients)
+-- what the clients of a front send, in the order of arrival, where it tells that
+abbrev pub clients_told : Option FrontTold → Option (List (List ℕ))
+clients_told told = option_map (λ t. t.clients) told
 
--- each link of the type tells
-pub record LinksTell {L : Type 0} (link_seen : L → LinkSeen) : Type 0 where
-  pub each : (link : L) → (t : LinkTold) × ((link_seen link).told ≡ Some t)
+-- what the type knows that the clients send
+abbrev pub clients_known : Option KnownOutside → Option (List (List ℕ))
+clients_known None = None
+clients_known (Some k) = k.clients
 
--- what is seen of a listener: its board, its front, the calls of its clock, and the slots that the last wait gave
-pub record SeenListener : Type 0 where
-  pub board : SeenBoard
-  pub front : FrontSeen
-  pub calls : Option (List (ℕ × ℕ))
-  pub ready : List ℕ
+-- the type knows of the clients what the front tells of them
+abbrev pub IsKnownOfFront : Option KnownOutside → Option FrontTold → Type 0
+IsKnownOfFront known told = clients_known known ≡ clients_told told
 
--- what is known of the clients is what the front tells of them, and where something is known each link of the type tells
-pub record IsKnownOfFront {L : Type 0} (known : Option KnownOutside) (link_seen : L → LinkSeen) (told : Option FrontTold) : Type 0 where
-  pub front : IfSome known (λ k. HasClients k.clients told)
-  pub links : is_some known ≡ true → LinksTell link_seen
-
--- a front that could not be bound to what the numbers say comes back: it has counted a failed call, and tells what it told
-abbrev pub ComesBack : {F : Type 0} → (F → FrontSeen) → RunNumbers → FrontSeen → OpenFault F → Type 0
-ComesBack front_seen n old (opening.Bind front) = Binds old (front_seen front) n.listen n.control false
-ComesBack front_seen n old opening.NoMemory = ⊤
+-- the server did not open for the fault: a front that could not be bound to what the numbers say has counted a failed call
+abbrev pub IsUnopened : RunNumbers → FrontSeen → FrontSeen → OpenFault → Type 0
+IsUnopened n old new opening.Bind = Binds old new n.listen n.control false
+IsUnopened n old new opening.NoMemory = ⊤
 
 -- the front is still the one that it was
 pub record Follows (old new : FrontSeen) : Type 0 where
   pub script : new.script ≡ old.script
-  pub clients : (clients : List (List ℕ)) → HasClients clients old.told → HasClients clients new.told
+  pub clients : clients_told new.told ≡ clients_told old.told
   pub faults : NeverFalls old.counts.faults new.counts.faults
   pub ends : NeverFalls old.counts.ends new.counts.ends
+  pub commands : NeverFalls old.counts.commands new.counts.commands
 
 -- the front listens, handed out as many links as the table took connections, and turned none away
 pub record KeepsStep (s : State) (t : FrontTold) : Type 0 where
@@ -110,14 +129,12 @@ pub record IsOpening (b : SeenBook) : Type 0 where
   pub none : b.history ≡ []
 
 -- the front didn't wait, or the children were started before all else
-abbrev pub HasStarted : SeenListener → SeenListener → Type 0
-HasStarted old new =
-    (waits_of new.front.told ≡ waits_of old.front.told)
-    ⊎ BeginsWithStarts (asked_children old.board.book.base) new.board.book.history
+abbrev pub HasStarted : Option (List WaitTold) → Option (List WaitTold) → SeenBook → SeenBook → Type 0
+HasStarted waits waits' old new = (waits' ≡ waits) ⊎ BeginsWithStarts (asked_children old.base) new.history
 
--- where the type knows the clients, the table took each link that the front handed out, or it turned the last one away
-abbrev pub HandsOut : Option KnownOutside → Option FrontTold → State → Type 0
-HandsOut known told s = is_some known ≡ true → IfSome told (λ t. HandsOutTaken s t ⊎ TurnsOneAway s t)
+-- the table took each link that a front that tells handed out, or it turned the last one away
+abbrev pub HandsOut : Option FrontTold → State → Type 0
+HandsOut told s = IfSome told (λ t. HandsOutTaken s t ⊎ TurnsOneAway s t)
 
 -- the number at which a count from this one stands behind the names
 abbrev pub number_after : ℕ → List ConnName → ℕ
@@ -129,14 +146,13 @@ pub record WatchesAll (b : SeenBook) (t : FrontTold) : Type 0 where
   pub watches : AreWatched b t
   pub count : b.state.accepted ≡ number_after b.folded.accepted (accepted_names b.history)
 
--- the same of a front that tells, where the type knows the clients
-abbrev pub IsWatching : Option KnownOutside → Option FrontTold → SeenBook → Type 0
-IsWatching known told b = is_some known ≡ true → IfSome told (WatchesAll b)
+-- the same of a front that tells
+abbrev pub IsWatching : Option FrontTold → SeenBook → Type 0
+IsWatching told b = IfSome told (WatchesAll b)
 
--- where the type knows the clients, the table took each link that the front handed out, or the server was broken off and the last one
--- was turned away
-abbrev pub HandedOut : Option KnownOutside → Option FrontTold → State → Type 0
-HandedOut known told s = is_some known ≡ true → IfSome told (TakesLinks s)
+-- the table took each link that a front that tells handed out, or the server was broken off and the last one was turned away
+abbrev pub HandedOut : Option FrontTold → State → Type 0
+HandedOut told s = IfSome told (TakesLinks s)
 
 -- nothing has come of a front that tells, and of the table nothing was asked: no time has passed, that a patient one tells
 pub record IsAtStart (told : Option FrontTold) (b : SeenBook) : Type 0 where
@@ -144,6 +160,7 @@ pub record IsAtStart (told : Option FrontTold) (b : SeenBook) : Type 0 where
   pub first : IfSome told (λ t. is_some t.comings ≡ true → t.moment ≡ 0)
   pub moment : b.state.moment ≡ 0
   pub history : b.history ≡ []
+  pub read : HasReadAll told
 
 -- the server has to be stopped for the fault, or was; whatever the passes do, this stays so
 abbrev pub MustStop : BoardFault → SeenBook → Type 0
@@ -172,49 +189,30 @@ pub record HasTaken (s : State) (name : ConnName) (child generation arrival : �
   pub arrival_is : row.arrival ≡ arrival
   pub notes : row.notes ≡ []
 
--- all has happened, each command line was read, and each connection was handed out, which the table took
-pub record HasGivenAll (s : State) (t : FrontTold) : Type 0 where
-  pub left : t.left ≡ 0
-  pub read : t.read ≡ length t.lines
-  pub given : t.accepted ≡ length t.clients
-  pub taken : t.accepted ≡ s.accepted
-
--- a wait of the front answered Ended, so that one which tells has handed all out, and the table took them
-pub record HasTakenAll (old new : FrontSeen) (s : State) : Type 0 where
-  pub answered : Rises old.counts.ends new.counts.ends
-  pub taken : IfSome new.told (HasGivenAll s)
-
 -- nothing more can come, and no connection is live
 pub record HasNothingToCome (old new : FrontSeen) (s : State) : Type 0 where
   pub going : is_halted s.going ≡ false
   pub live : HasNoLive s
   pub all : HasTakenAll old new s
 
--- the server stopped because nothing more could come
-pub record HasEnded (old new : FrontSeen) (s : State) : Type 0 where
-  pub going : s.going ≡ Halted why.FrontEnded
-  pub all : HasTakenAll old new s
-
--- the server stopped because a wait of the front failed
-pub record HasFrontFailed (old new : FrontSeen) (s : State) : Type 0 where
-  pub going : s.going ≡ Halted why.FrontFailed
-  pub failed : Rises old.counts.faults new.counts.faults
-
--- how the listener's turns end: nothing more can come, or a wait failed, or the server has to stop
+-- how the listener's turns end: nothing more can come, or the server was asked to stop, or a wait failed, or the server has to stop
 abbrev pub TurnsEnd : Result End BoardFault → FrontSeen → FrontSeen → SeenBook → Type 0
 TurnsEnd (Ok end.Ended) old new b = HasNothingToCome old new b.state
+TurnsEnd (Ok end.Asked) old new b = (is_halted b.state.going ≡ false) × Rises old.counts.commands new.counts.commands
 TurnsEnd (Ok end.Failed) old new b = (is_halted b.state.going ≡ false) × Rises old.counts.faults new.counts.faults
 TurnsEnd (Err fault) old new b = MustStop fault b
 
 -- the server goes on, and no connection is live where nothing more can come; or it has to stop for the fault, or did
 abbrev pub MustHalt : Result End BoardFault → SeenBook → Type 0
 MustHalt (Ok end.Ended) b = (is_halted b.state.going ≡ false) × HasNoLive b.state
+MustHalt (Ok end.Asked) b = is_halted b.state.going ≡ false
 MustHalt (Ok end.Failed) b = is_halted b.state.going ≡ false
 MustHalt (Err fault) b = MustStop fault b
 
 -- why the server stops at the end of the turns
 abbrev pub why_of : End → Why
 why_of end.Ended = why.FrontEnded
+why_of end.Asked = why.Asked
 why_of end.Failed = why.FrontFailed
 
 -- how the server stops behind them
@@ -240,12 +238,9 @@ IsRestful quiet s = (quiet ≡ true) ↔ IsAtRest s
 
 -- the server stopped for one of these
 abbrev pub IsEnd : Going → Type 0
-IsEnd going = (going ≡ Halted why.FrontEnded) ⊎ (going ≡ Halted why.Full) ⊎ (going ≡ Halted why.NoMemory)
-
--- why it stopped: nothing more could come, a wait failed, the history was full, or memory lacked
-abbrev pub StoppedFor : FrontSeen → FrontSeen → State → Type 0
-StoppedFor old new s =
-    HasEnded old new s ⊎ HasFrontFailed old new s ⊎ (s.going ≡ Halted why.Full) ⊎ (s.going ≡ Halted why.NoMemory)
+IsEnd going =
+    (going ≡ Halted why.FrontEnded) ⊎ (going ≡ Halted why.Asked) ⊎ (going ≡ Halted why.FrontFailed) ⊎ (going ≡ Halted why.Full)
+    ⊎ (going ≡ Halted why.NoMemory)
 
 -- it stopped for one of these, and closed down
 pub record HasStopped (old new : FrontSeen) (s : State) : Type 0 where

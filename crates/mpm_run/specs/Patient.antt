@@ -1,6 +1,6 @@
 -- When time passes in a run over a patient front: where nothing is left to be done before.
-use Rattle.std.specs.Prelude.{◌≡◌, ◌⊎◌, ◌<◌, ℕ, true, false, List, [], ◌∷◌, None, Some, slice_get, Contains, ⊤}
-use Rattle.mpm_base.specs.Front.{WaitTold, Backlog}
+use Rattle.std.specs.Prelude.{◌≡◌, ◌⊎◌, ◌<◌, ℕ, true, false, List, [], ◌∷◌, Option, None, Some, slice_get, Contains, ⊤}
+use Rattle.mpm_base.specs.Front.{FrontTold, WaitTold, Backlog}
 use Rattle.mpm_base.specs.declared.front.Woke.TheVariants as woke
 use Rattle.conn_machine.specs.declared.event.Entry.{Entry}
 use Rattle.conn_machine.specs.declared.event.Event.{Event}
@@ -10,6 +10,8 @@ use Rattle.conn_machine.specs.declared.state.State.{State}
 use Rattle.conn_machine.specs.Rows.{is_parked}
 use Rattle.conn_machine.specs.States.{is_signalled}
 use Rattle.conn_machine.specs.Table.{may_retire, next}
+use Rattle.script_front.specs.ScriptClock.{AreEchoes}
+use Rattle.board.specs.Book.{SeenBook}
 use Rattle.board.specs.Finds.{acceptable, has_to_be_drained, is_due, is_let_go, is_quiet, next_deadline_of, startable}
 use Rattle.mpm_run.specs.Times.{moment_for}
 
@@ -42,8 +44,8 @@ NoneSignalled s = (slot : ℕ) (r : Row) → slice_get s.rows slot ≡ Some r �
 
 -- ## Patience
 
--- the wait was told that time may pass, up to the least deadline, and let it pass to this moment; and where connections waited to be
--- taken before, none could be
+-- the wait was told that time may pass, up to the least deadline, and let it pass to this moment; where connections waited to be
+-- taken before, none could be; and no command line waited to be read
 pub record LetPass (wait : WaitTold) (to : ℕ) (s : State) : Type 0 where
   pub quiet : wait.quiet ≡ true
   pub until : wait.until ≡ next_deadline_of s
@@ -51,6 +53,7 @@ pub record LetPass (wait : WaitTold) (to : ℕ) (s : State) : Type 0 where
   pub passed : wait.passed ≡ Some waited
   pub woke : wait.answer ≡ woke.Woke to
   pub taken : 0 < waited.arrivals → acceptable s ≡ None
+  pub read : waited.lines ≡ 0
 
 -- time passes to the moment in a state in which nothing is left to be done and no row that waits is signalled, as one of the waits
 -- let it: to a moment at which something comes by itself, or to the least deadline
@@ -88,3 +91,19 @@ AllAt P s (e ∷ entries) = P s e.event × AllAt P (next s e.event) entries
 -- in a history from the state on time passes patiently
 abbrev pub ArePatient : List ℕ → List WaitTold → State → List Entry → Type 0
 ArePatient comings waits s history = AllAt (IsPatientEvent comings waits) s history
+
+-- ## Over a front and a clock of any kind
+
+-- a patient front that tells, and a clock that tells and answered what it was told
+pub record IsSteady (told : Option FrontTold) (calls : Option (List (ℕ × ℕ))) : Type 0 where
+  pub front : FrontTold
+  pub tells : told ≡ Some front
+  pub comings : List ℕ
+  pub patient : front.comings ≡ Some comings
+  pub asked : List (ℕ × ℕ)
+  pub clock : calls ≡ Some asked
+  pub echoes : AreEchoes asked
+
+-- over such ones time passes patiently
+abbrev pub IsPatientRun : Option FrontTold → Option (List (ℕ × ℕ)) → SeenBook → Type 0
+IsPatientRun told calls b = (steady : IsSteady told calls) → ArePatient steady.comings steady.front.waits b.base b.history

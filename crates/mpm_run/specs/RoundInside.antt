@@ -1,7 +1,7 @@
 -- The events that the listener adds, by the parts of its round.
 use Rattle.std.specs.Prelude.{◌≡◌, ◌⊎◌, ℕ, Bool, true, false, List, [], ◌∷◌, ◌++◌, length, map, nat_le, if◌then◌else◌, Option, None, Some, option_map, Result, Ok, Err, ⊤}
 use Rattle.std.specs.List.{flat_map}
-use Rattle.mpm_base.specs.Front.{after_turning_away, after_watch}
+use Rattle.mpm_base.specs.Front.{FrontTold, after_turning_away, after_watch}
 use Rattle.mpm_base.specs.Count.{next_count}
 use Rattle.mpm_base.specs.Link.{LinkTold}
 use Rattle.mpm_base.specs.declared.conn.ConnName.{ConnName}
@@ -13,6 +13,7 @@ use Rattle.conn_machine.specs.declared.event.Event.{Event}
 use Rattle.conn_machine.specs.declared.event.Event.TheVariants as event
 use Rattle.conn_machine.specs.declared.event.Why.{Why}
 use Rattle.conn_machine.specs.declared.event.Why.TheVariants as why
+use Rattle.conn_machine.specs.declared.state.State.{State}
 use Rattle.conn_machine.specs.Runs.{after, full_load, load}
 use Rattle.conn_state.specs.Conn.{IsFrontOf}
 use Rattle.board.specs.declared.faults.BoardFault.{BoardFault}
@@ -25,7 +26,7 @@ use Rattle.worker_group.specs.declared.service.Exit.TheVariants as exit
 use Rattle.worker_group.specs.Acts.{Acts}
 use Rattle.worker_group.specs.Service.{HasServed, give_up_events, left_events}
 use Rattle.mpm_run.specs.ClosingInside.{AllLeftBy, GivesUpDrained, IsDrainedWay, IsLateWay, IsRetiringWay, Departure, NoneEarly, departure_events}
-use Rattle.mpm_run.specs.ListenInside.{IsInStep, SeenListener, why_of}
+use Rattle.mpm_run.specs.ListenInside.{IsInStep, why_of}
 use Rattle.mpm_run.specs.Patient.{NoneDue}
 use Rattle.mpm_run.specs.declared.listen.End.{End}
 use Rattle.conn_machine.specs.States.{is_halted}
@@ -82,26 +83,26 @@ abbrev pub GivesUp : BoardFault → ConnName → SeenBook → SeenBook → Type 
 GivesUp fault name old new = Acts 0 (give_up_events fault name) None old new
 
 -- the connection of the link was taken, the link watched under its name, and the connection left by what that answered
-pub record IsTaking (link : Option LinkTold) (old new : SeenListener) : Type 0 where
+pub record IsTaking (link : Option LinkTold) (told told' : Option FrontTold) (old new : SeenBook) : Type 0 where
   pub name : ConnName
   pub watched : Bool
-  pub told : new.front.told ≡ option_map (after_watch name watched link) old.front.told
-  pub acts : Acts 0 (intake_events (record { name = name; way = way_of watched })) None old.board.book new.board.book
+  pub told_is : told' ≡ option_map (after_watch name watched link) told
+  pub acts : Acts 0 (intake_events (record { name = name; way = way_of watched })) None old new
 
 -- the table counts one connection more; and where the front was in step with that count, as the link was handed out already, it
 -- still is
-pub record IsTakenStill (old new : SeenListener) : Type 0 where
-  pub accepted : new.board.book.state.accepted ≡ next_count old.board.book.state.accepted
-  pub step : IsInStep old.front.told new.board.book.state → IsInStep new.front.told new.board.book.state
+pub record IsTakenStill (told told' : Option FrontTold) (old new : State) : Type 0 where
+  pub accepted : new.accepted ≡ next_count old.accepted
+  pub step : IsInStep told new → IsInStep told' new
 
 -- the table counts no connection more, and the front turned the link away
-pub record IsTurnedAway (link : Option LinkTold) (old new : SeenListener) : Type 0 where
-  pub accepted : new.board.book.state.accepted ≡ old.board.book.state.accepted
-  pub told : new.front.told ≡ option_map (after_turning_away link) old.front.told
+pub record IsTurnedAway (link : Option LinkTold) (told told' : Option FrontTold) (old new : State) : Type 0 where
+  pub accepted : new.accepted ≡ old.accepted
+  pub told_is : told' ≡ option_map (after_turning_away link) told
 
 -- a connection that could not be taken so: the table took it all the same; or it refused its link, which the front turned away
-abbrev pub EndsTaking : Option LinkTold → SeenListener → SeenListener → Type 0
-EndsTaking link old new = IsTakenStill old new ⊎ IsTurnedAway link old new
+abbrev pub EndsTaking : Option LinkTold → Option FrontTold → Option FrontTold → State → State → Type 0
+EndsTaking link told told' old new = IsTakenStill told told' old new ⊎ IsTurnedAway link told told' old new
 
 -- connections were taken, each left so, and nothing else was done
 pub record TakesSome (old new : SeenBook) : Type 0 where

@@ -2,6 +2,7 @@
 -- none.
 use Rattle.std.specs.Prelude.{◌≡◌, ◌⊎◌, ℕ, List, [], ◌∷◌, Err, ⊤}
 use Rattle.mpm_base.specs.declared.script_line.ScriptLine.{ScriptLine}
+use Rattle.mpm_base.specs.declared.store.File.{File}
 use Rattle.mpm_config.specs.Config.{Configuration}
 use Rattle.http_read.specs.declared.request.Limits.{Limits}
 use Rattle.file_table.specs.declared.load_fault.LoadFault.TheVariants as fault
@@ -29,18 +30,22 @@ pub record HasSite (script : List ScriptLine) (c : Configuration) (site : SeenSi
   pub within : IsWithinLimits site
 
 -- the files are too many for a site, and the name is that of the folder in which they are
-pub record HasTooMany (script : List ScriptLine) (c : Configuration) (name : List ℕ) : Type 0 where
-  pub many : MayLoad (order_of c) (editions_of script).files (Err fault.TooMany)
+pub record HasTooMany (files : List File) (c : Configuration) (name : List ℕ) : Type 0 where
+  pub many : MayLoad (order_of c) files (Err fault.TooMany)
   pub named : name ≡ c.root
 
 -- the file of that name is the first one that is too large, or with which the files together are
-pub record HasTooLarge (script : List ScriptLine) (c : Configuration) (name : List ℕ) : Type 0 where
+pub record HasTooLarge (files : List File) (c : Configuration) (name : List ℕ) : Type 0 where
   pub size : ℕ
-  pub large : MayLoad (order_of c) (editions_of script).files (Err (fault.TooLarge name size))
+  pub large : MayLoad (order_of c) files (Err (fault.TooLarge name size))
 
--- the site of the script's first edition is refused by the configuration, for the folder or the file of that name
+-- the files make no site by the configuration, for the folder or the file of that name
+abbrev pub IsSiteRefusedOf : List File → Configuration → List ℕ → Type 0
+IsSiteRefusedOf files c name = HasTooMany files c name ⊎ HasTooLarge files c name
+
+-- so it is of the script's first edition
 abbrev pub IsSiteRefused : List ScriptLine → Configuration → List ℕ → Type 0
-IsSiteRefused script c name = HasTooMany script c name ⊎ HasTooLarge script c name
+IsSiteRefused script c name = IsSiteRefusedOf (editions_of script).files c name
 
 -- ## What connections were served by
 

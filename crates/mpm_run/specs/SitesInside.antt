@@ -8,10 +8,12 @@ use Rattle.file_table.specs.declared.load_fault.LoadFault.{LoadFault}
 use Rattle.file_table.specs.declared.load_fault.LoadFault.TheVariants as fault
 use Rattle.file_table.specs.Site.{SeenSite}
 use Rattle.mpm_run.specs.Configured.{Configures, HasConfig}
-use Rattle.mpm_run.specs.ExitStatuses.{HasRun, WritesText}
+use Rattle.mpm_run.specs.Calls.{WritesText}
+use Rattle.mpm_run.specs.ExitStatuses.{HasRun}
 use Rattle.mpm_run.specs.ExitStatusesInside.{RefusesRun}
 use Rattle.mpm_run.specs.Sites.{HasSite, IsSiteRefused}
-use Rattle.mpm_run.specs.Texts.{site_refused}
+use Rattle.mpm_run.specs.Tells.{AllReceive}
+use Rattle.mpm_run.specs.Texts.{site_refused, store_fault}
 use Rattle.mpm_run.specs.declared.outcome.Scripted.{Scripted}
 
 -- a run is refused for the fault, as there is no site by the configuration
@@ -20,6 +22,13 @@ RefusesLoad sink sink' c fault.StoreFault shown = ⊥
 RefusesLoad sink sink' c fault.TooMany shown = RefusesRun sink sink' None (site_refused c.root) shown
 RefusesLoad sink sink' c (fault.TooLarge name size) shown = RefusesRun sink sink' None (site_refused name) shown
 RefusesLoad sink sink' c fault.NoMemory shown = ⊥
+
+-- a run is refused with the exit status for the fault, as there is no site by the configuration
+abbrev pub RefusesFolder : SinkSeen → SinkSeen → Configuration → LoadFault → ℕ → Option ℕ → Type 0
+RefusesFolder sink sink' c fault.StoreFault status shown = (status ≡ 3) × RefusesRun sink sink' None (store_fault c.root) shown
+RefusesFolder sink sink' c fault.TooMany status shown = (status ≡ 9) × RefusesRun sink sink' None (site_refused c.root) shown
+RefusesFolder sink sink' c (fault.TooLarge name size) status shown = (status ≡ 9) × RefusesRun sink sink' None (site_refused name) shown
+RefusesFolder sink sink' c fault.NoMemory status shown = ⊥
 
 -- the site of the script is refused by the configuration, and its text was written
 pub record RefusesSite (sink sink' : SinkSeen) (lines : List ScriptLine) (c : Configuration) (shown : Option ℕ) : Type 0 where
@@ -42,4 +51,5 @@ pub record IsServedRun (lines : List ScriptLine) (c : Configuration) (s : Script
   pub config : s.config ≡ c
   pub site : SeenSite
   pub site_is : HasSite lines c site
-  pub has_run : HasRun c site (clients_of lines) s.board
+  pub has_run : HasRun c site s.board
+  pub receive : AllReceive (clients_of lines) s.board.ended

@@ -45,3 +45,11 @@ site_refused name = codes "site refused: " ++ name ++ codes "\n"
 -- the configuration that was tested is accepted
 abbrev pub syntax_ok : List ℕ
 syntax_ok = codes "Syntax OK\n"
+
+-- a call of the front failed where no run opened
+abbrev pub front_fault : List ℕ
+front_fault = codes "front fault\n"
+
+-- the configuration has no control line
+abbrev pub no_control_line : List ℕ
+no_control_line = codes "no control line\n"

@@ -1,9 +1,10 @@
 -- How the ticks and signals of a history come from the clock and the front. Those of what was folded stand first, and the record counts
 -- them.
-use Rattle.std.specs.Prelude.{◌≡◌, ◌⊎◌, ℕ, List, [], ◌∷◌, ◌++◌, length, map, filter, max, min, nat_lt, if◌then◌else◌, Option, IfSome}
+use Rattle.std.specs.Prelude.{◌≡◌, ◌⊎◌, ℕ, List, [], ◌∷◌, ◌++◌, length, map, filter, max, min, nat_lt, if◌then◌else◌, Option, option_map, IfSome}
 use Rattle.std.specs.List.{flat_map}
 use Rattle.mpm_base.specs.Moment.{greatest_moment}
-use Rattle.mpm_base.specs.Front.{WaitTold}
+use Rattle.mpm_base.specs.Clock.{asked_at}
+use Rattle.mpm_base.specs.Front.{FrontTold, WaitTold, moments_of}
 use Rattle.conn_machine.specs.declared.event.Event.{Event}
 use Rattle.conn_machine.specs.declared.event.Event.TheVariants as event
 use Rattle.conn_machine.specs.declared.event.Entry.{Entry}
@@ -13,6 +14,16 @@ use Rattle.conn_machine.specs.declared.state.Going.TheVariants.{Halted}
 use Rattle.conn_state.specs.Conn.{IsFrontOf}
 use Rattle.board.specs.Book.{SeenBook}
 use Rattle.worker_group.specs.Acts.{events_of}
+
+-- ## The clock and the waits
+
+-- the waits of a front, where it tells
+abbrev pub waits_of : Option FrontTold → Option (List WaitTold)
+waits_of told = option_map (λ t. t.waits) told
+
+-- a clock that tells was told the moments that the waits of a front that tells gave, in order, and no others
+abbrev pub IsInTime : Option (List WaitTold) → Option (List (ℕ × ℕ)) → Type 0
+IsInTime waits calls = IfSome waits (λ waits. IfSome calls (λ calls. map asked_at calls ≡ moments_of waits))
 
 -- ## What the record counts
 

@@ -1,15 +1,16 @@
 //! The test of a configuration: `-t -f FILE`. It loads no files, and plays nothing.
-ghost use Rattle.std.specs.Prelude.{◌≡◌, ◌⊎◌, ◌++◌, None, IsNone, option_map};
+ghost use Rattle.std.specs.Prelude.{◌≡◌, ◌⊎◌, ◌++◌, ℕ, List, None, option_map};
 ghost use Rattle.mpm_base.specs.Count.{Rises};
-ghost use Rattle.mpm_run.specs.ExitStatuses.{EndsConfigRefused, EndsTestUnwritten, EndsTested, EndsUnread, seen_call};
+ghost use Rattle.mpm_run.specs.Calls.{seen_call};
+ghost use Rattle.mpm_run.specs.ExitStatuses.{EndsConfigRefused, EndsTestUnwritten, EndsTested, EndsUnread};
 ghost use Rattle.mpm_run.specs.ExitStatusesInside.{IsTestStatus};
-ghost use Rattle.mpm_run.specs.Invocations.{test_words};
+ghost use Rattle.command_words.specs.Invocations.{IsTestWords};
 ghost use Rattle.mpm_run.specs.Texts.{syntax_ok};
 
-use crate::config_reading::{MOST_CONFIG, NoConfig, config_from};
+use crate::config_reading::{MOST_CONFIG, config_from};
 use crate::exit_status;
-use crate::outcome::{Outcome, no_memory, unopened};
-use crate::refusal::{refuse_config, refuse_unread};
+use crate::outcome::{Ending, no_memory, unopened};
+use crate::refusal::refuse_config_of;
 use crate::texts::add_syntax_ok;
 use crate::writing::write_all;
 use mpm_base::{Octets, Sink, Store};
@@ -21,28 +22,23 @@ pub fn test_config<D: Store, K: Sink>(
     name: &str,
     store: &mut D,
     out: &mut K,
-) -> Outcome
-    ensures scripted { IsNone result.scripted }
+) -> Ending<()>
     ensures known { IsTestStatus result.status }
-    ensures tested { result.status ≡ 0 → EndsTested (seen_call (test_words name.now) (D.seen store.old) (D.seen store.new) (K.seen out.old) (K.seen out.new) result.shown) }
-    ensures refused { result.status ≡ 1 → EndsConfigRefused (seen_call (test_words name.now) (D.seen store.old) (D.seen store.new) (K.seen out.old) (K.seen out.new) result.shown) }
-    ensures unread { result.status ≡ 3 → EndsUnread (seen_call (test_words name.now) (D.seen store.old) (D.seen store.new) (K.seen out.old) (K.seen out.new) result.shown) }
-    ensures unwritten { result.status ≡ 5 → EndsTestUnwritten (seen_call (test_words name.now) (D.seen store.old) (D.seen store.new) (K.seen out.old) (K.seen out.new) result.shown) }
+    ensures tested { (words : List (List ℕ)) → IsTestWords words name.now → result.status ≡ 0 → EndsTested (seen_call words (D.seen store.old) (D.seen store.new) (K.seen out.old) (K.seen out.new) result.shown) }
+    ensures refused { (words : List (List ℕ)) → IsTestWords words name.now → result.status ≡ 1 → EndsConfigRefused (seen_call words (D.seen store.old) (D.seen store.new) (K.seen out.old) (K.seen out.new) result.shown) }
+    ensures unread { (words : List (List ℕ)) → IsTestWords words name.now → result.status ≡ 3 → EndsUnread (seen_call words (D.seen store.old) (D.seen store.new) (K.seen out.old) (K.seen out.new) result.shown) }
+    ensures unwritten { (words : List (List ℕ)) → IsTestWords words name.now → result.status ≡ 5 → EndsTestUnwritten (seen_call words (D.seen store.old) (D.seen store.new) (K.seen out.old) (K.seen out.new) result.shown) }
     ensures silent { result.status ≡ 6 → (K.seen out.new).told ≡ (K.seen out.old).told }
 {
     let answer = store.read(alloc, name, MOST_CONFIG);
     match config_from(alloc, answer) {
         Ok((_, told)) => pass(told, out),
-        Err(NoConfig::Missing) => refuse_unread(alloc, name, Some(0), out),
-        Err(NoConfig::Failed) => refuse_unread(alloc, name, None, out),
-        Err(NoConfig::Refused(why, number)) => refuse_config(alloc, why, number, out),
-        Err(NoConfig::NoMemory) => no_memory(),
+        Err(why) => refuse_config_of(alloc, name, why, out),
     }
 }
 
 /// The configuration is accepted, and these are its warnings.
-fn pass<K: Sink>(told: Octets, out: &mut K) -> Outcome
-    ensures scripted { IsNone result.scripted }
+fn pass<K: Sink>(told: Octets, out: &mut K) -> Ending<()>
     ensures known { (result.status ≡ 0) ⊎ (result.status ≡ 5) ⊎ (result.status ≡ 6) }
     ensures shown { result.shown ≡ None }
     ensures written { result.status ≡ 0 → (K.seen out.new).told ≡ option_map (λ written. written ++ (told ++ syntax_ok)) (K.seen out.old).told }

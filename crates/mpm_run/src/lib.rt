@@ -1,8 +1,10 @@
 //! The run of the server: the listener, the top call and its report.
 //!
-//! `run` is the one call that the program makes. What it promises stands in `specs/ExitStatuses.antt`, `Listen.antt`,
-//! `Configured.antt`, `FirstNumbers.antt`, `Sites.antt`, `Started.antt`, `Times.antt`, `Watched.antt`, `Links.antt`, `Patient.antt`
-//! and `Tells.antt`: it works by the configuration and the site that the script's lines write; the history that the board
+//! `run` is the one call that the program makes: it plays a script or a load, serves over the front that it is handed, tests a
+//! configuration, or sends a command. What it promises stands in `specs/ExitStatuses.antt`, `Calls.antt`, `Invocations.antt`,
+//! `Listen.antt`, `Configured.antt`, `FirstNumbers.antt`, `Sites.antt`, `Started.antt`, `Commands.antt`, `Stops.antt`, `Outside.antt`,
+//! `Times.antt`, `Watched.antt`, `Links.antt`, `Patient.antt` and `Tells.antt`. Of a run: it works by the configuration and the site
+//! that the script's lines write, or the store has; the history that the board
 //! keeps is a run of the connection machine from its opening state, in the order of its passes, and each state on its way is
 //! sound; the connections agree with it; each connection that was taken ended, and each child is gone; the children were
 //! started before all else, and each one where it was asked for; the front was bound once, watched each connection under its name, and listens no more in the end;
@@ -12,19 +14,21 @@
 #![tactic(auto)]
 
 mod closing;
+mod command_run;
 mod config_reading;
 mod config_test;
 mod counting;
 mod edition;
 mod exit_status;
-mod invocation;
 mod listen;
 mod outcome;
 mod refusal;
 mod report;
+mod reporting;
 mod round;
 mod run_numbers;
 mod script_run;
+mod serve_run;
 mod server;
 mod site_loading;
 mod texts;
@@ -32,6 +36,6 @@ mod top_call;
 mod writing;
 
 pub use counting::tally;
-pub use outcome::{Outcome, Scripted, no_memory};
+pub use outcome::{Outcome, Scripted, lacks_memory};
 pub use report::{Tally, report_text};
 pub use top_call::run;

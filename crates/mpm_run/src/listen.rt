@@ -3,8 +3,8 @@
 //! Each part of a round says which events it adds under the listener's pass, in order (`specs/RoundInside.antt`). Of the
 //! state it says no more than where it stands in the end, and what the listener alone changes: the moment, and how many
 //! connections were taken.
-ghost use Rattle.std.specs.Prelude.{◌≡◌, ◌<◌, None, true, false, is_some, max, IfOk, IfErr, IfSome, OnErr, OnOk};
-ghost use Rattle.mpm_base.specs.Count.{next_count};
+ghost use Rattle.std.specs.Prelude.{◌≡◌, ◌≢◌, ◌<◌, None, true, false, is_some, max, IfOk, IfErr, IfSome, OnErr, OnOk};
+ghost use Rattle.mpm_base.specs.Count.{Rises, next_count};
 ghost use Rattle.mpm_base.specs.Front.{TellsOn, Waits};
 ghost use Rattle.conn_machine.specs.Made.{AreOfPasses};
 ghost use Rattle.conn_machine.specs.Runs.{after};
@@ -14,27 +14,29 @@ ghost use Rattle.conn_state.specs.Known.{IsOfClient, IsOfEdition};
 ghost use Rattle.board.specs.Finds.{acceptable, next_deadline_of};
 ghost use Rattle.board.specs.Book.{row_in};
 ghost use Rattle.worker_group.specs.Service.{IsUp, LeavesRest};
-ghost use Rattle.mpm_run.specs.ListenInside.{AsksFor, Follows, HandedOut, HandsOut, HasStarted, HasStopped, IsArrival, IsAtStart, IsInStep, IsInTime, IsOpening, IsRestful, IsWatching, MustStop, OnlyTakes, TookAll, TurnsEnd, asked_children, bound_of, waits_of, why_of};
-ghost use Rattle.mpm_run.specs.PatientInside.{IsPatientRun};
+ghost use Rattle.mpm_run.specs.Commands.{HeedsLines, stop_line};
+ghost use Rattle.mpm_run.specs.ListenInside.{AsksFor, Follows, HandedOut, HandsOut, HasNoneToHeed, HasOneToHeed, HasReadAll, HasStarted, HasStopped, HeedsUntil, IsArrival, IsAtStart, IsInStep, IsKnownOfFront, IsOpening, IsRestful, IsWatching, MustStop, OnlyReads, OnlyReadsAndTakes, OnlyTakes, TellsAlike, TookAll, TurnsEnd, asked_children, bound_of, why_of};
+ghost use Rattle.mpm_run.specs.Patient.{IsPatientRun};
 ghost use Rattle.mpm_run.specs.RoundInside.{BreaksOff, EndsTaking, FailsTaking, GoesRound, IsTaking, NoneHas, ServesSome, StartsAsAsked, StartsSome, TakesSome, TakesUntil};
 ghost use Rattle.mpm_run.specs.Started.{BeginsWithStarts};
-ghost use Rattle.mpm_run.specs.Times.{IsInformed, IsInformedSoFar, WasInformed, moment_for};
+ghost use Rattle.mpm_run.specs.Times.{IsInTime, IsInformed, IsInformedSoFar, WasInformed, moment_for, waits_of};
 ghost use Rattle.mpm_run.specs.Watched.{IsHushed};
 
 use crate::closing::close_all;
 use crate::edition::{Edition, NamedEdition};
 use crate::round::{
-    accept, fault_without_memory, find_rest, halt, has_live, let_go_of_conns, moment_of, pass_time,
-    retire_all, serve_all, settle, show_state, signal_all, start_children,
+    accept, fault_without_memory, find_rest, go_on, halt, has_live, let_go_of_conns, moment_of,
+    pass_time, retire_all, serve_all, settle, show_state, signal_all, start_children,
 };
 use board::{Board, BoardFault};
 use conn_machine::Why;
 use conn_machine::laws_of_runs::{histories_go_on_by_one_entry, histories_join};
 use conn_state::{Conn, Known};
-use mpm_base::{Arrival, Clock, Front, Link, Moment, Ready, Woke};
+use mpm_base::{Arrival, Bell, Clock, Front, Gate, Line, Link, Moment, Ready, Woke};
+use restart_control::{Command, read_command};
 use std::alloc::Global;
-use std::marker::Model;
 use std::sync::Wait;
+use worker_group::Hands;
 use worker_group::laws::passes_act_in_steps;
 
 /// The pass of the listener.
@@ -48,6 +50,8 @@ pub(crate) const SERVER: u32 = 1;
 pub enum End {
     /// Nothing more can come.
     Ended,
+    /// A command line asks to stop.
+    Asked,
     /// A wait of the front failed.
     Failed,
 }
@@ -59,6 +63,7 @@ impl End {
     {
         match self {
             End::Ended => Why::FrontEnded,
+            End::Asked => Why::Asked,
             End::Failed => Why::FrontFailed,
         }
     }
@@ -82,97 +87,96 @@ pub struct Pause {
     pub moment: Moment,
 }
 
-/// What the listener works on.
+/// What the listener works on, besides its front and its clock.
 #[derive(Drop)]
-pub struct Listener<L: Link + Send, F: Front<L = L>, C: Clock, N: Known> {
+pub struct Listener<'a, L: Link + Send, N: Known, B: Bell, G: Gate> {
     /// What gives new connections their memory.
     pub alloc: Global,
     /// The table of connections.
     pub board: Board<L, N>,
-    /// Where connections, signals and time come from.
-    pub front: F,
-    /// The clock of the run.
-    pub clock: C,
     /// What new connections are served by.
     pub edition: NamedEdition<N>,
     /// The slots that the last wait gave.
     pub ready: Ready,
+    /// What each service passes and rings.
+    pub hands: Hands<'a, B, G>,
 }
 
-impl<L: Link + Send, F: Front<L = L>, C: Clock, N: Known> Model for Listener<L, F, C, N> {
-    ghost use Rattle.mpm_run.specs.ListenInside.{SeenListener, IsKnownOfFront};
-
-    ghost Value = { SeenListener };
-
-    ghost view = { λ l. record {
-      board = l.board;
-      front = F.seen l.front;
-      calls = C.told l.clock;
-      ready = l.ready;
-    } };
-
-    ghost invariant = { λ l. IsKnownOfFront N.known L.seen (F.seen l.front).told };
-}
-
-impl<L: Link + Send, F: Front<L = L>, C: Clock, N: Known> Listener<L, F, C, N> {
-    /// Starts the children, takes the connections that come, has them served, and stops when nothing more can come. The server
-    /// stops before that for a wait that failed, for a full history, and for want of memory where a call that the listener must
-    /// make was refused for that and the history isn't full. However it stops, no further connection is taken then, each one that
-    /// waits is closed, and each child is let go of. How it ended is read off the board.
-    pub fn listen<R: Wait>(&mut self, rt: &R)
+impl<'a, L: Link + Send, N: Known, B: Bell, G: Gate> Listener<'a, L, N, B, G> {
+    /// Starts the children, takes the connections that come, has them served, and stops when nothing more can come or a command line
+    /// asks for it. The server stops before that for a wait that failed, for a full history, and for want of memory where a call that
+    /// the listener must make was refused for that and the history isn't full. However it stops, no further connection is taken then,
+    /// each one that waits is closed, and each child is let go of. How it ended is read off the board.
+    pub fn listen<R: Wait, F: Front<L = L>, C: Clock>(
+        &mut self,
+        rt: &R,
+        front: &mut F,
+        clock: &mut C,
+    )
+        requires named { IsKnownOfFront N.known (F.seen front.old).told }
         requires passes { 1 < self.old.board.book.passes }
         requires free { NoneHas self.old.board.book }
         requires going { is_halted self.old.board.book.state.going ≡ false }
-        requires step { IsInStep self.old.front.told self.old.board.book.state }
-        requires informed { IsInformed (waits_of self.old.front.told) self.old.calls self.old.board.book }
+        requires step { IsInStep (F.seen front.old).told self.old.board.book.state }
+        requires heeded { IfSome (F.seen front.old).told HasNoneToHeed }
+        requires informed { IsInformed (waits_of (F.seen front.old).told) (C.told clock.old) self.old.board.book }
         ensures base { self.new.board.book.base ≡ self.old.board.book.base }
         ensures passes { self.new.board.book.passes ≡ self.old.board.book.passes }
         ensures few { AreOfPasses self.old.board.book.passes self.old.board.book.history → AreOfPasses self.old.board.book.passes self.new.board.book.history }
         ensures asked { StartsAsAsked self.old.board.book self.new.board.book }
-        ensures stopped { HasStopped self.old.front self.new.front self.new.board.book.state }
-        ensures follows { Follows self.old.front self.new.front }
-        ensures bound { bound_of self.new.front.told ≡ bound_of self.old.front.told }
-        ensures hushed { IfSome self.new.front.told IsHushed }
-        ensures started { IsOpening self.old.board.book → HasStarted self.old self.new }
-        ensures watched { IsWatching N.known self.old.front.told self.old.board.book → IsWatching N.known self.new.front.told self.new.board.book }
-        ensures links { HandedOut N.known self.new.front.told self.new.board.book.state }
-        ensures time { IsInTime (waits_of self.old.front.told) self.old.calls → IsInTime (waits_of self.new.front.told) self.new.calls }
-        ensures patient { IsAtStart self.old.front.told self.old.board.book → IsPatientRun self.new.front.told self.new.calls self.new.board.book }
-        ensures informed { WasInformed (waits_of self.new.front.told) self.new.calls self.new.board.book }
+        ensures stopped { HasStopped (F.seen front.old) (F.seen front.new) self.new.board.book.state }
+        ensures follows { Follows (F.seen front.old) (F.seen front.new) }
+        ensures bound { bound_of (F.seen front.new).told ≡ bound_of (F.seen front.old).told }
+        ensures hushed { IfSome (F.seen front.new).told IsHushed }
+        ensures heeded { IfSome (F.seen front.new).told (HeedsLines self.new.board.book.state.going) }
+        ensures started { IsOpening self.old.board.book → HasStarted (waits_of (F.seen front.old).told) (waits_of (F.seen front.new).told) self.old.board.book self.new.board.book }
+        ensures watched { IsWatching (F.seen front.old).told self.old.board.book → IsWatching (F.seen front.new).told self.new.board.book }
+        ensures links { HandedOut (F.seen front.new).told self.new.board.book.state }
+        ensures time { IsInTime (waits_of (F.seen front.old).told) (C.told clock.old) → IsInTime (waits_of (F.seen front.new).told) (C.told clock.new) }
+        ensures patient { IsAtStart (F.seen front.old).told self.old.board.book → IsPatientRun (F.seen front.new).told (C.told clock.new) self.new.board.book }
+        ensures informed { WasInformed (waits_of (F.seen front.new).told) (C.told clock.new) self.new.board.book }
     {
         passes_act_in_steps();
-        let turns = self.take_turns(rt);
+        let turns = self.take_turns(rt, front, clock);
         halt(&mut self.board, turns);
-        self.front.hush();
+        front.hush();
         close_all(&mut self.board);
         retire_all(&mut self.board);
     }
 
-    /// Starts the children, and takes turns with the front until nothing more can come, each followed by the service of what
-    /// is signalled. Err where the server has to stop before.
-    fn take_turns<R: Wait>(&mut self, rt: &R) -> Result<End, BoardFault>
+    /// Starts the children, and takes turns with the front until nothing more can come or a command line asks to stop, each followed by
+    /// the service of what is signalled. Err where the server has to stop before.
+    fn take_turns<R: Wait, F: Front<L = L>, C: Clock>(
+        &mut self,
+        rt: &R,
+        front: &mut F,
+        clock: &mut C,
+    ) -> Result<End, BoardFault>
+        requires named { IsKnownOfFront N.known (F.seen front.old).told }
         requires passes { 1 < self.old.board.book.passes }
         requires free { NoneHas self.old.board.book }
         requires going { is_halted self.old.board.book.state.going ≡ false }
-        requires step { IsInStep self.old.front.told self.old.board.book.state }
-        requires informed { IsInformed (waits_of self.old.front.told) self.old.calls self.old.board.book }
+        requires step { IsInStep (F.seen front.old).told self.old.board.book.state }
+        requires heeded { IfSome (F.seen front.old).told HasNoneToHeed }
+        requires informed { IsInformed (waits_of (F.seen front.old).told) (C.told clock.old) self.old.board.book }
         ensures base { self.new.board.book.base ≡ self.old.board.book.base }
         ensures few { AreOfPasses self.old.board.book.passes self.old.board.book.history → AreOfPasses self.old.board.book.passes self.new.board.book.history }
         ensures asked { StartsAsAsked self.old.board.book self.new.board.book }
         ensures passes { self.new.board.book.passes ≡ self.old.board.book.passes }
         ensures free { NoneHas self.new.board.book }
         ensures up { IsUp self.new.board.book.state.going }
-        ensures follows { Follows self.old.front self.new.front }
-        ensures bound { bound_of self.new.front.told ≡ bound_of self.old.front.told }
-        ensures started { IsOpening self.old.board.book → HasStarted self.old self.new }
-        ensures watched { IsWatching N.known self.old.front.told self.old.board.book → IsWatching N.known self.new.front.told self.new.board.book }
-        ensures step { OnOk result (IsInStep self.new.front.told self.new.board.book.state) }
-        ensures links { OnErr result (HandsOut N.known self.new.front.told self.new.board.book.state) }
-        ensures time { IsInTime (waits_of self.old.front.told) self.old.calls → IsInTime (waits_of self.new.front.told) self.new.calls }
-        ensures patient { IsAtStart self.old.front.told self.old.board.book → IsPatientRun self.new.front.told self.new.calls self.new.board.book }
-        ensures ends { TurnsEnd result self.old.front self.new.front self.new.board.book }
-        ensures informed { OnOk result (IsInformed (waits_of self.new.front.told) self.new.calls self.new.board.book) }
-        ensures begun { OnErr result (IsInformedSoFar (waits_of self.new.front.told) self.new.calls self.new.board.book) }
+        ensures follows { Follows (F.seen front.old) (F.seen front.new) }
+        ensures bound { bound_of (F.seen front.new).told ≡ bound_of (F.seen front.old).told }
+        ensures heeded { IfSome (F.seen front.new).told (HeedsUntil result) }
+        ensures started { IsOpening self.old.board.book → HasStarted (waits_of (F.seen front.old).told) (waits_of (F.seen front.new).told) self.old.board.book self.new.board.book }
+        ensures watched { IsWatching (F.seen front.old).told self.old.board.book → IsWatching (F.seen front.new).told self.new.board.book }
+        ensures step { OnOk result (IsInStep (F.seen front.new).told self.new.board.book.state) }
+        ensures links { OnErr result (HandsOut (F.seen front.new).told self.new.board.book.state) }
+        ensures time { IsInTime (waits_of (F.seen front.old).told) (C.told clock.old) → IsInTime (waits_of (F.seen front.new).told) (C.told clock.new) }
+        ensures patient { IsAtStart (F.seen front.old).told self.old.board.book → IsPatientRun (F.seen front.new).told (C.told clock.new) self.new.board.book }
+        ensures ends { TurnsEnd result (F.seen front.old) (F.seen front.new) self.new.board.book }
+        ensures informed { OnOk result (IsInformed (waits_of (F.seen front.new).told) (C.told clock.new) self.new.board.book) }
+        ensures begun { OnErr result (IsInformedSoFar (waits_of (F.seen front.new).told) (C.told clock.new) self.new.board.book) }
     {
         histories_join();
         passes_act_in_steps();
@@ -181,22 +185,18 @@ impl<L: Link + Send, F: Front<L = L>, C: Clock, N: Known> Listener<L, F, C, N> {
         for _ in rt.forever() {
             self.show();
             let present = self.moment();
-            let pause = take_pause(
-                rt,
-                &mut self.front,
-                &mut self.clock,
-                &mut self.ready,
-                rest,
-                present,
-            );
+            let pause = take_pause(rt, front, clock, &mut self.ready, rest, present);
             match pause.woke {
                 Woke::Ended if !has_live(&self.board) => return Ok(End::Ended),
                 Woke::Failed => return Ok(End::Failed),
                 _ => (),
             }
-            self.take_in(rt, pause.moment)?;
+            let asked = self.take_in(rt, front, pause.moment)?;
+            if asked {
+                return Ok(End::Asked);
+            }
             self.show();
-            rest = self.serve()?;
+            rest = self.serve(rt)?;
             self.show();
         }
         unreachable!()
@@ -236,8 +236,9 @@ impl<L: Link + Send, F: Front<L = L>, C: Clock, N: Known> Listener<L, F, C, N> {
     }
 
     /// Serves what is signalled, and finds what the next wait is told. That is found before the service, as a worker's service
-    /// goes on by itself; where nothing is left to be done then, nothing is served. Err where the server has stopped.
-    fn serve(&mut self) -> Result<Rest, BoardFault>
+    /// goes on by itself; where nothing is left to be done then, nothing is served, and else the bell is rung, so that the next wait
+    /// comes back at once. Err where the server has stopped.
+    fn serve<R: Wait>(&mut self, rt: &R) -> Result<Rest, BoardFault>
         requires passes { 1 < self.old.board.book.passes }
         requires free { row_in 1 self.old.board.book ≡ None }
         ensures serves { ServesSome self.old.board self.new.board }
@@ -249,60 +250,80 @@ impl<L: Link + Send, F: Front<L = L>, C: Clock, N: Known> Listener<L, F, C, N> {
         ensures err { IfErr result (λ fault. MustStop fault self.new.board.book) }
     {
         let rest = find_rest(&self.board);
-        serve_all(&mut self.board)?;
-        if self.board.going().is_halted() {
-            return Err(BoardFault::Halted);
+        serve_all(rt, &self.hands, &mut self.board)?;
+        go_on(&self.board)?;
+        if !rest.quiet {
+            self.hands.bell.ring();
         }
         Ok(rest)
     }
 
-    /// Lets time pass to the moment, signals what something came for, lets go of what retires, lingers or has drained, starts
-    /// children, and takes what has arrived.
-    fn take_in<R: Wait>(&mut self, rt: &R, moment: Moment) -> Result<(), BoardFault>
+    /// Lets time pass to the moment, signals what something came for, reads the command lines, lets go of what retires, lingers or has
+    /// drained, starts children, and takes what has arrived. Whether a command line asks to stop: then nothing is done behind it.
+    fn take_in<R: Wait, F: Front<L = L>>(
+        &mut self,
+        rt: &R,
+        front: &mut F,
+        moment: Moment,
+    ) -> Result<bool, BoardFault>
+        requires named { IsKnownOfFront N.known (F.seen front.old).told }
         requires passes { 0 < self.old.board.book.passes }
         requires free { row_in 0 self.old.board.book ≡ None }
         requires up { IsUp self.old.board.book.state.going }
-        requires step { IsInStep self.old.front.told self.old.board.book.state }
+        requires step { IsInStep (F.seen front.old).told self.old.board.book.state }
+        requires heeded { IfSome (F.seen front.old).told HasNoneToHeed }
         ensures round { OnOk result (GoesRound (moment_for moment) self.old.ready self.old.board.book self.new.board.book) }
         ensures broken { IfErr result (λ fault. BreaksOff fault (moment_for moment) self.old.ready self.old.board.book self.new.board.book) }
         ensures up { IsUp self.new.board.book.state.going }
         ensures moment { OnOk result (self.new.board.book.state.moment ≡ max self.old.board.book.state.moment (moment_for moment)) }
-        ensures step { OnOk result (IsInStep self.new.front.told self.new.board.book.state) }
-        ensures taken { OnOk result (TookAll self.new.front.told self.new.board.book.state) }
-        ensures follows { Follows self.old.front self.new.front }
-        ensures front { TellsOn OnlyTakes self.old.front.told self.new.front.told }
-        ensures watched { IsWatching N.known self.old.front.told self.old.board.book → IsWatching N.known self.new.front.told self.new.board.book }
-        ensures links { OnErr result (HandsOut N.known self.new.front.told self.new.board.book.state) }
-        ensures calls { self.new.calls ≡ self.old.calls }
+        ensures step { OnOk result (IsInStep (F.seen front.new).told self.new.board.book.state) }
+        ensures asked { IfOk result (λ asked. asked ≡ true → (is_halted self.new.board.book.state.going ≡ false) × Rises (F.seen front.old).counts.commands (F.seen front.new).counts.commands × IfSome (F.seen front.new).told HasOneToHeed) }
+        ensures taken { IfOk result (λ asked. asked ≡ false → TookAll (F.seen front.new).told self.new.board.book.state × HasReadAll (F.seen front.new).told) }
+        ensures heeded { IfOk result (λ asked. asked ≡ false → IfSome (F.seen front.new).told HasNoneToHeed) }
+        ensures unheeded { OnErr result (IfSome (F.seen front.new).told HasNoneToHeed) }
+        ensures follows { Follows (F.seen front.old) (F.seen front.new) }
+        ensures front { TellsOn OnlyReadsAndTakes (F.seen front.old).told (F.seen front.new).told }
+        ensures watched { IsWatching (F.seen front.old).told self.old.board.book → IsWatching (F.seen front.new).told self.new.board.book }
+        ensures links { OnErr result (HandsOut (F.seen front.new).told self.new.board.book.state) }
+        ensures ready { self.new.ready ≡ self.old.ready }
         ensures err { IfErr result (λ fault. MustStop fault self.new.board.book) }
     {
         passes_act_in_steps();
         pass_time(&mut self.board, moment)?;
         signal_all(&mut self.board, self.ready.slots())?;
+        go_on(&self.board)?;
+        if is_asked_to_stop(rt, front) {
+            return Ok(true);
+        }
         let_go_of_conns(&mut self.board)?;
         retire_all(&mut self.board);
         start_children(&mut self.board)?;
-        self.take_all(rt)
+        self.take_all(rt, front)?;
+        Ok(false)
     }
 
     /// Takes the connections that have arrived, while a child admits one and a slot is vacant. Before the front is asked for one
     /// there is a share of the site for it.
-    fn take_all<R: Wait>(&mut self, rt: &R) -> Result<(), BoardFault>
+    fn take_all<R: Wait, F: Front<L = L>>(
+        &mut self,
+        rt: &R,
+        front: &mut F,
+    ) -> Result<(), BoardFault>
+        requires named { IsKnownOfFront N.known (F.seen front.old).told }
         requires passes { 0 < self.old.board.book.passes }
         requires free { row_in 0 self.old.board.book ≡ None }
         requires up { IsUp self.old.board.book.state.going }
-        requires step { IsInStep self.old.front.told self.old.board.book.state }
+        requires step { IsInStep (F.seen front.old).told self.old.board.book.state }
         ensures takes { OnOk result (TakesSome self.old.board.book self.new.board.book) }
         ensures until { IfErr result (λ fault. TakesUntil fault self.old.board.book self.new.board.book) }
         ensures up { IsUp self.new.board.book.state.going }
         ensures moment { self.new.board.book.state.moment ≡ self.old.board.book.state.moment }
-        ensures step { OnOk result (IsInStep self.new.front.told self.new.board.book.state) }
-        ensures taken { OnOk result (TookAll self.new.front.told self.new.board.book.state) }
-        ensures follows { Follows self.old.front self.new.front }
-        ensures front { TellsOn OnlyTakes self.old.front.told self.new.front.told }
-        ensures watched { IsWatching N.known self.old.front.told self.old.board.book → IsWatching N.known self.new.front.told self.new.board.book }
-        ensures links { OnErr result (HandsOut N.known self.new.front.told self.new.board.book.state) }
-        ensures calls { self.new.calls ≡ self.old.calls }
+        ensures step { OnOk result (IsInStep (F.seen front.new).told self.new.board.book.state) }
+        ensures taken { OnOk result (TookAll (F.seen front.new).told self.new.board.book.state) }
+        ensures follows { Follows (F.seen front.old) (F.seen front.new) }
+        ensures front { TellsOn OnlyTakes (F.seen front.old).told (F.seen front.new).told }
+        ensures watched { IsWatching (F.seen front.old).told self.old.board.book → IsWatching (F.seen front.new).told self.new.board.book }
+        ensures links { OnErr result (HandsOut (F.seen front.new).told self.new.board.book.state) }
         ensures ready { self.new.ready ≡ self.old.ready }
         ensures err { IfErr result (λ fault. MustStop fault self.new.board.book) }
     {
@@ -314,8 +335,8 @@ impl<L: Link + Send, F: Front<L = L>, C: Clock, N: Known> Listener<L, F, C, N> {
             let Ok(edition) = self.edition.share() else {
                 return Err(fault_without_memory(&self.board));
             };
-            match self.front.accept() {
-                Arrival::Some(link) => self.take(link, edition)?,
+            match front.accept() {
+                Arrival::Some(link) => self.take(front, link, edition)?,
                 Arrival::None | Arrival::Failed => return Ok(()),
             }
         }
@@ -324,26 +345,31 @@ impl<L: Link + Send, F: Front<L = L>, C: Clock, N: Known> Listener<L, F, C, N> {
 
     /// Takes the connection of the link into the table, and has the front watch it under its name. Where the table refuses the
     /// link the front turns it away, and where the front can't watch it its connection is closed.
-    fn take(&mut self, link: L, edition: Edition) -> Result<(), BoardFault>
+    fn take<F: Front<L = L>>(
+        &mut self,
+        front: &mut F,
+        link: L,
+        edition: Edition,
+    ) -> Result<(), BoardFault>
         requires passes { 0 < self.old.board.book.passes }
         requires free { row_in 0 self.old.board.book ≡ None }
         requires acceptable { is_some (acceptable self.old.board.book.state) ≡ true }
         requires up { IsUp self.old.board.book.state.going }
         requires arrival { IsArrival self.old.board.book.state.accepted (L.seen link).told }
+        requires tells { TellsAlike (F.seen front.old).told (L.seen link).told }
         requires client { IsOfClient N.known (L.seen link).told }
         requires edition { IsOfEdition N.known edition.limits edition.site.value }
         requires healthy { (L.seen link).counts.faults ≡ 0 }
-        ensures takes { OnOk result (IsTaking (L.seen link).told self.old self.new) }
+        ensures takes { OnOk result (IsTaking (L.seen link).told (F.seen front.old).told (F.seen front.new).told self.old.board.book self.new.board.book) }
         ensures until { IfErr result (λ fault. FailsTaking fault self.old.board.book self.new.board.book) }
         ensures up { IsUp self.new.board.book.state.going }
         ensures moment { self.new.board.book.state.moment ≡ self.old.board.book.state.moment }
         ensures taken { OnOk result (self.new.board.book.state.accepted ≡ next_count self.old.board.book.state.accepted) }
-        ensures step { OnOk result (IsInStep self.old.front.told self.new.board.book.state → IsInStep self.new.front.told self.new.board.book.state) }
-        ensures follows { Follows self.old.front self.new.front }
-        ensures front { TellsOn OnlyTakes self.old.front.told self.new.front.told }
-        ensures watched { IsWatching N.known self.old.front.told self.old.board.book → IsWatching N.known self.new.front.told self.new.board.book }
-        ensures links { OnErr result (EndsTaking (L.seen link).told self.old self.new) }
-        ensures calls { self.new.calls ≡ self.old.calls }
+        ensures step { OnOk result (IsInStep (F.seen front.old).told self.new.board.book.state → IsInStep (F.seen front.new).told self.new.board.book.state) }
+        ensures follows { Follows (F.seen front.old) (F.seen front.new) }
+        ensures front { TellsOn OnlyTakes (F.seen front.old).told (F.seen front.new).told }
+        ensures watched { IsWatching (F.seen front.old).told self.old.board.book → IsWatching (F.seen front.new).told self.new.board.book }
+        ensures links { OnErr result (EndsTaking (L.seen link).told (F.seen front.old).told (F.seen front.new).told self.old.board.book.state self.new.board.book.state) }
         ensures ready { self.new.ready ≡ self.old.ready }
         ensures err { IfErr result (λ fault. MustStop fault self.new.board.book) }
     {
@@ -353,12 +379,12 @@ impl<L: Link + Send, F: Front<L = L>, C: Clock, N: Known> Listener<L, F, C, N> {
         let taken = match accept(&mut self.board) {
             Ok(taken) => taken,
             Err(fault) => {
-                self.front.turn_away(link);
+                front.turn_away(link);
                 return Err(fault);
             }
         };
         show_state(&self.board);
-        let watched = self.front.watch(taken.name, &mut link);
+        let watched = front.watch(taken.name, &mut link);
         let conn = Conn::new(
             self.alloc,
             taken.name,
@@ -370,6 +396,36 @@ impl<L: Link + Send, F: Front<L = L>, C: Clock, N: Known> Listener<L, F, C, N> {
         );
         conn.show();
         settle(&mut self.board, conn, watched)
+    }
+}
+
+/// Reads the command lines that came, up to one that asks to stop. Whether there is one: nothing is read behind it. A line that asks for
+/// something else is dropped.
+fn is_asked_to_stop<R: Wait, F: Front>(rt: &R, front: &mut F) -> bool
+    requires heeded { IfSome (F.seen front.old).told HasNoneToHeed }
+    ensures asked { result ≡ true → Rises (F.seen front.old).counts.commands (F.seen front.new).counts.commands × IfSome (F.seen front.new).told HasOneToHeed }
+    ensures none { result ≡ false → IfSome (F.seen front.new).told HasNoneToHeed × HasReadAll (F.seen front.new).told }
+    ensures follows { Follows (F.seen front.old) (F.seen front.new) }
+    ensures front { TellsOn OnlyReads (F.seen front.old).told (F.seen front.new).told }
+{
+    for _ in rt.forever() {
+        match front.command() {
+            None => return false,
+            Some(line) if stops(&line) => return true,
+            Some(_) => (),
+        }
+    }
+    unreachable!()
+}
+
+/// Whether the command line asks to stop.
+fn stops(line: &Line) -> bool
+    ensures asked { result ≡ true → line.now ≡ stop_line }
+    ensures none { result ≡ false → line.now ≢ stop_line }
+{
+    match read_command(line.as_str()) {
+        Ok(command) => command == Command::Stop,
+        Err(_) => false,
     }
 }
 

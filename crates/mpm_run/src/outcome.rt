@@ -4,6 +4,7 @@ ghost use Rattle.std.specs.Prelude.{◌≡◌, None, IsNone};
 use crate::exit_status;
 use board::Board;
 use conn_state::Nothing;
+use mpm_base::Link;
 use mpm_config::Config;
 use script_front::{ScriptClock, ScriptFront};
 use stand_ins::{PlainStore, ScriptLink};
@@ -25,36 +26,108 @@ pub struct Scripted {
 
 /// How a run ended.
 #[derive(Drop)]
-pub struct Outcome {
-    /// The exit status of the process: 0 for a run that came to its end, and for a configuration that was tested and is accepted,
-    /// 1 for one that is refused, 2 for words that are no command, 3 for a file that can't be read, 5 for an output that failed,
-    /// 6 for want of memory, 7 for a full history, 8 for a script that is refused, 9 for a site that is.
+pub struct Outcome<L: Link> {
+    /// The exit status of the process: 0 for a run that came to its end, for a configuration that was tested and is accepted, and for a
+    /// command that was sent, 1 for a configuration that is refused, 2 for words that are no command, 3 for a file that can't be read, 4
+    /// for a front that failed, 5 for an output that failed, 6 for want of memory, 7 for a full history, 8 for a script that is refused,
+    /// 9 for a site that is, 10 for a configuration without a control line.
     pub status: u8,
     /// The line, from 1, at which the script or the configuration is refused, or the place, from 0, at which the latter is no
     /// text; 0 for its size. 0 where the file is missing.
     pub shown: Option<u64>,
-    /// What is left of the run, where one opened.
+    /// The table of connections of a run over the front, where one opened.
+    pub board: Option<Board<L, Nothing>>,
+    /// What is left of the run of a script, where one opened.
     pub scripted: Option<Scripted>,
 }
 
-/// The end of a run that did not open.
-pub fn unopened(status: u8, shown: Option<u64>) -> Outcome
+/// How a command ended, and what is left of its run, where one opened.
+#[derive(Drop)]
+pub(crate) struct Ending<X> {
+    /// The exit status.
+    pub(crate) status: u8,
+    /// What `Outcome` shows.
+    pub(crate) shown: Option<u64>,
+    /// What is left.
+    pub(crate) left: Option<X>,
+}
+
+/// The end of a command whose run did not open, or that has none.
+pub(crate) fn unopened<X>(status: u8, shown: Option<u64>) -> Ending<X>
     ensures status { result.status ≡ status }
     ensures shown { result.shown ≡ shown }
-    ensures scripted { IsNone result.scripted }
+    ensures left { IsNone result.left }
 {
-    Outcome {
+    Ending {
         status,
         shown,
+        left: None,
+    }
+}
+
+/// The end of a command that found no memory.
+pub(crate) fn no_memory<X>() -> Ending<X>
+    ensures status { result.status ≡ 6 }
+    ensures shown { result.shown ≡ None }
+    ensures left { IsNone result.left }
+{
+    unopened(exit_status::NO_MEMORY, None)
+}
+
+/// How a run ended that found no memory to begin.
+pub fn lacks_memory<L: Link>() -> Outcome<L>
+    ensures { result ≡ record { status = 6; shown = None; board = None; scripted = None } }
+{
+    Outcome {
+        status: exit_status::NO_MEMORY,
+        shown: None,
+        board: None,
         scripted: None,
     }
 }
 
-/// The end of a run that found no memory to open.
-pub fn no_memory() -> Outcome
-    ensures status { result.status ≡ 6 }
-    ensures shown { result.shown ≡ None }
-    ensures scripted { IsNone result.scripted }
+/// The outcome of a script.
+pub(crate) fn scripted_outcome<L: Link>(ending: Ending<Scripted>) -> Outcome<L>
+    ensures { result ≡ record { status = ending.status; shown = ending.shown; board = None; scripted = ending.left } }
 {
-    unopened(exit_status::NO_MEMORY, None)
+    let Ending {
+        status,
+        shown,
+        left,
+    } = ending;
+    Outcome {
+        status,
+        shown,
+        board: None,
+        scripted: left,
+    }
+}
+
+/// The outcome of a server.
+pub(crate) fn served_outcome<L: Link>(ending: Ending<Board<L, Nothing>>) -> Outcome<L>
+    ensures { result ≡ record { status = ending.status; shown = ending.shown; board = ending.left; scripted = None } }
+{
+    let Ending {
+        status,
+        shown,
+        left,
+    } = ending;
+    Outcome {
+        status,
+        shown,
+        board: left,
+        scripted: None,
+    }
+}
+
+/// The outcome of a command that has no run.
+pub(crate) fn closed_outcome<L: Link>(ending: Ending<()>) -> Outcome<L>
+    ensures { result ≡ record { status = ending.status; shown = ending.shown; board = None; scripted = None } }
+{
+    Outcome {
+        status: ending.status,
+        shown: ending.shown,
+        board: None,
+        scripted: None,
+    }
 }

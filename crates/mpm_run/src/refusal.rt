@@ -1,22 +1,23 @@
 //! The ends of runs that are refused: each writes its text, unless memory lacks for it.
 ghost use Rattle.std.specs.Prelude.{◌≡◌, ◌⊎◌, None, Some, IsNone};
-ghost use Rattle.mpm_run.specs.ExitStatusesInside.{RefusesRun};
-ghost use Rattle.mpm_run.specs.Texts.{config_refused, script_refused, site_refused, store_fault, usage};
+ghost use Rattle.mpm_run.specs.ExitStatusesInside.{RefusesConfigOf, RefusesRun};
+ghost use Rattle.mpm_run.specs.Texts.{config_refused, front_fault, no_control_line, script_refused, site_refused, store_fault, usage};
 
+use crate::config_reading::NoConfig;
 use crate::exit_status;
-use crate::outcome::{Outcome, no_memory, unopened};
+use crate::outcome::{Ending, no_memory, unopened};
 use crate::texts::{
-    ConfigRefusal, ScriptRefusal, config_refused_text, script_refused_text, site_refused_text,
-    store_fault_text, usage_text,
+    ConfigRefusal, ScriptRefusal, config_refused_text, front_fault_text, no_control_line_text,
+    script_refused_text, site_refused_text, store_fault_text, usage_text,
 };
 use crate::writing::write_all;
 use mpm_base::{Octets, Sink};
 use std::alloc::Global;
 
 /// The words are none of the forms.
-pub fn refuse_words<K: Sink>(alloc: Global, out: &mut K) -> Outcome
+pub fn refuse_words<X, K: Sink>(alloc: Global, out: &mut K) -> Ending<X>
     ensures known { (result.status ≡ 2) ⊎ (result.status ≡ 6) }
-    ensures scripted { IsNone result.scripted }
+    ensures left { IsNone result.left }
     ensures refused { result.status ≡ 2 → RefusesRun (K.seen out.old) (K.seen out.new) None usage result.shown }
     ensures silent { result.status ≡ 6 → (K.seen out.new).told ≡ (K.seen out.old).told }
 {
@@ -27,22 +28,32 @@ pub fn refuse_words<K: Sink>(alloc: Global, out: &mut K) -> Outcome
 }
 
 /// The file of that name can't be read.
-pub fn refuse_unread<K: Sink>(alloc: Global, name: &str, shown: Option<u64>, out: &mut K) -> Outcome
+pub fn refuse_unread<X, K: Sink>(
+    alloc: Global,
+    name: &[u8],
+    shown: Option<u64>,
+    out: &mut K,
+) -> Ending<X>
     ensures known { (result.status ≡ 3) ⊎ (result.status ≡ 6) }
-    ensures scripted { IsNone result.scripted }
+    ensures left { IsNone result.left }
     ensures refused { result.status ≡ 3 → RefusesRun (K.seen out.old) (K.seen out.new) shown (store_fault name.now) result.shown }
     ensures silent { result.status ≡ 6 → (K.seen out.new).told ≡ (K.seen out.old).told }
 {
-    match store_fault_text(alloc, name.as_bytes()) {
+    match store_fault_text(alloc, name) {
         Ok(text) => refuse(out, exit_status::UNREAD, shown, &text),
         Err(_) => no_memory(),
     }
 }
 
 /// The script is refused at that line, from 1, or at 0 for its size.
-pub fn refuse_script<K: Sink>(alloc: Global, why: ScriptRefusal, line: u64, out: &mut K) -> Outcome
+pub fn refuse_script<X, K: Sink>(
+    alloc: Global,
+    why: ScriptRefusal,
+    line: u64,
+    out: &mut K,
+) -> Ending<X>
     ensures known { (result.status ≡ 8) ⊎ (result.status ≡ 6) }
-    ensures scripted { IsNone result.scripted }
+    ensures left { IsNone result.left }
     ensures refused { result.status ≡ 8 → RefusesRun (K.seen out.old) (K.seen out.new) (Some line) (script_refused line why) result.shown }
     ensures silent { result.status ≡ 6 → (K.seen out.new).told ≡ (K.seen out.old).told }
 {
@@ -53,14 +64,14 @@ pub fn refuse_script<K: Sink>(alloc: Global, why: ScriptRefusal, line: u64, out:
 }
 
 /// The configuration is refused at that line, from 1, or at that place, from 0, where it is no text; or at 0 for its size.
-pub fn refuse_config<K: Sink>(
+pub fn refuse_config<X, K: Sink>(
     alloc: Global,
     why: ConfigRefusal,
     number: u64,
     out: &mut K,
-) -> Outcome
+) -> Ending<X>
     ensures known { (result.status ≡ 1) ⊎ (result.status ≡ 6) }
-    ensures scripted { IsNone result.scripted }
+    ensures left { IsNone result.left }
     ensures refused { result.status ≡ 1 → RefusesRun (K.seen out.old) (K.seen out.new) (Some number) (config_refused number why) result.shown }
     ensures silent { result.status ≡ 6 → (K.seen out.new).told ≡ (K.seen out.old).told }
 {
@@ -70,10 +81,30 @@ pub fn refuse_config<K: Sink>(
     }
 }
 
+/// There is no configuration of the file of that name, or memory lacked for it.
+pub fn refuse_config_of<X, K: Sink>(
+    alloc: Global,
+    name: &str,
+    why: NoConfig,
+    out: &mut K,
+) -> Ending<X>
+    ensures known { (result.status ≡ 1) ⊎ (result.status ≡ 3) ⊎ (result.status ≡ 6) }
+    ensures left { IsNone result.left }
+    ensures refused { (result.status ≡ 1) ⊎ (result.status ≡ 3) → RefusesConfigOf (K.seen out.old) (K.seen out.new) name.now why result.status result.shown }
+    ensures silent { result.status ≡ 6 → (K.seen out.new).told ≡ (K.seen out.old).told }
+{
+    match why {
+        NoConfig::Missing => refuse_unread(alloc, name.as_bytes(), Some(0), out),
+        NoConfig::Failed => refuse_unread(alloc, name.as_bytes(), None, out),
+        NoConfig::Refused(why, number) => refuse_config(alloc, why, number, out),
+        NoConfig::NoMemory => no_memory(),
+    }
+}
+
 /// The site is refused for the file of that name, or for the files of the folder of that name.
-pub fn refuse_site<K: Sink>(alloc: Global, name: &[u8], out: &mut K) -> Outcome
+pub fn refuse_site<X, K: Sink>(alloc: Global, name: &[u8], out: &mut K) -> Ending<X>
     ensures known { (result.status ≡ 9) ⊎ (result.status ≡ 6) }
-    ensures scripted { IsNone result.scripted }
+    ensures left { IsNone result.left }
     ensures refused { result.status ≡ 9 → RefusesRun (K.seen out.old) (K.seen out.new) None (site_refused name.now) result.shown }
     ensures silent { result.status ≡ 6 → (K.seen out.new).told ≡ (K.seen out.old).told }
 {
@@ -83,10 +114,36 @@ pub fn refuse_site<K: Sink>(alloc: Global, name: &[u8], out: &mut K) -> Outcome
     }
 }
 
+/// A call of the front failed, and no run opened.
+pub fn refuse_front<X, K: Sink>(alloc: Global, out: &mut K) -> Ending<X>
+    ensures known { (result.status ≡ 4) ⊎ (result.status ≡ 6) }
+    ensures left { IsNone result.left }
+    ensures refused { result.status ≡ 4 → RefusesRun (K.seen out.old) (K.seen out.new) None front_fault result.shown }
+    ensures silent { result.status ≡ 6 → (K.seen out.new).told ≡ (K.seen out.old).told }
+{
+    match front_fault_text(alloc) {
+        Ok(text) => refuse(out, exit_status::FRONT_FAILED, None, &text),
+        Err(_) => no_memory(),
+    }
+}
+
+/// The configuration has no control line.
+pub fn refuse_uncontrolled<X, K: Sink>(alloc: Global, out: &mut K) -> Ending<X>
+    ensures known { (result.status ≡ 10) ⊎ (result.status ≡ 6) }
+    ensures left { IsNone result.left }
+    ensures refused { result.status ≡ 10 → RefusesRun (K.seen out.old) (K.seen out.new) None no_control_line result.shown }
+    ensures silent { result.status ≡ 6 → (K.seen out.new).told ≡ (K.seen out.old).told }
+{
+    match no_control_line_text(alloc) {
+        Ok(text) => refuse(out, exit_status::UNCONTROLLED, None, &text),
+        Err(_) => no_memory(),
+    }
+}
+
 /// The run is refused with that status: the text is written, as far as the output takes it.
-fn refuse<K: Sink>(out: &mut K, status: u8, shown: Option<u64>, text: &Octets) -> Outcome
+fn refuse<X, K: Sink>(out: &mut K, status: u8, shown: Option<u64>, text: &Octets) -> Ending<X>
     ensures status { result.status ≡ status }
-    ensures scripted { IsNone result.scripted }
+    ensures left { IsNone result.left }
     ensures refused { RefusesRun (K.seen out.old) (K.seen out.new) shown text.now result.shown }
 {
     let _ = write_all(out, text.as_slice());

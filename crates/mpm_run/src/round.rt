@@ -36,9 +36,10 @@ use conn_machine::laws_of_runs::{
     children_change_one_at_a_time, histories_keep_sizes, rows_change_one_at_a_time,
 };
 use conn_state::{Conn, Known};
-use mpm_base::{Cause, Clock, GREATEST_MOMENT, Kind, Link, Moment, Tail, Woke};
+use mpm_base::{Bell, Cause, Clock, GREATEST_MOMENT, Gate, Kind, Link, Moment, Tail, Woke};
+use std::sync::Wait;
 use worker_group::laws::passes_act_in_steps;
-use worker_group::{close, park, serve};
+use worker_group::{Hands, close, park, serve};
 
 /// A connection that was just taken waits for its first request, where the front watches it; else it is closed.
 pub fn settle<L: Link, N: Known>(
@@ -120,6 +121,19 @@ pub fn find_rest<L: Link, N: Known>(board: &Board<L, N>) -> Rest
             && board.retiring().is_none()
             && board.can_retire().is_none()
             && board.can_start().is_none(),
+    }
+}
+
+/// Whether the server goes on. Err where it has stopped.
+pub fn go_on<L: Link, N: Known>(board: &Board<L, N>) -> Result<(), BoardFault>
+    ensures going { OnOk result (is_halted board.now.book.state.going ≡ false) }
+    ensures why { IfErr result (λ fault. IsRefusedFor fault board.now.book) }
+    ensures err { IfErr result (λ fault. MustStop fault board.now.book) }
+{
+    if board.going().is_halted() {
+        Err(BoardFault::Halted)
+    } else {
+        Ok(())
     }
 }
 
@@ -249,7 +263,11 @@ pub fn start_children<L: Link, N: Known>(board: &mut Board<L, N>) -> Result<(), 
 }
 
 /// Serves each connection that is signalled and that a worker of its child is free for.
-pub fn serve_all<L: Link, N: Known>(board: &mut Board<L, N>) -> Result<(), BoardFault>
+pub fn serve_all<R: Wait, L: Link, N: Known, B: Bell, G: Gate>(
+    rt: &R,
+    hands: &Hands<'_, B, G>,
+    board: &mut Board<L, N>,
+) -> Result<(), BoardFault>
     requires passes { 1 < board.old.book.passes }
     requires free { row_in 1 board.old.book ≡ None }
     ensures serves { ServesSome board.old board.new }
@@ -262,7 +280,7 @@ pub fn serve_all<L: Link, N: Known>(board: &mut Board<L, N>) -> Result<(), Board
     passes_leave_the_rest_to_the_listener();
     show_state(board);
     while let Some(name) = board.signalled() {
-        serve(board, SERVER, name)?;
+        serve(rt, hands, board, SERVER, name)?;
         board.show();
     }
     Ok(())

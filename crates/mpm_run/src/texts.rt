@@ -130,3 +130,17 @@ fn config_word(why: ConfigRefusal) -> &'static [u8]
         ConfigRefusal::TooDeep => b"TooDeep",
     }
 }
+
+/// The text where a call of the front failed and no run opened.
+pub fn front_fault_text(alloc: Global) -> Result<Octets, NoMemory>
+    ensures { IfOk result (λ text. text ≡ spec.front_fault) }
+{
+    Octets::of(alloc, b"front fault\n")
+}
+
+/// The text where the configuration has no control line.
+pub fn no_control_line_text(alloc: Global) -> Result<Octets, NoMemory>
+    ensures { IfOk result (λ text. text ≡ spec.no_control_line) }
+{
+    Octets::of(alloc, b"no control line\n")
+}

@@ -1,43 +1,54 @@
 //! The top call: from the words of the command line to the texts.
-ghost use Rattle.std.specs.Prelude.{◌≡◌, IfSome, IsSomeAnd, IsNone};
+ghost use Rattle.std.specs.Prelude.{◌≡◌, [], IfSome, IsNone};
 ghost use Rattle.conn_machine.specs.declared.event.Why.TheVariants as why;
 ghost use Rattle.conn_machine.specs.declared.state.Going.TheVariants.{Halted};
 ghost use Rattle.script_front.specs.Editions.{editions_of};
-ghost use Rattle.mpm_run.specs.ExitStatuses.{EndsConfigRefused, EndsFull, EndsRefused, EndsSiteRefused, EndsUnknown, EndsUnread, HasEnd, HasPlayed, IsExitStatus, KeepsPatience, KeepsTime, LacksOutput, MayEndWith, Succeeds, seen_call};
+ghost use Rattle.mpm_run.specs.Calls.{seen_call};
+ghost use Rattle.mpm_run.specs.Commands.{HeedsLines};
+ghost use Rattle.mpm_run.specs.ExitStatuses.{EndsConfigRefused, EndsFilled, EndsFrontFault, EndsRefused, EndsSiteRefused, EndsUncontrolled, EndsUnknown, EndsUnread, HasEnd, HasPlayed, HasServed, IsExitStatus, KeepsPatience, KeepsTime, LacksOutput, MayEndWith, Succeeds};
 ghost use Rattle.mpm_run.specs.FirstNumbers as opening;
+ghost use Rattle.command_words.specs.Invocations.{CallsFront};
 ghost use Rattle.mpm_run.specs.Links.{KeepsLinks};
-ghost use Rattle.mpm_run.specs.Listen.{NeverFolded};
 ghost use Rattle.mpm_run.specs.Started.{IsStartedFirst};
+ghost use Rattle.mpm_run.specs.Unused.{IsUnused};
 ghost use Rattle.mpm_run.specs.Watched.{AreWatched, IsOpenedAndHushed};
 
+use crate::command_run::send_command;
 use crate::config_test::test_config;
-use crate::invocation::{Invocation, invocation_of};
-use crate::outcome::Outcome;
+use crate::outcome::{Outcome, closed_outcome, no_memory, scripted_outcome, served_outcome};
 use crate::refusal::refuse_words;
-use crate::script_run::run_script;
-use mpm_base::{Sink, Store, Words};
+use crate::script_run::{run_load, run_script};
+use crate::serve_run::serve_file;
+use command_words::{Invocation, NoInvocation, invocation_of};
+use mpm_base::{Clock, Front, Gate, Sink, Store, Words};
 use std::alloc::Global;
 use std::sync::Wait;
 use std::thread::Threads;
 
-/// Runs the command that the words give, over the store and the output: `--script FILE` plays the script of that name, by the
-/// configuration and the site that its own lines write, and `-t -f FILE` tests the configuration of that name.
+/// Runs the command that the words give, over the store and the output: `--script FILE` plays the script of that name and `--load N` that
+/// of a load of N connections, both by the configuration and the site that the script's own lines write; `-f FILE` serves, over the front
+/// and the clock, by the configuration of that name and the site of the store; `-t -f FILE` tests the configuration of that name; and
+/// `-k WORD -f FILE` sends the word to the control port of the configuration of that name.
 ///
-/// All texts go to `out`: the warnings and the report of a run, what a test found, or why there is neither.
-pub fn run<R: Threads + Wait + Sync, D: Store, K: Sink>(
+/// All texts go to `out`: the warnings and the report of a run, what a test found, or why there is neither. Each service passes the gate.
+pub fn run<R: Threads + Wait + Sync, D: Store, F: Front, C: Clock, G: Gate + Sync, K: Sink>(
     rt: &R,
     alloc: Global,
     words: &Words,
     store: &mut D,
+    front: &mut F,
+    clock: &mut C,
+    gate: &G,
     out: &mut K,
-) -> Outcome
-    // Whatever the exit status, what is left of a run is of one of the script that was read, by the configuration that it writes and
-    // the site that it has by that: it closed each connection that it took, each child is gone, and each connection was served by the
-    // site, and by the configuration's limits of heads.
-    ensures kept { IfSome result.scripted (λ s. HasPlayed (seen_call words.now (D.seen store.old) (D.seen store.new) (K.seen out.old) (K.seen out.new) result.shown) s.config s.board s.front) }
+) -> Outcome<F::L>
+    // A front that tells was asked nothing yet, nor was a clock that tells.
+    requires unused { IfSome (F.seen front.old).told IsUnused }
+    requires unasked { IfSome (C.told clock.old) (λ calls. calls ≡ []) }
 
-    // Nothing of what it did was folded: the history is all of it.
-    ensures unfolded { IfSome result.scripted (λ s. NeverFolded (opening.numbers_of s.config) s.board.book) }
+    // Whatever the exit status, what is left of a script's run is of one of the script that was read or made, by the configuration that
+    // it writes and the site that it has by that: it closed each connection that it took, each child is gone, and each connection was
+    // served by the site, and by the configuration's limits of heads.
+    ensures kept { IfSome result.scripted (λ s. HasPlayed (seen_call words.now (D.seen store.old) (D.seen store.new) (K.seen out.old) (K.seen out.new) result.shown) s.config s.board s.front) }
 
     // Its store tells what the lines of the script make of the site.
     ensures site { IfSome result.scripted (λ s. s.store.told ≡ editions_of s.front.script) }
@@ -63,30 +74,51 @@ pub fn run<R: Threads + Wait + Sync, D: Store, K: Sink>(
     // Time passed only where nothing was left to be done.
     ensures patient { IfSome result.scripted (λ s. KeepsPatience s.board s.front) }
 
+    // It was stopped by a command line exactly where one that was read stops it, and read none behind that.
+    ensures heeded { IfSome result.scripted (λ s. HeedsLines s.board.book.state.going s.front.told) }
+
     // Why it stopped: where nothing more could come the whole script was played, whatever the exit status.
     ensures ended { IfSome result.scripted (λ s. s.board.book.state.going ≡ Halted why.FrontEnded → HasEnd s.board s.front) }
     ensures stopped { IfSome result.scripted (λ s. MayEndWith s.board.book.state.going result.status) }
 
-    // With exit status 0 it was, and the output has the warnings and the report; or a configuration was tested that is accepted, and the
-    // output has its warnings and says so.
-    ensures served { result.status ≡ 0 → Succeeds (seen_call words.now (D.seen store.old) (D.seen store.new) (K.seen out.old) (K.seen out.new) result.shown) result.scripted }
+    // The same of what is left of a server, as far as its front, its clock and its store tell; and how it ended.
+    ensures server { IfSome result.board (λ b. HasServed (seen_call words.now (D.seen store.old) (D.seen store.new) (K.seen out.old) (K.seen out.new) result.shown) (F.seen front.old) (F.seen front.new) (C.told clock.new) result.status b) }
+
+    // Other words than those that serve or send a command leave the front and the clock as they were.
+    ensures unmoved { ¬ CallsFront words.now → (F.seen front.new ≡ F.seen front.old) × (C.told clock.new ≡ C.told clock.old) }
+
+    // With exit status 0 a run came to its end, and the output has the warnings and the report; or a configuration was tested that is
+    // accepted, and the output has its warnings and says so; or a command was sent.
+    ensures served { result.status ≡ 0 → Succeeds (seen_call words.now (D.seen store.old) (D.seen store.new) (K.seen out.old) (K.seen out.new) result.shown) (F.seen front.old) (F.seen front.new) result.scripted result.board }
 
     // Each other exit status has its cause.
     ensures known { IsExitStatus result.status }
     ensures misconfigured { result.status ≡ 1 → EndsConfigRefused (seen_call words.now (D.seen store.old) (D.seen store.new) (K.seen out.old) (K.seen out.new) result.shown) }
     ensures unknown { result.status ≡ 2 → EndsUnknown (seen_call words.now (D.seen store.old) (D.seen store.new) (K.seen out.old) (K.seen out.new) result.shown) }
     ensures unread { result.status ≡ 3 → EndsUnread (seen_call words.now (D.seen store.old) (D.seen store.new) (K.seen out.old) (K.seen out.new) result.shown) }
+    ensures front_failed { result.status ≡ 4 → EndsFrontFault (seen_call words.now (D.seen store.old) (D.seen store.new) (K.seen out.old) (K.seen out.new) result.shown) (F.seen front.old) (F.seen front.new) result.board }
+    ensures unwritten { result.status ≡ 5 → LacksOutput (seen_call words.now (D.seen store.old) (D.seen store.new) (K.seen out.old) (K.seen out.new) result.shown) result.scripted result.board }
+    ensures full { result.status ≡ 7 → EndsFilled (seen_call words.now (D.seen store.old) (D.seen store.new) (K.seen out.old) (K.seen out.new) result.shown) result.scripted result.board }
     ensures refused { result.status ≡ 8 → EndsRefused (seen_call words.now (D.seen store.old) (D.seen store.new) (K.seen out.old) (K.seen out.new) result.shown) }
     ensures site_refused { result.status ≡ 9 → EndsSiteRefused (seen_call words.now (D.seen store.old) (D.seen store.new) (K.seen out.old) (K.seen out.new) result.shown) }
-    ensures unwritten { result.status ≡ 5 → LacksOutput (seen_call words.now (D.seen store.old) (D.seen store.new) (K.seen out.old) (K.seen out.new) result.shown) result.scripted }
-    ensures full { result.status ≡ 7 → IsSomeAnd result.scripted (λ s. EndsFull (K.seen out.old) (K.seen out.new) s.config s.board) }
+    ensures uncontrolled { result.status ≡ 10 → EndsUncontrolled (seen_call words.now (D.seen store.old) (D.seen store.new) (K.seen out.old) (K.seen out.new) result.shown) }
 
     // Where no run opened for want of memory, nothing is written.
-    ensures silent { result.status ≡ 6 → IsNone result.scripted → (K.seen out.new).told ≡ (K.seen out.old).told }
+    ensures silent { result.status ≡ 6 → IsNone result.scripted → IsNone result.board → (K.seen out.new).told ≡ (K.seen out.old).told }
 {
-    match invocation_of(words) {
-        Some(Invocation::Script(name)) => run_script(rt, alloc, name, store, out),
-        Some(Invocation::Test(name)) => test_config(alloc, name, store, out),
-        None => refuse_words(alloc, out),
+    match invocation_of(alloc, words) {
+        Ok(Invocation::Script(name)) => {
+            scripted_outcome(run_script(rt, alloc, &name, store, gate, out))
+        }
+        Ok(Invocation::Load(count)) => scripted_outcome(run_load(rt, alloc, count, gate, out)),
+        Ok(Invocation::Serve(name)) => {
+            served_outcome(serve_file(rt, alloc, &name, store, front, clock, gate, out))
+        }
+        Ok(Invocation::Test(name)) => closed_outcome(test_config(alloc, &name, store, out)),
+        Ok(Invocation::Send(word, name)) => {
+            closed_outcome(send_command(alloc, word, &name, store, front, out))
+        }
+        Err(NoInvocation::Unknown) => closed_outcome(refuse_words(alloc, out)),
+        Err(NoInvocation::NoMemory) => closed_outcome(no_memory()),
     }
 }

@@ -8,23 +8,28 @@ use Rattle.std.proofs.lemmas.List.{drop_more, get_or_append_left, get_or-append-
 use Rattle.std.proofs.lemmas.List.Quantifiers.{position-Some}
 use Rattle.std.proofs.lemmas.List.Sums.{fails_before_first}
 use Rattle.mpm_script.specs.BuiltLines.{IsBuilt, AreBuilt, FirstUnbuilt}
-use Rattle.mpm_script.specs.BuiltLinesInside.{is_command}
+use Rattle.mpm_script.specs.BuiltLinesInside.{is_unbuilt}
+use Rattle.mpm_base.specs.declared.script_line.CommandWord.TheVariants as word
 use Rattle.mpm_base.specs.declared.script_line.ScriptLine.{ScriptLine}
 use Rattle.mpm_base.specs.declared.script_line.ScriptLine.TheVariants as line
 
--- each line is built but a command
-built_if : (l : ScriptLine) → is_command l ≡ false → IsBuilt l
+-- each line is built but a command for a generation
+built_if : (l : ScriptLine) → is_unbuilt l ≡ false → IsBuilt l
 built_if (line.At m) e = tt
 built_if (line.Conn name) e = tt
 built_if (line.Client name act) e = tt
-built_if (line.Command word) e = absurd (false≢true (sym e))
+built_if (line.Command word.Graceful) e = absurd (false≢true (sym e))
+built_if (line.Command word.GracefulStop) e = absurd (false≢true (sym e))
+built_if (line.Command word.Stop) e = tt
 built_if (line.Site site) e = tt
 
-unbuilt_if : (l : ScriptLine) → is_command l ≡ true → ¬ IsBuilt l
+unbuilt_if : (l : ScriptLine) → is_unbuilt l ≡ true → ¬ IsBuilt l
 unbuilt_if (line.At m) e h = false≢true e
 unbuilt_if (line.Conn name) e h = false≢true e
 unbuilt_if (line.Client name act) e h = false≢true e
-unbuilt_if (line.Command word) e h = h
+unbuilt_if (line.Command word.Graceful) e h = h
+unbuilt_if (line.Command word.GracefulStop) e h = h
+unbuilt_if (line.Command word.Stop) e h = false≢true e
 unbuilt_if (line.Site site) e h = false≢true e
 
 -- ## Where it stands
@@ -38,13 +43,13 @@ past_all p xs e = by_test (nat_lt (position_or_len p xs) (length xs)) refl e
     by_test true is h = absurd (cc)
     by_test false is h = grind (arith, nat_tests)
 
-all_built : (lines : List ScriptLine) → position is_command lines ≡ None → AreBuilt lines
-all_built lines e = λ k d l. built_if (get_or lines k d) (fails_before_first is_command lines k d (omega (arith, l, past_all is_command lines e)))
+all_built : (lines : List ScriptLine) → position is_unbuilt lines ≡ None → AreBuilt lines
+all_built lines e = λ k d l. built_if (get_or lines k d) (fails_before_first is_unbuilt lines k d (omega (arith, l, past_all is_unbuilt lines e)))
 
--- the first that is a command is the first that isn't built
-first_at : (lines : List ScriptLine) (place : ℕ) → position is_command lines ≡ Some place → FirstUnbuilt lines place
+-- the first that the test finds is the first that isn't built
+first_at : (lines : List ScriptLine) (place : ℕ) → position is_unbuilt lines ≡ Some place → FirstUnbuilt lines place
 first_at lines place e =
-    let at = position-Some is_command lines place (line.At 0) e in
+    let at = position-Some is_unbuilt lines place (line.At 0) e in
     record {
       before = take place lines;
       line = get_or lines place (line.At 0);
@@ -52,12 +57,12 @@ first_at lines place e =
       whole = sym (take-append-drop place lines) ∙ ap (λ xs. take place lines ++ xs) (drop_more lines place (line.At 0) at.0);
       built_before = λ k d l.
           let early : k < place = omega (arith, l, length-take place lines, at.0) in
-          subst IsBuilt (sym (get_or-take place lines k d early)) (built_if (get_or lines k d) ((position-Some is_command lines place d e).2 k early));
+          subst IsBuilt (sym (get_or-take place lines k d early)) (built_if (get_or lines k d) ((position-Some is_unbuilt lines place d e).2 k early));
       unbuilt = unbuilt_if (get_or lines place (line.At 0)) at.1;
       place_is = omega (arith, length-take place lines, at.0);
     }
 
-pub first_of_lines : (lines : List ScriptLine) (found : Option ℕ) → found ≡ position is_command lines
+pub first_of_lines : (lines : List ScriptLine) (found : Option ℕ) → found ≡ position is_unbuilt lines
     → MatchOption found (AreBuilt lines) (FirstUnbuilt lines)
 first_of_lines lines None e = all_built lines (sym e)
 first_of_lines lines (Some place) e = first_at lines place (sym e)

@@ -1,11 +1,12 @@
 -- Lines of a script: a text is one of them at most.
 use Rattle.std.proofs.Common.{◌≡◌, ℕ, Bool, true, false, cond, length, arith, List, [], ◌∷◌, ◌++◌, ◌==◌, get_or, refl, sym, ap, subst, ◌∙◌, Option, None, Some, MatchOption}
 use Rattle.std.specs.Prelude.{codes}
+use Rattle.mpm_base.specs.CommandWord.{command_word}
 use Rattle.mpm_base.specs.Digits.{decimal}
 use Rattle.std.proofs.lemmas.Bool.{false≢true}
 use Rattle.std.proofs.lemmas.List.{append_cancel_left}
 use Rattle.mpm_script.specs.Escapes.{Spells}
-use Rattle.mpm_script.specs.ScriptLine.{is_name_byte, is_file_byte, IsNumber, act_word, IsBehindName, IsSiteLine, command_word, IsLine}
+use Rattle.mpm_script.specs.ScriptLine.{is_name_byte, is_file_byte, IsNumber, act_word, IsBehindName, IsSiteLine, IsLine}
 use Rattle.mpm_script.specs.LineWordsInside.{EndsRun, IsNamed, IsFiled, IsSpelledBehind}
 use Rattle.mpm_base.specs.declared.script_line.LinkCall.{LinkCall}
 use Rattle.mpm_base.specs.declared.script_line.LinkCall.TheVariants as call

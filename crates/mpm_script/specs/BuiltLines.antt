@@ -1,14 +1,22 @@
 -- The lines that are built so far. A script with another one is not played yet.
 use Rattle.std.specs.Prelude.{◌≡◌, ℕ, List, ◌∷◌, ◌++◌, length, All, ⊤}
+use Rattle.mpm_base.specs.declared.script_line.CommandWord.{CommandWord}
+use Rattle.mpm_base.specs.declared.script_line.CommandWord.TheVariants as word
 use Rattle.mpm_base.specs.declared.script_line.ScriptLine.{ScriptLine}
 use Rattle.mpm_base.specs.declared.script_line.ScriptLine.TheVariants as line
 
--- the line is built: each is but a command
+-- the command is built: `stop` alone is
+abbrev pub IsBuiltCommand : CommandWord → Type 0
+IsBuiltCommand word.Graceful = ⊥
+IsBuiltCommand word.GracefulStop = ⊥
+IsBuiltCommand word.Stop = ⊤
+
+-- the line is built: each is but the commands that aren't
 abbrev pub IsBuilt : ScriptLine → Type 0
 IsBuilt (line.At m) = ⊤
 IsBuilt (line.Conn name) = ⊤
 IsBuilt (line.Client name act) = ⊤
-IsBuilt (line.Command word) = ⊥
+IsBuilt (line.Command word) = IsBuiltCommand word
 IsBuilt (line.Site site) = ⊤
 
 -- each of the lines is

@@ -1,6 +1,7 @@
 pub mod BuiltLines
 pub mod BuiltLinesInside
 pub mod Clients
+pub mod Commands
 pub mod Escapes
 pub mod EscapesInside
 pub mod FileNames

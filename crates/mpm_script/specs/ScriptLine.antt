@@ -3,12 +3,11 @@ use Rattle.std.specs.Prelude.{◌≡◌, ℕ, ◌<◌, ◌≤◌, Bool, ◌||◌
 use Rattle.std.specs.Char.{is_ascii_lowercase, is_ascii_digit}
 use Rattle.std.specs.List.{AllPass}
 use Rattle.mpm_script.specs.Escapes.{Spells}
+use Rattle.mpm_base.specs.CommandWord.{command_word}
 use Rattle.mpm_base.specs.Digits.{decimal}
 use Rattle.mpm_base.specs.Moment.{greatest_moment}
 use Rattle.mpm_base.specs.declared.script_line.LinkCall.{LinkCall}
 use Rattle.mpm_base.specs.declared.script_line.LinkCall.TheVariants as call
-use Rattle.mpm_base.specs.declared.script_line.CommandWord.{CommandWord}
-use Rattle.mpm_base.specs.declared.script_line.CommandWord.TheVariants as word
 use Rattle.mpm_base.specs.declared.script_line.ClientAct.{ClientAct}
 use Rattle.mpm_base.specs.declared.script_line.ClientAct.TheVariants as act
 use Rattle.mpm_base.specs.declared.script_line.SiteLine.{SiteLine}
@@ -77,12 +76,6 @@ IsSiteLine text (site.File name bytes) =
 IsSiteLine text (site.Unfile name) = (text ≡ codes "unfile " ++ name) × IsFileName name
 
 -- ## Lines
-
--- the word of a command
-abbrev pub command_word : CommandWord → List ℕ
-command_word word.Graceful = codes "graceful"
-command_word word.GracefulStop = codes "graceful-stop"
-command_word word.Stop = codes "stop"
 
 -- the text is that line
 abbrev pub IsLine : List ℕ → ScriptLine → Type 0

@@ -2,25 +2,28 @@
 ghost use Rattle.std.specs.Prelude.{◌≡◌, MatchOption};
 ghost use Rattle.std.specs.List.{position};
 ghost use Rattle.mpm_script.specs.BuiltLines.{AreBuilt, FirstUnbuilt};
-ghost use Rattle.mpm_script.specs.BuiltLinesInside.{is_command};
+ghost use Rattle.mpm_script.specs.BuiltLinesInside.{is_unbuilt};
 
-use mpm_base::ScriptLine;
+use mpm_base::{CommandWord, ScriptLine};
 
 /// The place, from 0, of the first line that isn't built yet.
 pub(crate) fn first_unbuilt(lines: &[ScriptLine]) -> Option<usize>
     ensures { MatchOption result (AreBuilt lines.now) (FirstUnbuilt lines.now) }
 {
-    first_command(lines)
+    unbuilt_place(lines)
 }
 
-fn first_command(lines: &[ScriptLine]) -> Option<usize>
-    ensures { result ≡ position is_command lines.now }
+fn unbuilt_place(lines: &[ScriptLine]) -> Option<usize>
+    ensures { result ≡ position is_unbuilt lines.now }
 {
-    lines.iter().position(|line| is_command(line))
+    lines.iter().position(|line| is_unbuilt(line))
 }
 
-fn is_command(line: &ScriptLine) -> bool
-    ensures { result ≡ is_command line.now }
+fn is_unbuilt(line: &ScriptLine) -> bool
+    ensures { result ≡ is_unbuilt line.now }
 {
-    matches!(line, ScriptLine::Command(_))
+    matches!(
+        line,
+        ScriptLine::Command(CommandWord::Graceful | CommandWord::GracefulStop)
+    )
 }

@@ -4,10 +4,11 @@
 //! only where there is none it refuses the first line that isn't built yet. `one_answer` says that bytes have one answer as
 //! a script, and `one_line` that a text is one line at most; `file_names_are_texts` says that the files of a script have
 //! UTF-8 names. `NamePlaces` has names in order, and finds each by a map. Which text is which line stands in
-//! `specs/ScriptLine.antt`, which lines are a script in `specs/Script.antt`, and what its clients send and which calls of
-//! their links fail in `specs/Clients.antt`. `load_script` makes the script of a load (`specs/Load.antt`).
+//! `specs/ScriptLine.antt`, which lines are a script in `specs/Script.antt`, what its clients send and which calls of
+//! their links fail in `specs/Clients.antt`, and which command lines it brings in `specs/Commands.antt`. `load_script` makes the
+//! script of a load (`specs/Load.antt`).
 //!
-//! Each line is built but a command (`specs/BuiltLines.antt`).
+//! Each line is built but `command graceful` and `command graceful-stop` (`specs/BuiltLines.antt`).
 #![tactic(auto)]
 
 mod agreement;

@@ -1,12 +1,12 @@
 //! What an operator may ask of a running server.
 //!
-//! `read_command` reads a command line: exactly one of three words, which stand in `specs/Spelling.antt`. To come: `reload`, which
+//! `read_command` reads a command line: exactly one of three words, which stand in `specs/CommandWord.antt` of `mpm_base`. To come: `reload`, which
 //! makes the configuration and the site of a new generation.
 #![tactic(auto)]
 
 ghost use Rattle.std.specs.Prelude.{◌≡◌, ◌≢◌, MatchResult};
+ghost use Rattle.mpm_base.specs.CommandWord.{command_word};
 ghost use Rattle.mpm_base.specs.declared.script_line.CommandWord.{CommandWord};
-ghost use Rattle.restart_control.specs.Spelling.{spelling};
 
 pub use mpm_base::CommandWord as Command;
 use thiserror::Error;
@@ -20,13 +20,24 @@ pub struct Unknown;
 /// Takes no memory.
 pub fn read_command(line: &str) -> Result<Command, Unknown>
     ensures { MatchResult result
-        (λ command. line.now ≡ spelling command)
-        (λ unknown. (command : CommandWord) → line.now ≢ spelling command) }
+        (λ command. line.now ≡ command_word command)
+        (λ unknown. (command : CommandWord) → line.now ≢ command_word command) }
 {
     match line {
         "graceful" => Ok(Command::Graceful),
         "graceful-stop" => Ok(Command::GracefulStop),
         "stop" => Ok(Command::Stop),
         _ => Err(Unknown),
+    }
+}
+
+/// The word of the command, as a command line spells it. Takes no memory.
+pub fn spelling(command: Command) -> &'static str
+    ensures { result.now ≡ command_word command }
+{
+    match command {
+        Command::Graceful => "graceful",
+        Command::GracefulStop => "graceful-stop",
+        Command::Stop => "stop",
     }
 }

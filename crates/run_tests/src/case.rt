@@ -1,6 +1,6 @@
-//! One run of the input: the words of its command line, the bytes of its file, and which calls fail.
+//! One run of the input: the words of its command line, the files of its folder, its front, and which calls fail.
 use mpm_base::{NoMemory, Octets, Words};
-use stand_ins::Calls;
+use stand_ins::{Calls, Files};
 use std::alloc::Global;
 
 /// What is shown besides of a run that opened.
@@ -10,6 +10,8 @@ pub struct View {
     pub history: bool,
     /// Moment by moment how many connections were taken and closed, in place of each connection.
     pub moments: bool,
+    /// Nothing but the report.
+    pub report: bool,
 }
 
 /// What a run is to be over.
@@ -17,8 +19,16 @@ pub struct View {
 pub struct Case {
     /// The words of the command line.
     pub words: Words,
-    /// The bytes of the file `s`.
+    /// The files of the folder, but for the last one.
+    pub files: Files,
+    /// The name of the last file.
+    pub name: String,
+    /// The bytes of the last file.
     pub file: Octets,
+    /// The name of the file whose script the front plays; nothing comes of the front where there is none.
+    pub front: Option<String>,
+    /// The calls of `dial` fail.
+    pub undialled: bool,
     /// The calls of the store that fail.
     pub bad_reads: Calls,
     /// The calls of the output that fail.
@@ -35,7 +45,11 @@ pub struct Case {
 pub fn case_of(alloc: Global, lines: &str) -> Result<Case, NoMemory> {
     let mut case = Case {
         words: Words::make(alloc),
+        files: Files::make(alloc),
+        name: String::from_str(alloc, "s")?,
         file: Octets::make(alloc),
+        front: None,
+        undialled: false,
         bad_reads: Calls::make(alloc),
         bad_writes: Calls::make(alloc),
         slow: false,
@@ -43,16 +57,22 @@ pub fn case_of(alloc: Global, lines: &str) -> Result<Case, NoMemory> {
         strange: false,
     };
     for line in lines.lines() {
-        take_line(&mut case, line)?;
+        take_line(alloc, &mut case, line)?;
     }
+    put_down_file(&mut case)?;
     Ok(case)
 }
 
 /// Takes what the line says of the run.
-fn take_line(case: &mut Case, line: &str) -> Result<(), NoMemory> {
+fn take_line(alloc: Global, case: &mut Case, line: &str) -> Result<(), NoMemory> {
     let (word, rest) = line.split_once(' ').unwrap_or((line, ""));
     match word {
         "words" => add_words(&mut case.words, rest),
+        "file" => begin_file(alloc, case, rest),
+        "front" => {
+            case.front = Some(String::from_str(alloc, rest)?);
+            Ok(())
+        }
         "|" => add_line(&mut case.file, rest),
         "+" => case.file.add(rest.as_bytes()),
         "times" => add_often(&mut case.file, rest),
@@ -70,10 +90,25 @@ fn take_line(case: &mut Case, line: &str) -> Result<(), NoMemory> {
 fn take_word(case: &mut Case, word: &str) {
     match word {
         "slow" => case.slow = true,
+        "undialled" => case.undialled = true,
         "history" => case.view.history = true,
         "moments" => case.view.moments = true,
+        "report" => case.view.report = true,
         _ => case.strange = true,
     }
+}
+
+/// Puts the last file down, and begins one of that name.
+fn begin_file(alloc: Global, case: &mut Case, name: &str) -> Result<(), NoMemory> {
+    put_down_file(case)?;
+    case.name = String::from_str(alloc, name)?;
+    case.file = Octets::make(alloc);
+    Ok(())
+}
+
+/// Puts the last file to the others.
+fn put_down_file(case: &mut Case) -> Result<(), NoMemory> {
+    case.files.set(case.name.as_str(), case.file.as_slice())
 }
 
 /// Puts the words of the list at the end, where it isn't empty.

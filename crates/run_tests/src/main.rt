@@ -4,13 +4,16 @@
 //!
 //! In the input a line that begins with `== ` has the title of a run; the lines behind it say what it is over:
 //!
-//! - `words WORD ..`: the words of the command line. `s` is the name of the one file of the folder.
+//! - `words WORD ..`: the words of the command line.
+//! - `file NAME`: what follows is of the file of that name. What stands before the first such line is of the file `s`.
+//! - `front NAME`: the front that is handed in plays the script of the file of that name. Without such a line it is one that can't be
+//!   bound, and whose last dial is shown; `undialled`: its dials fail.
 //! - `| TEXT`: a line of the file. `+ TEXT`: more of it, without the end of a line. `times N TEXT`: the text so many times.
 //! - `each N M TEXT`: a line for each number from N up to M, M left out, in which it stands in place of each `#`.
 //! - `store N`, `output N`: the store's, the output's call of that number fails.
 //! - `slow`: the output takes single bytes.
 //! - `history`: the history is shown. `moments`: in place of each connection, how many children were started, and connections taken
-//!   and closed, at each moment.
+//!   and closed, at each moment. `report`: nothing of the connections is shown but the report.
 //!
 //! With `rt try --fail-alloc N` the Nth allocation fails, for each N. The program then ends with an error where the run of that
 //! moment stopped as it must. Where the output itself found no memory for its bytes, it has failed: that run has status 5 then, and
@@ -18,6 +21,7 @@
 #![tactic(auto)]
 
 mod case;
+mod outside;
 mod playing;
 mod shown;
 

@@ -1,9 +1,12 @@
 //! Plays the runs of the input, one behind the other.
 use crate::case::{Case, View, case_of};
+use crate::outside::{OpenGate, ShutFront};
 use crate::shown::{show_outcome, shows_want_of_memory};
-use mpm_base::{NoMemory, Octets, Words};
+use mpm_base::{NoMemory, Words};
 use mpm_run::{Outcome, run};
-use stand_ins::{Calls, Files, MemSink, MemStore};
+use mpm_script::{Script, ScriptFault, read_script};
+use script_front::{ScriptClock, ScriptFront};
+use stand_ins::{Calls, Files, MemSink, MemStore, ScriptLink};
 use std::alloc::Global;
 use std::io::{self, ErrorKind};
 use std::sync::Wait;
@@ -43,29 +46,84 @@ fn show_strange(rt: &impl Print, case: &Case) -> io::Result<()> {
 fn play<R: Print + Threads + Wait + Sync>(rt: &R, alloc: Global, case: Case) -> io::Result<()> {
     let Case {
         words,
-        file,
+        files,
+        front,
+        undialled,
         bad_reads,
         bad_writes,
         slow,
         view,
         ..
     } = case;
-    let Ok(mut store) = folder(alloc, &file, bad_reads) else {
-        return Err(out_of_memory());
+    let script = match front {
+        Some(name) => Some(script_in(alloc, &files, name.as_str())?),
+        None => None,
     };
+    let mut store = MemStore::make(alloc, files, bad_reads);
     let mut out = output(alloc, bad_writes, slow);
-    let outcome = end_of(rt, alloc, &words, &mut store, &mut out);
-    show_end(rt, alloc, &outcome, &store, &out, view)
+    match script {
+        Some(script) => play_over(rt, alloc, &words, &mut store, script, &mut out, view),
+        None => play_alone(rt, alloc, &words, &mut store, undialled, &mut out, view),
+    }
+}
+
+/// The script of the file of that name.
+fn script_in(alloc: Global, files: &Files, name: &str) -> io::Result<Script> {
+    let Some(text) = files.get(name) else {
+        return Err(io::Error::from(ErrorKind::NotFound));
+    };
+    match read_script(alloc, text.as_slice()) {
+        Ok(script) => Ok(script),
+        Err(ScriptFault::NoMemory) => Err(out_of_memory()),
+        Err(_) => Err(io::Error::from(ErrorKind::InvalidData)),
+    }
+}
+
+/// Plays the run over a front that plays the script, and shows what came of it.
+fn play_over<R: Print + Threads + Wait + Sync>(
+    rt: &R,
+    alloc: Global,
+    words: &Words,
+    store: &mut MemStore,
+    script: Script,
+    out: &mut MemSink,
+    view: View,
+) -> io::Result<()> {
+    match end_over(rt, alloc, words, store, script, out) {
+        Ok((outcome, front)) => {
+            show_end(rt, &outcome, store, out)?;
+            show_outcome(rt, alloc, &outcome, Some(&front), out, view)
+        }
+        Err(NoMemory) => Err(out_of_memory()),
+    }
+}
+
+/// Plays the run over a front to which nothing comes, and shows what came of it, and the last dial of the front.
+fn play_alone<R: Print + Threads + Wait + Sync>(
+    rt: &R,
+    alloc: Global,
+    words: &Words,
+    store: &mut MemStore,
+    undialled: bool,
+    out: &mut MemSink,
+    view: View,
+) -> io::Result<()> {
+    let mut front = ShutFront::make(!undialled);
+    let outcome = end_alone(rt, alloc, words, store, &mut front, out);
+    show_end(rt, &outcome, store, out)?;
+    show_outcome(rt, alloc, &outcome, None, out, view)?;
+    if let Some((port, word)) = front.last_dial() {
+        println!(rt; "dialled {port} {word}")?;
+    }
+    Ok(())
 }
 
 /// Shows how the run ended, where it didn't stop for want of memory as it must.
 fn show_end(
     rt: &impl Print,
-    alloc: Global,
-    outcome: &Outcome,
+    outcome: &Outcome<ScriptLink>,
     store: &MemStore,
     out: &MemSink,
-    view: View,
 ) -> io::Result<()> {
     if shows_want_of_memory(outcome, out) {
         return Err(out_of_memory());
@@ -75,26 +133,38 @@ fn show_end(
         outcome.status,
         outcome.shown,
         store.faults()
-    )?;
-    show_outcome(rt, alloc, outcome, out, view)
+    )
 }
 
-/// How the run ends. It has no clause, so that what `run` says isn't carried through all that follows.
-fn end_of<R: Threads + Wait + Sync>(
+/// How the run over a front that plays the script ends, and the front. It has no clause, so that what `run` says isn't carried through
+/// all that follows.
+fn end_over<R: Threads + Wait + Sync>(
     rt: &R,
     alloc: Global,
     words: &Words,
     store: &mut MemStore,
+    script: Script,
     out: &mut MemSink,
-) -> Outcome {
-    run(rt, alloc, words, store, out)
+) -> Result<(Outcome<ScriptLink>, ScriptFront), NoMemory> {
+    let mut front = ScriptFront::make(alloc, script)?;
+    let mut clock = ScriptClock::make();
+    let outcome = run(
+        rt, alloc, words, store, &mut front, &mut clock, &OpenGate, out,
+    );
+    Ok((outcome, front))
 }
 
-/// A folder whose file `s` has the bytes.
-fn folder(alloc: Global, file: &Octets, bad_reads: Calls) -> Result<MemStore, NoMemory> {
-    let mut files = Files::make(alloc);
-    files.set("s", file.as_slice())?;
-    Ok(MemStore::make(alloc, files, bad_reads))
+/// How the run over a front to which nothing comes ends.
+fn end_alone<R: Threads + Wait + Sync>(
+    rt: &R,
+    alloc: Global,
+    words: &Words,
+    store: &mut MemStore,
+    front: &mut ShutFront,
+    out: &mut MemSink,
+) -> Outcome<ScriptLink> {
+    let mut clock = ScriptClock::make();
+    run(rt, alloc, words, store, front, &mut clock, &OpenGate, out)
 }
 
 /// An output, which takes single bytes where it is slow.

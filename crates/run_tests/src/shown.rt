@@ -1,38 +1,58 @@
 //! What is printed of a run.
 use crate::case::View;
+use board::Board;
 use conn_machine::{Entry, Event, Going, Why};
-use conn_state::Ended;
+use conn_state::{Ended, Nothing};
 use mpm_base::Moment;
 use mpm_run::Outcome;
+use script_front::ScriptFront;
 use stand_ins::{MemSink, ScriptLink};
 use std::alloc::Global;
 use std::io;
 
-/// Prints what was written, and where a run opened how far its script came, how its connections ended, or how many were taken and
-/// closed at each moment, and its history where it is asked for.
+/// The table of the run that opened, over a script or over the front that was handed in.
+fn board_of(outcome: &Outcome<ScriptLink>) -> Option<&Board<ScriptLink, Nothing>> {
+    match &outcome.scripted {
+        Some(scripted) => Some(&scripted.board),
+        None => outcome.board.as_ref(),
+    }
+}
+
+/// Prints what was written, and where a run opened how far the script came, of the run or of the front that was handed in, how its
+/// connections ended, how many were taken and closed at each moment, or nothing of them, and its history where it is asked for.
 pub fn show_outcome(
     rt: &impl Print,
     alloc: Global,
-    outcome: &Outcome,
+    outcome: &Outcome<ScriptLink>,
+    front: Option<&ScriptFront>,
     out: &MemSink,
     view: View,
 ) -> io::Result<()> {
     let text = String::from_utf8_lossy(alloc, out.bytes())?;
     print!(rt; "{text}")?;
-    let Some(scripted) = &outcome.scripted else {
+    let Some(board) = board_of(outcome) else {
         return Ok(());
     };
-    let lines = scripted.front.script().lines().len();
-    println!(rt; "played {} of {lines}", scripted.front.happened())?;
+    match (&outcome.scripted, front) {
+        (Some(scripted), _) => show_played(rt, &scripted.front)?,
+        (None, Some(front)) => show_played(rt, front)?,
+        (None, None) => (),
+    }
     if view.moments {
-        show_moments(rt, scripted.board.history())?;
-    } else {
-        show_connections(rt, alloc, scripted.board.ended())?;
+        show_moments(rt, board.history())?;
+    } else if !view.report {
+        show_connections(rt, alloc, board.ended())?;
     }
     if view.history {
-        show_history(rt, scripted.board.history())?;
+        show_history(rt, board.history())?;
     }
     Ok(())
+}
+
+/// Prints how far the script of the front came.
+fn show_played(rt: &impl Print, front: &ScriptFront) -> io::Result<()> {
+    let lines = front.script().lines().len();
+    println!(rt; "played {} of {lines}", front.happened())
 }
 
 /// Prints how each connection ended.
@@ -132,16 +152,16 @@ fn show_moment(rt: &impl Print, now: Happened) -> io::Result<()> {
 
 /// Whether the run stopped for want of memory, and as it must then: each link that was taken was closed once, and there is a
 /// report just where its server was told so.
-pub fn shows_want_of_memory(outcome: &Outcome, out: &MemSink) -> bool {
-    let Some(scripted) = &outcome.scripted else {
+pub fn shows_want_of_memory(outcome: &Outcome<ScriptLink>, out: &MemSink) -> bool {
+    let Some(board) = board_of(outcome) else {
         return outcome.status == 6 && out.bytes().is_empty();
     };
-    let written = match scripted.board.going() {
+    let written = match board.going() {
         Going::Halted(Why::NoMemory) => is_report(out.bytes()),
         Going::Halted(_) => out.bytes().is_empty(),
         _ => false,
     };
-    outcome.status == 6 && written && are_closed(scripted.board.ended())
+    outcome.status == 6 && written && are_closed(board.ended())
 }
 
 /// Whether the bytes begin and end as a report does.

@@ -1,4 +1,4 @@
--- The lines that happen next, counted one by one, and how many of the lines make a connection.
+-- The lines that happen next, counted one by one, and how many of the lines make a connection or bring a command line.
 use Rattle.std.proofs.Common.{◌≡◌, ℕ, suc, ◌+◌, ◌<◌, ◌≤◌, true, false, cond, nat_le, List, [], ◌∷◌, length, get_or, drop, refl, ◌∙◌, arith}
 use Rattle.std.proofs.Math.Numerals.{one-add}
 use Rattle.std.specs.List.{count_by}
@@ -6,7 +6,8 @@ use Rattle.std.proofs.lemmas.List.{at_drop_more, at_drop_all}
 use Rattle.std.proofs.lemmas.List.Recursion.{is_count_by}
 use Rattle.std.proofs.lemmas.List.Sums.{count_by-le-length}
 use Rattle.mpm_script.specs.Clients.{names_of}
-use Rattle.script_front.specs.PlayedFrontInside.{happens_by, is_at, is_conn}
+use Rattle.mpm_script.specs.Commands.{command_lines_of}
+use Rattle.script_front.specs.PlayedFrontInside.{happens_by, is_at, is_command, is_conn}
 use Rattle.script_front.specs.ScriptFront.{lines_by, lines_now}
 use Rattle.mpm_base.specs.declared.script_line.ScriptLine.{ScriptLine}
 use Rattle.mpm_base.specs.declared.script_line.ScriptLine.TheVariants as line
@@ -76,3 +77,18 @@ names-count lines = is_count_by (λ lines. length (names_of lines)) is_conn refl
 -- no more connections than lines
 pub names-few : (lines : List ScriptLine) → length (names_of lines) ≤ length lines
 names-few lines = omega (arith, names-count lines, count_by-le-length is_conn lines)
+
+-- the same of command lines
+brings-cons : (l : ScriptLine) (lines : List ScriptLine)
+    → length (command_lines_of (l ∷ lines)) ≡ cond (is_command l) (1 + length (command_lines_of lines)) (length (command_lines_of lines))
+brings-cons (line.At m) lines = refl
+brings-cons (line.Conn name) lines = refl
+brings-cons (line.Client name act) lines = refl
+brings-cons (line.Command word) lines = omega arith
+brings-cons (line.Site site) lines = refl
+
+pub brings-count : (lines : List ScriptLine) → length (command_lines_of lines) ≡ count_by is_command lines
+brings-count lines = is_count_by (λ lines. length (command_lines_of lines)) is_command refl brings-cons lines
+
+pub brings-few : (lines : List ScriptLine) → length (command_lines_of lines) ≤ length lines
+brings-few lines = omega (arith, brings-count lines, count_by-le-length is_command lines)

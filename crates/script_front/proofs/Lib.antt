@@ -1,7 +1,9 @@
 pub mod ClientLemmas
 pub mod ComingLemmas
+pub mod CommandLemmas
 pub mod DueLemmas
 pub mod EditionLemmas
+pub mod FailingLemmas
 pub mod LookLemmas
 pub mod MomentLemmas
 pub mod NameChainLemmas

@@ -4,8 +4,9 @@ use Rattle.std.proofs.Math.Seq.{take-add}
 use Rattle.std.proofs.lemmas.Grind.{flat_map-append}
 use Rattle.std.proofs.lemmas.List.{get_or-map, length-append, length-drop, length-map, length-take, take-append-drop}
 use Rattle.mpm_script.specs.Clients.{clients_of, made_by, names_of, sent_by}
+use Rattle.mpm_script.specs.Commands.{command_lines_of}
 use Rattle.mpm_base.specs.Front.{next_coming}
-use Rattle.script_front.specs.PlayedPartsInside.{ArePlayed, SeenClients, plan_of, plans_of}
+use Rattle.script_front.specs.PlayedPartsInside.{AreCommands, ArePlayed, SeenClients, SeenCommands, plan_of, plans_of}
 use Rattle.script_front.specs.declared.client_plans.LinkPlan.{LinkPlan}
 use Rattle.script_front.specs.ScriptFront.{comings_of, lines_now}
 use Rattle.mpm_base.specs.declared.script_line.ScriptLine.{ScriptLine}
@@ -53,7 +54,7 @@ some-left : {n taken : ℕ} {hushed : Bool} → (taken ≡ n) ⊎ (hushed ≡ tr
 some-left (inl all) l listens = absurd (omega arith)
 some-left (inr stopped) l listens = absurd (cc)
 
-module _ (lines : List ScriptLine) (h : ℕ) (waited : Bool) (m a taken : ℕ) (hushed : Bool) (cs : SeenClients) (ended : ℕ) (p : ArePlayed lines h waited m a taken hushed cs ended) where
+module _ (lines : List ScriptLine) (h : ℕ) (waited : Bool) (m a taken : ℕ) (hushed : Bool) (cs : SeenClients) (ws : SeenCommands) (ended : ℕ) (p : ArePlayed lines h waited m a taken hushed cs ws ended) where
   -- the first of the plans that wait is that of the next connection
   pub next-taken : (plan : LinkPlan) (rest : List LinkPlan) → cs.waiting ≡ plan ∷ rest
       → (taken < length (clients_of lines)) × (plan ≡ plan_of lines (get_or (names_of lines) taken []))
@@ -67,7 +68,7 @@ module _ (lines : List ScriptLine) (h : ℕ) (waited : Bool) (m a taken : ℕ) (
 
   -- the next connection was handed out
   pub played-accept : (cs' : SeenClients) (plan : LinkPlan) → cs.waiting ≡ plan ∷ cs'.waiting → cs' ≡ record cs { waiting = cs'.waiting } → (taken ≡ a → ⊥) → hushed ≡ false
-      → ArePlayed lines h waited m a (taken + 1) hushed cs' ended
+      → ArePlayed lines h waited m a (taken + 1) hushed cs' ws ended
   played-accept cs' plan is only waits listens =
       let r = first-rest (plan_of lines) (names_of lines) taken plan cs'.waiting (sym p.plans_are ∙ is) in
       let few : taken < length (clients_of lines) = omega (arith, r.within, length-map (names_of lines) (λ name. sent_by name lines)) in
@@ -79,6 +80,7 @@ module _ (lines : List ScriptLine) (h : ℕ) (waited : Bool) (m a taken : ℕ) (
         plans_are = rw add-one r.rest_is;
         clients_are = ap (λ (s : SeenClients). names s.clients) only ∙ p.clients_are;
         names_are = ap (λ (s : SeenClients). length s.watched) only ∙ p.names_are;
+        commands = p.commands;
         next = p.next;
         over = λ e. absurd (some-left (p.over e).each few listens);
       }
@@ -90,7 +92,7 @@ module _ (lines : List ScriptLine) (h : ℕ) (waited : Bool) (m a taken : ℕ) (
 
   -- of the clients something else is known
   pub played-clients : (cs' : SeenClients) → cs'.waiting ≡ cs.waiting → length cs'.watched ≡ length cs.watched → names cs'.clients ≡ names cs.clients
-      → ArePlayed lines h waited m a taken hushed cs' ended
+      → ArePlayed lines h waited m a taken hushed cs' ws ended
   played-clients cs' waiting watched named = record {
     happened = p.happened;
     past = p.past;
@@ -99,14 +101,31 @@ module _ (lines : List ScriptLine) (h : ℕ) (waited : Bool) (m a taken : ℕ) (
     plans_are = waiting ∙ p.plans_are;
     clients_are = named ∙ p.clients_are;
     names_are = watched ∙ p.names_are;
+    commands = p.commands;
     next = p.next;
     over = p.over;
   }
 
+  -- the next command line was read
+  pub played-read : (ws' : SeenCommands) → AreCommands lines h ws' → ws.read < ws.came → ArePlayed lines h waited m a taken hushed cs ws' ended
+  played-read ws' commands some = record {
+    happened = p.happened;
+    past = p.past;
+    arrived = p.arrived;
+    accepted = p.accepted;
+    plans_are = p.plans_are;
+    clients_are = p.clients_are;
+    names_are = p.names_are;
+    commands = commands;
+    next = p.next;
+    over = λ e. absurd (omega (arith, (p.over e).told, some));
+  }
+
   -- so many further lines happened
-  pub played-lines : (n more : ℕ) → n ≤ length lines - h → more ≡ length (names_of (take n (drop h lines))) → lines_now (drop n (drop h lines)) ≡ 0
-      → next_coming m (comings_of (take n (drop h lines))) ≡ None → ArePlayed lines (h + n) waited m (a + more) taken hushed cs ended
-  played-lines n more few is next past = record {
+  pub played-lines : (n more : ℕ) (ws' : SeenCommands) → n ≤ length lines - h → more ≡ length (names_of (take n (drop h lines))) → lines_now (drop n (drop h lines)) ≡ 0
+      → next_coming m (comings_of (take n (drop h lines))) ≡ None → AreCommands lines (h + n) ws' → ws'.read ≡ ws.read
+      → ArePlayed lines (h + n) waited m (a + more) taken hushed cs ws' ended
+  played-lines n more ws' few is next past commands read = record {
     happened = omega (arith, p.happened);
     past = past-add m lines h n p.past past;
     arrived = omega (arith, p.arrived, names-add lines h n);
@@ -114,12 +133,17 @@ module _ (lines : List ScriptLine) (h : ℕ) (waited : Bool) (m a taken : ℕ) (
     plans_are = p.plans_are;
     clients_are = p.clients_are;
     names_are = p.names_are;
+    commands = commands;
     next = λ e. ap lines_now (sym (drop-drop n h lines)) ∙ next;
-    over = λ e. let o = p.over e in record { begun = o.begun; all = omega (arith, o.all, p.happened); each = o.each };
+    over = λ e.
+        let o = p.over e in
+        let none : h + n ≡ h = omega (arith, o.all, few) in
+        let came : ws'.came ≡ ws.came = commands.came ∙ ap (λ k. length (command_lines_of (take k lines))) none ∙ sym p.commands.came in
+        record { begun = o.begun; all = omega (arith, o.all, p.happened); each = o.each; told = read ∙ o.told ∙ sym came };
   }
 
   -- time passed
-  pub played-moment : (later : ℕ) → m ≤ later → ArePlayed lines h waited later a taken hushed cs ended
+  pub played-moment : (later : ℕ) → m ≤ later → ArePlayed lines h waited later a taken hushed cs ws ended
   played-moment later l = record {
     happened = p.happened;
     past = past-later m later (comings_of (take h lines)) l p.past;
@@ -128,12 +152,13 @@ module _ (lines : List ScriptLine) (h : ℕ) (waited : Bool) (m a taken : ℕ) (
     plans_are = p.plans_are;
     clients_are = p.clients_are;
     names_are = p.names_are;
+    commands = p.commands;
     next = p.next;
     over = p.over;
   }
 
   -- it waited
-  pub played-begun : lines_now (drop h lines) ≡ 0 → ArePlayed lines h true m a taken hushed cs ended
+  pub played-begun : lines_now (drop h lines) ≡ 0 → ArePlayed lines h true m a taken hushed cs ws ended
   played-begun next = record {
     happened = p.happened;
     past = p.past;
@@ -142,6 +167,7 @@ module _ (lines : List ScriptLine) (h : ℕ) (waited : Bool) (m a taken : ℕ) (
     plans_are = p.plans_are;
     clients_are = p.clients_are;
     names_are = p.names_are;
+    commands = p.commands;
     next = λ e. next;
-    over = λ e. let o = p.over e in record { begun = refl; all = o.all; each = o.each };
+    over = λ e. let o = p.over e in record { begun = refl; all = o.all; each = o.each; told = o.told };
   }

@@ -1,16 +1,19 @@
 -- A wait of a front that plays a script is one of a front.
-use Rattle.std.proofs.Common.{◌≡◌, ℕ, ◌+◌, ◌-◌, ◌<◌, ◌≤◌, Bool, true, false, nat_lt, max, if◌then◌else◌, List, [], ◌∷◌, ◌++◌, append-nil, length, take, Option, None, Some, ap, subst, sym, refl, ◌∙◌, arith}
+use Rattle.std.proofs.Common.{◌≡◌, ℕ, ◌+◌, ◌-◌, ◌<◌, ◌≤◌, Bool, true, false, nat_lt, max, if◌then◌else◌, List, [], ◌∷◌, ◌++◌, drop, length, take, Option, None, Some, ap, subst, sym, refl, ◌∙◌, arith}
 use Rattle.std.specs.Prelude.{option_map, IfSome}
 use Rattle.std.proofs.lemmas.Bool.Decides.{nat_tests}
 use Rattle.mpm_script.specs.Clients.{names_of}
+use Rattle.mpm_script.specs.Commands.{command_lines_of}
 use Rattle.mpm_base.specs.Count.{RisesExactlyWhere, RisesWhere}
 use Rattle.mpm_base.specs.Front.{FrontTold, Backlog, GivesOnlyAwake, HasAllTaken, IsAnswerOf, IsPatient, LetsTimePass, StandsStill, Waits, earlier, is_ended, wait_failed}
-use Rattle.script_front.specs.PlayedFrontInside.{KeepsRest, arrivals_waiting, passed_between, with_wait}
-use Rattle.script_front.specs.ScriptFront.{IsOfScript, Moves, Plays, SeenFront, begins, comings_of, ends, front_seen, next_moment, lines_now, only_arrivals, over, passes, served, signals, stays, to_come}
+use Rattle.script_front.specs.PlayedFrontInside.{KeepsRest, waiting_counts, passed_between, with_wait}
+use Rattle.script_front.specs.ScriptFront.{IsOfScript, MayPass, Moves, Plays, SeenFront, backlog_of, begins, comings_of, ends, front_seen, next_moment, lines_now, over, passes, recovers, served, signals, stays, to_come}
 use Rattle.script_front.specs.declared.wait_end.WaitEnd.{WaitEnd}
+use Rattle.script_front.specs.declared.wait_end.WaitingCounts.{WaitingCounts}
 use Rattle.mpm_base.specs.declared.front.Woke.{Woke}
 use Rattle.mpm_base.specs.declared.front.Woke.TheVariants as woke
 use Rattle.mpm_base.specs.declared.script_line.ScriptLine.{ScriptLine}
+use Rattle.script_front.proofs.CommandLemmas.{lines-add}
 use Rattle.script_front.proofs.MomentLemmas.{next-later}
 use Rattle.script_front.proofs.PlayedLemmas.{arrived-within, names-add}
 use Rattle.script_front.proofs.SignalLemmas.{gives-few}
@@ -26,6 +29,7 @@ module _ (slots : List ℕ) (given : WaitEnd) where
   plays-with_wait (over e m c) = over e (moves-put_down _ _ _ _ m) c
   plays-with_wait (begins e b l m c) = begins e b l (moves-put_down _ _ _ _ m) c
   plays-with_wait (signals o s l m) = signals o s l (moves-put_down _ _ _ _ m)
+  plays-with_wait (recovers o s f m) = recovers o s f (moves-put_down _ _ _ _ m)
   plays-with_wait (served o s q m) = served o s q (moves-put_down _ _ _ _ m)
   plays-with_wait (passes o s q n t m c) = passes o s q n t (moves-put_down _ _ _ _ m) c
   plays-with_wait (ends o s q n t d m) = ends o s q n (record { left = t.left; read = t.read; accepted = t.accepted }) d (moves-put_down _ _ _ _ m)
@@ -50,6 +54,7 @@ plays-went : {old new : SeenFront} {until : Option ℕ} {quiet : Bool} {answer :
 plays-went (over e m c) = went-still m
 plays-went (begins e b l m c) = went-still m
 plays-went (signals o s l m) = went-still m
+plays-went (recovers o s f m) = went-still m
 plays-went (served o s q m) = went-still m
 plays-went (passes o s q n t m c) = record { script = m.script; happened = omega (arith, m.happened); moment_is = omega (arith, m.moment_is, t) }
 plays-went (ends o s q n t d m) = went-still m
@@ -61,6 +66,7 @@ plays-answers : {old new : SeenFront} {until : Option ℕ} {quiet : Bool} {answe
 plays-answers taken (over e m c) = (taken e, refl, omega arith)
 plays-answers taken (begins e b l m c) = (sym m.moment_is, tt, omega arith)
 plays-answers taken (signals o s l m) = (sym m.moment_is, tt, omega arith)
+plays-answers taken (recovers o s f m) = (sym m.moment_is, tt, omega arith)
 plays-answers taken (served o s q m) = (sym m.moment_is, tt, omega arith)
 plays-answers taken (passes o s q n t m c) = (sym m.moment_is, tt, omega arith)
 plays-answers taken (ends o s q n t d m) = (t, refl, omega arith)
@@ -71,6 +77,7 @@ plays-few : {old new : SeenFront} {until : Option ℕ} {quiet : Bool} {answer : 
 plays-few (over e m c) = omega arith
 plays-few (begins e b l m c) = omega arith
 plays-few (signals o s l m) = gives-few s
+plays-few (recovers o s f m) = omega arith
 plays-few (served o s q m) = omega arith
 plays-few (passes o s q n t m c) = omega arith
 plays-few (ends o s q n t d m) = omega arith
@@ -80,7 +87,7 @@ plays-few (stays o s q n t m) = omega arith
 
 -- what the wait tells of that
 abbrev passed-of : SeenFront → ℕ → Option Backlog
-passed-of old moment = option_map only_arrivals (passed_between old.told.moment moment (arrivals_waiting old))
+passed-of old moment = option_map backlog_of (passed_between old.told.moment moment (waiting_counts old))
 
 -- the front stands where it stood
 patient-still : (old new : SeenFront) (until : Option ℕ) (quiet : Bool) (answer : Woke) (comings : List ℕ) → new.told.moment ≡ old.told.moment
@@ -90,23 +97,23 @@ patient-still old new until quiet answer comings stands =
     rw early stands
 
 -- it went on to that moment, or it was there
-module _ (old new : SeenFront) (until : Option ℕ) (quiet : Bool) (m : ℕ) (was : IsOfScript old) (now : lines_now (to_come old) ≡ 0) (may : quiet ≡ true)
+module _ (old new : SeenFront) (until : Option ℕ) (quiet : Bool) (m : ℕ) (was : IsOfScript old) (now : lines_now (to_come old) ≡ 0) (may : MayPass old quiet)
     (comes : earlier until (next_moment (to_come old)) ≡ Some m) (to : new.told.moment ≡ max old.told.moment m) where
   lets-pass : old.told.moment < new.told.moment
-      → LetsTimePass (comings_of old.script) until quiet (woke.Woke new.told.moment) (only_arrivals (arrivals_waiting old)) old.told new.told
+      → LetsTimePass (comings_of old.script) until quiet (woke.Woke new.told.moment) (backlog_of (waiting_counts old)) old.told new.told
   lets-pass later =
       let is : m ≡ new.told.moment = omega (arith, to, later) in
       record {
-        may = may;
-        steady = was.failed;
+        may = may.idle;
+        steady = may.steady;
         to = next-later old.told.moment new.told.moment old.script old.happened until was.past now (comes ∙ ap (λ n. let some : Option ℕ = Some n in some) is) later;
         later = later;
         wakes = refl;
-        waited_is = rw (was.lines, was.read) refl;
+        waited_is = refl;
       }
 
   patient-passes : (passed : Bool) → nat_lt old.told.moment new.told.moment ≡ passed
-      → IsPatient (comings_of old.script) until quiet (woke.Woke new.told.moment) (option_map only_arrivals (if passed then Some (arrivals_waiting old) else None)) old.told new.told
+      → IsPatient (comings_of old.script) until quiet (woke.Woke new.told.moment) (option_map backlog_of (if passed then Some (waiting_counts old) else None)) old.told new.told
   patient-passes true e = lets-pass (grind (arith, nat_tests))
   patient-passes false e = let stands : new.told.moment ≡ old.told.moment = grind (arith, nat_tests) in stands
 
@@ -115,6 +122,7 @@ plays-patient : {old new : SeenFront} {until : Option ℕ} {quiet : Bool} {answe
 plays-patient {old} {new} {until} {quiet} was (over e m c) = patient-still old new until quiet woke.Ended (comings_of old.script) m.moment_is
 plays-patient {old} {new} {until} {quiet} was (begins e b l m c) = patient-still old new until quiet (woke.Woke old.told.moment) (comings_of old.script) m.moment_is
 plays-patient {old} {new} {until} {quiet} was (signals o s l m) = patient-still old new until quiet (woke.Woke old.told.moment) (comings_of old.script) m.moment_is
+plays-patient {old} {new} {until} {quiet} was (recovers o s f m) = patient-still old new until quiet (woke.Woke old.told.moment) (comings_of old.script) m.moment_is
 plays-patient {old} {new} {until} {quiet} was (served o s q m) = patient-still old new until quiet (woke.Woke old.told.moment) (comings_of old.script) m.moment_is
 plays-patient {old} {new} {until} {quiet} was (passes {m = next} o s q n t m c) =
     rw (← m.moment_is) (patient-passes old new until quiet next was o.next q n (m.moment_is ∙ t) (nat_lt old.told.moment new.told.moment) refl)
@@ -142,15 +150,16 @@ still-put_down old mid new end ready is still = record {
   moment = ap (λ (f : SeenFront). f.told.moment) is ∙ still.moment;
 }
 
-pub waits : (old mid new : SeenFront) (until : Option ℕ) (quiet : Bool) (answer : Woke) (ready : List ℕ) (passed : Option ℕ) → IsOfScript old → IsOfScript new → (0 < new.ends → HasAllTaken new.told)
-    → passed ≡ passed_between old.told.moment mid.told.moment (arrivals_waiting old)
+pub waits : (old mid new : SeenFront) (until : Option ℕ) (quiet : Bool) (answer : Woke) (ready : List ℕ) (passed : Option WaitingCounts) → IsOfScript old → IsOfScript new → (0 < new.ends → HasAllTaken new.told)
+    → passed ≡ passed_between old.told.moment mid.told.moment (waiting_counts old)
     → new ≡ with_wait ready (record { until = until; quiet = quiet; answer = answer; passed = passed }) mid → Plays old new until quiet answer ready → KeepsRest answer old mid
     → (0 < old.ends → (ready ≡ []) × StandsStill old.told mid.told)
     → Waits (front_seen old) (front_seen new) until quiet answer ready
 waits old mid new until quiet answer ready passed was now taken passed_so is plays rest ended =
     let went = plays-went plays in
-    let told : new.told ≡ record mid.told { waits = new.told.waits } = rw is refl in
-    let kept : record new.told { arrived = 0; left = 0; moment = 0; waits = [] } ≡ record old.told { arrived = 0; left = 0; moment = 0; waits = [] } = rw (told, rest.told_is) refl in
+    let told : new.told ≡ record mid.told { failed = false; waits = new.told.waits } = rw is refl in
+    let kept : record new.told { arrived = 0; lines = []; left = 0; moment = 0; failed = false; waits = [] } ≡ record old.told { arrived = 0; lines = []; left = 0; moment = 0; failed = false; waits = [] } = rw (told, rest.told_is) refl in
+    let further : new.happened ≡ old.happened + (new.happened - old.happened) = omega (arith, went.happened) in
     let ends : new.ends ≡ mid.ends = ap (λ (f : SeenFront). f.ends) is in
     let rises : RisesExactlyWhere (is_ended answer) old.ends new.ends = rw ends rest.ends in
     let says = plays-answers (λ e. taken (omega (arith, e, never-fell (is_ended answer) old.ends new.ends rises))) plays in
@@ -167,8 +176,11 @@ waits old mid new until quiet answer ready passed was now taken passed_so is pla
           accepted = ap (λ (t : FrontTold). t.accepted) kept;
           watches = ap (λ (t : FrontTold). t.watches) kept;
           turned_away = ap (λ (t : FrontTold). t.turned_away) kept;
-          come = [];
-          lines = ap (λ (t : FrontTold). t.lines) kept ∙ sym (append-nil old.told.lines);
+          come = command_lines_of (take (new.happened - old.happened) (drop old.happened old.script));
+          lines =
+              now.lines ∙ ap (λ (lines : List ScriptLine). command_lines_of (take new.happened lines)) went.script
+              ∙ ap (λ k. command_lines_of (take k old.script)) further ∙ lines-add old.script old.happened (new.happened - old.happened)
+              ∙ ap (λ (lines : List (List ℕ)). lines ++ command_lines_of (take (new.happened - old.happened) (drop old.happened old.script))) (sym was.lines);
           read = ap (λ (t : FrontTold). t.read) kept;
           bound = ap (λ (t : FrontTold). t.bound) kept;
           dialled = ap (λ (t : FrontTold). t.dialled) kept;
@@ -176,7 +188,7 @@ waits old mid new until quiet answer ready passed was now taken passed_so is pla
           left = omega (arith, was.left, now.left, went.happened, ap length went.script);
           moment = went.moment_is;
           comings = ap (λ (t : FrontTold). t.comings) kept;
-          failed = now.failed;
+          failed = ap (λ (t : FrontTold). t.failed) told;
           answers = says.0;
           passed = passed-of old new.told.moment;
           patient = subst (λ (o : Option (List ℕ)). IfSome o (λ comings. IsPatient comings until quiet answer (passed-of old new.told.moment) old.told new.told)) (sym was.comings) (plays-patient was plays);
@@ -191,5 +203,5 @@ waits old mid new until quiet answer ready passed was now taken passed_so is pla
       faults = says.2;
       accept_faults = refl;
       ends = rises;
-      commands = refl;
+      commands = ap (λ (t : FrontTold). t.read) kept;
     }

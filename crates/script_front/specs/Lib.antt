@@ -1,5 +1,7 @@
 pub mod DuePlacesInside
 pub mod Editions
+pub mod FailingFront
+pub mod FailingFrontInside
 pub mod NameChainsInside
 pub mod PlayedFrontInside
 pub mod PlayedPartsInside

@@ -1,11 +1,13 @@
 -- What helps to prove of a front that plays a script, and no public contract reaches: the steps of its waits.
 use Rattle.std.specs.Prelude.{◌≡◌, ℕ, ◌+◌, ◌-◌, Bool, true, false, nat_le, nat_lt, if◌then◌else◌, List, [], ◌∷◌, ◌++◌, length, take, Option, None, Some}
 use Rattle.mpm_script.specs.Clients.{names_of}
+use Rattle.mpm_script.specs.Commands.{command_lines_of}
 use Rattle.mpm_base.specs.Count.{next_count, RisesExactlyWhere}
-use Rattle.mpm_base.specs.Front.{is_ended, waiting_in}
+use Rattle.mpm_base.specs.Front.{is_ended}
 use Rattle.script_front.specs.ScriptFront.{SeenFront, after_next, lines_by, to_come, wait_told}
 use Rattle.script_front.specs.Signals.{SeenClient}
 use Rattle.script_front.specs.declared.wait_end.WaitEnd.{WaitEnd}
+use Rattle.script_front.specs.declared.wait_end.WaitingCounts.{WaitingCounts}
 use Rattle.mpm_base.specs.declared.front.Woke.{Woke}
 use Rattle.mpm_base.specs.declared.script_line.ScriptLine.{ScriptLine}
 use Rattle.mpm_base.specs.declared.script_line.ScriptLine.TheVariants as line
@@ -25,6 +27,14 @@ is_conn (line.Conn name) = true
 is_conn (line.Client name act) = false
 is_conn (line.Command word) = false
 is_conn (line.Site site) = false
+
+-- the line is a command
+abbrev pub is_command : ScriptLine → Bool
+is_command (line.At m) = false
+is_command (line.Conn name) = false
+is_command (line.Client name act) = false
+is_command (line.Command word) = true
+is_command (line.Site site) = false
 
 -- the line is no `at` of a later moment
 abbrev pub happens_by : ℕ → ScriptLine → Bool
@@ -54,6 +64,7 @@ with_lines count f =
       clients = after_next count f f.clients;
       told = record f.told {
         arrived = length (names_of (take (f.happened + count) f.script));
+        lines = command_lines_of (take (f.happened + count) f.script);
         left = f.told.left - count;
       };
     }
@@ -62,18 +73,18 @@ with_lines count f =
 abbrev pub gone_to : ℕ → SeenFront → SeenFront
 gone_to m f = with_lines (lines_by m (to_come f)) (with_moment m f)
 
--- how many connections wait to be taken
-abbrev pub arrivals_waiting : SeenFront → ℕ
-arrivals_waiting f = (waiting_in f.told).arrivals
+-- how many connections and command lines wait to be taken
+abbrev pub waiting_counts : SeenFront → WaitingCounts
+waiting_counts f = record { arrivals = f.told.arrived - f.told.accepted; lines = length f.told.lines - f.told.read }
 
--- so many connections waited before time passed, where the second of the moments is later than the first
-abbrev pub passed_between : ℕ → ℕ → ℕ → Option ℕ
-passed_between from to count = if nat_lt from to then Some count else None
+-- so much waited before time passed, where the second of the moments is later than the first
+abbrev pub passed_between : ℕ → ℕ → WaitingCounts → Option WaitingCounts
+passed_between from to counts = if nat_lt from to then Some counts else None
 
--- it made one wait more, which gave these slots and ended so
+-- it made one wait more, which gave these slots and ended so, and forgot an accept that failed
 abbrev pub with_wait : List ℕ → WaitEnd → SeenFront → SeenFront
 with_wait slots end f =
-    record f { told = record f.told { waits = f.told.waits ++ wait_told (slots, end) ∷ [] } }
+    record f { told = record f.told { failed = false; waits = f.told.waits ++ wait_told (slots, end) ∷ [] } }
 
 -- a further wait answered Ended
 abbrev pub with_end : SeenFront → SeenFront
@@ -82,5 +93,5 @@ with_end f = record f { ends = next_count f.ends }
 -- what a wait leaves of the rest
 pub record KeepsRest (answer : Woke) (old new : SeenFront) : Type 0 where
   pub names_are : new.names ≡ old.names
-  pub told_is : new.told ≡ record old.told { arrived = new.told.arrived; left = new.told.left; moment = new.told.moment }
+  pub told_is : new.told ≡ record old.told { arrived = new.told.arrived; lines = new.told.lines; left = new.told.left; moment = new.told.moment }
   pub ends : RisesExactlyWhere (is_ended answer) old.ends new.ends

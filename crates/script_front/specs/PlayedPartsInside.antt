@@ -1,7 +1,8 @@
 -- The parts of a front that plays a script, and what holds between them.
-use Rattle.std.specs.Prelude.{◌≡◌, ◌⊎◌, ℕ, ◌<◌, ◌≤◌, Bool, true, false, bytes_eq, if◌then◌else◌, List, [], ◌∷◌, ◌++◌, length, map, take, drop, Option, None}
+use Rattle.std.specs.Prelude.{◌≡◌, ◌⊎◌, ℕ, ◌+◌, ◌<◌, ◌≤◌, Bool, true, false, bytes_eq, if◌then◌else◌, List, [], ◌∷◌, ◌++◌, length, map, take, drop, Option, None}
 use Rattle.std.specs.List.{list_any}
 use Rattle.mpm_script.specs.Clients.{clients_of, fails_of, is_dropped, names_of, sent_by}
+use Rattle.mpm_script.specs.Commands.{command_lines_of, commands_of}
 use Rattle.mpm_base.specs.Front.{next_coming}
 use Rattle.script_front.specs.ScriptFront.{comings_of, lines_now}
 use Rattle.script_front.specs.DuePlacesInside.{AreMarked, Covers}
@@ -10,6 +11,7 @@ use Rattle.script_front.specs.declared.client_plans.Awaited.{Awaited}
 use Rattle.script_front.specs.declared.client_plans.LinkPlan.{LinkPlan}
 use Rattle.script_front.specs.declared.due_places.DuePlaces.{DuePlaces}
 use Rattle.mpm_base.specs.declared.conn.ConnName.{ConnName}
+use Rattle.mpm_base.specs.declared.script_line.CommandWord.{CommandWord}
 use Rattle.mpm_base.specs.declared.script_line.ClientAct.{ClientAct}
 use Rattle.mpm_base.specs.declared.script_line.ClientAct.TheVariants as act
 use Rattle.mpm_base.specs.declared.script_line.LinkCall.TheVariants as call
@@ -116,16 +118,38 @@ pub record AreClients (names : List (List ℕ)) (clients : List SeenClient) (wat
   pub covers : Covers due.marks.items clients watched
   pub shut : all_closed (take closed clients) ≡ true
 
--- all lines have happened after it waited, and each connection was handed out or listening was stopped
-pub record IsPlayedOut (lines : List ScriptLine) (count : ℕ) (waited : Bool) (taken : ℕ) (hushed : Bool) : Type 0 where
+-- the commands of a script that weren't read, how many of its command lines have come, and how many of these were read
+pub record SeenCommands : Type 0 where
+  pub unread : List CommandWord
+  pub came : ℕ
+  pub read : ℕ
+
+-- none has come, and these are the commands
+abbrev pub new_commands : List CommandWord → SeenCommands
+new_commands commands = record { unread = commands; came = 0; read = 0 }
+
+-- no more were read than came, and no more came than there are
+pub record AreInOrder (unread : List CommandWord) (came read : ℕ) : Type 0 where
+  pub past : read ≤ came
+  pub few : came ≤ read + length unread
+
+-- so many of the lines have happened: their commands have come, and those that weren't read are the last ones of the lines
+pub record AreCommands (lines : List ScriptLine) (count : ℕ) (ws : SeenCommands) : Type 0 where
+  pub came : ws.came ≡ length (command_lines_of (take count lines))
+  pub read : ws.read ≤ ws.came
+  pub unread_are : ws.unread ≡ drop ws.read (commands_of lines)
+
+-- all lines have happened after it waited, each connection was handed out or listening was stopped, and each command line was read
+pub record IsPlayedOut (lines : List ScriptLine) (count : ℕ) (waited : Bool) (taken : ℕ) (hushed : Bool) (ws : SeenCommands) : Type 0 where
   pub begun : waited ≡ true
   pub all : count ≡ length lines
   pub each : (taken ≡ length (clients_of lines)) ⊎ (hushed ≡ true)
+  pub told : ws.read ≡ ws.came
 
 -- so many of the lines have happened by that moment, so many connections have arrived and so many of them were handed out; the
--- plans of the others' links wait, each client has its name, and there is a place for the name under which it is watched; once it
--- has waited the next line is an `at`; and where a wait answered Ended all was taken
-pub record ArePlayed (lines : List ScriptLine) (count : ℕ) (waited : Bool) (moment arrivals taken : ℕ) (hushed : Bool) (cs : SeenClients) (ended : ℕ) : Type 0 where
+-- plans of the others' links wait, each client has its name, and there is a place for the name under which it is watched; so have
+-- come the command lines; once it has waited the next line is an `at`; and where a wait answered Ended all was taken
+pub record ArePlayed (lines : List ScriptLine) (count : ℕ) (waited : Bool) (moment arrivals taken : ℕ) (hushed : Bool) (cs : SeenClients) (ws : SeenCommands) (ended : ℕ) : Type 0 where
   pub happened : count ≤ length lines
   pub past : next_coming moment (comings_of (take count lines)) ≡ None
   pub arrived : arrivals ≡ length (names_of (take count lines))
@@ -133,5 +157,6 @@ pub record ArePlayed (lines : List ScriptLine) (count : ℕ) (waited : Bool) (mo
   pub plans_are : cs.waiting ≡ drop taken (plans_of lines)
   pub clients_are : map (λ client. client.name) cs.clients ≡ names_of lines
   pub names_are : length cs.watched ≡ length (clients_of lines)
+  pub commands : AreCommands lines count ws
   pub next : waited ≡ true → lines_now (drop count lines) ≡ 0
-  pub over : 0 < ended → IsPlayedOut lines count waited taken hushed
+  pub over : 0 < ended → IsPlayedOut lines count waited taken hushed ws

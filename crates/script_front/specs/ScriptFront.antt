@@ -2,11 +2,13 @@
 use Rattle.std.specs.Prelude.{◌≡◌, ℕ, suc, ◌+◌, ◌<◌, ◌≤◌, Bool, true, false, max, nat_le, if◌then◌else◌, List, [], ◌∷◌, drop, take, length, map, Option, None, Some, option_map, ⊤}
 use Rattle.std.specs.List.{flat_map}
 use Rattle.mpm_script.specs.Clients.{clients_of, fails_of, is_dropped, name_at, names_of}
+use Rattle.mpm_script.specs.Commands.{command_lines_of}
 use Rattle.mpm_base.specs.Front.{BoundTold, DialTold, FrontSeen, FrontTold, HasAllTaken, WaitTold, Backlog, WatchTold, client_at, earlier, next_coming}
 use Rattle.mpm_base.specs.Link.{LinkTold}
 use Rattle.stand_ins.specs.ScriptLink.{SeenScriptLink, new_paced_link}
 use Rattle.script_front.specs.Signals.{SeenClient, Gives, client_after_lines, all_closed, new_client}
 use Rattle.script_front.specs.declared.wait_end.WaitEnd.{WaitEnd}
+use Rattle.script_front.specs.declared.wait_end.WaitingCounts.{WaitingCounts}
 use Rattle.http_server.specs.declared.log.Log.{Log}
 use Rattle.mpm_base.specs.declared.addr.Addr.{Addr}
 use Rattle.mpm_base.specs.declared.conn.ConnName.{ConnName}
@@ -29,9 +31,9 @@ pub record SeenFront : Type 0 where
   pub told : FrontTold
   pub ends : ℕ
 
--- so many connections wait to be taken, and no command line
-abbrev pub only_arrivals : ℕ → Backlog
-only_arrivals count = record { arrivals = count; lines = 0 }
+-- so many connections and command lines wait to be taken
+abbrev pub backlog_of : WaitingCounts → Backlog
+backlog_of counts = record { arrivals = counts.arrivals; lines = counts.lines }
 
 -- a wait of it, from the slots that it gave and how it ended
 abbrev pub wait_told : List ℕ × WaitEnd → WaitTold
@@ -41,7 +43,7 @@ wait_told wait =
       quiet = wait.1.quiet;
       slots = wait.0;
       answer = wait.1.answer;
-      passed = option_map only_arrivals wait.1.passed;
+      passed = option_map backlog_of wait.1.passed;
     }
 
 -- a watch of it, from the number of the link and the name: none fails
@@ -60,13 +62,13 @@ bound_told bound = record { listen = bound.0; control = bound.1 }
 abbrev pub dial_told : ℕ × Log ℕ Bool → DialTold
 dial_told dial = record { port = dial.0; word = map (λ byte. byte.0) dial.1.items; answer = true }
 
--- it as each front is seen: it has a script and tells, and of its calls none fails and none gives a command line
+-- it as each front is seen: it has a script and tells, and none of its calls fails; as many command lines were given as were read
 abbrev pub front_seen : SeenFront → FrontSeen
 front_seen f =
     record {
       script = Some f.script;
       told = Some f.told;
-      counts = record { faults = 0; accept_faults = 0; ends = f.ends; commands = 0 };
+      counts = record { faults = 0; accept_faults = 0; ends = f.ends; commands = f.told.read };
     }
 
 -- the moment of the line, where it is an `at`
@@ -156,18 +158,17 @@ after_next count f clients = map (client_after_lines (take count (to_come f))) c
 -- ## Any time
 
 -- what holds of every such front: it tells the connections of its script, of which those have arrived whose lines have
--- happened, how many lines have not, and the moments of the `at` lines, of which none that has happened is later than the
--- moment; no command line has come and no accept failed; each client has its name, and a place for the name under which its link
--- is watched; and once it has waited the next line is an `at`, where there is one
+-- happened, the command lines that those lines bring, no more of which were read than came, how many lines have not happened, and
+-- the moments of the `at` lines, of which none that has happened is later than the moment; each client has its name, and a place
+-- for the name under which its link is watched; and once it has waited the next line is an `at`, where there is one
 pub record IsOfScript (f : SeenFront) : Type 0 where
   pub happened : f.happened ≤ length f.script
   pub left : f.told.left + f.happened ≡ length f.script
   pub clients : f.told.clients ≡ clients_of f.script
   pub arrived : f.told.arrived ≡ length (names_of (take f.happened f.script))
   pub accepted : f.told.accepted ≤ f.told.arrived
-  pub lines : f.told.lines ≡ []
-  pub read : f.told.read ≡ 0
-  pub failed : f.told.failed ≡ false
+  pub lines : f.told.lines ≡ command_lines_of (take f.happened f.script)
+  pub read : f.told.read ≤ length f.told.lines
   pub comings : f.told.comings ≡ Some (comings_of f.script)
   pub past : next_coming f.told.moment (comings_of (take f.happened f.script)) ≡ None
   pub named : map (λ client. client.name) f.clients ≡ names_of f.script
@@ -192,6 +193,11 @@ pub record IsUnderWay (f : SeenFront) : Type 0 where
   pub ends : f.ends ≡ 0
   pub next : lines_now (to_come f) ≡ 0
 
+-- time may pass: no connection is being served, and no accept failed since the last wait
+pub record MayPass (f : SeenFront) (quiet : Bool) : Type 0 where
+  pub idle : quiet ≡ true
+  pub steady : f.told.failed ≡ false
+
 -- a wait does the first of these that fits. A signal falls away, and a wait ends, exactly where the clients then have their links
 -- marked as closed
 pub data Plays (old new : SeenFront) (until : Option ℕ) (quiet : Bool) : Woke → List ℕ → Type 0 where
@@ -203,18 +209,21 @@ pub data Plays (old new : SeenFront) (until : Option ℕ) (quiet : Bool) : Woke 
   -- it gives the signals that are due, as far as there is room
   signals : {ready : List ℕ} → IsUnderWay old → Gives 256 old.clients old.names new.clients ready → 0 < length ready
       → Moves old new 0 old.told.moment → Plays old new until quiet (woke.Woke old.told.moment) ready
-  -- where a connection is being served no time passes
+  -- behind an accept that failed no time passes
+  recovers : IsUnderWay old → Gives 256 old.clients old.names new.clients [] → old.told.failed ≡ true → Moves old new 0 old.told.moment
+      → Plays old new until quiet (woke.Woke old.told.moment) []
+  -- where a connection is being served none does
   served : IsUnderWay old → Gives 256 old.clients old.names new.clients [] → quiet ≡ false → Moves old new 0 old.told.moment
       → Plays old new until quiet (woke.Woke old.told.moment) []
   -- it goes on to the moment of the next `at`, or to `until`, whichever is earlier, and never back; what happens by then happens
-  passes : {m to : ℕ} {still : List SeenClient} → IsUnderWay old → Gives 256 old.clients old.names still [] → quiet ≡ true
+  passes : {m to : ℕ} {still : List SeenClient} → IsUnderWay old → Gives 256 old.clients old.names still [] → MayPass old quiet
       → earlier until (next_moment (to_come old)) ≡ Some m → to ≡ max old.told.moment m → Moves old new (lines_by to (to_come old)) to
       → new.clients ≡ after_next (lines_by to (to_come old)) old still → Plays old new until quiet (woke.Woke to) []
   -- nothing comes any more
-  ends : IsUnderWay old → Gives 256 old.clients old.names new.clients [] → quiet ≡ true → earlier until (next_moment (to_come old)) ≡ None
+  ends : IsUnderWay old → Gives 256 old.clients old.names new.clients [] → MayPass old quiet → earlier until (next_moment (to_come old)) ≡ None
       → HasAllTaken new.told → all_taken_closed new ≡ true → Moves old new 0 old.told.moment → Plays old new until quiet woke.Ended []
-  -- it waits for its links to be taken or closed
-  stays : IsUnderWay old → Gives 256 old.clients old.names new.clients [] → quiet ≡ true → earlier until (next_moment (to_come old)) ≡ None
+  -- it waits for its connections and command lines to be taken, or for its links to be closed
+  stays : IsUnderWay old → Gives 256 old.clients old.names new.clients [] → MayPass old quiet → earlier until (next_moment (to_come old)) ≡ None
       → (HasAllTaken new.told → all_taken_closed new ≡ false) → Moves old new 0 old.told.moment → Plays old new until quiet (woke.Woke old.told.moment) []
 
 -- ## An accept

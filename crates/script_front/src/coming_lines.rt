@@ -2,7 +2,8 @@
 ghost use Rattle.std.specs.Prelude.{◌≡◌, ◌+◌, ◌≤◌, take, drop, length};
 ghost use Rattle.mpm_base.specs.Front.{earlier};
 ghost use Rattle.mpm_script.specs.Clients.{names_of};
-ghost use Rattle.script_front.specs.PlayedFrontInside.{happens_by, is_at, is_conn};
+ghost use Rattle.mpm_script.specs.Commands.{command_lines_of};
+ghost use Rattle.script_front.specs.PlayedFrontInside.{happens_by, is_at, is_command, is_conn};
 ghost use Rattle.script_front.specs.ScriptFront.{lines_by, lines_now, next_moment};
 
 use mpm_base::{Moment, ScriptLine};
@@ -94,4 +95,19 @@ fn is_conn(line: &ScriptLine) -> bool
     ensures { result ≡ is_conn line.now }
 {
     matches!(line, ScriptLine::Conn(_))
+}
+
+/// How many command lines the lines bring.
+pub(crate) fn commands(lines: &[ScriptLine]) -> usize
+    ensures is { result ≡ length (command_lines_of lines.now) }
+    ensures within { result ≤ length lines.now }
+{
+    lines.iter().filter(|line| is_command(line)).count()
+}
+
+/// Whether the line is a command.
+fn is_command(line: &ScriptLine) -> bool
+    ensures { result ≡ is_command line.now }
+{
+    matches!(line, ScriptLine::Command(_))
 }

@@ -1,18 +1,23 @@
 //! The front that plays a script.
-ghost use Rattle.std.specs.Prelude.{◌≡◌, ◌<◌, ◌≤◌, ◌&&◌, max, nat_lt, not, true, false, None, Some, [], take, drop, length, slice_set, IfOk, IsOk};
+ghost use Rattle.std.specs.Prelude.{◌≡◌, ◌<◌, ◌≤◌, ◌&&◌, max, nat_lt, not, true, false, None, Some, [], take, drop, length, is_some, slice_get, slice_set, IfOk, IsOk};
 ghost use Rattle.mpm_base.specs.Count.{Rises};
-ghost use Rattle.mpm_base.specs.Front.{Accepts, Binds, Commands, Dials, HasAllTaken, StandsStill, Waits, Watches, accept_failed, after_bind, after_dial, after_hush, after_turning_away, front_after_turning_away, hushed_front, is_handed, next_coming};
+ghost use Rattle.mpm_base.specs.Front.{Accepts, Binds, Commands, Dials, GoesForward, HasAllTaken, StandsStill, Waits, Watches, accept_failed, after_bind, after_command, after_dial, after_hush, after_turning_away, front_after_turning_away, hushed_front, is_handed, next_coming};
 ghost use Rattle.mpm_base.specs.Link.{telling_link};
+ghost use Rattle.mpm_base.specs.declared.front.Woke.TheVariants as woke;
 ghost use Rattle.script_front.specs.DuePlacesInside.{AllLook};
-ghost use Rattle.script_front.specs.PlayedFrontInside.{KeepsRest, arrivals_waiting, gone_to, with_begun, with_clients, with_end, with_lines, with_moment, with_wait};
+ghost use Rattle.script_front.specs.FailingFront.{after_failed_wait};
+ghost use Rattle.script_front.specs.PlayedFrontInside.{KeepsRest, gone_to, waiting_counts, with_begun, with_clients, with_end, with_lines, with_moment, with_wait};
 ghost use Rattle.script_front.specs.ScriptFront.{HandsPaced, IsOfScript, Plays, comings_of, front_seen, lines_now, new_front, all_taken_closed, to_come};
 ghost use Rattle.script_front.specs.Signals.{Gives, after_watch_of};
 ghost use Rattle.stand_ins.specs.ScriptLink.{SeenScriptLink};
 
-use crate::coming_lines::{arrivals, earlier, lines_by, lines_now, next_lines, next_moment};
+use crate::coming_lines::{
+    arrivals, commands, earlier, lines_by, lines_now, next_lines, next_moment,
+};
 use crate::script_bell::ScriptBell;
 use crate::script_clients::ScriptClients;
-use crate::wait_end::{WaitEnd, passed_between};
+use crate::script_commands::{ScriptCommands, line_of};
+use crate::wait_end::{WaitEnd, WaitingCounts, passed_between};
 use crate::word_log::log_of;
 use http_server::Log;
 use mpm_base::{
@@ -24,7 +29,8 @@ use std::alloc::Global;
 use std::marker::Model;
 use std::sync::Wait;
 
-/// The front that plays a script: connections arrive, send and end as its lines say, and time goes from moment to moment.
+/// The front that plays a script: connections arrive, send and end, and command lines come, as its lines say, and time goes from
+/// moment to moment. No call of it fails.
 #[derive(Drop)]
 pub struct ScriptFront {
     alloc: Global,
@@ -35,7 +41,9 @@ pub struct ScriptFront {
     arrived: usize,
     accepted: usize,
     hushed: bool,
+    failed: bool,
     clients: ScriptClients,
+    commands: ScriptCommands,
     ends: u64,
     // Kept for clauses alone: they take no memory.
     binds: Log<Addr, Option<u16>>,
@@ -46,12 +54,13 @@ pub struct ScriptFront {
 }
 
 impl Model for ScriptFront {
-    ghost use Rattle.std.specs.Prelude.{◌-◌, false, Some, [], length, map};
+    ghost use Rattle.std.specs.Prelude.{◌-◌, Some, length, map, take};
     ghost use Rattle.script_front.specs.ScriptFront.{SeenFront, bound_told, comings_of, dial_told, turned_told, wait_told, watch_told};
 
     ghost Value = { SeenFront };
 
     ghost use Rattle.mpm_script.specs.Clients.{clients_of};
+    ghost use Rattle.mpm_script.specs.Commands.{command_lines_of};
     ghost use Rattle.script_front.specs.PlayedPartsInside.{ArePlayed};
 
     ghost view = { λ f. record {
@@ -66,32 +75,33 @@ impl Model for ScriptFront {
         accepted = f.accepted;
         watches = map watch_told f.watches.items;
         turned_away = map turned_told f.turned_away.items;
-        lines = [];
-        read = 0;
+        lines = command_lines_of (take f.happened f.script);
+        read = f.commands.read;
         bound = map bound_told f.binds.items;
         dialled = map dial_told f.dials.items;
         hushed = f.hushed;
         left = length f.script - f.happened;
         moment = f.moment;
         comings = Some (comings_of f.script);
-        failed = false;
+        failed = f.failed;
         waits = map wait_told f.waits.items;
       };
       ends = f.ends;
     } };
 
-    ghost invariant = { λ f. ArePlayed f.script f.happened f.begun f.moment f.arrived f.accepted f.hushed f.clients f.ends };
+    ghost invariant = { λ f. ArePlayed f.script f.happened f.begun f.moment f.arrived f.accepted f.hushed f.clients f.commands f.ends };
 }
 
 impl ScriptFront {
     /// The front of the script. No line has happened. A line of the site happens with those around it and does nothing to the
-    /// front: it says what the files are, which the store of the script has (`script_store`). `command` does nothing either,
-    /// and a line that names a client means each connection of that name; a script that was read has no `command`, nor two
-    /// connections of one name.
+    /// front: it says what the files are, which the store of the script has (`script_store`). A command brings its word as a
+    /// command line. A line that names a client means each connection of that name; a script that was read has no two connections
+    /// of one name.
     pub fn make(alloc: Global, script: Script) -> Result<ScriptFront, NoMemory>
         ensures { IfOk result (λ front. front ≡ new_front script) }
     {
         let clients = ScriptClients::make(alloc, script.lines())?;
+        let commands = ScriptCommands::make(alloc, script.lines())?;
         Ok(ScriptFront {
             alloc,
             script,
@@ -101,7 +111,9 @@ impl ScriptFront {
             arrived: 0,
             accepted: 0,
             hushed: false,
+            failed: false,
             clients,
+            commands,
             ends: 0,
             binds: Log::new(),
             dials: Log::new(),
@@ -149,6 +161,7 @@ impl ScriptFront {
     {
         let lines = next_lines(self.script.lines(), self.happened, count);
         self.arrived += arrivals(lines);
+        self.commands.come(commands(lines));
         self.clients.happen(lines);
         self.happened += count;
     }
@@ -196,8 +209,8 @@ impl ScriptFront {
         self.moment = moment;
     }
 
-    /// Whether all lines have happened, each connection was handed out or listening was stopped, and each link that was handed
-    /// out was found closed.
+    /// Whether all lines have happened, each command line was read, each connection was handed out or listening was stopped, and
+    /// each link that was handed out was found closed.
     fn is_over(&mut self) -> bool
         ensures over { result ≡ true → HasAllTaken self.new.told × (all_taken_closed self.new ≡ true) }
         ensures unclosed { result ≡ false → HasAllTaken self.new.told → all_taken_closed self.new ≡ false }
@@ -205,6 +218,7 @@ impl ScriptFront {
         ensures state { self.new ≡ with_clients self.new.clients self.old }
     {
         self.happened == self.script.lines().len()
+            && self.commands.are_read()
             && (self.hushed || self.accepted == self.clients.count())
             && self.clients.find_closed(self.accepted)
     }
@@ -217,6 +231,13 @@ impl ScriptFront {
         ensures rises { Rises self.old.ends self.new.ends }
     {
         self.ends = self.ends.saturating_add(1);
+    }
+
+    /// Whether time may pass in a wait of that `quiet`: no connection is being served, and no accept failed since the last wait.
+    fn may_pass(&self, quiet: bool) -> bool
+        ensures { result ≡ (quiet && not self.now.told.failed) }
+    {
+        quiet && !self.failed
     }
 
     /// What a wait does and answers.
@@ -234,7 +255,7 @@ impl ScriptFront {
             return Woke::Woke(self.moment);
         }
         self.signal(ready);
-        if !quiet || !ready.slots().is_empty() {
+        if !self.may_pass(quiet) || !ready.slots().is_empty() {
             return Woke::Woke(self.moment);
         }
         let next = earlier(until, next_moment(self.to_come()));
@@ -249,18 +270,53 @@ impl ScriptFront {
         Woke::Woke(self.moment)
     }
 
-    /// How many connections wait to be taken.
-    fn waiting(&self) -> usize
-        ensures { result ≡ arrivals_waiting self.now }
+    /// How many connections and command lines wait to be taken.
+    fn waiting(&self) -> WaitingCounts
+        ensures { result ≡ waiting_counts self.now }
     {
-        self.arrived - self.accepted
+        WaitingCounts {
+            arrivals: self.arrived - self.accepted,
+            lines: self.commands.waiting(),
+        }
     }
 
-    /// Puts a wait down, with the slots that it gave and how it ended.
+    /// Puts a wait down, with the slots that it gave and how it ended. An accept that failed is forgotten.
     fn put_down(&mut self, ready: &Ready, end: &WaitEnd)
         ensures { self.new ≡ with_wait ready.now end.now self.old }
     {
+        self.failed = false;
         self.waits = self.waits.and(ready, end);
+    }
+
+    /// A wait fails: it is told, and does nothing else.
+    pub(crate) fn fail_wait(
+        &mut self,
+        until: Option<Moment>,
+        quiet: bool,
+        ready: &mut Ready,
+    ) -> Woke
+        ensures failed { result ≡ woke.Failed }
+        ensures none { ready.new ≡ [] }
+        ensures told { self.new ≡ after_failed_wait until quiet self.old }
+        ensures forward { GoesForward until quiet woke.Failed [] self.old.told self.new.told }
+    {
+        self.show();
+        ready.clear();
+        let end = WaitEnd {
+            until,
+            quiet,
+            answer: Woke::Failed,
+            passed: None,
+        };
+        self.put_down(ready, &end);
+        Woke::Failed
+    }
+
+    /// An accept fails: the next wait lets no time pass.
+    pub(crate) fn fail_accept(&mut self)
+        ensures { self.new ≡ record self.old { told = record self.old.told { failed = true } } }
+    {
+        self.failed = true;
     }
 }
 
@@ -283,8 +339,8 @@ impl Front for ScriptFront {
 
     /// A signal is due for a watched link where a send, be it of no byte, room or the end came for it, or where it was
     /// dropped, until it is given; none is given in the wait in which that happened, and none of a link that was closed. The
-    /// front ends only once each link that was handed out was closed. A moment `until` before the present one is as the
-    /// present one.
+    /// front ends only once each command line was read and each link that was handed out was closed. A moment `until` before
+    /// the present one is as the present one.
     fn wait<R: Wait>(
         &mut self,
         rt: &R,
@@ -370,14 +426,14 @@ impl Front for ScriptFront {
         self.hushed = true;
     }
 
-    /// No line comes.
+    /// The word of each command of the script is a line, which comes with the lines around the command.
     fn command(&mut self) -> Option<Line>
         ensures commands { Commands (front_seen self.old) (front_seen self.new) result }
-        ensures none { result ≡ None }
-        ensures same { self.new ≡ self.old }
+        ensures line { result ≡ slice_get self.old.told.lines self.old.told.read }
+        ensures rest { self.new ≡ record self.old { told = after_command (is_some result) self.old.told } }
     {
-        self.show();
-        None
+        let word = self.commands.next()?;
+        Some(line_of(word))
     }
 
     /// The call does not fail.

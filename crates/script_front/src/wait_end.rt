@@ -4,19 +4,30 @@ ghost use Rattle.script_front.specs.PlayedFrontInside.{passed_between};
 
 use mpm_base::{Moment, Woke};
 
-/// How a wait ended: until when it was to last at most, whether time might pass in it, its answer, and how many connections
-/// waited to be taken just before it let time pass, where it did.
+/// How many connections and command lines wait to be taken.
+#[derive(Clone, Copy)]
+pub(crate) struct WaitingCounts {
+    pub(crate) arrivals: usize,
+    pub(crate) lines: usize,
+}
+
+/// How a wait ended: until when it was to last at most, whether time might pass in it, its answer, and what waited to be taken just
+/// before it let time pass, where it did.
 #[derive(Clone, Copy)]
 pub(crate) struct WaitEnd {
     pub(crate) until: Option<Moment>,
     pub(crate) quiet: bool,
     pub(crate) answer: Woke,
-    pub(crate) passed: Option<usize>,
+    pub(crate) passed: Option<WaitingCounts>,
 }
 
-/// So many connections waited before time passed, where the second of the moments is later than the first.
-pub(crate) fn passed_between(from: Moment, to: Moment, count: usize) -> Option<usize>
-    ensures { result ≡ passed_between from to count }
+/// So much waited before time passed, where the second of the moments is later than the first.
+pub(crate) fn passed_between(
+    from: Moment,
+    to: Moment,
+    counts: WaitingCounts,
+) -> Option<WaitingCounts>
+    ensures { result ≡ passed_between from to counts }
 {
-    if from < to { Some(count) } else { None }
+    if from < to { Some(counts) } else { None }
 }

@@ -1,6 +1,6 @@
 //! Scripts that are made by hand, line by line.
 use crate::texts::{number_of, words};
-use mpm_base::{ClientAct, CommandWord, LinkCall, NoMemory, Octets, ScriptLine};
+use mpm_base::{ClientAct, CommandWord, LinkCall, NoMemory, Octets, ScriptLine, SiteLine};
 use mpm_script::Script;
 use std::alloc::Global;
 
@@ -15,18 +15,27 @@ pub fn script_by_hand(alloc: Global, row: &str) -> Result<Script, NoMemory> {
     Ok(script)
 }
 
-/// The line that the text writes: what is no other line says what a client does. A command is one for a new generation.
+/// The line that the text writes: what is no other line says what a client does.
 fn line_by_hand(alloc: Global, text: &str) -> Result<ScriptLine, NoMemory> {
     let (word, rest) = words(text);
     match word {
         "at" => Ok(ScriptLine::At(number_of(rest))),
         "conn" => Ok(ScriptLine::Conn(Octets::of(alloc, rest.as_bytes())?)),
-        "command" => Ok(ScriptLine::Command(CommandWord::Graceful)),
+        "command" => Ok(ScriptLine::Command(command_by_hand(rest))),
+        "clear" => Ok(ScriptLine::Site(SiteLine::Clear)),
         _ => {
             let (name, behind) = words(rest);
             let act = act_by_hand(alloc, word, behind)?;
             Ok(ScriptLine::Client(Octets::of(alloc, name.as_bytes())?, act))
         }
+    }
+}
+
+fn command_by_hand(word: &str) -> CommandWord {
+    match word {
+        "graceful" => CommandWord::Graceful,
+        "graceful-stop" => CommandWord::GracefulStop,
+        _ => CommandWord::Stop,
     }
 }
 

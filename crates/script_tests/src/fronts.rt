@@ -2,10 +2,10 @@
 //! aren't carried through what is shown.
 use crate::by_hand::script_by_hand;
 use crate::links::show_link_call;
-use crate::texts::{grown, small_of, words};
-use mpm_base::{Addr, Arrival, Bell, ConnName, Front, Moment, NoMemory, Ready, Woke};
-use script_front::{ScriptBell, ScriptFront};
-use stand_ins::ScriptLink;
+use crate::texts::{grown, number_of, small_of, words};
+use mpm_base::{Addr, Arrival, Bell, ConnName, Front, Line, Moment, NoMemory, Ready, Woke};
+use script_front::{FailingFront, ScriptBell, ScriptFront};
+use stand_ins::{Calls, ScriptLink};
 use std::alloc::Global;
 use std::io::{self, ErrorKind};
 use std::sync::Wait;
@@ -13,15 +13,34 @@ use std::sync::Wait;
 /// A front, the slots of its last wait, and the links that it handed out and that weren't turned away.
 #[derive(Drop)]
 struct Play {
-    front: ScriptFront,
+    front: FailingFront,
     ready: Ready,
     links: Vec<ScriptLink>,
 }
 
-/// Shows what a front of the script answers to each call.
+/// Shows what a front of the script answers to each call. None of its calls fails.
 pub fn show_front<R: Print + Wait>(rt: &R, alloc: Global, rows: &str) -> io::Result<()> {
+    show_failing(rt, alloc, "", "", rows)
+}
+
+/// Shows what a front of the script answers to each call. The first row has the numbers of the waits that are to fail, a semicolon, and
+/// those of the accepts.
+pub fn show_failing_front<R: Print + Wait>(rt: &R, alloc: Global, rows: &str) -> io::Result<()> {
+    let (lists, rest) = rows.split_once('\n').unwrap_or((rows, ""));
+    let (waits, accepts) = lists.split_once(';').unwrap_or((lists, ""));
+    show_failing(rt, alloc, waits, accepts, rest)
+}
+
+/// The same where the waits and the accepts of these numbers are to fail.
+fn show_failing<R: Print + Wait>(
+    rt: &R,
+    alloc: Global,
+    waits: &str,
+    accepts: &str,
+    rows: &str,
+) -> io::Result<()> {
     let (script, calls) = rows.split_once('\n').unwrap_or((rows, ""));
-    let mut play = grown(play_of(alloc, script))?;
+    let mut play = grown(play_of(alloc, script, waits, accepts))?;
     show_calls(rt, alloc, &mut play, calls)
 }
 
@@ -45,16 +64,38 @@ fn show_row<R: Print + Wait>(rt: &R, alloc: Global, play: &mut Play, call: &str)
     show_call(rt, alloc, play, word, rest)
 }
 
-/// A front of the script, of which no line has happened.
-fn play_of(alloc: Global, row: &str) -> Result<Play, NoMemory> {
+/// A front of the script, of which no line has happened, and whose listed waits and accepts fail.
+fn play_of(alloc: Global, row: &str, waits: &str, accepts: &str) -> Result<Play, NoMemory> {
     let ready = Ready::make(alloc)?;
-    let script = script_by_hand(alloc, row)?;
-    let front = ScriptFront::make(alloc, script)?;
+    let front = front_of(alloc, row, waits, accepts)?;
     Ok(Play {
         front,
         ready,
         links: Vec::new(alloc),
     })
+}
+
+fn front_of(
+    alloc: Global,
+    row: &str,
+    waits: &str,
+    accepts: &str,
+) -> Result<FailingFront, NoMemory> {
+    let script = script_by_hand(alloc, row)?;
+    let bad_waits = calls_of(alloc, waits)?;
+    let bad_accepts = calls_of(alloc, accepts)?;
+    ScriptFront::failing(alloc, script, bad_waits, bad_accepts)
+}
+
+/// The numbers that the words of the text write.
+fn calls_of(alloc: Global, text: &str) -> Result<Calls, NoMemory> {
+    let mut calls = Calls::make(alloc);
+    for word in text.split(' ') {
+        if !word.is_empty() {
+            calls.add(number_of(word))?;
+        }
+    }
+    Ok(calls)
 }
 
 /// Shows what the front, or one of its links, answers to the call.
@@ -71,7 +112,9 @@ fn show_call<R: Print + Wait>(
         "turn" => show_turn(rt, play),
         "watch" => show_watch(rt, play, rest),
         "all" => show_all(rt, play),
-        "bind" | "hush" | "command" => show_told(rt, play, word),
+        "bind" | "hush" => show_told(rt, play, word),
+        "command" => show_command(rt, play),
+        "faults" => show_faults(rt, play),
         "dial" => show_dial(rt, play, rest),
         "bell" => show_bell(rt, alloc, play),
         _ => show_link_call(rt, alloc, play.links.as_mut_slice(), word, rest),
@@ -85,8 +128,8 @@ fn show_wait<R: Print + Wait>(rt: &R, play: &mut Play, rest: &str) -> io::Result
     println!(rt;
         "{woke:?} {:?}, {} of {} lines",
         play.ready.slots(),
-        play.front.happened(),
-        play.front.script().lines().len()
+        play.front.front().happened(),
+        play.front.front().script().lines().len()
     )
 }
 
@@ -94,24 +137,41 @@ fn woken<R: Wait>(rt: &R, play: &mut Play, until: Option<Moment>, quiet: bool) -
     play.front.wait(rt, until, quiet, &mut play.ready)
 }
 
-/// Takes the next link, and keeps it. Whether there was one; no call of such a front fails.
-fn is_taken(play: &mut Play) -> io::Result<bool> {
+/// What an accept was answered with.
+#[derive(Clone, Copy)]
+enum Taken {
+    Link,
+    None,
+    Failed,
+}
+
+/// Takes the next link, and keeps it.
+fn take(play: &mut Play) -> io::Result<Taken> {
     match play.front.accept() {
         Arrival::Some(link) => {
             play.links.push(link)?;
-            Ok(true)
+            Ok(Taken::Link)
         }
-        Arrival::None => Ok(false),
-        Arrival::Failed => Err(io::Error::from(ErrorKind::Other)),
+        Arrival::None => Ok(Taken::None),
+        Arrival::Failed => Ok(Taken::Failed),
     }
 }
 
 fn show_accept(rt: &impl Print, play: &mut Play) -> io::Result<()> {
     let number = play.links.len();
-    if is_taken(play)? {
-        println!(rt; "link {number}")
-    } else {
-        println!(rt; "none")
+    match take(play)? {
+        Taken::Link => println!(rt; "link {number}"),
+        Taken::None => println!(rt; "none"),
+        Taken::Failed => println!(rt; "failed"),
+    }
+}
+
+/// Takes the next link where no accept is to fail. Whether there was one.
+fn is_taken(play: &mut Play) -> io::Result<bool> {
+    match take(play)? {
+        Taken::Link => Ok(true),
+        Taken::None => Ok(false),
+        Taken::Failed => Err(io::Error::from(ErrorKind::Other)),
     }
 }
 
@@ -159,15 +219,13 @@ fn show_all(rt: &impl Print, play: &mut Play) -> io::Result<()> {
     println!(rt; "no end of links")
 }
 
-/// Tells the front to listen or to stop it, or reads a command line.
+/// Tells the front to listen or to stop it.
 fn show_told(rt: &impl Print, play: &mut Play, word: &str) -> io::Result<()> {
-    match word {
-        "bind" => println!(rt; "{}", is_bound(play)),
-        "hush" => {
-            hush(play);
-            println!(rt; "done")
-        }
-        _ => println!(rt; "{}", has_command(play)),
+    if word == "bind" {
+        println!(rt; "{}", is_bound(play))
+    } else {
+        hush(play);
+        println!(rt; "done")
     }
 }
 
@@ -183,9 +241,25 @@ fn hush(play: &mut Play) {
     play.front.hush();
 }
 
-/// Whether a command line came.
-fn has_command(play: &mut Play) -> bool {
-    play.front.command().is_some()
+/// Reads the next command line.
+fn show_command(rt: &impl Print, play: &mut Play) -> io::Result<()> {
+    match next_command(play) {
+        Some(line) => println!(rt; "{}", line.as_str()),
+        None => println!(rt; "none"),
+    }
+}
+
+fn next_command(play: &mut Play) -> Option<Line> {
+    play.front.command()
+}
+
+/// Shows how many waits and how many accepts failed.
+fn show_faults(rt: &impl Print, play: &Play) -> io::Result<()> {
+    println!(rt;
+        "{} waits, {} accepts",
+        play.front.faults(),
+        play.front.accept_faults()
+    )
 }
 
 /// Shows the answer of a dial.

@@ -13,7 +13,10 @@
 //!   - `accept`, and `turn`, which turns the link away that was taken last; `watch LINK SLOT`; `all`, which takes each link that waits,
 //!     and watches it in a slot from 0 on.
 //!   - `read LINK ROOM`, with room for eight bytes at most; `write LINK TEXT`, `shut LINK`, `close LINK`, and `show LINK`.
-//!   - `bind`, `hush`, `command`, `dial PORT WORD`, and `bell`, which makes a bell and rings it.
+//!   - `bind`, `hush`, `command`, `dial PORT WORD`, and `bell`, which makes a bell and rings it; `faults` shows how many waits and
+//!     accepts failed.
+//! - `failing`: the same of a front some of whose calls fail. Its first row has the numbers of the waits that fail, a semicolon, and
+//!   those of the accepts; the script stands in the second.
 #![tactic(auto)]
 
 mod by_hand;
@@ -54,6 +57,7 @@ fn show_rows<R: Print + Wait>(rt: &R, alloc: Global, kind: &str, rows: &str) -> 
     match kind {
         "script" => scripts::show_scripts(rt, alloc, rows),
         "load" => scripts::show_loads(rt, alloc, rows),
+        "failing" => fronts::show_failing_front(rt, alloc, rows),
         _ => fronts::show_front(rt, alloc, rows),
     }
 }

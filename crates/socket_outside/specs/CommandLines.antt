@@ -1,5 +1,6 @@
 -- What the bytes that came on a control connection so far are: a command line, no line, or neither yet.
-use Rattle.std.specs.Prelude.{◌≡◌, ◌==◌, ℕ, ◌<◌, ◌≤◌, Bool, List, length, take, position, Option, None, MatchOption, IsUtf8, ⊤}
+use Rattle.std.specs.Prelude.{◌≡◌, ◌==◌, ℕ, ◌<◌, ◌≤◌, Bool, List, ◌++◌, length, take, position, Option, None, MatchOption, IsUtf8, ⊤}
+use Rattle.std.specs.Io.KnownBytes.{Consumes}
 use Rattle.socket_outside.specs.declared.command_lines.Heard.{Heard}
 use Rattle.socket_outside.specs.declared.command_lines.Heard.TheVariants as heard
 
@@ -29,3 +30,7 @@ abbrev pub MayBeHeard : List ℕ → Heard → Type 0
 MayBeHeard bytes heard.More = IsHeard bytes heard.More
 MayBeHeard bytes (heard.Line line) = IsHeard bytes (heard.Line line)
 MayBeHeard bytes heard.Nothing = ⊤
+
+-- behind the bytes that had come stand just those that the reader gave, where it tells what it has left
+abbrev pub HearsOn : List ℕ → List ℕ → Option (List ℕ) → Option (List ℕ) → Type 0
+HearsOn old new left left' = (came : List ℕ) × (new ≡ old ++ came) × Consumes left left' came

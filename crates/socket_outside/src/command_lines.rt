@@ -1,6 +1,6 @@
 //! Reading a command line off a control connection.
 ghost use Rattle.std.specs.Prelude.{◌≡◌, ◌<◌, ◌≤◌, [], IfSome, length};
-ghost use Rattle.socket_outside.specs.CommandLines.{IsHeard, IsLineOrNone, MayBeHeard, feed_in};
+ghost use Rattle.socket_outside.specs.CommandLines.{HearsOn, IsHeard, IsLineOrNone, MayBeHeard, feed_in};
 
 use crate::answers::read_some;
 use mpm_base::{Got, Line};
@@ -64,13 +64,29 @@ impl Spoken {
         heard_in(self.bytes())
     }
 
+    /// Reads once, behind the bytes so far.
+    fn read_more<S: Read>(&mut self, socket: &mut S) -> Got
+        ensures { HearsOn self.old self.new (S.remaining socket.old) (S.remaining socket.new) }
+    {
+        match read_some(socket, &mut self.bytes[self.filled..]) {
+            Got::Got(count) => {
+                self.filled += count as usize;
+                Got::Got(count)
+            }
+            Got::End => Got::End,
+            Got::NotReady => Got::NotReady,
+            Got::Failed => Got::Failed,
+        }
+    }
+
     /// Reads what comes, up to the line's end, 33 bytes or the connection's end.
     pub fn hear<S: Read>(&mut self, socket: &mut S) -> Heard
-        ensures { MayBeHeard self.new result }
+        ensures heard { MayBeHeard self.new result }
+        ensures bytes { HearsOn self.old self.new (S.remaining socket.old) (S.remaining socket.new) }
     {
         for _ in 0..MOST {
-            match read_some(socket, &mut self.bytes[self.filled..]) {
-                Got::Got(count) => self.filled += count as usize,
+            match self.read_more(socket) {
+                Got::Got(_) => (),
                 Got::NotReady => return self.heard(),
                 Got::End | Got::Failed => return Heard::Nothing,
             }

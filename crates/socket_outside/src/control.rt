@@ -31,10 +31,12 @@ struct Caller {
 #[derive(Drop)]
 pub(crate) struct ControlPort {
     listener: Option<TcpListener>,
-    // The system is asked for a connection only while this mark stands.
+    // Connections may wait of which no event tells again: the system refused one, or as many were taken as in one wait may be.
     asks: bool,
     callers: ShortQueue<Caller>,
     lines: ShortQueue<Line>,
+    ghost few_callers: { callers.most ≡ 16 },
+    ghost few_lines: { lines.most ≡ 64 },
 }
 
 impl ControlPort {
@@ -50,7 +52,7 @@ impl ControlPort {
 
     /// Takes connections of that socket from now on, or of none.
     pub(crate) fn open(&mut self, listener: Option<TcpListener>) {
-        self.asks = listener.is_some();
+        self.asks = false;
         self.listener = listener;
     }
 
@@ -96,7 +98,9 @@ impl ControlPort {
     fn hear(&mut self, caller: Caller) {
         let mut caller = caller;
         match caller.spoken.hear(&mut caller.socket) {
-            Heard::More => self.keep(caller),
+            Heard::More => {
+                let _ = self.callers.put(caller);
+            }
             Heard::Line(line) => {
                 let _ = self.lines.put(line);
             }
@@ -104,11 +108,10 @@ impl ControlPort {
         }
     }
 
-    /// Keeps the connection, and closes the oldest one where too many are open.
-    fn keep(&mut self, caller: Caller) {
-        if let Some(caller) = self.callers.put(caller) {
+    /// Closes the oldest connection where no further one may be open.
+    fn make_place(&mut self) {
+        if self.callers.len() == MOST_CALLERS {
             let _ = self.callers.take();
-            let _ = self.callers.put(caller);
         }
     }
 
@@ -127,6 +130,7 @@ impl ControlPort {
 
     /// Reads from a connection that was just taken. One that can't be watched is closed.
     fn admit(&mut self, socket: TcpStream, registry: &Registry) {
+        self.make_place();
         let mut socket = socket;
         if registry
             .register(&mut socket, CONTROL, Interest::READABLE)

@@ -137,10 +137,13 @@ pub(crate) fn give_slots(events: &Events, marks: &RoomMarks, ready: &mut Ready) 
     noticed
 }
 
-/// How many milliseconds a wait that begins at the moment lasts at most.
-pub fn longest_wait(now: Moment, until: Option<Moment>, pressed: bool) -> Option<u64>
-    ensures { result ≡ longest_wait now until pressed }
+/// How many milliseconds a wait that begins at the moment lasts at most. It doesn't last where a bell was rung since the last one.
+pub fn longest_wait(now: Moment, until: Option<Moment>, pressed: bool, rung: bool) -> Option<u64>
+    ensures { result ≡ longest_wait now until pressed rung }
 {
+    if rung {
+        return Some(0);
+    }
     let left = until.map(|until| until.saturating_sub(now));
     match left {
         Some(left) if pressed => Some(left.min(100)),

@@ -56,10 +56,22 @@ impl<'a, R: Net + time::Clock> SocketFront<'a, R> {
         self.sockets.control_at()
     }
 
-    #[tactic(auto, using(crate::proofs::EventLemmas::distinct_none))]
-    /// Waits until something comes or until the moment, and gives the slots for which something came. A wait that is interrupted
-    /// is asked again, and fails at last.
+    /// Waits until something comes, until the moment or until a bell rings, and gives the slots for which something came.
     fn wait_until(&mut self, until: Option<Moment>, pressed: bool, ready: &mut Ready) -> bool
+        ensures counters { self.new.counters ≡ self.old.counters }
+        ensures none { result ≡ false → ready.new ≡ [] }
+        ensures few { length ready.new ≤ 256 }
+        ensures once { IsDistinct (λ a b. a == b) ready.new }
+    {
+        let rung = self.sockets.begin_wait();
+        let woke = self.poll(until, pressed, rung, ready);
+        self.sockets.end_wait();
+        woke
+    }
+
+    #[tactic(auto, using(crate::proofs::EventLemmas::distinct_none))]
+    /// The same, where it is known whether a bell was rung. A wait that is interrupted is asked again, and fails at last.
+    fn poll(&mut self, until: Option<Moment>, pressed: bool, rung: bool, ready: &mut Ready) -> bool
         ensures counters { self.new.counters ≡ self.old.counters }
         ensures none { result ≡ false → ready.new ≡ [] }
         ensures few { length ready.new ≤ 256 }
@@ -68,7 +80,10 @@ impl<'a, R: Net + time::Clock> SocketFront<'a, R> {
         for _ in 0..CALLS {
             let last = self.clock.last();
             let now = self.clock.now(last);
-            match self.sockets.wait(longest_wait(now, until, pressed), ready) {
+            match self
+                .sockets
+                .wait(longest_wait(now, until, pressed, rung), ready)
+            {
                 Some(woke) => return woke,
                 None => (),
             }

@@ -35,7 +35,6 @@ impl SocketLink {
     pub(crate) fn watch(&mut self, registry: &Registry, slot: u32) -> bool
         ensures { OnlyFaults (not result) self.old.counters self.new.counters }
     {
-        self.room.watch(slot);
         let watched = match &mut self.socket {
             Some(socket) => registry
                 .register(
@@ -46,6 +45,9 @@ impl SocketLink {
                 .is_ok(),
             None => false,
         };
+        if watched {
+            self.room.watch(slot);
+        }
         self.counters.test(watched);
         watched
     }
@@ -109,5 +111,6 @@ impl Link for SocketLink {
     /// Gives the socket back at once.
     fn close(&mut self) {
         self.socket = None;
+        self.room.leave();
     }
 }

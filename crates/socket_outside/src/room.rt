@@ -42,27 +42,38 @@ impl RoomMarks {
     }
 }
 
-/// The mark of the slot under which a link is watched, where it is.
+/// Whether a link may lack room, which stands in the mark of its slot too while it is watched.
 #[derive(Drop)]
 pub(crate) struct RoomMark {
     marks: Arc<RoomMarks>,
     slot: Option<u32>,
+    lacks: bool,
 }
 
 impl RoomMark {
-    /// Of a link that isn't watched.
+    /// Of a link that isn't watched, and lacks no room.
     pub(crate) fn of(marks: Arc<RoomMarks>) -> RoomMark {
-        RoomMark { marks, slot: None }
+        RoomMark {
+            marks,
+            slot: None,
+            lacks: false,
+        }
     }
 
-    /// The link is watched under that slot from now on, and lacks no room.
+    /// The link is watched under that slot from now on.
     pub(crate) fn watch(&mut self, slot: u32) {
-        self.marks.set(slot, false);
         self.slot = Some(slot);
+        self.marks.set(slot, self.lacks);
+    }
+
+    /// The link isn't watched any more, and its slot may become another one's.
+    pub(crate) fn leave(&mut self) {
+        self.slot = None;
     }
 
     /// The link may lack room from now on, or doesn't.
-    pub(crate) fn set(&self, lacks: bool) {
+    pub(crate) fn set(&mut self, lacks: bool) {
+        self.lacks = lacks;
         if let Some(slot) = self.slot {
             self.marks.set(slot, lacks);
         }

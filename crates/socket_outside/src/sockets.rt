@@ -8,7 +8,7 @@ ghost use Rattle.socket_outside.specs.AskingInside.{asks_again};
 
 use crate::accepting::{NoStream, accept_next};
 use crate::answers::woke_for;
-use crate::bell::SocketBell;
+use crate::bell::{SharedBell, SocketBell};
 use crate::control::ControlPort;
 use crate::events::{BELL, CONTROL, LISTENER, give_slots};
 use crate::link::SocketLink;
@@ -30,7 +30,7 @@ const MOST_EVENTS: usize = 256;
 pub(crate) struct Sockets {
     // What waits, from the first bind or bell on.
     poll: Option<Poll>,
-    waker: Option<Arc<Waker>>,
+    bell: Option<Arc<SharedBell>>,
     events: Events,
     listener: Option<TcpListener>,
     // The system is asked for a connection only while this mark stands.
@@ -59,7 +59,7 @@ impl Sockets {
         };
         Ok(Sockets {
             poll: None,
-            waker: None,
+            bell: None,
             events,
             listener: None,
             asks: false,
@@ -116,18 +116,18 @@ impl Sockets {
     /// The bell that brings a wait back. NoMemory where the system has none to give.
     pub(crate) fn bell<R: Net>(&mut self, net: &R, alloc: Global) -> Result<SocketBell, NoMemory> {
         self.hang_bell(net, alloc)?;
-        let Some(waker) = &self.waker else {
+        let Some(bell) = &self.bell else {
             return Err(NoMemory);
         };
-        match Arc::try_clone(waker) {
-            Ok(waker) => Ok(SocketBell::of(waker)),
+        match Arc::try_clone(bell) {
+            Ok(bell) => Ok(SocketBell::of(bell)),
             Err(_) => Err(NoMemory),
         }
     }
 
     /// Has a bell bring waits back from now on, where none did yet.
     fn hang_bell<R: Net>(&mut self, net: &R, alloc: Global) -> Result<(), NoMemory> {
-        if self.waker.is_some() {
+        if self.bell.is_some() {
             return Ok(());
         }
         self.begin(net);
@@ -137,11 +137,26 @@ impl Sockets {
         let Ok(waker) = Waker::new(poll.registry(), BELL) else {
             return Err(NoMemory);
         };
-        let Ok(waker) = Arc::new(alloc, waker) else {
+        let Ok(bell) = Arc::new(alloc, SharedBell::of(waker)) else {
             return Err(NoMemory);
         };
-        self.waker = Some(waker);
+        self.bell = Some(bell);
         Ok(())
+    }
+
+    /// A wait begins. Whether a bell was rung since the last one.
+    pub(crate) fn begin_wait(&self) -> bool {
+        match &self.bell {
+            Some(bell) => bell.begin_wait(),
+            None => false,
+        }
+    }
+
+    /// The wait ends.
+    pub(crate) fn end_wait(&self) {
+        if let Some(bell) = &self.bell {
+            bell.end_wait();
+        }
     }
 
     /// Gives up the listening socket.
@@ -150,7 +165,7 @@ impl Sockets {
         self.asks = false;
     }
 
-    /// Whether a control connection may wait that the system is to be asked for again.
+    /// Whether a control connection may wait that the last wait didn't take.
     pub(crate) fn asks_control(&self) -> bool {
         self.control.asks()
     }

@@ -8,7 +8,9 @@
 //! bytes that a connection receives and is sent is a fact of its type (`conn_state`).
 #![tactic(auto)]
 
+mod hands;
 pub mod laws;
 mod service;
 
+pub use hands::Hands;
 pub use service::{Exit, close, give_up, let_linger, park, serve};

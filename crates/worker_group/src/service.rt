@@ -18,10 +18,12 @@ ghost use Rattle.worker_group.specs.InHandInside.{IsServed, sends_left};
 ghost use Rattle.worker_group.specs.Service.{EndsOut, ExitsAfter, HasServed, HasTurned, IsGivenUp, IsLastEnded, IsLeftBy, IsLetLinger, IsThere, IsWayOut, LeavesRest, RefusalLasts, answer_events, give_up_events, left_events};
 ghost use Rattle.worker_group.specs.ServiceInside.{MayLeave};
 
+use crate::hands::Hands;
 use board::{Board, BoardFault};
 use conn_machine::Why;
 use conn_state::{Conn, Known, ReadTurn, WriteTurn};
-use mpm_base::{Ask, Cause, ConnName, Kind, Link, NoMemory, Tail};
+use mpm_base::{Ask, Bell, Cause, ConnName, Gate, Kind, Link, NoMemory, Tail};
+use std::sync::Wait;
 
 /// How a worker leaves a connection.
 #[derive(Clone, Copy, Debug, PartialEq, Eq)]
@@ -36,8 +38,11 @@ pub enum Exit {
     GiveUp(BoardFault),
 }
 
-/// Serves a signalled connection, as the pass `who`. Where its queueing is refused nothing changes.
-pub fn serve<L: Link, N: Known>(
+/// Serves a signalled connection, as the pass `who`: it passes the gate once it has its cell, and rings the bell when it was left.
+/// Where its queueing is refused nothing changes.
+pub fn serve<R: Wait, L: Link, N: Known, B: Bell, G: Gate>(
+    rt: &R,
+    hands: &Hands<'_, B, G>,
     board: &mut Board<L, N>,
     who: u32,
     name: ConnName,
@@ -51,9 +56,11 @@ pub fn serve<L: Link, N: Known>(
 {
     let mut conn = board.queue(who, name)?;
     let _ = board.start(who, name);
+    hands.gate.enter(rt, name);
     let exit = converse(board, who, &mut conn);
     board.show();
     leave(board, who, conn, exit);
+    hands.bell.ring();
     Ok(())
 }
 

@@ -1,37 +1,24 @@
-use Rattle.std.proofs.Common.{Err, inr, refl, subst}
-use Rattle.mpm_run.specs.Configured.{most_config}
-use Rattle.mpm_run.specs.ConfiguredInside.{IsConfigFrom}
-use Rattle.mpm_run.specs.declared.config_reading.NoConfig.{NoConfig}
-use Rattle.mpm_run.proofs.CauseLemmas.{unread-failed, unread-missing}
-use Rattle.mpm_run.proofs.ConfigLemmas.{ends-test-refused, ends-test-unwritten, ends-tested, from-failed, from-missing}
+use Rattle.mpm_run.proofs.ConfigLemmas.{config-refused, config-unread, ends-test-unwritten, ends-tested}
+use Rattle.mpm_run.proofs.InvocationLemmas.{test-config}
+use Rattle.std.proofs.Common.{inl, inr}
 use Rattle.mpm_run.proofs.config_test.test_config.Goals as goal
 
 pub returns-in-Ok-clause-tested : goal.returns-in-Ok-clause-tested
-returns-in-Ok-clause-tested g c zero =
-    ends-tested _ c.args.name.now c.read-answer.result (c.in-Ok.field-0-0, c.in-Ok.told) refl c.read-answer.ensures c.in-Ok.ensures c.pass.ensures.shown
+returns-in-Ok-clause-tested g c words command zero =
+    ends-tested _ c.args.name.now c.read-answer.result (c.in-Ok.field-0-0, c.in-Ok.told) command c.read-answer.ensures c.in-Ok.ensures c.pass.ensures.shown
     (c.pass.ensures.written zero)
 
 pub returns-in-Ok-clause-unwritten : goal.returns-in-Ok-clause-unwritten
-returns-in-Ok-clause-unwritten g c five =
-    ends-test-unwritten _ c.args.name.now c.read-answer.result (c.in-Ok.field-0-0, c.in-Ok.told) refl c.read-answer.ensures c.in-Ok.ensures
+returns-in-Ok-clause-unwritten g c words command five =
+    ends-test-unwritten _ c.args.name.now c.read-answer.result (c.in-Ok.field-0-0, c.in-Ok.told) command c.read-answer.ensures c.in-Ok.ensures
     c.pass.ensures.shown (c.pass.ensures.failed five)
 
-pub returns-in-Err-Missing-clause-unread : goal.returns-in-Err-Missing-clause-unread
-returns-in-Err-Missing-clause-unread g c three =
-    unread-missing _ most_config c.args.name.now c.read-answer.result (inr refl) c.read-answer.ensures
-    (from-missing c.read-answer.result
-    (subst (λ (why : NoConfig). IsConfigFrom c.read-answer.result (Err why)) c.in-Err-Missing.field-0-is c.in-Err-Missing.ensures))
-    (c.refuse_unread.ensures.refused three)
+pub returns-clause-refused : goal.returns-clause-refused
+returns-clause-refused g c words command one =
+    config-refused _ c.args.name.now c.read-answer.result c.in-Err.why c.refuse_config_of.result.status (test-config words c.args.name.now command)
+    c.read-answer.ensures c.in-Err.ensures (c.refuse_config_of.ensures.refused (inl one)) one
 
-pub returns-in-Err-Failed-clause-unread : goal.returns-in-Err-Failed-clause-unread
-returns-in-Err-Failed-clause-unread g c three =
-    unread-failed _ most_config c.args.name.now c.read-answer.result (inr refl) c.read-answer.ensures
-    (from-failed c.read-answer.result
-    (subst (λ (why : NoConfig). IsConfigFrom c.read-answer.result (Err why)) c.in-Err-Failed.field-0-is c.in-Err-Failed.ensures))
-    (c.refuse_unread-in-Err-Failed.ensures.refused three)
-
-pub returns-in-Err-Refused-clause-refused : goal.returns-in-Err-Refused-clause-refused
-returns-in-Err-Refused-clause-refused g c one =
-    ends-test-refused _ c.args.name.now c.read-answer.result c.in-Err-Refused.why c.in-Err-Refused.number refl c.read-answer.ensures
-    (subst (λ (why : NoConfig). IsConfigFrom c.read-answer.result (Err why)) c.in-Err-Refused.field-0-is c.in-Err-Refused.ensures)
-    (c.refuse_config.ensures.refused one)
+pub returns-clause-unread : goal.returns-clause-unread
+returns-clause-unread g c words command three =
+    config-unread _ c.args.name.now c.read-answer.result c.in-Err.why c.refuse_config_of.result.status (test-config words c.args.name.now command)
+    c.read-answer.ensures c.in-Err.ensures (c.refuse_config_of.ensures.refused (inr three)) three

@@ -4,7 +4,7 @@ use Rattle.mpm_run.proofs.script_run.play_script.Goals as goal
 
 pub returns-in-Ok-script_config-clause-kept : goal.returns-in-Ok-script_config-clause-kept
 returns-in-Ok-script_config-clause-kept g c =
-    is-played c.play_site.result.scripted c.args.script c.in-Ok-script_config.config c.in-Ok-script_config.told c.in-Ok-script_config.ensures.config
+    is-played c.play_site.result.left c.args.script c.in-Ok-script_config.config c.in-Ok-script_config.told c.in-Ok-script_config.ensures.config
     c.play_site.ensures.kept
 
 pub returns-in-Ok-script_config-clause-site_refused : goal.returns-in-Ok-script_config-clause-site_refused

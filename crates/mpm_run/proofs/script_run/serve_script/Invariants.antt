@@ -6,7 +6,7 @@ abbrev pub ghosts-run_server : goal.ghosts-run_server
 ghosts-run_server g a = record {
   known =
       Some (record {
-        clients = a.front.told.clients;
+        clients = Some a.front.now.told.clients;
         editions = Some (record { limits = a.edition.limits; site = a.edition.site.value }) ∷ [];
       });
 }

@@ -1,84 +1,103 @@
-use Rattle.std.proofs.Common.{ℕ, List, IfSome, inl, inr, sym, subst}
+use Rattle.std.proofs.Common.{◌≡◌, ℕ, List, IfSome, inl, inr, refl, sym, subst}
 use Rattle.std.proofs.lemmas.Option.{IfSome_then}
-use Rattle.mpm_run.specs.ExitStatuses.{EndsConfigRefused, EndsRefused, EndsSiteRefused, EndsTestUnwritten, EndsTested, EndsUnread, HasPlayed, seen_call}
-use Rattle.mpm_run.specs.InvocationsInside.{IsInvocation}
-use Rattle.mpm_run.specs.declared.invocation.Invocation.{Invocation}
+use Rattle.conn_machine.specs.declared.event.Why.TheVariants as why
+use Rattle.conn_machine.specs.declared.state.Going.TheVariants.{Halted}
+use Rattle.mpm_script.specs.Load.{load_lines}
+use Rattle.command_words.specs.Invocations.{IsLoadWords}
+use Rattle.command_words.specs.InvocationsInside.{IsInvocation}
+use Rattle.command_words.specs.declared.invocation.Invocation.{Invocation}
+use Rattle.mpm_run.specs.Calls.{seen_call}
+use Rattle.mpm_run.specs.ExitStatuses.{EndsConfigRefused, EndsFilled, EndsSiteRefused, HasEnd, HasPlayed, KeepsTime, LacksOutput, Succeeds}
+use Rattle.mpm_run.specs.FirstNumbers as opening
+use Rattle.mpm_run.specs.Started.{IsStartedFirst}
+use Rattle.mpm_run.specs.declared.outcome.Outcome.{Outcome}
+use Rattle.mpm_run.proofs.CauseLemmas.{makes-load, misconfigured, played, unsited}
+use Rattle.mpm_run.proofs.EndLemmas.{left-some}
 use Rattle.mpm_run.proofs.top_call.run.Goals as goal
 
-pub returns-in-Some-Script-clause-kept : goal.returns-in-Some-Script-clause-kept
-returns-in-Some-Script-clause-kept g c =
-    subst (λ (w : List (List ℕ)). IfSome c.run_script.result.scripted (λ s. HasPlayed (seen_call w (g.D.Store.seen c.args.store.now) (g.D.Store.seen c.run_script.new.store) (g.K.Sink.seen c.args.out.now) (g.K.Sink.seen c.run_script.new.out) c.run_script.result.shown) s.config s.board s.front))
-    (sym (subst (λ (i : Invocation). IsInvocation i c.args.words.now) c.in-Some-Script.field-0-is c.in-Some-Script.ensures.some)) c.run_script.ensures.kept
+pub returns-in-Ok-Script-clause-started : goal.returns-in-Ok-Script-clause-started
+returns-in-Ok-Script-clause-started g c =
+    subst (λ (o : Outcome _). IfSome o.scripted (λ s. IsStartedFirst (opening.numbers_of s.config) s.board.book s.front.told))
+    (sym c.scripted_outcome.ensures)
+    (IfSome_then c.run_script.result.left c.run_script.ensures.left (λ s left. left.started))
 
-pub returns-in-Some-Script-clause-misconfigured : goal.returns-in-Some-Script-clause-misconfigured
-returns-in-Some-Script-clause-misconfigured g c one =
-    subst (λ (w : List (List ℕ)). EndsConfigRefused (seen_call w (g.D.Store.seen c.args.store.now) (g.D.Store.seen c.run_script.new.store) (g.K.Sink.seen c.args.out.now) (g.K.Sink.seen c.run_script.new.out) c.run_script.result.shown))
-    (sym (subst (λ (i : Invocation). IsInvocation i c.args.words.now) c.in-Some-Script.field-0-is c.in-Some-Script.ensures.some)) (c.run_script.ensures.misconfigured one)
+pub returns-in-Ok-Script-clause-time : goal.returns-in-Ok-Script-clause-time
+returns-in-Ok-Script-clause-time g c =
+    subst (λ (o : Outcome _). IfSome o.scripted (λ s. KeepsTime s.board s.front s.clock))
+    (sym c.scripted_outcome.ensures)
+    (IfSome_then c.run_script.result.left c.run_script.ensures.left (λ s left. left.time))
 
-pub returns-in-Some-Script-clause-unread : goal.returns-in-Some-Script-clause-unread
-returns-in-Some-Script-clause-unread g c three =
-    subst (λ (w : List (List ℕ)). EndsUnread (seen_call w (g.D.Store.seen c.args.store.now) (g.D.Store.seen c.run_script.new.store) (g.K.Sink.seen c.args.out.now) (g.K.Sink.seen c.run_script.new.out) c.run_script.result.shown))
-    (sym (subst (λ (i : Invocation). IsInvocation i c.args.words.now) c.in-Some-Script.field-0-is c.in-Some-Script.ensures.some)) (c.run_script.ensures.unread three)
+pub returns-in-Ok-Script-clause-ended : goal.returns-in-Ok-Script-clause-ended
+returns-in-Ok-Script-clause-ended g c =
+    subst (λ (o : Outcome _). IfSome o.scripted (λ s. s.board.book.state.going ≡ Halted why.FrontEnded → HasEnd s.board s.front))
+    (sym c.scripted_outcome.ensures)
+    (IfSome_then c.run_script.result.left c.run_script.ensures.left (λ s left. left.ended))
 
-pub returns-in-Some-Script-clause-refused : goal.returns-in-Some-Script-clause-refused
-returns-in-Some-Script-clause-refused g c eight =
-    subst (λ (w : List (List ℕ)). EndsRefused (seen_call w (g.D.Store.seen c.args.store.now) (g.D.Store.seen c.run_script.new.store) (g.K.Sink.seen c.args.out.now) (g.K.Sink.seen c.run_script.new.out) c.run_script.result.shown))
-    (sym (subst (λ (i : Invocation). IsInvocation i c.args.words.now) c.in-Some-Script.field-0-is c.in-Some-Script.ensures.some)) (c.run_script.ensures.refused eight)
+pub returns-in-Ok-Script-clause-served : goal.returns-in-Ok-Script-clause-served
+returns-in-Ok-Script-clause-served g c =
+    subst (λ (o : Outcome _). o.status ≡ 0 → Succeeds (seen_call c.args.words.now (g.D.Store.seen c.args.store.now) (g.D.Store.seen c.run_script.new.store) (g.K.Sink.seen c.args.out.now) (g.K.Sink.seen c.run_script.new.out) o.shown) (g.F.Front.seen c.args.front.now) (g.F.Front.seen c.args.front.now) o.scripted o.board)
+    (sym c.scripted_outcome.ensures)
+    (λ zero. inl (left-some c.run_script.result.left (c.run_script.ensures.opened (inl zero)) c.run_script.ensures.ends (λ s ends. ends.well zero)))
 
-pub returns-in-Some-Script-clause-site_refused : goal.returns-in-Some-Script-clause-site_refused
-returns-in-Some-Script-clause-site_refused g c nine =
-    subst (λ (w : List (List ℕ)). EndsSiteRefused (seen_call w (g.D.Store.seen c.args.store.now) (g.D.Store.seen c.run_script.new.store) (g.K.Sink.seen c.args.out.now) (g.K.Sink.seen c.run_script.new.out) c.run_script.result.shown))
-    (sym (subst (λ (i : Invocation). IsInvocation i c.args.words.now) c.in-Some-Script.field-0-is c.in-Some-Script.ensures.some)) (c.run_script.ensures.site_refused nine)
+pub returns-in-Ok-Script-clause-unwritten : goal.returns-in-Ok-Script-clause-unwritten
+returns-in-Ok-Script-clause-unwritten g c =
+    subst (λ (o : Outcome _). o.status ≡ 5 → LacksOutput (seen_call c.args.words.now (g.D.Store.seen c.args.store.now) (g.D.Store.seen c.run_script.new.store) (g.K.Sink.seen c.args.out.now) (g.K.Sink.seen c.run_script.new.out) o.shown) o.scripted o.board)
+    (sym c.scripted_outcome.ensures)
+    (λ five. inl (left-some c.run_script.result.left (c.run_script.ensures.opened (inr (inl five))) c.run_script.ensures.ends (λ s ends. ends.unwritten five)))
 
-pub returns-in-Some-Script-clause-unfolded : goal.returns-in-Some-Script-clause-unfolded
-returns-in-Some-Script-clause-unfolded g c = IfSome_then c.run_script.result.scripted c.run_script.ensures.left (λ s left. left.unfolded)
+pub returns-in-Ok-Load-clause-kept : goal.returns-in-Ok-Load-clause-kept
+returns-in-Ok-Load-clause-kept g c =
+    let command : IsLoadWords c.args.words.now c.in-Ok-Load.count = subst (λ (i : Invocation). IsInvocation c.args.words.now i) c.in-Ok-Load.field-0-is c.in-Ok-Load.ensures.form in
+    subst (λ (o : Outcome _). IfSome o.scripted (λ s. HasPlayed (seen_call c.args.words.now (g.D.Store.seen c.args.store.now) (g.D.Store.seen c.args.store.now) (g.K.Sink.seen c.args.out.now) (g.K.Sink.seen c.run_load.new.out) o.shown) s.config s.board s.front))
+    (sym c.scripted_outcome-in-Ok-Load.ensures)
+    (played c.run_load.result.left _ (load_lines c.in-Ok-Load.count) (makes-load _ c.in-Ok-Load.count command refl) c.run_load.ensures.shown c.run_load.ensures.kept)
 
-pub returns-in-Some-Script-clause-site : goal.returns-in-Some-Script-clause-site
-returns-in-Some-Script-clause-site g c = IfSome_then c.run_script.result.scripted c.run_script.ensures.left (λ s left. left.site)
+pub returns-in-Ok-Load-clause-started : goal.returns-in-Ok-Load-clause-started
+returns-in-Ok-Load-clause-started g c =
+    subst (λ (o : Outcome _). IfSome o.scripted (λ s. IsStartedFirst (opening.numbers_of s.config) s.board.book s.front.told))
+    (sym c.scripted_outcome-in-Ok-Load.ensures)
+    (IfSome_then c.run_load.result.left c.run_load.ensures.left (λ s left. left.started))
 
-pub returns-in-Some-Script-clause-front : goal.returns-in-Some-Script-clause-front
-returns-in-Some-Script-clause-front g c = IfSome_then c.run_script.result.scripted c.run_script.ensures.left (λ s left. left.front)
+pub returns-in-Ok-Load-clause-time : goal.returns-in-Ok-Load-clause-time
+returns-in-Ok-Load-clause-time g c =
+    subst (λ (o : Outcome _). IfSome o.scripted (λ s. KeepsTime s.board s.front s.clock))
+    (sym c.scripted_outcome-in-Ok-Load.ensures)
+    (IfSome_then c.run_load.result.left c.run_load.ensures.left (λ s left. left.time))
 
-pub returns-in-Some-Script-clause-started : goal.returns-in-Some-Script-clause-started
-returns-in-Some-Script-clause-started g c = IfSome_then c.run_script.result.scripted c.run_script.ensures.left (λ s left. left.started)
+pub returns-in-Ok-Load-clause-ended : goal.returns-in-Ok-Load-clause-ended
+returns-in-Ok-Load-clause-ended g c =
+    subst (λ (o : Outcome _). IfSome o.scripted (λ s. s.board.book.state.going ≡ Halted why.FrontEnded → HasEnd s.board s.front))
+    (sym c.scripted_outcome-in-Ok-Load.ensures)
+    (IfSome_then c.run_load.result.left c.run_load.ensures.left (λ s left. left.ended))
 
-pub returns-in-Some-Script-clause-watched : goal.returns-in-Some-Script-clause-watched
-returns-in-Some-Script-clause-watched g c = IfSome_then c.run_script.result.scripted c.run_script.ensures.left (λ s left. left.watched)
+pub returns-in-Ok-Load-clause-served : goal.returns-in-Ok-Load-clause-served
+returns-in-Ok-Load-clause-served g c =
+    subst (λ (o : Outcome _). o.status ≡ 0 → Succeeds (seen_call c.args.words.now (g.D.Store.seen c.args.store.now) (g.D.Store.seen c.args.store.now) (g.K.Sink.seen c.args.out.now) (g.K.Sink.seen c.run_load.new.out) o.shown) (g.F.Front.seen c.args.front.now) (g.F.Front.seen c.args.front.now) o.scripted o.board)
+    (sym c.scripted_outcome-in-Ok-Load.ensures)
+    (λ zero. inl (left-some c.run_load.result.left (c.run_load.ensures.opened (inl zero)) c.run_load.ensures.ends (λ s ends. ends.well zero)))
 
-pub returns-in-Some-Script-clause-links : goal.returns-in-Some-Script-clause-links
-returns-in-Some-Script-clause-links g c = IfSome_then c.run_script.result.scripted c.run_script.ensures.left (λ s left. left.links)
+pub returns-in-Ok-Load-clause-unwritten : goal.returns-in-Ok-Load-clause-unwritten
+returns-in-Ok-Load-clause-unwritten g c =
+    subst (λ (o : Outcome _). o.status ≡ 5 → LacksOutput (seen_call c.args.words.now (g.D.Store.seen c.args.store.now) (g.D.Store.seen c.args.store.now) (g.K.Sink.seen c.args.out.now) (g.K.Sink.seen c.run_load.new.out) o.shown) o.scripted o.board)
+    (sym c.scripted_outcome-in-Ok-Load.ensures)
+    (λ five. inl (left-some c.run_load.result.left (c.run_load.ensures.opened (inr (inl five))) c.run_load.ensures.ends (λ s ends. ends.unwritten five)))
 
-pub returns-in-Some-Script-clause-time : goal.returns-in-Some-Script-clause-time
-returns-in-Some-Script-clause-time g c = IfSome_then c.run_script.result.scripted c.run_script.ensures.left (λ s left. left.time)
+pub returns-in-Ok-Load-clause-full : goal.returns-in-Ok-Load-clause-full
+returns-in-Ok-Load-clause-full g c =
+    subst (λ (o : Outcome _). o.status ≡ 7 → EndsFilled (seen_call c.args.words.now (g.D.Store.seen c.args.store.now) (g.D.Store.seen c.args.store.now) (g.K.Sink.seen c.args.out.now) (g.K.Sink.seen c.run_load.new.out) o.shown) o.scripted o.board)
+    (sym c.scripted_outcome-in-Ok-Load.ensures)
+    (λ seven. inl (left-some c.run_load.result.left (c.run_load.ensures.opened (inr (inr seven))) c.run_load.ensures.ends (λ s ends. ends.full seven)))
 
-pub returns-in-Some-Script-clause-patient : goal.returns-in-Some-Script-clause-patient
-returns-in-Some-Script-clause-patient g c = IfSome_then c.run_script.result.scripted c.run_script.ensures.left (λ s left. left.patient)
+pub returns-in-Ok-Load-clause-misconfigured : goal.returns-in-Ok-Load-clause-misconfigured
+returns-in-Ok-Load-clause-misconfigured g c =
+    let command : IsLoadWords c.args.words.now c.in-Ok-Load.count = subst (λ (i : Invocation). IsInvocation c.args.words.now i) c.in-Ok-Load.field-0-is c.in-Ok-Load.ensures.form in
+    subst (λ (o : Outcome _). o.status ≡ 1 → EndsConfigRefused (seen_call c.args.words.now (g.D.Store.seen c.args.store.now) (g.D.Store.seen c.args.store.now) (g.K.Sink.seen c.args.out.now) (g.K.Sink.seen c.run_load.new.out) o.shown))
+    (sym c.scripted_outcome-in-Ok-Load.ensures)
+    (λ one. misconfigured _ (load_lines c.in-Ok-Load.count) (makes-load _ c.in-Ok-Load.count command refl) (c.run_load.ensures.misconfigured one))
 
-pub returns-in-Some-Script-clause-ended : goal.returns-in-Some-Script-clause-ended
-returns-in-Some-Script-clause-ended g c = IfSome_then c.run_script.result.scripted c.run_script.ensures.left (λ s left. left.ended)
-
-pub returns-in-Some-Test-clause-misconfigured : goal.returns-in-Some-Test-clause-misconfigured
-returns-in-Some-Test-clause-misconfigured g c one =
-    subst (λ (w : List (List ℕ)). EndsConfigRefused (seen_call w (g.D.Store.seen c.args.store.now) (g.D.Store.seen c.test_config.new.store) (g.K.Sink.seen c.args.out.now) (g.K.Sink.seen c.test_config.new.out) c.test_config.result.shown))
-    (sym (subst (λ (i : Invocation). IsInvocation i c.args.words.now) c.in-Some-Test.field-0-is c.in-Some-Test.ensures.some)) (c.test_config.ensures.refused one)
-
-pub returns-in-Some-Test-clause-unread : goal.returns-in-Some-Test-clause-unread
-returns-in-Some-Test-clause-unread g c three =
-    subst (λ (w : List (List ℕ)). EndsUnread (seen_call w (g.D.Store.seen c.args.store.now) (g.D.Store.seen c.test_config.new.store) (g.K.Sink.seen c.args.out.now) (g.K.Sink.seen c.test_config.new.out) c.test_config.result.shown))
-    (sym (subst (λ (i : Invocation). IsInvocation i c.args.words.now) c.in-Some-Test.field-0-is c.in-Some-Test.ensures.some)) (c.test_config.ensures.unread three)
-
-pub returns-in-Some-Test-clause-served : goal.returns-in-Some-Test-clause-served
-returns-in-Some-Test-clause-served g c zero =
-    inr (subst (λ (w : List (List ℕ)). EndsTested (seen_call w (g.D.Store.seen c.args.store.now) (g.D.Store.seen c.test_config.new.store) (g.K.Sink.seen c.args.out.now) (g.K.Sink.seen c.test_config.new.out) c.test_config.result.shown))
-    (sym (subst (λ (i : Invocation). IsInvocation i c.args.words.now) c.in-Some-Test.field-0-is c.in-Some-Test.ensures.some)) (c.test_config.ensures.tested zero))
-
-pub returns-in-Some-Test-clause-unwritten : goal.returns-in-Some-Test-clause-unwritten
-returns-in-Some-Test-clause-unwritten g c five =
-    inr (subst (λ (w : List (List ℕ)). EndsTestUnwritten (seen_call w (g.D.Store.seen c.args.store.now) (g.D.Store.seen c.test_config.new.store) (g.K.Sink.seen c.args.out.now) (g.K.Sink.seen c.test_config.new.out) c.test_config.result.shown))
-    (sym (subst (λ (i : Invocation). IsInvocation i c.args.words.now) c.in-Some-Test.field-0-is c.in-Some-Test.ensures.some)) (c.test_config.ensures.unwritten five))
-
-pub returns-in-Some-Script-clause-served : goal.returns-in-Some-Script-clause-served
-returns-in-Some-Script-clause-served g c zero = inl (c.run_script.ensures.served zero)
-
-pub returns-in-Some-Script-clause-unwritten : goal.returns-in-Some-Script-clause-unwritten
-returns-in-Some-Script-clause-unwritten g c five = inl (c.run_script.ensures.unwritten five)
+pub returns-in-Ok-Load-clause-site_refused : goal.returns-in-Ok-Load-clause-site_refused
+returns-in-Ok-Load-clause-site_refused g c =
+    let command : IsLoadWords c.args.words.now c.in-Ok-Load.count = subst (λ (i : Invocation). IsInvocation c.args.words.now i) c.in-Ok-Load.field-0-is c.in-Ok-Load.ensures.form in
+    subst (λ (o : Outcome _). o.status ≡ 9 → EndsSiteRefused (seen_call c.args.words.now (g.D.Store.seen c.args.store.now) (g.D.Store.seen c.args.store.now) (g.K.Sink.seen c.args.out.now) (g.K.Sink.seen c.run_load.new.out) o.shown))
+    (sym c.scripted_outcome-in-Ok-Load.ensures)
+    (λ nine. unsited _ (load_lines c.in-Ok-Load.count) (makes-load _ c.in-Ok-Load.count command refl) (c.run_load.ensures.site_refused nine))

@@ -5,7 +5,8 @@ use Rattle.mpm_run.specs.ListenInside.{HaltsAs}
 use Rattle.mpm_run.specs.Times.{WasInformed}
 use Rattle.mpm_run.proofs.AskedLemmas.{asked-silent, startless-gone, startless-halts, startless-retires}
 use Rattle.mpm_run.proofs.ChildrenLemmas.{begins-down}
-use Rattle.mpm_run.proofs.FrontLemmas.{follows-hushed, follows-trans, waits-hushed}
+use Rattle.mpm_run.proofs.CommandLemmas.{heeds-hushed}
+use Rattle.mpm_run.proofs.FrontLemmas.{bound-hushed, follows-hushed, follows-trans, is-hushed, waits-hushed}
 use Rattle.mpm_run.proofs.PaceLemmas.{patience-down}
 use Rattle.mpm_run.proofs.StopLemmas.{free-halted, has-halted, has-stopped, must-halt, was-informed}
 use Rattle.mpm_run.proofs.TurnLemmas.{few-acts}
@@ -15,33 +16,33 @@ use Rattle.mpm_run.proofs.listen.Listener.listen.Goals as goal
 
 pub halt-requires-clause-must : goal.halt-requires-clause-must
 halt-requires-clause-must g c =
-    let ends = rw (← c.self.view_is) at c.take_turns-turns.ensures.ends in
-    must-halt c.take_turns-turns.result c.args.self.now.front (g.F.Front.seen c.self.inside.front) c.self.inside.board.book ends
+    let ends = c.take_turns-turns.ensures.ends in
+    must-halt c.take_turns-turns.result (g.F.Front.seen c.args.front.now) (g.F.Front.seen c.take_turns-turns.new.front) c.take_turns-turns.new.self.board.book ends
 
 pub returns-clause-stopped : goal.returns-clause-stopped
 returns-clause-stopped g c =
-    let free = rw (← c.self.view_is) at c.take_turns-turns.ensures.free in
-    let ends = rw (← c.self.view_is) at c.take_turns-turns.ensures.ends in
+    let free = c.take_turns-turns.ensures.free in
+    let ends = c.take_turns-turns.ensures.ends in
     let turns = c.take_turns-turns.result in
-    let halted = free-halted c.passes_act_in_steps.ensures.acts turns c.self.inside.board.book c.halt.new.board.book free c.halt.ensures.acts in
-    has-stopped turns c.args.self.now.front _ (g.F.Front.seen c.hush.new.self) c.self.inside.board.book c.retire_all.new.board.book.state ends
+    let halted = free-halted c.passes_act_in_steps.ensures.acts turns c.take_turns-turns.new.self.board.book c.halt.new.board.book free c.halt.ensures.acts in
+    has-stopped turns (g.F.Front.seen c.args.front.now) _ (g.F.Front.seen c.hush.new.self) c.take_turns-turns.new.self.board.book c.retire_all.new.board.book.state ends
     (subst (HaltsAs turns) (sym (c.retire_all.ensures.going ∙ c.close_all.ensures.going)) c.halt.ensures.stopped)
     (c.retire_all.ensures.rest.accepted ∙ c.close_all.ensures.rest.accepted ∙ c.halt.ensures.taken) c.hush.ensures
     (c.retire_all.ensures.down (has-halted turns _ (subst (HaltsAs turns) (sym c.close_all.ensures.going) c.halt.ensures.stopped)) (c.close_all.ensures.live halted))
 
 pub returns-clause-follows : goal.returns-clause-follows
 returns-clause-follows g c =
-    let follows = rw (← c.self.view_is) at c.take_turns-turns.ensures.follows in
+    let follows = c.take_turns-turns.ensures.follows in
     follows-trans _ _ _ follows (follows-hushed _ _ c.hush.ensures)
 
 pub returns-clause-informed : goal.returns-clause-informed
 returns-clause-informed g c =
-    let free = rw (← c.self.view_is) at c.take_turns-turns.ensures.free in
-    let informed = rw (← c.self.view_is) at c.take_turns-turns.ensures.informed in
-    let begun = rw (← c.self.view_is) at c.take_turns-turns.ensures.begun in
+    let free = c.take_turns-turns.ensures.free in
+    let informed = c.take_turns-turns.ensures.informed in
+    let begun = c.take_turns-turns.ensures.begun in
     let turns = c.take_turns-turns.result in
-    subst (λ (o : Option (List WaitTold)). WasInformed o (g.C.Clock.told c.self.inside.clock) c.retire_all.new.board.book) (sym (waits-hushed _ _ c.hush.ensures))
-    (was-informed c.passes_act_in_steps.ensures.acts turns _ _ c.self.inside.board.book c.halt.new.board.book c.close_all.new.board.book c.retire_all.new.board.book
+    subst (λ (o : Option (List WaitTold)). WasInformed o (g.C.Clock.told c.take_turns-turns.new.clock) c.retire_all.new.board.book) (sym (waits-hushed _ _ c.hush.ensures))
+    (was-informed c.passes_act_in_steps.ensures.acts turns _ _ c.take_turns-turns.new.self.board.book c.halt.new.board.book c.close_all.new.board.book c.retire_all.new.board.book
     (record {
       free = free;
       halts = c.halt.ensures.acts;
@@ -54,55 +55,70 @@ returns-clause-informed g c =
     (subst (HaltsAs turns) (sym (c.retire_all.ensures.going ∙ c.close_all.ensures.going)) c.halt.ensures.stopped) informed begun)
 
 pub returns-clause-watched : goal.returns-clause-watched
-returns-clause-watched g c began tells =
-    let watched = rw (← c.self.view_is) at c.take_turns-turns.ensures.watched in
-    watched-hushed (g.F.Front.seen c.self.inside.front).told (g.F.Front.seen c.hush.new.self).told c.retire_all.new.board.book
+returns-clause-watched g c began =
+    let watched = c.take_turns-turns.ensures.watched in
+    watched-hushed (g.F.Front.seen c.take_turns-turns.new.front).told (g.F.Front.seen c.hush.new.self).told c.retire_all.new.board.book
     (ap (λ (f : FrontSeen). f.told) c.hush.ensures)
-    (watched-as (g.F.Front.seen c.self.inside.front).told c.self.inside.board.book c.retire_all.new.board.book
-    (nobody-down c.take_turns-turns.result c.self.inside.board.book c.halt.new.board.book c.close_all.new.board.book c.retire_all.new.board.book c.halt.ensures.acts
+    (watched-as (g.F.Front.seen c.take_turns-turns.new.front).told c.take_turns-turns.new.self.board.book c.retire_all.new.board.book
+    (nobody-down c.take_turns-turns.result c.take_turns-turns.new.self.board.book c.halt.new.board.book c.close_all.new.board.book c.retire_all.new.board.book c.halt.ensures.acts
     c.close_all.ensures.gone c.retire_all.ensures.retires)
-    (c.retire_all.ensures.rest.accepted ∙ c.close_all.ensures.rest.accepted ∙ c.halt.ensures.taken) (watched began tells))
+    (c.retire_all.ensures.rest.accepted ∙ c.close_all.ensures.rest.accepted ∙ c.halt.ensures.taken) (watched began))
 
 pub returns-clause-patient : goal.returns-clause-patient
 returns-clause-patient g c start =
-    let patient = rw (← c.self.view_is) at c.take_turns-turns.ensures.patient in
-    patience-down c.take_turns-turns.result (g.F.Front.seen c.self.inside.front) (g.F.Front.seen c.hush.new.self) (g.C.Clock.told c.self.inside.clock)
-    c.self.inside.board.book c.halt.new.board.book c.close_all.new.board.book c.retire_all.new.board.book c.halt.ensures.acts c.close_all.ensures.gone
+    let patient = c.take_turns-turns.ensures.patient in
+    patience-down c.take_turns-turns.result (g.F.Front.seen c.take_turns-turns.new.front) (g.F.Front.seen c.hush.new.self) (g.C.Clock.told c.take_turns-turns.new.clock)
+    c.take_turns-turns.new.self.board.book c.halt.new.board.book c.close_all.new.board.book c.retire_all.new.board.book c.halt.ensures.acts c.close_all.ensures.gone
     c.retire_all.ensures.retires c.hush.ensures (patient start)
 
 pub returns-clause-few : goal.returns-clause-few
 returns-clause-few g c began =
     let passes = c.args.self.now.board.book.passes in
     let some : 0 < passes = omega (arith, c.requires.passes) in
-    let few = rw (← c.self.view_is) at c.take_turns-turns.ensures.few in
+    let few = c.take_turns-turns.ensures.few in
     few-acts c.passes_act_in_steps.ensures.acts passes 0 _ None c.close_all.new.board.book c.retire_all.new.board.book some c.retire_all.ensures.retires.acts
     (few-acts c.passes_act_in_steps.ensures.acts passes 0 _ None c.halt.new.board.book c.close_all.new.board.book some c.close_all.ensures.gone.acts
-    (few-acts c.passes_act_in_steps.ensures.acts passes 0 _ None c.self.inside.board.book c.halt.new.board.book some c.halt.ensures.acts (few began)))
+    (few-acts c.passes_act_in_steps.ensures.acts passes 0 _ None c.take_turns-turns.new.self.board.book c.halt.new.board.book some c.halt.ensures.acts (few began)))
 
 pub returns-clause-asked : goal.returns-clause-asked
 returns-clause-asked g c began =
-    let asked = rw (← c.self.view_is) at c.take_turns-turns.ensures.asked in
+    let asked = c.take_turns-turns.ensures.asked in
     asked-silent 0 _ None c.close_all.new.board.book c.retire_all.new.board.book c.retire_all.ensures.retires.acts
     (startless-retires c.retire_all.ensures.retires.children)
     (asked-silent 0 _ None c.halt.new.board.book c.close_all.new.board.book c.close_all.ensures.gone.acts (startless-gone c.close_all.ensures.gone.gone)
-    (asked-silent 0 _ None c.self.inside.board.book c.halt.new.board.book c.halt.ensures.acts
-    (startless-halts (is_halted c.self.inside.board.book.state.going) c.self.inside.board.book c.take_turns-turns.result) (asked began)))
+    (asked-silent 0 _ None c.take_turns-turns.new.self.board.book c.halt.new.board.book c.halt.ensures.acts
+    (startless-halts (is_halted c.take_turns-turns.new.self.board.book.state.going) c.take_turns-turns.new.self.board.book c.take_turns-turns.result) (asked began)))
 
 pub returns-clause-started : goal.returns-clause-started
 returns-clause-started g c opening =
-    let started = rw (← c.self.view_is) at c.take_turns-turns.ensures.started in
+    let started = c.take_turns-turns.ensures.started in
     elim (started opening) [
       | inl same ↦ inl (waits-hushed _ _ c.hush.ensures ∙ same)
       | inr begins ↦
-          inr (begins-down _ c.take_turns-turns.result c.self.inside.board.book c.halt.new.board.book c.close_all.new.board.book c.retire_all.new.board.book
+          inr (begins-down _ c.take_turns-turns.result c.take_turns-turns.new.self.board.book c.halt.new.board.book c.close_all.new.board.book c.retire_all.new.board.book
           c.halt.ensures.acts c.close_all.ensures.gone c.retire_all.ensures.retires begins)
     ]
 
 pub returns-clause-links : goal.returns-clause-links
 returns-clause-links g c =
-    let step = rw (← c.self.view_is) at c.take_turns-turns.ensures.step in
-    let links = rw (← c.self.view_is) at c.take_turns-turns.ensures.links in
+    let step = c.take_turns-turns.ensures.step in
+    let links = c.take_turns-turns.ensures.links in
     let turns = c.take_turns-turns.result in
-    handed-out g.N.Known.known turns (g.F.Front.seen c.self.inside.front).told (g.F.Front.seen c.hush.new.self).told c.self.inside.board.book.state
+    handed-out turns (g.F.Front.seen c.take_turns-turns.new.front).told (g.F.Front.seen c.hush.new.self).told c.take_turns-turns.new.self.board.book.state
     c.retire_all.new.board.book.state (subst (HaltsAs turns) (sym (c.retire_all.ensures.going ∙ c.close_all.ensures.going)) c.halt.ensures.stopped)
     (c.retire_all.ensures.rest.accepted ∙ c.close_all.ensures.rest.accepted ∙ c.halt.ensures.taken) (ap (λ (f : FrontSeen). f.told) c.hush.ensures) step links
+
+pub returns-clause-heeded : goal.returns-clause-heeded
+returns-clause-heeded g c =
+    let turns = c.take_turns-turns.result in
+    heeds-hushed turns (g.F.Front.seen c.take_turns-turns.new.front).told (g.F.Front.seen c.hush.new.self).told c.retire_all.new.board.book.state.going
+    (ap (λ (f : FrontSeen). f.told) c.hush.ensures)
+    (subst (HaltsAs turns) (sym (c.retire_all.ensures.going ∙ c.close_all.ensures.going)) c.halt.ensures.stopped) c.take_turns-turns.ensures.heeded
+
+pub returns-clause-hushed : goal.returns-clause-hushed
+returns-clause-hushed g c =
+    is-hushed (g.F.Front.seen c.take_turns-turns.new.front).told (g.F.Front.seen c.hush.new.self).told (ap (λ (f : FrontSeen). f.told) c.hush.ensures)
+
+pub returns-clause-bound : goal.returns-clause-bound
+returns-clause-bound g c =
+    bound-hushed (g.F.Front.seen c.take_turns-turns.new.front) (g.F.Front.seen c.hush.new.self) c.hush.ensures ∙ c.take_turns-turns.ensures.bound

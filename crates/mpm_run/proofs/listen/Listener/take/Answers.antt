@@ -13,17 +13,17 @@ use Rattle.worker_group.specs.Service.{left_events}
 use Rattle.mpm_run.specs.RoundInside.{FailsTaking, GivesUp, way_of}
 use Rattle.mpm_run.proofs.FrontLemmas.{follows-turned, follows-watch, step-watch, takes-turned, takes-watch}
 use Rattle.mpm_run.proofs.RoundLemmas.{acts-spelled, if-err-both, on-err, on-ok, takes-one}
-use Rattle.mpm_run.proofs.WatchLemmas.{takes-one-left, watched-took, watched-turned}
+use Rattle.mpm_run.proofs.WatchLemmas.{takes-one-left, watched-taking, watched-turned}
 use Rattle.mpm_run.proofs.listen.Listener.take.Goals as goal
 
 pub accept-requires-clause-passes : goal.accept-requires-clause-passes
-accept-requires-clause-passes g c = rw (← c.self.view_is) at c.requires.passes
+accept-requires-clause-passes g c = c.requires.passes
 
 pub accept-requires-clause-free : goal.accept-requires-clause-free
-accept-requires-clause-free g c = rw (← c.self.view_is) at c.requires.free
+accept-requires-clause-free g c = c.requires.free
 
 pub accept-requires-clause-acceptable : goal.accept-requires-clause-acceptable
-accept-requires-clause-acceptable g c = rw (← c.self.view_is) at c.requires.acceptable
+accept-requires-clause-acceptable g c = c.requires.acceptable
 
 pub new-conn-requires-clause-client : goal.new-conn-requires-clause-client
 new-conn-requires-clause-client g c =
@@ -34,34 +34,31 @@ settle-requires-clause-row g c = c.in-Ok.ensures.acts.row ∙ ap (λ (n : ConnNa
 
 pub returns-in-Err-clause-until : goal.returns-in-Err-clause-until
 returns-in-Err-clause-until g c =
-    rw (← c.self.view_is)
     (inl (record { why = c.in-Err.ensures.why; same = ap (λ (b : SeenBoard). b.book) c.in-Err.ensures.refused }))
 
 pub returns-in-Err-clause-follows : goal.returns-in-Err-clause-follows
-returns-in-Err-clause-follows g c = rw (← c.self.view_is) (follows-turned _ _ _ c.turn_away.ensures)
+returns-in-Err-clause-follows g c = (follows-turned _ _ _ c.turn_away.ensures)
 
 pub returns-in-Err-clause-front : goal.returns-in-Err-clause-front
-returns-in-Err-clause-front g c = rw (← c.self.view_is) (takes-turned _ _ _ (ap (λ (f : FrontSeen). f.told) c.turn_away.ensures))
+returns-in-Err-clause-front g c = (takes-turned _ _ _ (ap (λ (f : FrontSeen). f.told) c.turn_away.ensures))
 
 pub returns-in-Err-clause-links : goal.returns-in-Err-clause-links
 returns-in-Err-clause-links g c =
-    rw (← c.self.view_is)
-    (inr (record {
+    inr (record {
       accepted = ap (λ (b : SeenBoard). b.book.state.accepted) c.in-Err.ensures.refused;
-      told = ap (λ (f : FrontSeen). f.told) c.turn_away.ensures;
-    }))
+      told_is = ap (λ (f : FrontSeen). f.told) c.turn_away.ensures;
+    })
 
 pub returns-clause-takes : goal.returns-clause-takes
 returns-clause-takes g c =
-    rw (← c.self.view_is)
     (on_ok_weaker c.settle.result
     (λ (left : Acts 0 (left_events (way_of c.watch-watched.result) c.new-conn.result.name) None c.accept.new.board.book c.settle.new.board.book).
     record {
       name = c.in-Ok.taken.name;
       watched = c.watch-watched.result;
-      told = ap (λ (f : FrontSeen). f.told) c.watch-watched.ensures.watches.front;
+      told_is = ap (λ (f : FrontSeen). f.told) c.watch-watched.ensures.watches.front;
       acts =
-          takes-one c.passes_act_in_steps.ensures.acts c.in-Ok.taken.name (way_of c.watch-watched.result) c.self.inside.board.book c.accept.new.board.book c.settle.new.board.book
+          takes-one c.passes_act_in_steps.ensures.acts c.in-Ok.taken.name (way_of c.watch-watched.result) c.args.self.now.board.book c.accept.new.board.book c.settle.new.board.book
           c.in-Ok.ensures.acts
           (acts-spelled _ (left_events (way_of c.watch-watched.result) c.in-Ok.taken.name) c.accept.new.board.book c.settle.new.board.book left
           (ap (left_events (way_of c.watch-watched.result)) c.new-conn.ensures.name));
@@ -69,10 +66,9 @@ returns-clause-takes g c =
 
 pub returns-clause-until : goal.returns-clause-until
 returns-clause-until g c =
-    rw (← c.self.view_is)
     (if-err-both c.settle.result (λ (f : BoardFault). IsRefusedFor f c.accept.new.board.book)
     (λ (f : BoardFault). GivesUp f c.new-conn.result.name c.accept.new.board.book c.settle.new.board.book)
-    (λ (f : BoardFault). FailsTaking f c.self.inside.board.book c.settle.new.board.book)
+    (λ (f : BoardFault). FailsTaking f c.args.self.now.board.book c.settle.new.board.book)
     (λ f why given. inr (record {
       name = c.in-Ok.taken.name;
       book = c.accept.new.board.book;
@@ -85,50 +81,41 @@ returns-clause-until g c =
 
 pub returns-clause-step : goal.returns-clause-step
 returns-clause-step g c =
-    rw (← c.self.view_is)
     (on-ok c.settle.result _
-    (λ step. step-watch (g.F.Front.seen c.self.inside.front).told (g.F.Front.seen c.watch-watched.new.self).told _ _ _ c.settle.new.board.book.state
+    (λ step. step-watch (g.F.Front.seen c.args.front.now).told (g.F.Front.seen c.watch-watched.new.self).told _ _ _ c.settle.new.board.book.state
     (ap (λ (f : FrontSeen). f.told) c.watch-watched.ensures.watches.front) step))
 
 pub returns-clause-links : goal.returns-clause-links
 returns-clause-links g c =
-    rw (← c.self.view_is)
     (on-err c.settle.result _
     (inl (record {
       accepted = c.settle.ensures.rest.accepted ∙ c.in-Ok.ensures.taken;
       step =
-          λ step. step-watch (g.F.Front.seen c.self.inside.front).told (g.F.Front.seen c.watch-watched.new.self).told _ _ _ c.settle.new.board.book.state
+          λ step. step-watch (g.F.Front.seen c.args.front.now).told (g.F.Front.seen c.watch-watched.new.self).told _ _ _ c.settle.new.board.book.state
           (ap (λ (f : FrontSeen). f.told) c.watch-watched.ensures.watches.front) step;
     })))
 
 pub returns-clause-follows : goal.returns-clause-follows
 returns-clause-follows g c =
-    rw (← c.self.view_is)
     (follows-watch _ _ _ _ _ c.watch-watched.ensures.watches.front)
 
 pub returns-clause-front : goal.returns-clause-front
-returns-clause-front g c = rw (← c.self.view_is) (takes-watch _ _ _ _ _ (ap (λ (f : FrontSeen). f.told) c.watch-watched.ensures.watches.front))
+returns-clause-front g c = (takes-watch _ _ _ _ _ (ap (λ (f : FrontSeen). f.told) c.watch-watched.ensures.watches.front))
 
 pub returns-clause-up : goal.returns-clause-up
-returns-clause-up g c = c.settle.ensures.rest.up (rw (c.in-Ok.ensures.going) (rw (← c.self.view_is) at c.requires.up))
+returns-clause-up g c = c.settle.ensures.rest.up (rw (c.in-Ok.ensures.going) (c.requires.up))
 
 pub returns-in-Err-clause-watched : goal.returns-in-Err-clause-watched
-returns-in-Err-clause-watched g c =
-    rw (← c.self.view_is)
-    (λ before tells. subst (λ (b : SeenBoard). IfSome (g.F.Front.seen c.turn_away.new.self).told (WatchesAll b.book)) (sym c.in-Err.ensures.refused)
-    (watched-turned _ _ _ _ (ap (λ (f : FrontSeen). f.told) c.turn_away.ensures) (before tells)))
+returns-in-Err-clause-watched g c before =
+    subst (λ (b : SeenBoard). IfSome (g.F.Front.seen c.turn_away.new.self).told (WatchesAll b.book)) (sym c.in-Err.ensures.refused)
+    (watched-turned _ _ _ _ (ap (λ (f : FrontSeen). f.told) c.turn_away.ensures) before)
 
 pub returns-clause-watched : goal.returns-clause-watched
-returns-clause-watched g c =
-    let arrival = rw (← c.self.view_is) at c.requires.arrival in
-    rw (← c.self.view_is)
-    (λ before tells.
-    let link = (c.self.invariant.links tells).each c.args.link in
-    let arrives = subst (IsArrival c.self.inside.board.book.state.accepted) link.1 arrival in
-    watched-took c.in-Ok.taken.name c.watch-watched.result (g.L.Link.seen c.args.link).told link.0 (g.F.Front.seen c.self.inside.front).told
-    (g.F.Front.seen c.watch-watched.new.self).told c.self.inside.board.book c.settle.new.board.book link.1 arrives.rank
+returns-clause-watched g c before =
+    watched-taking c.in-Ok.taken.name c.watch-watched.result (g.L.Link.seen c.args.link).told (g.F.Front.seen c.args.front.now).told
+    (g.F.Front.seen c.watch-watched.new.self).told c.args.self.now.board.book c.settle.new.board.book c.requires.tells c.requires.arrival
     (ap (λ (f : FrontSeen). f.told) c.watch-watched.ensures.watches.front)
-    (takes-one-left c.histories_go_on_by_one_entry.ensures.row c.settle.result c.in-Ok.taken.name c.new-conn.result.name c.watch-watched.result c.self.inside.board.book c.accept.new.board.book
+    (takes-one-left c.histories_go_on_by_one_entry.ensures.row c.settle.result c.in-Ok.taken.name c.new-conn.result.name c.watch-watched.result c.args.self.now.board.book c.accept.new.board.book
     c.settle.new.board.book c.in-Ok.ensures.acts c.new-conn.ensures.name c.settle.ensures.left c.settle.ensures.given_up
     c.settle.ensures.closed)
-    (c.settle.ensures.rest.accepted ∙ c.in-Ok.ensures.taken) (before tells))
+    (c.settle.ensures.rest.accepted ∙ c.in-Ok.ensures.taken) before

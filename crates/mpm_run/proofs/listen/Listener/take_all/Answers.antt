@@ -1,6 +1,6 @@
 use Rattle.std.proofs.Common.{ℕ, ◌<◌, refl, sym, subst, ◌∙◌, rules}
 use Rattle.mpm_run.specs.RoundInside.{TakesUntil, way_of}
-use Rattle.mpm_run.proofs.FrontLemmas.{arrives-next, follows-accept, follows-same, follows-trans, handed-known, named-follows, step-none, step-taken, takes-accept, takes-same, takes-trans}
+use Rattle.mpm_run.proofs.FrontLemmas.{alike-mapped, arrives-next, follows-accept, follows-same, follows-trans, handed-known, handed-tells, named-follows, step-none, step-taken, takes-accept, takes-same, takes-trans}
 use Rattle.mpm_run.proofs.LinkLemmas.{hands-ended}
 use Rattle.mpm_run.proofs.RoundLemmas.{on-err, takes-more, takes-none}
 use Rattle.mpm_run.proofs.TakeLemmas.{took-none}
@@ -17,54 +17,49 @@ loop-init g c =
       follows = follows-same _;
       front = takes-same _;
       watched = λ before. before;
-      calls = refl;
       ready = refl;
     }
 
 pub take-requires-clause-passes : goal.take-requires-clause-passes
 take-requires-clause-passes g c κs within =
-    let takes = rw (← c.self.view_is) at c.loop.invariant.takes in
+    let takes = c.loop.invariant.takes in
     subst (λ (n : ℕ). 0 < n) (sym takes.acts.passes) c.requires.passes
 
 pub take-requires-clause-free : goal.take-requires-clause-free
 take-requires-clause-free g c κs within =
-    let takes = rw (← c.self.view_is) at c.loop.invariant.takes in
+    let takes = c.loop.invariant.takes in
     takes.acts.row
 
 pub take-requires-clause-arrival : goal.take-requires-clause-arrival
 take-requires-clause-arrival g c κs within =
-    let step = rw (← c.self.view_is) at c.loop.invariant.step in
-    arrives-next (g.F.Front.seen c.self.inside.front).told (g.L.Link.seen c.in-Some-accept.link).told c.self.inside.board.book.state
+    let step = c.loop.invariant.step in
+    arrives-next (g.F.Front.seen c.loop.front).told (g.L.Link.seen c.in-Some-accept.link).told c.loop.self.board.book.state
     c.in-Some-accept.ensures.accepts.hands.1 step
 
 pub take-requires-clause-client : goal.take-requires-clause-client
 take-requires-clause-client g c κs within =
-    handed-known g.N.Known.known g.L.Link.seen (g.F.Front.seen c.self.inside.front).told c.in-Some-accept.link c.self.invariant
-    c.in-Some-accept.ensures.accepts.hands.1
+    handed-known g.N.Known.known (g.F.Front.seen c.loop.front).told (g.L.Link.seen c.in-Some-accept.link).told
+    (named-follows g.N.Known.known _ _ c.loop.invariant.follows c.requires.named) c.in-Some-accept.ensures.accepts.hands.1
 
-pub invariant_of-self : goal.invariant_of-self
-invariant_of-self g c =
-    named-follows g.N.Known.known g.L.Link.seen (g.F.Front.seen c.self.inside.front) (g.F.Front.seen c.accept.new.self)
-    (follows-accept g.L.Link.seen _ _ _ c.accept.ensures.accepts) c.self.invariant
-
-pub invariant_of-self-in-None-accept : goal.invariant_of-self-in-None-accept
-invariant_of-self-in-None-accept g c =
-    named-follows g.N.Known.known g.L.Link.seen (g.F.Front.seen c.self.inside.front) (g.F.Front.seen c.accept.new.self)
-    (follows-accept g.L.Link.seen _ _ _ c.accept.ensures.accepts) c.self.invariant
+pub take-requires-clause-tells : goal.take-requires-clause-tells
+take-requires-clause-tells g c κs within =
+    alike-mapped _ (g.F.Front.seen c.loop.front).told (g.F.Front.seen c.accept.new.self).told (g.L.Link.seen c.in-Some-accept.link).told
+    c.in-Some-accept.ensures.accepts.told_is
+    (handed-tells (g.F.Front.seen c.loop.front).told (g.L.Link.seen c.in-Some-accept.link).told c.in-Some-accept.ensures.accepts.hands.1)
 
 pub loop-preserved : goal.loop-preserved
 loop-preserved g c =
-    let before = rw (← c.self.view_is) at c.loop.invariant in
+    let before = c.loop.invariant in
     let taking = c.in_ok-take-in-Some-accept.ensures.takes in
     record {
       takes =
-          takes-more c.passes_act_in_steps.ensures.acts (record { name = taking.name; way = way_of taking.watched }) c.args.self.now.board.book c.self.inside.board.book
+          takes-more c.passes_act_in_steps.ensures.acts (record { name = taking.name; way = way_of taking.watched }) c.args.self.now.board.book c.loop.self.board.book
           c.take.new.self.board.book before.takes (record { watched = taking.watched; way_is = refl }) taking.acts;
       up = c.take.ensures.up;
       moment = c.take.ensures.moment ∙ before.moment;
       step =
           c.in_ok-take-in-Some-accept.ensures.step
-          (step-taken c.in-Some-accept.link (g.F.Front.seen c.self.inside.front).told (g.F.Front.seen c.accept.new.self).told c.self.inside.board.book.state
+          (step-taken c.in-Some-accept.link (g.F.Front.seen c.loop.front).told (g.F.Front.seen c.accept.new.self).told c.loop.self.board.book.state
           c.take.new.self.board.book.state c.in-Some-accept.ensures.accepts.told_is c.in_ok-take-in-Some-accept.ensures.taken before.step);
       follows =
           follows-trans _ _ _ before.follows
@@ -74,80 +69,73 @@ loop-preserved g c =
           takes-trans _ _ _ before.front
           (takes-trans _ _ _ (takes-accept _ _ _ c.accept.ensures.accepts.told_is) c.take.ensures.front);
       watched =
-          λ first. c.take.ensures.watched
-          (λ tells. watched-accept _ _ _ _ c.accept.ensures.accepts.told_is (before.watched first tells));
-      calls = c.take.ensures.calls ∙ before.calls;
+          λ first. c.take.ensures.watched (watched-accept _ _ _ _ c.accept.ensures.accepts.told_is (before.watched first));
       ready = c.take.ensures.ready ∙ before.ready;
     }
 
 pub returns-in_err-take-in-Some-accept-clause-until : goal.returns-in_err-take-in-Some-accept-clause-until
 returns-in_err-take-in-Some-accept-clause-until g c =
-    let takes = rw (← c.self.view_is) at c.loop.invariant.takes in
+    let takes = c.loop.invariant.takes in
     let until : TakesUntil c.in_err-take-in-Some-accept.field-0.0 c.args.self.now.board.book c.take.new.self.board.book =
-    record { book = c.self.inside.board.book; takes = takes; last = c.in_err-take-in-Some-accept.ensures.until } in
+    record { book = c.loop.self.board.book; takes = takes; last = c.in_err-take-in-Some-accept.ensures.until } in
     search (rules, until)
 
 pub returns-in_err-take-in-Some-accept-clause-moment : goal.returns-in_err-take-in-Some-accept-clause-moment
 returns-in_err-take-in-Some-accept-clause-moment g c =
-    let before = rw (← c.self.view_is) at c.loop.invariant.moment in
+    let before = c.loop.invariant.moment in
     c.take.ensures.moment ∙ before
 
 pub returns-in_err-take-in-Some-accept-clause-follows : goal.returns-in_err-take-in-Some-accept-clause-follows
 returns-in_err-take-in-Some-accept-clause-follows g c =
-    let before = rw (← c.self.view_is) at c.loop.invariant.follows in
+    let before = c.loop.invariant.follows in
     follows-trans _ _ _ before
     (follows-trans _ _ _ (follows-accept g.L.Link.seen _ _ _ c.accept.ensures.accepts)
     c.take.ensures.follows)
 
 pub returns-in_err-take-in-Some-accept-clause-front : goal.returns-in_err-take-in-Some-accept-clause-front
 returns-in_err-take-in-Some-accept-clause-front g c =
-    let before = rw (← c.self.view_is) at c.loop.invariant.front in
+    let before = c.loop.invariant.front in
     takes-trans _ _ _ before
     (takes-trans _ _ _ (takes-accept _ _ _ c.accept.ensures.accepts.told_is) c.take.ensures.front)
 
-pub returns-in_err-take-in-Some-accept-clause-calls : goal.returns-in_err-take-in-Some-accept-clause-calls
-returns-in_err-take-in-Some-accept-clause-calls g c =
-    let before = rw (← c.self.view_is) at c.loop.invariant.calls in
-    c.take.ensures.calls ∙ before
-
 pub returns-in_err-take-in-Some-accept-clause-ready : goal.returns-in_err-take-in-Some-accept-clause-ready
 returns-in_err-take-in-Some-accept-clause-ready g c =
-    let before = rw (← c.self.view_is) at c.loop.invariant.ready in
+    let before = c.loop.invariant.ready in
     c.take.ensures.ready ∙ before
 
 pub returns-in-None-accept : goal.returns-in-None-accept
 returns-in-None-accept g c =
-    let before = rw (← c.self.view_is) at c.loop.invariant in
+    let before = c.loop.invariant in
     record {
       takes = before.takes;
       until = tt;
       up = before.up;
       moment = before.moment;
       step =
-          step-none (g.F.Front.seen c.self.inside.front).told (g.F.Front.seen c.accept.new.self).told c.accept.result c.self.inside.board.book.state
+          step-none (g.F.Front.seen c.loop.front).told (g.F.Front.seen c.accept.new.self).told c.accept.result c.loop.self.board.book.state
           c.in-None-accept.is c.accept.ensures.accepts.told_is before.step;
       taken =
-          took-none g.L.Link.seen (g.F.Front.seen c.self.inside.front) (g.F.Front.seen c.accept.new.self) c.accept.result
-          c.self.inside.board.book.state c.in-None-accept.is c.accept.ensures.accepts;
+          took-none g.L.Link.seen (g.F.Front.seen c.loop.front) (g.F.Front.seen c.accept.new.self) c.accept.result
+          c.loop.self.board.book.state c.in-None-accept.is c.accept.ensures.accepts;
       follows =
           follows-trans _ _ _ before.follows
           (follows-accept g.L.Link.seen _ _ _ c.accept.ensures.accepts);
       front = takes-trans _ _ _ before.front (takes-accept _ _ _ c.accept.ensures.accepts.told_is);
-      watched = λ first tells. watched-accept _ _ _ _ c.accept.ensures.accepts.told_is (before.watched first tells);
+      watched = λ first. watched-accept _ _ _ _ c.accept.ensures.accepts.told_is (before.watched first);
       links = tt;
-      calls = before.calls;
       ready = before.ready;
       err = tt;
     }
 
 pub returns-in_err-take-in-Some-accept-clause-watched : goal.returns-in_err-take-in-Some-accept-clause-watched
 returns-in_err-take-in-Some-accept-clause-watched g c =
-    let before = rw (← c.self.view_is) at c.loop.invariant.watched in
-    λ first. c.take.ensures.watched (λ tells. watched-accept _ _ _ _ c.accept.ensures.accepts.told_is (before first tells))
+    let before = c.loop.invariant.watched in
+    λ first. c.take.ensures.watched (watched-accept _ _ _ _ c.accept.ensures.accepts.told_is (before first))
 
 pub returns-in_err-take-in-Some-accept-clause-links : goal.returns-in_err-take-in-Some-accept-clause-links
 returns-in_err-take-in-Some-accept-clause-links g c =
-    let step = rw (← c.self.view_is) at c.loop.invariant.step in
+    let step = c.loop.invariant.step in
     on-err c.from_residual.result _
-    (hands-ended g.N.Known.known g.L.Link.seen c.self.invariant.links c.in-Some-accept.link (g.F.Front.seen c.self.inside.front).told c.self.inside.board.book.state _ c.take.new.self
+    (hands-ended c.in-Some-accept.link (g.L.Link.seen c.in-Some-accept.link).told (g.F.Front.seen c.loop.front).told (g.F.Front.seen c.accept.new.self).told
+    (g.F.Front.seen c.take.new.front).told c.loop.self.board.book.state c.loop.self.board.book.state c.take.new.self.board.book.state
     c.in-Some-accept.ensures.accepts.hands.1 step c.in-Some-accept.ensures.accepts.told_is refl c.in_err-take-in-Some-accept.ensures.links)

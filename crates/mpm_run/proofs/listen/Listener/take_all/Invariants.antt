@@ -12,10 +12,9 @@ invariant-loop g l =
       takes : TakesSome l.fn.self.board.book l.self.board.book;
       up : IsUp l.self.board.book.state.going;
       moment : l.self.board.book.state.moment ≡ l.fn.self.board.book.state.moment;
-      step : IsInStep l.self.front.told l.self.board.book.state;
-      follows : Follows l.fn.self.front l.self.front;
-      front : TellsOn OnlyTakes l.fn.self.front.told l.self.front.told;
-      watched : IsWatching g.N.Known.known l.fn.self.front.told l.fn.self.board.book → IsWatching g.N.Known.known l.self.front.told l.self.board.book;
-      calls : l.self.calls ≡ l.fn.self.calls;
+      step : IsInStep (g.F.Front.seen l.front).told l.self.board.book.state;
+      follows : Follows (g.F.Front.seen l.fn.front) (g.F.Front.seen l.front);
+      front : TellsOn OnlyTakes (g.F.Front.seen l.fn.front).told (g.F.Front.seen l.front).told;
+      watched : IsWatching (g.F.Front.seen l.fn.front).told l.fn.self.board.book → IsWatching (g.F.Front.seen l.front).told l.self.board.book;
       ready : l.self.ready ≡ l.fn.self.ready;
     }

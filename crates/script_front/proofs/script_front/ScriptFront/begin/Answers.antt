@@ -28,4 +28,4 @@ invariant_of-self c =
       | else-count-gt0 w ↦ rw w.self-is (omega (arith, counts, w.if-count-gt0.false))
     ] in
     let next = ap (λ (f : SeenFront). lines_now (to_come f)) c.self-2.view_is ∙ none in
-    played-begun s.script s.happened s.begun s.moment s.arrived s.accepted s.hushed s.clients s.ends c.self-2.invariant next
+    played-begun s.script s.happened s.begun s.moment s.arrived s.accepted s.hushed s.clients s.commands s.ends c.self-2.invariant next

@@ -8,5 +8,5 @@ pub invariant_of-self : goal.invariant_of-self
 invariant_of-self c =
     let s = c.self.inside in
     let rest = c.give.ensures.rest in
-    played-clients s.script s.happened s.begun s.moment s.arrived s.accepted s.hushed s.clients s.ends c.self.invariant c.give.new.self
+    played-clients s.script s.happened s.begun s.moment s.arrived s.accepted s.hushed s.clients s.commands s.ends c.self.invariant c.give.new.self
     (ap (λ (cs : SeenClients). cs.waiting) rest) (ap (λ (cs : SeenClients). length cs.watched) rest) (names-gives c.give.ensures.gives)

@@ -1,0 +1,51 @@
+use Rattle.std.proofs.Common.{◌≡◌, ℕ, true, false, List, Some, None, inl, inr, refl, ap, sym, subst, ◌∙◌}
+use Rattle.mpm_base.specs.CommandWord.{command_word}
+use Rattle.mpm_base.specs.Front.{Dials}
+use Rattle.mpm_config.specs.Config.{Configuration}
+use Rattle.mpm_run.proofs.ConfigLemmas.{config-refused, config-unread, ends-uncontrolled, sends}
+use Rattle.mpm_run.proofs.InvocationLemmas.{send-config}
+use Rattle.mpm_run.proofs.command_run.send_command.Goals as goal
+
+pub returns-in-Err-clause-refused : goal.returns-in-Err-clause-refused
+returns-in-Err-clause-refused g c words command one =
+    config-refused _ c.args.name.now c.read-answer.result c.in-Err.why c.refuse_config_of.result.status (send-config words c.args.command c.args.name.now command)
+    c.read-answer.ensures c.in-Err.ensures (c.refuse_config_of.ensures.refused (inl one)) one
+
+pub returns-in-Err-clause-unread : goal.returns-in-Err-clause-unread
+returns-in-Err-clause-unread g c words command three =
+    config-unread _ c.args.name.now c.read-answer.result c.in-Err.why c.refuse_config_of.result.status (send-config words c.args.command c.args.name.now command)
+    c.read-answer.ensures c.in-Err.ensures (c.refuse_config_of.ensures.refused (inr three)) three
+
+pub returns-in_default-clause-uncontrolled : goal.returns-in_default-clause-uncontrolled
+returns-in_default-clause-uncontrolled g c words command ten =
+    ends-uncontrolled _ c.args.command c.args.name.now c.read-answer.result (c.in-Ok.config, c.in-Ok.field-0-1) command c.read-answer.ensures c.in-Ok.ensures
+    (sym (ap (λ (x : Configuration). x.control) c.config.view_is) ∙ c.in_default.is) (c.refuse_uncontrolled.ensures.refused ten)
+
+pub returns-then-dial-clause-sent : goal.returns-then-dial-clause-sent
+returns-then-dial-clause-sent g c words command zero =
+    let old = g.F.Front.seen c.args.front.now in
+    let new = g.F.Front.seen c.dial.new.self in
+    record {
+      word = c.args.command;
+      port = c.in-Some.port;
+      sends =
+          sends _ c.args.command c.args.name.now c.in-Some.port c.read-answer.result (c.in-Ok.config, c.in-Ok.field-0-1) command c.read-answer.ensures
+          c.in-Ok.ensures (sym (ap (λ (x : Configuration). x.control) c.config.view_is) ∙ c.in-Some.is) c.unopened.ensures.shown;
+      dials = subst (λ (w : List ℕ). Dials old new c.in-Some.port w true) c.spelling.ensures c.if-dial.ensures.dials;
+      unwritten = refl;
+    }
+
+pub returns-clause-undialled : goal.returns-clause-undialled
+returns-clause-undialled g c words command four =
+    let old = g.F.Front.seen c.args.front.now in
+    let new = g.F.Front.seen c.dial.new.self in
+    let refused = c.refuse_front.ensures.refused four in
+    record {
+      word = c.args.command;
+      port = c.in-Some.port;
+      sends =
+          sends _ c.args.command c.args.name.now c.in-Some.port c.read-answer.result (c.in-Ok.config, c.in-Ok.field-0-1) command c.read-answer.ensures
+          c.in-Ok.ensures (sym (ap (λ (x : Configuration). x.control) c.config.view_is) ∙ c.in-Some.is) refused.shows;
+      dials = subst (λ (w : List ℕ). Dials old new c.in-Some.port w false) c.spelling.ensures c.if-dial.ensures.dials;
+      text = refused.writes;
+    }

@@ -1,0 +1,35 @@
+-- What ties the history of a run to its front and its clock, each as far as it tells.
+use Rattle.std.specs.Prelude.{◌≡◌, ℕ, List, Option, IfSome}
+use Rattle.mpm_base.specs.Front.{FrontSeen, FrontTold}
+use Rattle.board.specs.Board.{SeenBoard}
+use Rattle.mpm_run.specs.Commands.{HeedsLines}
+use Rattle.mpm_run.specs.Links.{KeepsLinks}
+use Rattle.mpm_run.specs.Patient.{IsPatientRun}
+use Rattle.mpm_run.specs.Started.{IsStartedFirst}
+use Rattle.mpm_run.specs.Stops.{StoppedFor}
+use Rattle.mpm_run.specs.Tells.{AllReceive}
+use Rattle.mpm_run.specs.Times.{IsInTime, WasInformed, waits_of}
+use Rattle.mpm_run.specs.Watched.{AreWatched, IsOpenedAndHushed}
+use Rattle.mpm_run.specs.declared.run_numbers.RunNumbers.{RunNumbers}
+
+-- what a run by these numbers did with a front that tells: it was bound once, to what the numbers say, and listens no more; where it
+-- waited at all, the children were started before all else; each link that the table took was watched under the name of its
+-- connection; what became of each link that it handed out; each ended connection received a front of what its client sends; and its
+-- command lines were heeded
+pub record KeepsFront (n : RunNumbers) (b : SeenBoard) (t : FrontTold) : Type 0 where
+  pub opened : IsOpenedAndHushed n t
+  pub started : IsStartedFirst n b.book t
+  pub watched : AreWatched b.book t
+  pub links : KeepsLinks b t
+  pub receive : AllReceive t.clients b.ended
+  pub heeded : HeedsLines b.book.state.going t
+
+-- the same, and of any front and clock: the clock was told what the waits gave; the ticks and signals of the history come from both;
+-- over a patient front, and a clock that answers what it is told, time passed only where nothing was left to be done; and the server
+-- stopped for what the front shows
+pub record KeepsOutside (n : RunNumbers) (f f' : FrontSeen) (calls : Option (List (ℕ × ℕ))) (b : SeenBoard) : Type 0 where
+  pub front : IfSome f'.told (KeepsFront n b)
+  pub time : IsInTime (waits_of f'.told) calls
+  pub informed : WasInformed (waits_of f'.told) calls b.book
+  pub patient : IsPatientRun f'.told calls b.book
+  pub stopped : StoppedFor f f' b.book.state

@@ -1,0 +1,39 @@
+-- Why a server stopped, as its front shows it.
+use Rattle.std.specs.Prelude.{◌≡◌, ◌⊎◌, IfSome, length}
+use Rattle.mpm_base.specs.Count.{Rises}
+use Rattle.mpm_base.specs.Front.{FrontSeen, FrontTold}
+use Rattle.conn_machine.specs.declared.event.Why.TheVariants as why
+use Rattle.conn_machine.specs.declared.state.Going.TheVariants.{Halted}
+use Rattle.conn_machine.specs.declared.state.State.{State}
+
+-- all has happened, each command line was read, and each connection was handed out, which the table took
+pub record HasGivenAll (s : State) (t : FrontTold) : Type 0 where
+  pub left : t.left ≡ 0
+  pub read : t.read ≡ length t.lines
+  pub given : t.accepted ≡ length t.clients
+  pub taken : t.accepted ≡ s.accepted
+
+-- a wait of the front answered Ended, so that one which tells has handed all out, and the table took them
+pub record HasTakenAll (old new : FrontSeen) (s : State) : Type 0 where
+  pub answered : Rises old.counts.ends new.counts.ends
+  pub taken : IfSome new.told (HasGivenAll s)
+
+-- the server stopped because nothing more could come
+pub record HasEnded (old new : FrontSeen) (s : State) : Type 0 where
+  pub going : s.going ≡ Halted why.FrontEnded
+  pub all : HasTakenAll old new s
+
+-- the server stopped because it was asked to
+pub record HasBeenAsked (old new : FrontSeen) (s : State) : Type 0 where
+  pub going : s.going ≡ Halted why.Asked
+  pub gave : Rises old.counts.commands new.counts.commands
+
+-- the server stopped because a wait of the front failed
+pub record HasFrontFailed (old new : FrontSeen) (s : State) : Type 0 where
+  pub going : s.going ≡ Halted why.FrontFailed
+  pub failed : Rises old.counts.faults new.counts.faults
+
+-- why it stopped: nothing more could come, it was asked to, a wait failed, the history was full, or memory lacked
+abbrev pub StoppedFor : FrontSeen → FrontSeen → State → Type 0
+StoppedFor old new s =
+    HasEnded old new s ⊎ HasBeenAsked old new s ⊎ HasFrontFailed old new s ⊎ (s.going ≡ Halted why.Full) ⊎ (s.going ≡ Halted why.NoMemory)

@@ -1,0 +1,144 @@
+//! The run of a server: `-f FILE`.
+ghost use Rattle.std.specs.Prelude.{◌≡◌, ◌⊎◌, ℕ, List, [], None, false, IfSome, IsNone, IsSome};
+ghost use Rattle.mpm_base.specs.Front.{Binds};
+ghost use Rattle.mpm_run.specs.Calls.{seen_call};
+ghost use Rattle.mpm_run.specs.Configured.{warnings_of};
+ghost use Rattle.mpm_run.specs.ExitStatuses.{EndsAs, EndsConfigRefused, EndsSiteRefused, EndsUnbound, EndsUnread, HasRun, HasServed};
+ghost use Rattle.mpm_run.specs.ExitStatusesInside.{IsOpenedStatus, IsServedStatus, RefusesRun};
+ghost use Rattle.mpm_run.specs.FirstNumbers as opening;
+ghost use Rattle.command_words.specs.Invocations.{IsServeWords};
+ghost use Rattle.mpm_run.specs.Outside.{KeepsOutside};
+ghost use Rattle.mpm_run.specs.Sites.{head_limits_of};
+ghost use Rattle.mpm_run.specs.SitesInside.{RefusesFolder};
+ghost use Rattle.mpm_run.specs.Texts.{front_fault};
+ghost use Rattle.mpm_run.specs.Unused.{IsUnused};
+
+use crate::config_reading::{MOST_CONFIG, config_from};
+use crate::edition::Edition;
+use crate::outcome::{Ending, no_memory};
+use crate::refusal::{refuse_config_of, refuse_front, refuse_site, refuse_unread};
+use crate::reporting::report_run;
+use crate::run_numbers::{head_limits_of, numbers_of};
+use crate::server::{OpenFault, ServedRun, run_server};
+use crate::site_loading::load_site;
+use board::Board;
+use conn_state::Nothing;
+use file_table::LoadFault;
+use mpm_base::{Clock, Front, Gate, Octets, Sink, Store};
+use mpm_config::Config;
+use std::alloc::Global;
+use std::marker::Brand;
+use std::sync::{Arc, Wait};
+
+/// Serves over the front and the clock, by the configuration of that name in the store and the site that the store has by it, until the
+/// server is asked to stop or its front ends or fails, and writes the warnings and the report, or why there is none.
+pub fn serve_file<R: Wait, D: Store, F: Front, C: Clock, G: Gate, K: Sink>(
+    rt: &R,
+    alloc: Global,
+    name: &str,
+    store: &mut D,
+    front: &mut F,
+    clock: &mut C,
+    gate: &G,
+    out: &mut K,
+) -> Ending<Board<F::L, Nothing>>
+    requires unused { IfSome (F.seen front.old).told IsUnused }
+    requires unasked { IfSome (C.told clock.old) (λ calls. calls ≡ []) }
+    ensures server { (words : List (List ℕ)) → IsServeWords words name.now → IfSome result.left (λ b. HasServed (seen_call words (D.seen store.old) (D.seen store.new) (K.seen out.old) (K.seen out.new) result.shown) (F.seen front.old) (F.seen front.new) (C.told clock.new) result.status b) }
+    ensures known { IsServedStatus result.status }
+    ensures opened { (result.status ≡ 0) ⊎ (result.status ≡ 5) ⊎ (result.status ≡ 7) → IsSome result.left }
+    ensures misconfigured { (words : List (List ℕ)) → IsServeWords words name.now → result.status ≡ 1 → EndsConfigRefused (seen_call words (D.seen store.old) (D.seen store.new) (K.seen out.old) (K.seen out.new) result.shown) }
+    ensures unread { (words : List (List ℕ)) → IsServeWords words name.now → result.status ≡ 3 → EndsUnread (seen_call words (D.seen store.old) (D.seen store.new) (K.seen out.old) (K.seen out.new) result.shown) }
+    ensures front_failed { (words : List (List ℕ)) → IsServeWords words name.now → result.status ≡ 4 → IsSome result.left ⊎ EndsUnbound (seen_call words (D.seen store.old) (D.seen store.new) (K.seen out.old) (K.seen out.new) result.shown) (F.seen front.old) (F.seen front.new) }
+    ensures site_refused { (words : List (List ℕ)) → IsServeWords words name.now → result.status ≡ 9 → EndsSiteRefused (seen_call words (D.seen store.old) (D.seen store.new) (K.seen out.old) (K.seen out.new) result.shown) }
+    ensures silent { result.status ≡ 6 → IsNone result.left → (K.seen out.new).told ≡ (K.seen out.old).told }
+{
+    let answer = store.read(alloc, name, MOST_CONFIG);
+    let (config, told) = match config_from(alloc, answer) {
+        Ok(read) => read,
+        Err(why) => return refuse_config_of(alloc, name, why, out),
+    };
+    let site = match load_site(alloc, store, &config) {
+        Ok(site) => site,
+        Err(fault) => return refuse_folder(alloc, fault, &config, out),
+    };
+    let Ok(site) = Arc::new(alloc, site) else {
+        return no_memory();
+    };
+    let limits = head_limits_of(&config);
+    let edition = Edition { limits, site };
+    serve_edition(rt, alloc, &config, edition, &told, front, clock, gate, out)
+}
+
+/// The end of a run whose site is refused for the fault, or for which memory lacked.
+fn refuse_folder<X, K: Sink>(
+    alloc: Global,
+    fault: LoadFault,
+    config: &Config,
+    out: &mut K,
+) -> Ending<X>
+    ensures known { (result.status ≡ 3) ⊎ (result.status ≡ 9) ⊎ (result.status ≡ 6) }
+    ensures left { IsNone result.left }
+    ensures refused { (result.status ≡ 3) ⊎ (result.status ≡ 9) → RefusesFolder (K.seen out.old) (K.seen out.new) config.entry.now fault result.status result.shown }
+    ensures silent { result.status ≡ 6 → (K.seen out.new).told ≡ (K.seen out.old).told }
+{
+    config.show();
+    match fault {
+        LoadFault::StoreFault => refuse_unread(alloc, config.root.as_slice(), None, out),
+        LoadFault::TooMany => refuse_site(alloc, config.root.as_slice(), out),
+        LoadFault::TooLarge(name, _) => refuse_site(alloc, name.as_slice(), out),
+        LoadFault::NoMemory => no_memory(),
+    }
+}
+
+/// Serves by the configuration, of which this is told, and the edition, and writes the warnings and the report.
+fn serve_edition<R: Wait, F: Front, C: Clock, G: Gate, K: Sink>(
+    rt: &R,
+    alloc: Global,
+    config: &Config,
+    edition: Edition,
+    told: &Octets,
+    front: &mut F,
+    clock: &mut C,
+    gate: &G,
+    out: &mut K,
+) -> Ending<Board<F::L, Nothing>>
+    requires told { told.now ≡ warnings_of config.now }
+    requires limits { edition.limits ≡ head_limits_of config.now }
+    requires unused { IfSome (F.seen front.old).told IsUnused }
+    requires unasked { IfSome (C.told clock.old) (λ calls. calls ≡ []) }
+    ensures run { IfSome result.left (HasRun config.entry.now edition.site.value) }
+    ensures outside { IfSome result.left (KeepsOutside (opening.numbers_of config.entry.now) (F.seen front.old) (F.seen front.new) (C.told clock.new)) }
+    ensures ends { IfSome result.left (λ b. EndsAs (K.seen out.old) (K.seen out.new) config.entry.now b result.status) }
+    ensures shown { IsSome result.left → result.shown ≡ None }
+    ensures known { IsOpenedStatus result.status }
+    ensures opened { (result.status ≡ 0) ⊎ (result.status ≡ 5) ⊎ (result.status ≡ 7) → IsSome result.left }
+    ensures unbound { result.status ≡ 4 → IsNone result.left → Binds (F.seen front.old) (F.seen front.new) config.entry.now.listen config.entry.now.control false × RefusesRun (K.seen out.old) (K.seen out.new) None front_fault result.shown }
+    ensures silent { result.status ≡ 6 → IsNone result.left → (K.seen out.new).told ≡ (K.seen out.old).told }
+{
+    let numbers = numbers_of(config);
+    let answer = run_server::<R, F::L, F, C, G, K, Brand>(
+        rt,
+        alloc,
+        numbers,
+        edition,
+        front,
+        clock,
+        gate,
+        out,
+        told.as_slice(),
+    );
+    match answer {
+        Ok(served) => {
+            let ServedRun { board, written } = served;
+            let status = report_run(alloc, &board, written, out);
+            Ending {
+                status,
+                shown: None,
+                left: Some(board),
+            }
+        }
+        Err(OpenFault::Bind) => refuse_front(alloc, out),
+        Err(OpenFault::NoMemory) => no_memory(),
+    }
+}

@@ -1,0 +1,33 @@
+-- The calls of the front to which nothing comes.
+use Rattle.std.proofs.Common.{◌≡◌, ◌≤◌, ℕ, Bool, true, false, List, [], length, Option, refl, arith}
+use Rattle.mpm_base.specs.Count.{Rises}
+use Rattle.mpm_base.specs.Front.{Binds, Dials, Waits}
+use Rattle.mpm_base.specs.declared.addr.Addr.{Addr}
+use Rattle.mpm_base.specs.declared.front.Woke.TheVariants as woke
+use Rattle.run_tests.specs.ShutFrontInside.{shut_front_seen}
+
+-- a bind that fails
+pub fails-to-bind : (n m : ℕ) (listen : Addr) (control : Option ℕ) → Rises n m
+    → Binds (shut_front_seen n) (shut_front_seen m) listen control false
+fails-to-bind n m listen control rises =
+    record { script = refl; told_is = refl; faults = rises; accept_faults = refl; ends = refl; commands = refl }
+
+-- a dial that fails
+pub fails-to-dial : (n m port : ℕ) (word : List ℕ) → Rises n m → Dials (shut_front_seen n) (shut_front_seen m) port word false
+fails-to-dial n m port word rises =
+    record { script = refl; told_is = refl; faults = rises; accept_faults = refl; ends = refl; commands = refl }
+
+-- a wait that fails
+pub fails-to-wait : (n m : ℕ) (until : Option ℕ) (quiet : Bool) (ready : List ℕ) → Rises n m → ready ≡ []
+    → Waits (shut_front_seen n) (shut_front_seen m) until quiet woke.Failed ready
+fails-to-wait n m until quiet ready rises none = rw none (record {
+  script = refl;
+  tells = refl;
+  over = λ _. record { none = refl; still = refl };
+  awake = refl;
+  few = omega arith;
+  faults = rises;
+  accept_faults = refl;
+  ends = refl;
+  commands = refl;
+})

@@ -1,0 +1,5 @@
+use Rattle.run_tests.proofs.ShutLemmas.{fails-to-bind}
+use Rattle.run_tests.proofs.outside.ShutFrontFront.bind.Goals as goal
+
+pub returns : goal.returns
+returns c = record { binds = fails-to-bind _ _ c.args.listen c.args.control c.fail.ensures }
