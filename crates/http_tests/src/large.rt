@@ -1,7 +1,7 @@
-//! What is large: a body that is dropped as it comes, and a file that goes out as its link has room.
+//! What is large: a body that is dropped as it comes, and a file that goes out as its link has room, or by few writes.
 
 use crate::conns::{SECOND, cause_after, conn_of, show_bytes, site_of};
-use crate::long_link::LongLink;
+use crate::long_link::{LinkUse, LongLink};
 use crate::responses::large_site;
 use crate::test_conn::TestConn;
 use crate::texts::{grown, number_of, text_of, words};
@@ -36,6 +36,28 @@ pub fn show_long(rt: &impl Print, alloc: Global, rows: &str) -> io::Result<()> {
     Ok(())
 }
 
+/// Shows by which calls of its link each file goes out to the client of the first row, which asks for it, and then sends until
+/// no more is dropped.
+pub fn show_calls(rt: &impl Print, alloc: Global, rows: &str) -> io::Result<()> {
+    let mut rows = rows.lines();
+    let client = rows.next().unwrap_or("");
+    for row in rows {
+        let file = grown(text_of(alloc, row))?;
+        let site = site_of_file(alloc, &file)?;
+        let link = grown(long_link_of(alloc, client))?;
+        let mut conn = TestConn::new(alloc, site, link);
+        let _ = conn.talk(SECOND);
+        let _ = conn.shut();
+        let _ = conn.drop_rest();
+        print!(rt; "{row} => ")?;
+        match conn.end(Cause::LastSent, Tail::Sated) {
+            Some(ended) => show_end(rt, &ended)?,
+            None => println!(rt; "may not be")?,
+        }
+    }
+    Ok(())
+}
+
 /// The link of the client of the row.
 fn long_link_of(alloc: Global, row: &str) -> Result<LongLink, NoMemory> {
     let (front, rest) = row.split_once("; ").unwrap_or((row, ""));
@@ -47,12 +69,22 @@ fn long_link_of(alloc: Global, row: &str) -> Result<LongLink, NoMemory> {
     Ok(LongLink::make(alloc, front, unit, number_of(times), back))
 }
 
-/// Shows what came of a connection over such a link.
+/// Shows what came of a connection over such a link, and how the link was called.
 fn show_end(rt: &impl Print, ended: &Ended<LongLink>) -> io::Result<()> {
     let notes = ended.notes.len();
     print!(rt; "{:?} {:?}, {notes} notes", ended.cause, ended.tail)?;
     show_bytes(rt, ", sent", ended.link.sent())?;
-    println!(rt;)
+    show_use(rt, ended.link.calls())
+}
+
+/// Shows how a link was called.
+fn show_use(rt: &impl Print, calls: LinkUse) -> io::Result<()> {
+    let LinkUse {
+        reads,
+        room,
+        writes,
+    } = calls;
+    println!(rt; ", {writes} writes, {reads} reads of {room} bytes at most")
 }
 
 /// Shows what comes of each client that asks for a file of so many bytes, and whose link has room for so many bytes in each turn.

@@ -68,11 +68,36 @@ impl LongClient {
     }
 }
 
-/// The link of such a client, which has room for all that is written to it. It tells nothing.
+/// How a link was called.
+#[derive(Clone, Copy, Debug)]
+pub struct LinkUse {
+    /// How many reads there were.
+    pub reads: u64,
+    /// How many bytes the largest of them had room for.
+    pub room: usize,
+    /// How many writes there were, of one text or of two.
+    pub writes: u64,
+}
+
+impl LinkUse {
+    /// Counts a read that has room for so many bytes.
+    fn add_read(&mut self, room: usize) {
+        self.reads = self.reads.saturating_add(1);
+        self.room = self.room.max(room);
+    }
+
+    /// Counts a write.
+    fn add_write(&mut self) {
+        self.writes = self.writes.saturating_add(1);
+    }
+}
+
+/// The link of such a client, which has room for all that is written to it. It counts its calls, and tells nothing.
 #[derive(Drop)]
 pub struct LongLink {
     client: LongClient,
     taken: Octets,
+    calls: LinkUse,
     faults: u64,
     late_reads: u64,
     ends: u64,
@@ -91,6 +116,11 @@ impl LongLink {
                 times,
             },
             taken: Octets::make(alloc),
+            calls: LinkUse {
+                reads: 0,
+                room: 0,
+                writes: 0,
+            },
             faults: 0,
             late_reads: 0,
             ends: 0,
@@ -101,6 +131,11 @@ impl LongLink {
     pub fn sent(&self) -> &[u8] {
         self.taken.as_slice()
     }
+
+    /// How it was called so far.
+    pub fn calls(&self) -> LinkUse {
+        self.calls
+    }
 }
 
 impl Link for LongLink {
@@ -108,6 +143,7 @@ impl Link for LongLink {
 
     /// Gives bytes of one part.
     fn read(&mut self, buffer: &mut [u8]) -> Got {
+        self.calls.add_read(buffer.len());
         if matches!(self.client.part, Part::Nothing) {
             self.ends = self.ends.saturating_add(1);
             return Got::End;
@@ -121,6 +157,7 @@ impl Link for LongLink {
     }
 
     fn write(&mut self, bytes: &[u8]) -> Sent {
+        self.calls.add_write();
         match self.taken.add(bytes) {
             Ok(()) => Sent::Put(bytes.len() as u64),
             Err(NoMemory) => {
@@ -131,6 +168,7 @@ impl Link for LongLink {
     }
 
     fn write_pair(&mut self, first: &[u8], second: &[u8]) -> Sent {
+        self.calls.add_write();
         let before = self.taken.len();
         match self.taken.add_pair(first, second) {
             Ok(()) => Sent::Put((self.taken.len() - before) as u64),

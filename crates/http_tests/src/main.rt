@@ -10,8 +10,9 @@
 //! - `answers SECOND LAST`: heads that are answered at the second. `refusals`: codes. `continue`: no rows.
 //! - `conn`: the first row has the bytes that a client sends; each other one has the turns of a connection, what happens to its link
 //!   between them, and how it ends. `cuts`: what clients send; each is cut behind each of its bytes.
-//! - `long`: what a client sends first, how often it sends a further text, that text, and what it sends last. `slow`: how many bytes
-//!   the file has that a client asks for, and for how many its link has room in each turn.
+//! - `long`: what a client sends first, how often it sends a further text, that text, and what it sends last. `calls`: the first row
+//!   is such a client; each other one is the file `large.bin` that it asks for. `slow`: how many bytes the file has that a client
+//!   asks for, and for how many its link has room in each turn.
 //! - `pages`: the letters and the numbers of a snapshot.
 #![tactic(auto)]
 
@@ -65,6 +66,7 @@ fn show_section(
         "conn" => conns::show_turns(rt, alloc, rows),
         "cuts" => conns::show_cuts(rt, alloc, rows),
         "long" => large::show_long(rt, alloc, rows),
+        "calls" => large::show_calls(rt, alloc, rows),
         "slow" => large::show_slow(rt, alloc, rows),
         _ => pages::show_pages(rt, alloc, rows),
     }
