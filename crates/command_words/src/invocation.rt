@@ -53,12 +53,12 @@ impl From<NoMemory> for NoInvocation {
 }
 
 impl From<Error> for NoInvocation {
-    ghost use Rattle.std.specs.Prelude.{◌≡◌, ◌≢◌};
+    ghost use Rattle.std.specs.Prelude.{◌≡◌, ◌↔◌};
     ghost use Rattle.clap.specs.Words.{kind_of};
     ghost use Rattle.clap.specs.declared.error.kind.ErrorKind.TheVariants as kind;
     ghost use Rattle.command_words.specs.declared.invocation.NoInvocation.TheVariants as no;
 
-    ghost from_gives = { λ error e. e ≡ no.Unknown → kind_of error ≢ kind.OutOfMemory };
+    ghost from_gives = { λ error e. (e ≡ no.NoMemory) ↔ (kind_of error ≡ kind.OutOfMemory) };
 
     fn from(error: Error) -> NoInvocation {
         match error.kind() {
@@ -101,7 +101,7 @@ fn form_of_options(alloc: Global, options: Options<'_>) -> Result<Invocation, No
 
 /// The load of so many connections, from 1 to 100,000. Unknown where the text isn't 1 to 6 decimal digits, or is another number.
 fn load_of(text: &str) -> Result<Invocation, NoInvocation>
-    ensures { MatchResult result (IsLoadOf text.now) (λ why. IsNoLoad text.now) }
+    ensures { MatchResult result (IsLoadOf text.now) (λ why. (why ≡ no.Unknown) × IsNoLoad text.now) }
 {
     match decimal(text.as_bytes(), 6) {
         Some(number) if 1 <= number && number <= MOST_LOAD => Ok(Invocation::Load(number as u32)),
