@@ -1,2 +1,3 @@
 pub mod FormLemmas
 pub mod InvocationLemmas
+pub mod ShownLemmas

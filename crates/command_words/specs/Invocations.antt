@@ -1,5 +1,5 @@
 -- The forms of the command line.
-use Rattle.std.specs.Prelude.{◌≡◌, ◌⊎◌, ℕ, ◌≤◌, Bool, true, false, List, [], ◌∷◌, Option, Some, None, codes}
+use Rattle.std.specs.Prelude.{◌≡◌, ◌≢◌, ◌⊎◌, ℕ, ◌≤◌, Bool, true, false, List, [], ◌∷◌, Option, Some, None, codes, ⊤}
 use Rattle.std.specs.Option.{option_map_or}
 use Rattle.std.specs.Str.{bytes_eq}
 use Rattle.clap.specs.Words.{App, Row, Rule, fault_of, first_of, matches_of, new_app, new_rule}
@@ -95,6 +95,12 @@ IsForm values (sends word name) = values ≡ record no_option { file = Some name
 pub record HasForm (words : List (List ℕ)) (form : Form) : Type 0 where
   pub parsed : Parses words
   pub found : IsForm (option_values words) form
+
+-- the word is taken for no option: it doesn't begin with `-`, or is `-` alone
+abbrev pub IsPlainWord : List ℕ → Type 0
+IsPlainWord [] = ⊤
+IsPlainWord (byte ∷ []) = ⊤
+IsPlainWord (byte ∷ other ∷ rest) = byte ≢ 45
 
 -- the words have none of the forms
 abbrev pub IsNoInvocation : List (List ℕ) → Type 0
