@@ -1,10 +1,10 @@
 //! Reading a command line off a control connection.
-ghost use Rattle.std.specs.Prelude.{◌≡◌, ◌<◌, ◌≤◌, [], IfSome, length};
-ghost use Rattle.socket_outside.specs.CommandLines.{HearsOn, IsHeard, IsLineOrNone, MayBeHeard, feed_in};
+ghost use Rattle.std.specs.Prelude.{◌≡◌, ◌<◌, ◌≤◌, [], ◌∷◌, true, IfSome, length};
+ghost use Rattle.socket_outside.specs.CommandLines.{AnswersMore, HearsBy, HearsOn, IsHeard, IsLineOrNone, feed_in, gave_bytes};
+ghost use Rattle.socket_outside.specs.CommandLinesInside.{HearsOnce};
 
-use crate::answers::read_some;
+use crate::speaker::Speaker;
 use mpm_base::{Got, Line};
-use std::io::Read;
 use std::marker::Model;
 
 /// How many bytes a line has at most, its line feed with it.
@@ -65,10 +65,12 @@ impl Spoken {
     }
 
     /// Reads once, behind the bytes so far.
-    fn read_more<S: Read>(&mut self, socket: &mut S) -> Got
-        ensures { HearsOn self.old self.new (S.remaining socket.old) (S.remaining socket.new) }
+    fn read_more<S: Speaker>(&mut self, speaker: &mut S) -> Got
+        ensures bytes { HearsOn self.old self.new (S.left speaker.old) (S.left speaker.new) }
+        ensures tells { AnswersMore (S.answered speaker.old) (S.answered speaker.new) (result ∷ []) }
+        ensures grows { gave_bytes result ≡ true → length self.old < 33 → length self.old < length self.new }
     {
-        match read_some(socket, &mut self.bytes[self.filled..]) {
+        match speaker.speak(&mut self.bytes[self.filled..]) {
             Got::Got(count) => {
                 self.filled += count as usize;
                 Got::Got(count)
@@ -79,23 +81,34 @@ impl Spoken {
         }
     }
 
-    /// Reads what comes, up to the line's end, 33 bytes or the connection's end.
-    pub fn hear<S: Read>(&mut self, socket: &mut S) -> Heard
-        ensures heard { MayBeHeard self.new result }
-        ensures bytes { HearsOn self.old self.new (S.remaining socket.old) (S.remaining socket.new) }
+    /// Reads once. What is heard then, or none where it gave bytes and more are to come.
+    fn hear_once<S: Speaker>(&mut self, speaker: &mut S) -> Option<Heard>
+        ensures once { HearsOnce (S.answered speaker.old) (S.answered speaker.new) self.new result }
+        ensures bytes { HearsOn self.old self.new (S.left speaker.old) (S.left speaker.new) }
+        ensures grows { result ≡ None → length self.old < length self.new }
+        ensures few { result ≡ None → length self.new < 33 }
     {
-        for _ in 0..MOST {
-            match self.read_more(socket) {
-                Got::Got(_) => (),
-                Got::NotReady => return self.heard(),
-                Got::End | Got::Failed => return Heard::Nothing,
-            }
-            match self.heard() {
-                Heard::More => (),
-                heard => return heard,
+        let got = self.read_more(speaker);
+        match got {
+            Got::Got(_) => match self.heard() {
+                Heard::More => None,
+                heard => Some(heard),
+            },
+            Got::NotReady => Some(self.heard()),
+            Got::End | Got::Failed => Some(Heard::Nothing),
+        }
+    }
+
+    /// Reads what comes, up to the line's end, 33 bytes or the connection's end.
+    pub fn hear<S: Speaker>(&mut self, speaker: &mut S) -> Heard
+        ensures heard { HearsBy (S.answered speaker.old) (S.answered speaker.new) self.new result }
+        ensures bytes { HearsOn self.old self.new (S.left speaker.old) (S.left speaker.new) }
+    {
+        loop {
+            if let Some(heard) = self.hear_once(speaker) {
+                return heard;
             }
         }
-        Heard::Nothing
     }
 }
 

@@ -22,6 +22,7 @@ mod link;
 mod room;
 mod short_queue;
 mod sockets;
+mod speaker;
 
 pub use accepting::{NoStream, none_for};
 pub use answers::{got_for, lacks_room, read_some, sent_for, shut_for, woke_for, write_some};
@@ -32,3 +33,4 @@ pub use dial::{read_out, send_line};
 pub use events::{Source, gives_slot, longest_wait, source_of};
 pub use front::SocketFront;
 pub use link::SocketLink;
+pub use speaker::Speaker;
