@@ -1,5 +1,5 @@
 //! The control port: the connections that bring command lines, and the lines that wait.
-ghost use Rattle.std.specs.Prelude.{◌≡◌, ◌++◌, IfOk, [], nat_lt, length, if◌then◌else◌, ◌∷◌};
+ghost use Rattle.std.specs.Prelude.{◌≡◌, ◌++◌, IfOk, [], nat_lt, length, if◌then◌else◌, ◌∷◌, is_some};
 ghost use Rattle.std.specs.Option.{option_to_list};
 
 use crate::accepting::{NoStream, accept_next};
@@ -51,7 +51,9 @@ impl ControlPort {
     }
 
     /// Takes connections of that socket from now on, or of none.
-    pub(crate) fn open(&mut self, listener: Option<TcpListener>) {
+    pub(crate) fn open(&mut self, listener: Option<TcpListener>)
+        ensures { is_some self.new.listener ≡ is_some listener }
+    {
         self.asks = false;
         self.listener = listener;
     }

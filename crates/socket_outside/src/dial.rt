@@ -1,10 +1,10 @@
 //! Sending a command line to a server of this machine.
-ghost use Rattle.std.specs.Prelude.{◌≡◌, [], ◌∷◌, ◌++◌, true};
+ghost use Rattle.std.specs.Prelude.{◌≡◌, [], ◌∷◌, ◌++◌, true, is_ok};
 ghost use Rattle.std.specs.Io.KnownBytes.{Appends, IsAtEnd};
 
 use crate::answers::read_some;
 use mpm_base::Got;
-use std::io::{Read, Write};
+use std::io::{self, Read, Write};
 use std::net::{Ipv4Addr, Net, OpenStream, SocketAddr};
 
 /// How many bytes are read at once, and dropped.
@@ -13,7 +13,14 @@ const PIECE: usize = 256;
 /// Sends the word and a line feed to that port of this machine, and reads until the server closes. False where a call failed.
 pub(crate) fn dial<R: Net>(net: &R, port: u16, word: &str) -> bool {
     let address = SocketAddr::from((Ipv4Addr::LOCALHOST, port));
-    match net.connect(address) {
+    sent_over(net.connect(address), word)
+}
+
+/// Sends the line over the connection, and reads to the end. False where none could be made.
+fn sent_over<S: Read + Write + OpenStream + Drop>(connected: io::Result<S>, word: &str) -> bool
+    ensures { result ≡ true → is_ok connected ≡ true }
+{
+    match connected {
         Ok(stream) => exchange(stream, word),
         Err(_) => false,
     }

@@ -1,6 +1,7 @@
 //! A connection's way to its client over a socket.
-ghost use Rattle.std.specs.Prelude.{◌≡◌, not, true, false, None};
-ghost use Rattle.mpm_base.specs.Link.{OnlyFaults};
+ghost use Rattle.std.specs.Prelude.{◌≡◌, ◌++◌, length, not, true, false, None};
+ghost use Rattle.mpm_base.specs.Link.{OnlyFaults, Writes};
+ghost use Rattle.socket_outside.specs.Answers.{leaves_some};
 
 use crate::answers::{lacks_room, read_some, shut_for, write_pair_some, write_some};
 use crate::counters::LinkCounters;
@@ -75,8 +76,11 @@ impl Link for SocketLink {
         got
     }
 
-    /// Failed where the link was closed.
-    fn write(&mut self, bytes: &[u8]) -> Sent {
+    /// Failed where the link was closed. It lacks room from then on exactly where something is left to be written.
+    fn write(&mut self, bytes: &[u8]) -> Sent
+        ensures link { Writes (record { told = None; counts = self.old.counters }) (record { told = None; counts = self.new.counters }) result bytes.now }
+        ensures room { self.new.room.lacks ≡ leaves_some result (length bytes.now) }
+    {
         self.room.set(true);
         let sent = match &mut self.socket {
             Some(socket) => write_some(socket, bytes),
@@ -87,8 +91,11 @@ impl Link for SocketLink {
         sent
     }
 
-    /// Failed where the link was closed.
-    fn write_pair(&mut self, first: &[u8], second: &[u8]) -> Sent {
+    /// Failed where the link was closed. It lacks room from then on exactly where something is left to be written.
+    fn write_pair(&mut self, first: &[u8], second: &[u8]) -> Sent
+        ensures link { Writes (record { told = None; counts = self.old.counters }) (record { told = None; counts = self.new.counters }) result (first.now ++ second.now) }
+        ensures room { self.new.room.lacks ≡ leaves_some result (length (first.now ++ second.now)) }
+    {
         self.room.set(true);
         let sent = match &self.socket {
             Some(socket) => write_pair_some(socket, first, second),

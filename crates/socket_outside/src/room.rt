@@ -1,4 +1,5 @@
 //! Which links may lack room: what a link tells the front of its writes.
+ghost use Rattle.std.specs.Prelude.{◌≡◌, false};
 
 use mpm_base::NoMemory;
 use std::alloc::Global;
@@ -52,7 +53,9 @@ pub(crate) struct RoomMark {
 
 impl RoomMark {
     /// Of a link that isn't watched, and lacks no room.
-    pub(crate) fn of(marks: Arc<RoomMarks>) -> RoomMark {
+    pub(crate) fn of(marks: Arc<RoomMarks>) -> RoomMark
+        ensures { result.lacks ≡ false }
+    {
         RoomMark {
             marks,
             slot: None,
@@ -61,7 +64,9 @@ impl RoomMark {
     }
 
     /// The link is watched under that slot from now on.
-    pub(crate) fn watch(&mut self, slot: u32) {
+    pub(crate) fn watch(&mut self, slot: u32)
+        ensures { self.new.lacks ≡ self.old.lacks }
+    {
         self.slot = Some(slot);
         self.marks.set(slot, self.lacks);
     }
@@ -72,7 +77,9 @@ impl RoomMark {
     }
 
     /// The link may lack room from now on, or doesn't.
-    pub(crate) fn set(&mut self, lacks: bool) {
+    pub(crate) fn set(&mut self, lacks: bool)
+        ensures { self.new.lacks ≡ lacks }
+    {
         self.lacks = lacks;
         if let Some(slot) = self.slot {
             self.marks.set(slot, lacks);

@@ -1,5 +1,5 @@
 //! The sockets of a front, and what the system says of them.
-ghost use Rattle.std.specs.Prelude.{◌≡◌, ◌≢◌, ◌==◌, ◌≤◌, None, Some, [], length, not, true, false};
+ghost use Rattle.std.specs.Prelude.{◌≡◌, ◌≢◌, ◌==◌, ◌≤◌, ◌&&◌, IfOk, None, Some, [], is_some, length, not, true, false};
 ghost use Rattle.std.specs.List.{IsDistinct};
 ghost use Rattle.mio.specs.Events.{capacity as events_capacity};
 ghost use Rattle.mpm_base.specs.Front.{Hands};
@@ -79,7 +79,11 @@ impl Sockets {
     }
 
     /// Gives up the sockets that are open, and opens these. False where one can't be opened: then none is open.
-    pub(crate) fn open<R: Net>(&mut self, net: &R, listen: Addr, control: Option<u16>) -> bool {
+    pub(crate) fn open<R: Net>(&mut self, net: &R, listen: Addr, control: Option<u16>) -> bool
+        ensures listens { is_some self.new.listener ≡ result }
+        ensures controls { is_some self.new.control.listener ≡ (result && is_some control) }
+        ensures asks { self.new.asks ≡ result }
+    {
         self.give_up();
         if !self.begin(net) {
             return false;
@@ -100,15 +104,24 @@ impl Sockets {
     }
 
     /// Begins to wait for what is watched, where it didn't yet. False where that failed.
-    fn begin<R: Net>(&mut self, net: &R) -> bool {
-        if self.poll.is_none() {
-            self.poll = Poll::new(net).ok();
+    fn begin<R: Net>(&mut self, net: &R) -> bool
+        ensures listener { self.new.listener ≡ self.old.listener }
+        ensures control { self.new.control ≡ self.old.control }
+        ensures asks { self.new.asks ≡ self.old.asks }
+    {
+        if self.poll.is_some() {
+            return true;
         }
+        self.poll = Poll::new(net).ok();
         self.poll.is_some()
     }
 
     /// Gives up all sockets.
-    fn give_up(&mut self) {
+    fn give_up(&mut self)
+        ensures listener { is_some self.new.listener ≡ false }
+        ensures control { is_some self.new.control.listener ≡ false }
+        ensures asks { self.new.asks ≡ false }
+    {
         self.hush();
         self.control.open(None);
     }
@@ -160,7 +173,11 @@ impl Sockets {
     }
 
     /// Gives up the listening socket.
-    pub(crate) fn hush(&mut self) {
+    pub(crate) fn hush(&mut self)
+        ensures listener { is_some self.new.listener ≡ false }
+        ensures control { self.new.control ≡ self.old.control }
+        ensures asks { self.new.asks ≡ false }
+    {
         self.listener = None;
         self.asks = false;
     }
@@ -260,7 +277,9 @@ fn open_sockets<R: Net>(
     registry: &Registry,
     listen: Addr,
     control: Option<u16>,
-) -> io::Result<Opened> {
+) -> io::Result<Opened>
+    ensures { IfOk result (λ opened. is_some opened.control ≡ is_some control) }
+{
     let address = SocketAddr::from((Ipv4Addr::from(listen.host), listen.port));
     let listener = listen_at(net, registry, address, LISTENER)?;
     let control = match control {
