@@ -130,10 +130,16 @@ impl<'a, R: Net + time::Clock> Front for SocketFront<'a, R> {
         }
     }
 
+    /// Control connections that the system refused before come first: else each descriptor that another connection gives back would
+    /// go to a further one, and no command line would be heard.
     fn accept(&mut self) -> Arrival<SocketLink> {
+        let owes = self.sockets.asks_control();
+        if owes {
+            self.sockets.attend_control();
+        }
         let arrival = self.sockets.accept();
         let failed = has_failed(&arrival);
-        self.pressed = self.pressed || failed;
+        self.pressed = self.pressed || failed || owes;
         self.counters.accept(failed);
         arrival
     }

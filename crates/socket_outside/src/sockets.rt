@@ -187,6 +187,13 @@ impl Sockets {
         self.control.asks()
     }
 
+    /// Takes the control connections that wait, and reads on from each.
+    pub(crate) fn attend_control(&mut self) {
+        if let Some(poll) = &self.poll {
+            self.control.attend(poll.registry());
+        }
+    }
+
     /// The command line that waited longest.
     pub(crate) fn take_line(&mut self) -> Option<Line> {
         self.control.take_line()
