@@ -1,6 +1,6 @@
 -- Counts that rise and never fall.
 use Rattle.std.proofs.Common.{◌≡◌, ◌<◌, ℕ, Bool, true, false, arith}
-use Rattle.mpm_base.specs.Count.{NeverFalls, Rises, RisesWhere}
+use Rattle.mpm_base.specs.Count.{NeverFalls, Rises, RisesExactlyWhere, RisesWhere}
 
 -- a count that rose behind one that didn't fall
 pub rises-behind : (a b c : ℕ) → NeverFalls a b → Rises b c → Rises a c
@@ -18,3 +18,8 @@ never-rises a b rises none = grind (arith, rises.0, rises.1, none)
 pub where-stays : (test : Bool) (a b : ℕ) → RisesWhere test a b → NeverFalls a b
 where-stays true a b rises = rises.0
 where-stays false a b stays = stays
+
+-- so it is with one that rose exactly where a test holds, and else stayed
+pub exactly-stays : (test : Bool) (a b : ℕ) → RisesExactlyWhere test a b → NeverFalls a b
+exactly-stays true a b rises = rises.0
+exactly-stays false a b stays = omega (arith, stays)

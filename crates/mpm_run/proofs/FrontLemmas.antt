@@ -1,7 +1,7 @@
 -- What the calls of a front leave of it, and whether the table is in step with it.
 use Rattle.std.proofs.Common.{◌≡◌, ◌⊎◌, inl, inr, ℕ, Bool, true, false, not, List, [], ◌∷◌, ◌++◌, map, Option, None, Some, is_some, option_map, IfSome, refl, sym, ap, subst, ◌∙◌, arith}
-use Rattle.mpm_base.specs.Count.{next_count, NeverFalls, Rises, RisesWhere, RisesExactlyWhere}
-use Rattle.mpm_base.specs.Front.{FrontTold, FrontSeen, BoundTold, Commands, TellsOn, GoesForward, Waits, Binds, HasAllTaken, IsHandedOut, Accepts, WaitTold, after_accept, after_bind, after_command, after_hush, after_turning_away, after_watch, front_after_turning_away, front_after_watch, hushed_front, is_ended, moments_in, moments_of, wait_failed}
+use Rattle.mpm_base.specs.Count.{next_count}
+use Rattle.mpm_base.specs.Front.{FrontTold, FrontSeen, BoundTold, Commands, DialTold, TellsOn, GoesForward, Waits, Binds, HasAllTaken, IsHandedOut, Accepts, WaitTold, after_accept, after_bind, after_command, after_hush, after_turning_away, after_watch, front_after_turning_away, front_after_watch, hushed_front, is_ended, moments_in, moments_of, wait_failed}
 use Rattle.mpm_base.specs.Clock.{asked_at}
 use Rattle.mpm_base.specs.declared.addr.Addr.{Addr}
 use Rattle.mpm_base.specs.declared.conn.ConnName.{ConnName}
@@ -16,24 +16,10 @@ use Rattle.conn_machine.specs.declared.state.State.{State}
 use Rattle.conn_state.specs.Conn.{IsFresh}
 use Rattle.conn_state.specs.Known.{IsOfClient, KnownOutside, TellsFrom}
 use Rattle.mpm_run.specs.Watched.{IsHushed}
-use Rattle.mpm_run.specs.ListenInside.{AsksFor, Follows, clients_told, IsArrival, IsInStep, IsKnownOfFront, KeepsStep, OnlyReads, OnlyReadsAndTakes, OnlyTakes, TellsAlike, bound_of}
-use Rattle.mpm_run.specs.Stops.{HasGivenAll}
+use Rattle.mpm_run.specs.ListenInside.{AsksFor, Follows, clients_told, IsArrival, IsInStep, IsKnownOfFront, KeepsStep, OnlyReads, OnlyReadsAndTakes, OnlyTakes, TellsAlike, contacts, contacts_of}
+use Rattle.mpm_run.specs.Stops.{HasFailedLast, HasGivenAll}
 use Rattle.mpm_run.specs.Times.{IsInTime, waits_of}
-
--- ## Counts
-
--- a count that rose, or may have, didn't fall
-pub rises-where : (rose : Bool) (old new : ℕ) → RisesWhere rose old new → NeverFalls old new
-rises-where true old new rises = rises.0
-rises-where false old new rises = rises
-
-rises-exactly : (rose : Bool) (old new : ℕ) → RisesExactlyWhere rose old new → NeverFalls old new
-rises-exactly true old new rises = rises.0
-rises-exactly false old new rises = omega (arith, rises)
-
--- a count that didn't fall, and then rose, rose
-pub rises-after : (a b c : ℕ) → NeverFalls a b → Rises b c → Rises a c
-rises-after a b c first second = (omega (arith, first, second.0), λ less. grind (arith, less, first, second.0, second.1))
+use Rattle.mpm_run.proofs.CountLemmas.{exactly-stays, where-stays}
 
 -- ## The front is still the one that it was
 
@@ -73,8 +59,8 @@ pub follows-wait : (old new : FrontSeen) (until : Option ℕ) (quiet : Bool) (an
 follows-wait old new until quiet answer ready waits = record {
   script = waits.script;
   clients = waits-clients until quiet answer ready old.told new.told waits.tells;
-  faults = rises-where (wait_failed answer) old.counts.faults new.counts.faults waits.faults;
-  ends = rises-exactly (is_ended answer) old.counts.ends new.counts.ends waits.ends;
+  faults = where-stays (wait_failed answer) old.counts.faults new.counts.faults waits.faults;
+  ends = exactly-stays (is_ended answer) old.counts.ends new.counts.ends waits.ends;
   commands = omega (arith, waits.commands);
 }
 
@@ -232,6 +218,19 @@ waits-after until quiet answer ready (Some t) told' tells = record {
   slots = refl;
   answers = refl;
 }
+
+-- one that failed is the last
+pub failed-last : (until : Option ℕ) (quiet : Bool) (ready : List ℕ) (told told' : Option FrontTold)
+    → TellsOn (GoesForward until quiet woke.Failed ready) told told' → IfSome told' HasFailedLast
+failed-last until quiet ready None told' tells = subst (λ (o : Option FrontTold). IfSome o HasFailedLast) (sym tells) tt
+failed-last until quiet ready (Some t) told' tells =
+    subst (λ (o : Option FrontTold). IfSome o HasFailedLast) (sym tells.1)
+    (record {
+      before = t.waits;
+      last = record { until = until; quiet = quiet; slots = ready; answer = woke.Failed; passed = tells.2.passed };
+      waits = tells.2.waits;
+      failed = refl;
+    })
 
 moments-more : (w : WaitTold) (waits : List WaitTold) → moments_of (waits ++ w ∷ []) ≡ moments_of waits ++ moments_in w.answer
 moments-more w waits =
@@ -480,9 +479,16 @@ hushed-part part (Some t) told' keeps is = ap (option_map part) is ∙ ap (λ (x
 pub waits-hushed : (old new : FrontSeen) → new ≡ after_hush old → waits_of new.told ≡ waits_of old.told
 waits-hushed old new is = hushed-part (λ (t : FrontTold). t.waits) old.told new.told (λ t. refl) (ap (λ (f : FrontSeen). f.told) is)
 
--- and what it was bound to
-pub bound-hushed : (old new : FrontSeen) → new ≡ after_hush old → bound_of new.told ≡ bound_of old.told
-bound-hushed old new is = hushed-part (λ (t : FrontTold). t.bound) old.told new.told (λ t. refl) (ap (λ (f : FrontSeen). f.told) is)
+-- and what it was bound to, and its dials
+pub contacts-hushed : (old new : FrontSeen) → new ≡ after_hush old → contacts_of new.told ≡ contacts_of old.told
+contacts-hushed old new is = hushed-part contacts old.told new.told (λ t. refl) (ap (λ (f : FrontSeen). f.told) is)
+
+-- and the last wait failed still
+pub failed-hushed : (told told' : Option FrontTold) → told' ≡ option_map hushed_front told → IfSome told HasFailedLast → IfSome told' HasFailedLast
+failed-hushed None told' is failed = subst (λ (o : Option FrontTold). IfSome o HasFailedLast) (sym is) tt
+failed-hushed (Some t) told' is failed =
+    subst (λ (o : Option FrontTold). IfSome o HasFailedLast) (sym is)
+    (record { before = failed.before; last = failed.last; waits = failed.waits; failed = failed.failed })
 
 -- it takes no further connection
 pub is-hushed : (told told' : Option FrontTold) → told' ≡ option_map hushed_front told → IfSome told' IsHushed
@@ -509,7 +515,7 @@ follows-bind old new listen control answer binds = record {
   script = binds.script;
   clients =
       clients-mapped old.told new.told (after_bind answer listen control) (after_bind-clients answer listen control) binds.told_is;
-  faults = rises-where (not answer) old.counts.faults new.counts.faults binds.faults;
+  faults = where-stays (not answer) old.counts.faults new.counts.faults binds.faults;
   ends = omega (arith, binds.ends);
   commands = omega (arith, binds.commands);
 }
@@ -527,7 +533,7 @@ follows-command old new answer commands = record {
   clients = clients-mapped old.told new.told (after_command (is_some answer)) (after_command-clients (is_some answer)) commands.told_is;
   faults = omega (arith, commands.faults);
   ends = omega (arith, commands.ends);
-  commands = rises-exactly (is_some answer) old.counts.commands new.counts.commands commands.commands;
+  commands = exactly-stays (is_some answer) old.counts.commands new.counts.commands commands.commands;
 }
 
 after_command-only : (given : Bool) (t : FrontTold) → OnlyReads t (after_command given t)

@@ -432,11 +432,3 @@ patience-down turns old new calls a b c d halts closes retires is patient =
     (patience-silent 0 _ None old.told calls c d retires.acts (silent-retires retires.children).ticks
     (patience-silent 0 _ None old.told calls b c closes.acts (silent-gone closes.gone).ticks
     (patience-silent 0 _ None old.told calls a b halts (silent-halts (is_halted a.state.going) a turns).ticks patient)))
-
--- ## A run of a script
-
--- a front and a clock that are steady
-pub patience-of : (comings : List ℕ) (t : FrontTold) (calls : List (ℕ × ℕ)) (b : SeenBook) → t.comings ≡ Some comings → AreEchoes calls
-    → IsPatientRun (Some t) (Some calls) b → ArePatient comings t.waits b.base b.history
-patience-of comings t calls b is echoes patient =
-    patient (record { front = t; tells = refl; comings = comings; patient = is; asked = calls; clock = refl; echoes = echoes })

@@ -18,7 +18,7 @@ use Rattle.mpm_run.specs.Tells.{AllReceive}
 use Rattle.mpm_run.specs.Times.{AreBehind, IsInTime, IsInformed, SignalsAre, TicksAre, waits_of}
 use Rattle.mpm_run.specs.Watched.{AreClosedAtOnce, AreWatched, IsBoundOnce, IsHushed, IsOpenedAndHushed, link_watched}
 use Rattle.mpm_run.specs.declared.run_numbers.RunNumbers.{RunNumbers}
-use Rattle.mpm_run.proofs.FrontLemmas.{rises-after}
+use Rattle.mpm_run.proofs.CountLemmas.{rises-behind}
 
 -- nothing was asked of the front but to be bound, and nothing of the clock
 pub record IsIdle (told : Option FrontTold) (calls : Option (List (ℕ × ℕ))) : Type 0 where
@@ -98,13 +98,6 @@ binds-true n old here new answer same is binds =
     subst (λ (f : FrontSeen). Binds f new n.listen n.control true) same
     (subst (λ (b : Bool). Binds here new n.listen n.control b) is binds)
 
--- or failed
-pub binds-false : (n : RunNumbers) (old here new : FrontSeen) (answer : Bool) → here ≡ old → answer ≡ false → Binds here new n.listen n.control answer
-    → Binds old new n.listen n.control false
-binds-false n old here new answer same is binds =
-    subst (λ (f : FrontSeen). Binds f new n.listen n.control false) same
-    (subst (λ (b : Bool). Binds here new n.listen n.control b) is binds)
-
 -- nothing else was asked of it
 pub idle-bound : (n : RunNumbers) (old new : FrontSeen) (calls : Option (List (ℕ × ℕ))) → Binds old new n.listen n.control true
     → IfSome old.told IsUnused → IfSome calls (λ calls. calls ≡ []) → IsIdle new.told calls
@@ -144,17 +137,18 @@ stopped-before old bound new s follows stopped = record {
           going = ended.going;
           all =
               record {
-                answered = rises-after old.counts.ends bound.counts.ends new.counts.ends follows.ends ended.all.answered;
+                answered = rises-behind old.counts.ends bound.counts.ends new.counts.ends follows.ends ended.all.answered;
                 taken = ended.all.taken;
               };
         })
         | inr (inl asked) ↦ inr (inl (record {
           going = asked.going;
-          gave = rises-after old.counts.commands bound.counts.commands new.counts.commands follows.commands asked.gave;
+          gave = rises-behind old.counts.commands bound.counts.commands new.counts.commands follows.commands asked.gave;
         }))
         | inr (inr (inl failed)) ↦ inr (inr (inl (record {
           going = failed.going;
-          failed = rises-after old.counts.faults bound.counts.faults new.counts.faults follows.faults failed.failed;
+          failed = rises-behind old.counts.faults bound.counts.faults new.counts.faults follows.faults failed.failed;
+          last = failed.last;
         })))
         | inr (inr (inr broken)) ↦ inr (inr (inr broken))
       ];

@@ -24,7 +24,7 @@ use Rattle.mpm_run.specs.ClosingInside.{IsHaltedWay, LetsGo}
 use Rattle.mpm_run.specs.RoundInside.{NoneHas, RetiresSome, end_events, halt_events}
 use Rattle.mpm_run.specs.Times.{IsInformed, IsInformedSoFar, WasInformed}
 use Rattle.mpm_run.proofs.EventLemmas.{AreSilent, silent-gone, silent-none, silent-retires, silent-stops}
-use Rattle.mpm_run.proofs.FrontLemmas.{given-hushed}
+use Rattle.mpm_run.proofs.FrontLemmas.{failed-hushed, given-hushed}
 use Rattle.mpm_run.proofs.InformLemmas.{TellsAs, informed-as, so_far-as, tells-silent}
 use Rattle.mpm_run.proofs.RoundLemmas.{acts-added, acts-spelled, none-has}
 
@@ -128,6 +128,7 @@ has-stopped (Ok end.Failed) first now front' b s ends halts same is down = recor
       inr (inr (inl (record {
         going = halts;
         failed = subst (Rises first.counts.faults) (sym (ap (λ (f : FrontSeen). f.counts.faults) is)) ends.1;
+        last = failed-hushed now.told front'.told (ap (λ (f : FrontSeen). f.told) is) ends.2;
       })));
 }
 has-stopped (Err f) first now front' b s ends halts same is down = record { down = down; cause = inr (inr (inr halts)) }

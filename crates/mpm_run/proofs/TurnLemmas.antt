@@ -1,7 +1,7 @@
 -- What holds of a listener between two turns, and how a turn keeps it.
-use Rattle.std.proofs.Common.{◌≡◌, ◌≢◌, ◌<◌, inl, ℕ, false, List, [], Option, None, IfSome, map, max, ap, sym, subst, refl, ◌∙◌, arith}
-use Rattle.mpm_base.specs.Count.{RisesExactlyWhere}
-use Rattle.mpm_base.specs.Front.{GivesOnlyAwake, GoesForward, TellsOn, WaitTold, is_ended, moments_in}
+use Rattle.std.proofs.Common.{◌≡◌, ◌≢◌, ◌<◌, inl, ℕ, false, List, [], Option, None, Ok, IfSome, map, max, ap, sym, subst, refl, ◌∙◌, arith}
+use Rattle.mpm_base.specs.Count.{RisesExactlyWhere, RisesWhere}
+use Rattle.mpm_base.specs.Front.{GivesOnlyAwake, GoesForward, TellsOn, WaitTold, is_ended, moments_in, wait_failed}
 use Rattle.mpm_base.specs.declared.front.Woke.{Woke}
 use Rattle.mpm_base.specs.declared.front.Woke.TheVariants as woke
 use Rattle.conn_machine.specs.declared.event.Entry.{Entry}
@@ -13,6 +13,7 @@ use Rattle.board.specs.Book.{SeenBook}
 use Rattle.board.specs.Board.{SeenBoard}
 use Rattle.worker_group.specs.Acts.{Acts, ActsInSteps}
 use Rattle.worker_group.specs.Service.{IsUp, LeavesRest}
+use Rattle.mpm_run.specs.declared.listen.End.TheVariants as end
 use Rattle.mpm_run.specs.declared.listen.Pause.{Pause}
 use Rattle.mpm_run.specs.declared.listen.Rest.{Rest}
 use Rattle.mpm_run.specs.Listen.{HasNoLive}
@@ -23,8 +24,9 @@ use Rattle.mpm_run.specs.Started.{AreAskedFor}
 use Rattle.mpm_run.specs.Times.{IsInTime, IsInformed, IsInformedSoFar, moment_for, waits_of}
 use Rattle.mpm_run.proofs.AskedLemmas.{asked-served, asked-silent}
 use Rattle.mpm_run.proofs.BrokenLemmas.{ends-silently}
+use Rattle.mpm_run.proofs.CountLemmas.{rises-behind}
 use Rattle.mpm_run.proofs.EventLemmas.{silent-starts}
-use Rattle.mpm_run.proofs.FrontLemmas.{WaitsMore, all-taken, bound-kept, bound-wait, follows-same, follows-trans, follows-wait, rises-after, step-kept, step-wait, time-kept, time-wait, waits-after, waits-kept}
+use Rattle.mpm_run.proofs.FrontLemmas.{WaitsMore, all-taken, contacts-kept, contacts-wait, failed-last, follows-same, follows-trans, follows-wait, step-kept, step-wait, time-kept, time-wait, waits-after, waits-kept}
 use Rattle.mpm_run.proofs.InformLemmas.{informed-as, informed-broken, informed-idle, informed-round, informed-so_far, tells-same, tells-silent}
 use Rattle.mpm_run.proofs.PassLemmas.{serves-acts}
 use Rattle.mpm_run.proofs.RoundLemmas.{none-has}
@@ -208,7 +210,7 @@ ends-ended rest pause first a w before waited is going live =
       all =
           record {
             answered =
-                rises-after first.front.counts.ends a.front.counts.ends w.front.counts.ends before.follows.ends
+                rises-behind first.front.counts.ends a.front.counts.ends w.front.counts.ends before.follows.ends
                 (subst (λ (x : Woke). RisesExactlyWhere (is_ended x) a.front.counts.ends w.front.counts.ends) is waited.waits.ends);
             taken =
                 subst (λ (b : SeenBoard). IfSome w.front.told (HasGivenAll b.book.state)) (sym waited.board)
@@ -223,6 +225,17 @@ between-failed rest pause first a w before waited is =
     let asks = subst (λ (x : Woke). AsksFor x a.board.book.state.moment a.calls w.calls pause.moment) is waited.asks in
     let empty = subst (λ (x : Woke). GivesOnlyAwake x w.ready) is waited.waits.awake in
     between-waited rest pause first a w before waited (ap moments_in is) empty asks.0
+
+-- then the server stops for that
+pub ends-failed : (rest : Rest) (pause : Pause) (first a w : SeenListener) → IsBetween first a → HasWaited rest pause a w → pause.woke ≡ woke.Failed
+    → is_halted a.board.book.state.going ≡ false → TurnsEnd (Ok end.Failed) first.front w.front w.board.book
+ends-failed rest pause first a w before waited is going =
+    let forward = subst (λ (x : Woke). TellsOn (GoesForward rest.until rest.quiet x w.ready) a.front.told w.front.told) is waited.waits.tells in (
+      ap (λ (b : SeenBoard). is_halted b.book.state.going) waited.board ∙ going,
+      rises-behind first.front.counts.faults a.front.counts.faults w.front.counts.faults before.follows.faults
+          (subst (λ (x : Woke). RisesWhere (wait_failed x) a.front.counts.faults w.front.counts.faults) is waited.waits.faults),
+      failed-last rest.until rest.quiet w.ready a.front.told w.front.told forward,
+    )
 
 -- what holds of a listener whose turns were broken off
 pub record HasBroken (first now : SeenListener) : Type 0 where

@@ -34,7 +34,7 @@ use Rattle.mpm_run.specs.Links.{HandsOutTaken, TakesLinks, TurnsOneAway}
 use Rattle.mpm_run.specs.Listen.{HasNoLive, IsClosedDown}
 use Rattle.mpm_run.specs.Patient.{IsAtRest}
 use Rattle.mpm_run.specs.Started.{BeginsWithStarts}
-use Rattle.mpm_run.specs.Stops.{HasTakenAll, StoppedFor}
+use Rattle.mpm_run.specs.Stops.{HasFailedLast, HasTakenAll, StoppedFor}
 use Rattle.mpm_run.specs.Watched.{AreWatched, accepted_names}
 
 -- what a front was bound to, where it tells
@@ -199,7 +199,8 @@ pub record HasNothingToCome (old new : FrontSeen) (s : State) : Type 0 where
 abbrev pub TurnsEnd : Result End BoardFault → FrontSeen → FrontSeen → SeenBook → Type 0
 TurnsEnd (Ok end.Ended) old new b = HasNothingToCome old new b.state
 TurnsEnd (Ok end.Asked) old new b = (is_halted b.state.going ≡ false) × Rises old.counts.commands new.counts.commands
-TurnsEnd (Ok end.Failed) old new b = (is_halted b.state.going ≡ false) × Rises old.counts.faults new.counts.faults
+TurnsEnd (Ok end.Failed) old new b =
+    (is_halted b.state.going ≡ false) × Rises old.counts.faults new.counts.faults × IfSome new.told HasFailedLast
 TurnsEnd (Err fault) old new b = MustStop fault b
 
 -- the server goes on, and no connection is live where nothing more can come; or it has to stop for the fault, or did

@@ -1,7 +1,8 @@
 -- Why a server stopped, as its front shows it.
-use Rattle.std.specs.Prelude.{◌≡◌, ◌⊎◌, IfSome, length}
+use Rattle.std.specs.Prelude.{◌≡◌, ◌⊎◌, List, [], ◌∷◌, ◌++◌, IfSome, length}
 use Rattle.mpm_base.specs.Count.{Rises}
-use Rattle.mpm_base.specs.Front.{FrontSeen, FrontTold}
+use Rattle.mpm_base.specs.Front.{FrontSeen, FrontTold, WaitTold}
+use Rattle.mpm_base.specs.declared.front.Woke.TheVariants as woke
 use Rattle.conn_machine.specs.declared.event.Why.TheVariants as why
 use Rattle.conn_machine.specs.declared.state.Going.TheVariants.{Halted}
 use Rattle.conn_machine.specs.declared.state.State.{State}
@@ -28,10 +29,18 @@ pub record HasBeenAsked (old new : FrontSeen) (s : State) : Type 0 where
   pub going : s.going ≡ Halted why.Asked
   pub gave : Rises old.counts.commands new.counts.commands
 
--- the server stopped because a wait of the front failed
+-- the last of the waits that the front tells failed
+pub record HasFailedLast (t : FrontTold) : Type 0 where
+  pub before : List WaitTold
+  pub last : WaitTold
+  pub waits : t.waits ≡ before ++ last ∷ []
+  pub failed : last.answer ≡ woke.Failed
+
+-- the server stopped because a wait of the front failed: it counted a failed call, and where it tells, its last wait failed
 pub record HasFrontFailed (old new : FrontSeen) (s : State) : Type 0 where
   pub going : s.going ≡ Halted why.FrontFailed
   pub failed : Rises old.counts.faults new.counts.faults
+  pub last : IfSome new.told HasFailedLast
 
 -- why it stopped: nothing more could come, it was asked to, a wait failed, the history was full, or memory lacked
 abbrev pub StoppedFor : FrontSeen → FrontSeen → State → Type 0

@@ -1,6 +1,7 @@
 use Rattle.std.proofs.Common.{None, Some}
 use Rattle.mpm_run.proofs.CommandLemmas.{heeded-line, heeded-none, read-none, stopped-line}
-use Rattle.mpm_run.proofs.FrontLemmas.{follows-command, follows-same, follows-trans, reads-command, reads-same, reads-trans, rises-after}
+use Rattle.mpm_run.proofs.CountLemmas.{rises-behind}
+use Rattle.mpm_run.proofs.FrontLemmas.{follows-command, follows-same, follows-trans, reads-command, reads-same, reads-trans}
 use Rattle.mpm_run.proofs.listen.is_asked_to_stop.Goals as goal
 
 pub loop-init : goal.loop-init
@@ -12,7 +13,7 @@ loop-init g c = record {
 
 pub returns-in-Some-command-clause-asked : goal.returns-in-Some-command-clause-asked
 returns-in-Some-command-clause-asked g c is = (
-  rises-after (g.F.Front.seen c.args.front.now).counts.commands (g.F.Front.seen c.loop.front).counts.commands (g.F.Front.seen c.command.new.self).counts.commands
+  rises-behind (g.F.Front.seen c.args.front.now).counts.commands (g.F.Front.seen c.loop.front).counts.commands (g.F.Front.seen c.command.new.self).counts.commands
       c.loop.invariant.follows.commands c.in-Some-command.ensures.commands.commands,
   stopped-line (g.F.Front.seen c.loop.front).told (g.F.Front.seen c.command.new.self).told c.in-Some-command.line c.in-Some-command.ensures.commands.told_is
       c.in-Some-command.ensures.commands.gives (c.stops.ensures.asked c.if-stops.true) c.loop.invariant.heeded,

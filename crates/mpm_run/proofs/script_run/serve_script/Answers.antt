@@ -5,7 +5,7 @@ use Rattle.mpm_run.specs.ExitStatusesInside.{WritesAll}
 use Rattle.mpm_run.specs.Started.{IsStartedFirst}
 use Rattle.mpm_run.specs.Watched.{IsOpenedAndHushed}
 use Rattle.mpm_run.specs.declared.run_numbers.RunNumbers.{RunNumbers}
-use Rattle.mpm_run.proofs.EndLemmas.{ends-as, has-end, keeps-time, patience-of, stopped-end}
+use Rattle.mpm_run.proofs.EndLemmas.{ends-as, has-end, keeps-time, never-failed, patience-of, stopped-end}
 use Rattle.mpm_run.proofs.ServeLemmas.{has-run}
 use Rattle.mpm_run.proofs.script_run.serve_script.Goals as goal
 
@@ -30,7 +30,7 @@ returns-in-Ok-answer-clause-left g c =
       watched = front.watched;
       links = front.links;
       time = keeps-time b f c.run_server-answer.new.clock c.show-2.ensures kept.outside.time kept.outside.informed;
-      patient = patience-of (comings_of f.script) f.told c.run_server-answer.new.clock b.book c.show.ensures.is.comings c.show-2.ensures kept.outside.patient;
+      patient = patience-of (comings_of f.script) f.told c.run_server-answer.new.clock b.book c.show.ensures.is.comings c.show-2.ensures (kept.outside.patient nothing);
       heeded = front.heeded;
       ended =
           has-end (front_seen c.in-Ok.front) (front_seen f) b f kept.outside.stopped refl c.show.ensures.is (ap (λ (x : SeenFront). x.ends) c.in-Ok.ensures)

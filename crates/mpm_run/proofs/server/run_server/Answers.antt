@@ -9,8 +9,8 @@ use Rattle.mpm_run.specs.Outside.{KeepsOutside}
 use Rattle.mpm_run.specs.Started.{BeginsWithStarts}
 use Rattle.mpm_run.specs.Times.{waits_of}
 use Rattle.mpm_run.proofs.ChildrenLemmas.{started-first}
-use Rattle.mpm_run.proofs.FrontLemmas.{follows-bind, follows-same, follows-trans, named-follows}
-use Rattle.mpm_run.proofs.StartedLemmas.{are-watched, asked-opened, binds-false, binds-true, few-opened, heeded-opened, idle-bound, informed-opened, keeps-front, opened-hushed, opens, starts-opened, step-opened, stopped-before, time-opened, unwaited, watching-opened}
+use Rattle.mpm_run.proofs.FrontLemmas.{follows-bind, follows-trans, named-follows}
+use Rattle.mpm_run.proofs.StartedLemmas.{are-watched, asked-opened, binds-true, few-opened, heeded-opened, idle-bound, informed-opened, keeps-front, nothing-bound, opened-hushed, opens, starts-opened, step-opened, stopped-before, time-opened, unwaited, watching-opened}
 use Rattle.mpm_run.proofs.server.run_server.Goals as goal
 
 pub listen-requires-clause-named : goal.listen-requires-clause-named

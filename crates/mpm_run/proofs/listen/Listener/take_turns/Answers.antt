@@ -4,12 +4,13 @@ use Rattle.mpm_run.specs.ListenInside.{asked_children}
 use Rattle.mpm_run.specs.Times.{waits_of}
 use Rattle.mpm_run.proofs.ChildrenLemmas.{begins-broken, begins-more, begins-round, begins-waited}
 use Rattle.mpm_run.proofs.CommandLemmas.{heeded-wait, heeds-asked, heeds-ended, heeds-failed, heeds-none}
-use Rattle.mpm_run.proofs.FrontLemmas.{follows-trans, follows-wait, named-follows, only-takes, rises-after, step-wait, takes-same}
+use Rattle.mpm_run.proofs.CountLemmas.{rises-behind}
+use Rattle.mpm_run.proofs.FrontLemmas.{follows-trans, follows-wait, named-follows, only-takes, step-wait, takes-same}
 use Rattle.mpm_run.proofs.LinkLemmas.{hands-step}
 use Rattle.mpm_run.proofs.PaceLemmas.{abreast-round, pace-broken, pace-round, pace-served, pace-started, patience-started, patience-waited, served-patience}
 use Rattle.mpm_run.proofs.PassLemmas.{serves-acts}
 use Rattle.mpm_run.proofs.RoundLemmas.{on-err}
-use Rattle.mpm_run.proofs.TurnLemmas.{HasServed, IsBetween, between-ended, between-failed, between-round, between-served, between-started, broken-between, broken-round, broken-served, ends-ended}
+use Rattle.mpm_run.proofs.TurnLemmas.{HasServed, IsBetween, between-ended, between-failed, between-round, between-served, between-started, broken-between, broken-round, broken-served, ends-ended, ends-failed}
 use Rattle.mpm_run.proofs.WaitLemmas.{has-waited, listener_of}
 use Rattle.mpm_run.proofs.listen.Listener.take_turns.Goals as goal
 
@@ -326,6 +327,13 @@ returns-in-Ended-clause-ends g c =
     ends-ended c.loop.rest c.take_pause-pause.result (listener_of c.args.self.now.board (g.F.Front.seen c.args.front.now) (g.C.Clock.told c.args.clock.now) c.args.self.now.ready) (listener_of c.loop.self.board (g.F.Front.seen c.loop.front) (g.C.Clock.told c.loop.clock) c.loop.self.ready) (listener_of c.loop.self.board (g.F.Front.seen c.take_pause-pause.new.front) (g.C.Clock.told c.take_pause-pause.new.clock) c.take_pause-pause.new.ready) c.loop.invariant.between waited c.in-Ended.is c.loop.invariant.going
     (sym c.has_live.ensures ∙ c.if-not-has_live.true)
 
+pub returns-in-Failed-clause-ends : goal.returns-in-Failed-clause-ends
+returns-in-Failed-clause-ends g c =
+    let waited =
+    has-waited c.loop.rest c.take_pause-pause.result (listener_of c.loop.self.board (g.F.Front.seen c.loop.front) (g.C.Clock.told c.loop.clock) c.loop.self.ready) (listener_of c.loop.self.board (g.F.Front.seen c.loop.front) (g.C.Clock.told c.loop.clock) c.loop.self.ready) (g.F.Front.seen c.take_pause-pause.new.front) (g.C.Clock.told c.take_pause-pause.new.clock) c.take_pause-pause.new.ready c.moment-present.result refl
+    c.show.ensures.after c.show.ensures.sound c.moment-present.ensures c.take_pause-pause.ensures.waits c.take_pause-pause.ensures.asks in
+    ends-failed c.loop.rest c.take_pause-pause.result (listener_of c.args.self.now.board (g.F.Front.seen c.args.front.now) (g.C.Clock.told c.args.clock.now) c.args.self.now.ready) (listener_of c.loop.self.board (g.F.Front.seen c.loop.front) (g.C.Clock.told c.loop.clock) c.loop.self.ready) (listener_of c.loop.self.board (g.F.Front.seen c.take_pause-pause.new.front) (g.C.Clock.told c.take_pause-pause.new.clock) c.take_pause-pause.new.ready) c.loop.invariant.between waited c.in-Failed.is c.loop.invariant.going
+
 pub returns-in_err-asked-clause-base : goal.returns-in_err-asked-clause-base
 returns-in_err-asked-clause-base g c =
     let waited =
@@ -559,7 +567,7 @@ returns-then-asked-clause-ends g c =
     has-waited c.loop.rest c.take_pause-pause.result (listener_of c.loop.self.board (g.F.Front.seen c.loop.front) (g.C.Clock.told c.loop.clock) c.loop.self.ready) (listener_of c.loop.self.board (g.F.Front.seen c.loop.front) (g.C.Clock.told c.loop.clock) c.loop.self.ready) (g.F.Front.seen c.take_pause-pause.new.front) (g.C.Clock.told c.take_pause-pause.new.clock) c.take_pause-pause.new.ready c.moment-present.result refl
     c.show.ensures.after c.show.ensures.sound c.moment-present.ensures c.take_pause-pause.ensures.waits c.take_pause-pause.ensures.asks in (
       (c.in_ok-asked.ensures.asked c.if-asked.true).0,
-      rises-after (g.F.Front.seen c.args.front.now).counts.commands (g.F.Front.seen c.take_pause-pause.new.front).counts.commands (g.F.Front.seen c.take_in.new.front).counts.commands
+      rises-behind (g.F.Front.seen c.args.front.now).counts.commands (g.F.Front.seen c.take_pause-pause.new.front).counts.commands (g.F.Front.seen c.take_in.new.front).counts.commands
           (follows-trans _ _ _ c.loop.invariant.between.follows (follows-wait _ _ _ _ _ _ c.take_pause-pause.ensures.waits)).commands
           (c.in_ok-asked.ensures.asked c.if-asked.true).1,
     )
