@@ -185,14 +185,19 @@ kept-part part (Some t) told' keeps takes = ap (option_map part) takes.1 ∙ ap 
 pub waits-kept : (told told' : Option FrontTold) → TellsOn OnlyReadsAndTakes told told' → waits_of told' ≡ waits_of told
 waits-kept told told' takes = kept-part (λ (t : FrontTold). t.waits) told told' (λ t t' only. ap (λ (x : FrontTold). x.waits) only.rest) takes
 
-pub bound-kept : (told told' : Option FrontTold) → TellsOn OnlyReadsAndTakes told told' → bound_of told' ≡ bound_of told
-bound-kept told told' takes = kept-part (λ (t : FrontTold). t.bound) told told' (λ t t' only. ap (λ (x : FrontTold). x.bound) only.rest) takes
+pub contacts-kept : (told told' : Option FrontTold) → TellsOn OnlyReadsAndTakes told told' → contacts_of told' ≡ contacts_of told
+contacts-kept told told' takes =
+    kept-part contacts told told' (λ t t' only. ap contacts only.rest) takes
+
+contacts-same : (t t' : FrontTold) → t'.bound ≡ t.bound → t'.dialled ≡ t.dialled → contacts t' ≡ contacts t
+contacts-same t t' bound dialled = cc (bound, dialled)
 
 -- it stays in a wait too
-pub bound-wait : (until : Option ℕ) (quiet : Bool) (answer : Woke) (ready : List ℕ) (told told' : Option FrontTold)
-    → TellsOn (GoesForward until quiet answer ready) told told' → bound_of told' ≡ bound_of told
-bound-wait until quiet answer ready None told' tells = ap bound_of tells
-bound-wait until quiet answer ready (Some t) told' tells = ap bound_of tells.1 ∙ ap (λ (bound : List BoundTold). Some bound) tells.2.bound
+pub contacts-wait : (until : Option ℕ) (quiet : Bool) (answer : Woke) (ready : List ℕ) (told told' : Option FrontTold)
+    → TellsOn (GoesForward until quiet answer ready) told told' → contacts_of told' ≡ contacts_of told
+contacts-wait until quiet answer ready None told' tells = ap contacts_of tells
+contacts-wait until quiet answer ready (Some t) told' tells =
+    ap contacts_of tells.1 ∙ ap (λ (x : List BoundTold × List DialTold). Some x) (contacts-same t tells.0 tells.2.bound tells.2.dialled)
 
 -- ## Its waits, and the clock
 

@@ -1,7 +1,7 @@
 -- A server that has just opened.
 use Rattle.std.proofs.Common.{◌≡◌, inl, inr, ℕ, Bool, true, false, List, [], ◌∷◌, ◌++◌, length, map, take, Option, None, Some, option_map, IfSome, refl, sym, ap, subst, ◌∙◌, arith}
 use Rattle.mpm_base.specs.Clock.{asked_at}
-use Rattle.mpm_base.specs.Front.{Binds, BoundTold, FrontSeen, FrontTold, WaitTold, after_bind, moments_of}
+use Rattle.mpm_base.specs.Front.{Binds, BoundTold, DialTold, FrontSeen, FrontTold, WaitTold, after_bind, moments_of}
 use Rattle.mpm_run.specs.Unused.{IsUnused}
 use Rattle.mpm_base.specs.declared.addr.Addr.{Addr}
 use Rattle.conn_machine.specs.Made.{AreOfPasses, IsOpened}
@@ -11,7 +11,7 @@ use Rattle.board.specs.Book.{SeenBook}
 use Rattle.mpm_run.specs.Commands.{HeedsLines, NoneStops}
 use Rattle.mpm_run.specs.FirstNumbersInside.{AreNumbers, opened_book}
 use Rattle.mpm_run.specs.Links.{EndsLinks, TakesLinks}
-use Rattle.mpm_run.specs.ListenInside.{clients_told, Follows, HasNoneToHeed, HasStopped, IsAtStart, IsInStep, WatchesAll, bound_of}
+use Rattle.mpm_run.specs.ListenInside.{clients_told, Follows, HasNoneToHeed, HasStopped, IsAtStart, IsInStep, WatchesAll, contacts, contacts_of}
 use Rattle.mpm_run.specs.Outside.{KeepsFront}
 use Rattle.mpm_run.specs.Started.{AreAskedFor, IsStartedFirst}
 use Rattle.mpm_run.specs.Tells.{AllReceive}
@@ -106,24 +106,32 @@ idle-bound n old new calls binds unused unasked = record {
   calls_are = unasked;
 }
 
+-- it was bound once, and dialled nothing
+abbrev IsContacted : RunNumbers → FrontTold → Type 0
+IsContacted n t = IsBoundOnce n t × (t.dialled ≡ [])
+
 bound-to : (n : RunNumbers) (told told' : Option FrontTold) → told' ≡ option_map (after_bind true n.listen n.control) told → IfSome told IsUnused
-    → IfSome told' (IsBoundOnce n)
-bound-to n None told' is unused = subst (λ (o : Option FrontTold). IfSome o (IsBoundOnce n)) (sym is) tt
+    → IfSome told' (IsContacted n)
+bound-to n None told' is unused = subst (λ (o : Option FrontTold). IfSome o (IsContacted n)) (sym is) tt
 bound-to n (Some t) told' is unused =
-    subst (λ (o : Option FrontTold). IfSome o (IsBoundOnce n)) (sym is)
-    (ap (λ (bound : List BoundTold). bound ++ record { listen = n.listen; control = n.control } ∷ []) unused.bound)
+    subst (λ (o : Option FrontTold). IfSome o (IsContacted n)) (sym is)
+    (ap (λ (bound : List BoundTold). bound ++ record { listen = n.listen; control = n.control } ∷ []) unused.bound, unused.dialled)
 
-still-bound : (n : RunNumbers) (told told' : Option FrontTold) → bound_of told' ≡ bound_of told → IfSome told (IsBoundOnce n) → IfSome told' IsHushed
-    → IfSome told' (IsOpenedAndHushed n)
-still-bound n told None same bound hushed = tt
-still-bound n None (Some t') same bound hushed = absurd (cc same)
-still-bound n (Some t) (Some t') same bound hushed =
-    let bounds : t'.bound ≡ t.bound = cc same in
-    record { bound = bounds ∙ bound; hushed = hushed }
+still-bound : (n : RunNumbers) (told told' : Option FrontTold) → contacts_of told' ≡ contacts_of told → IfSome told (IsContacted n)
+    → IfSome told' IsHushed → IfSome told' (IsOpenedAndHushed n)
+still-bound n told None same contacted hushed = tt
+still-bound n None (Some t') same contacted hushed = absurd (cc same)
+still-bound n (Some t) (Some t') same contacted hushed =
+    let both : contacts t' ≡ contacts t = cc same in
+    record {
+      bound = ap (λ (c : List BoundTold × List DialTold). c.0) both ∙ contacted.0;
+      hushed = hushed;
+      dialled = ap (λ (c : List BoundTold × List DialTold). c.1) both ∙ contacted.1;
+    }
 
--- it was bound once, and then takes no further connection
+-- and then takes no further connection
 pub opened-hushed : (n : RunNumbers) (old bound new : FrontSeen) → Binds old bound n.listen n.control true
-    → IfSome old.told IsUnused → bound_of new.told ≡ bound_of bound.told → IfSome new.told IsHushed → IfSome new.told (IsOpenedAndHushed n)
+    → IfSome old.told IsUnused → contacts_of new.told ≡ contacts_of bound.told → IfSome new.told IsHushed → IfSome new.told (IsOpenedAndHushed n)
 opened-hushed n old bound new binds unused same hushed =
     still-bound n bound.told new.told same (bound-to n old.told bound.told binds.told_is unused) hushed
 

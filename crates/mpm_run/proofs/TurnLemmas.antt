@@ -17,7 +17,7 @@ use Rattle.mpm_run.specs.declared.listen.End.TheVariants as end
 use Rattle.mpm_run.specs.declared.listen.Pause.{Pause}
 use Rattle.mpm_run.specs.declared.listen.Rest.{Rest}
 use Rattle.mpm_run.specs.Listen.{HasNoLive}
-use Rattle.mpm_run.specs.ListenInside.{AsksFor, Follows, HasNothingToCome, IsInStep, OnlyReadsAndTakes, WatchesAll, bound_of}
+use Rattle.mpm_run.specs.ListenInside.{AsksFor, Follows, HasNothingToCome, IsInStep, OnlyReadsAndTakes, TurnsEnd, WatchesAll, contacts_of}
 use Rattle.mpm_run.specs.Stops.{HasGivenAll}
 use Rattle.mpm_run.specs.RoundInside.{BreaksOff, GoesRound, NoneHas, ServesSome, StartsAsAsked, StartsSome}
 use Rattle.mpm_run.specs.Started.{AreAskedFor}
@@ -58,7 +58,7 @@ pub record IsBetween (first now : SeenListener) : Type 0 where
   pub up : IsUp now.board.book.state.going
   pub step : IsInStep now.front.told now.board.book.state
   pub follows : Follows first.front now.front
-  pub bound : bound_of now.front.told ≡ bound_of first.front.told
+  pub contacts : contacts_of now.front.told ≡ contacts_of first.front.told
   pub watched : Watching first → Watching now
   pub time : IsInTime (waits_of first.front.told) first.calls → IsInTime (waits_of now.front.told) now.calls
   pub informed : IsInformed (waits_of now.front.told) now.calls now.board.book
@@ -79,7 +79,7 @@ between-started steps l m some free going step informed is starts same rest =
       up = inl (ap is_halted same ∙ going);
       step = step-kept l.front.told l.board.book.state m.board.book.state rest.accepted step;
       follows = follows-same l.front;
-      bound = refl;
+      contacts = refl;
       watched =
           λ before. watched-as l.front.told l.board.book m.board.book (nobody-started l.board.book m.board.book starts) rest.accepted before;
       time = λ time. time;
@@ -109,8 +109,8 @@ module _ (rest : Rest) (pause : Pause) (first a w : SeenListener) where
   waited-follows before waited =
       follows-trans _ _ _ before.follows (follows-wait a.front w.front rest.until rest.quiet pause.woke w.ready waited.waits)
 
-  waited-bound : IsBetween first a → HasWaited rest pause a w → bound_of w.front.told ≡ bound_of first.front.told
-  waited-bound before waited = bound-wait _ _ _ _ a.front.told w.front.told waited.waits.tells ∙ before.bound
+  waited-contacts : IsBetween first a → HasWaited rest pause a w → contacts_of w.front.told ≡ contacts_of first.front.told
+  waited-contacts before waited = contacts-wait _ _ _ _ a.front.told w.front.told waited.waits.tells ∙ before.contacts
 
   waited-step : IsBetween first a → HasWaited rest pause a w → IsInStep w.front.told w.board.book.state
   waited-step before waited =
@@ -146,7 +146,7 @@ module _ (rest : Rest) (pause : Pause) (first a w : SeenListener) where
         up = subst (λ (b : SeenBook). IsUp b.state.going) (sym book) before.up;
         step = waited-step before waited;
         follows = waited-follows before waited;
-        bound = waited-bound before waited;
+        contacts = waited-contacts before waited;
         watched = waited-watched before waited;
         time = waited-time before waited;
         informed =
@@ -175,7 +175,7 @@ module _ (rest : Rest) (pause : Pause) (first a w : SeenListener) where
         up = up;
         step = step;
         follows = follows-trans _ _ _ (waited-follows before waited) follows;
-        bound = bound-kept w.front.told b.front.told takes ∙ waited-bound before waited;
+        contacts = contacts-kept w.front.told b.front.told takes ∙ waited-contacts before waited;
         watched = λ began. watched (waited-watched before waited began);
         time =
             λ time. subst (λ (o : Option (List (ℕ × ℕ))). IsInTime (waits_of b.front.told) o) (sym calls)
@@ -246,7 +246,7 @@ pub record HasBroken (first now : SeenListener) : Type 0 where
   pub free : NoneHas now.board.book
   pub up : IsUp now.board.book.state.going
   pub follows : Follows first.front now.front
-  pub bound : bound_of now.front.told ≡ bound_of first.front.told
+  pub contacts : contacts_of now.front.told ≡ contacts_of first.front.told
   pub watched : Watching first → Watching now
   pub time : IsInTime (waits_of first.front.told) first.calls → IsInTime (waits_of now.front.told) now.calls
   pub so_far : IsInformedSoFar (waits_of now.front.told) now.calls now.board.book
@@ -261,7 +261,7 @@ broken-between l m between = record {
   free = between.free;
   up = between.up;
   follows = between.follows;
-  bound = between.bound;
+  contacts = between.contacts;
   watched = between.watched;
   time = between.time;
   so_far = informed-so_far _ _ _ between.informed;
@@ -287,7 +287,7 @@ broken-round steps fault rest pause first a w b before waited round up follows t
       free = none-has steps 0 ends.events here.book b.board.book (none-has steps 0 _ a.board.book here.book before.free here.acts) ends.acts;
       up = up;
       follows = follows-trans _ _ _ (waited-follows rest pause first a w before waited) follows;
-      bound = bound-kept w.front.told b.front.told takes ∙ waited-bound rest pause first a w before waited;
+      contacts = contacts-kept w.front.told b.front.told takes ∙ waited-contacts rest pause first a w before waited;
       watched = λ began. watched (waited-watched rest pause first a w before waited began);
       time =
           λ time. subst (λ (o : Option (List (ℕ × ℕ))). IsInTime (waits_of b.front.told) o) (sym calls)
@@ -334,7 +334,7 @@ between-served steps first a b before served =
       up = served.rest.up before.up;
       step = step-kept a.front.told a.board.book.state b.board.book.state served.rest.accepted before.step;
       follows = before.follows;
-      bound = before.bound;
+      contacts = before.contacts;
       watched = served-watched steps first a b before served;
       time = before.time;
       informed = served-informed steps first a b before served;
@@ -354,7 +354,7 @@ broken-served steps first a b before served =
       free = none-has steps 1 serves.events a.board.book b.board.book before.free serves.acts;
       up = served.rest.up before.up;
       follows = before.follows;
-      bound = before.bound;
+      contacts = before.contacts;
       watched = served-watched steps first a b before served;
       time = before.time;
       so_far = informed-so_far _ _ _ (served-informed steps first a b before served);

@@ -1,7 +1,7 @@
 -- What the listener keeps on its way, of its front, its clock and its table, and how its turns end.
 use Rattle.std.specs.Prelude.{◌≡◌, ◌<◌, ℕ, List, map, Option, IfSome, option_map, is_some, min, ◌⊎◌, ◌↔◌, ◌≤◌, Bool, true, false, [], ◌∷◌, None, Some, slice_get, length, Result, Ok, Err, ⊤}
 use Rattle.mpm_base.specs.Clock.{Answers}
-use Rattle.mpm_base.specs.Front.{Binds, FrontTold, FrontSeen, BoundTold, WaitTold, HasNoneToTake}
+use Rattle.mpm_base.specs.Front.{Binds, FrontTold, FrontSeen, BoundTold, DialTold, WaitTold, HasNoneToTake}
 use Rattle.mpm_base.specs.declared.front.Woke.{Woke}
 use Rattle.mpm_base.specs.declared.front.Woke.TheVariants as woke
 use Rattle.std.specs.List.{list_any}
@@ -37,9 +37,13 @@ use Rattle.mpm_run.specs.Started.{BeginsWithStarts}
 use Rattle.mpm_run.specs.Stops.{HasFailedLast, HasTakenAll, StoppedFor}
 use Rattle.mpm_run.specs.Watched.{AreWatched, accepted_names}
 
--- what a front was bound to, where it tells
-abbrev pub bound_of : Option FrontTold → Option (List BoundTold)
-bound_of told = option_map (λ t. t.bound) told
+-- what a front was bound to, and its dials
+abbrev pub contacts : FrontTold → List BoundTold × List DialTold
+contacts t = (t.bound, t.dialled)
+
+-- the same of a front that may tell
+abbrev pub contacts_of : Option FrontTold → Option (List BoundTold × List DialTold)
+contacts_of told = option_map contacts told
 
 -- links were handed out, watched and turned away, or an accept failed, and nothing else happened to the front
 pub record OnlyTakes (t t' : FrontTold) : Type 0 where

@@ -12,8 +12,8 @@ use Rattle.mpm_run.specs.Times.{IsInTime, WasInformed, waits_of}
 use Rattle.mpm_run.specs.Watched.{AreWatched, IsOpenedAndHushed}
 use Rattle.mpm_run.specs.declared.run_numbers.RunNumbers.{RunNumbers}
 
--- what a run by these numbers did with a front that tells: it was bound once, to what the numbers say, and listens no more; where it
--- waited at all, the children were started before all else; each link that the table took was watched under the name of its
+-- what a run by these numbers did with a front that tells: it was bound once, to what the numbers say, dialled nothing, and listens no
+-- more; where it waited at all, the children were started before all else; each link that the table took was watched under the name of its
 -- connection; what became of each link that it handed out; each ended connection received a front of what its client sends; and its
 -- command lines were heeded
 pub record KeepsFront (n : RunNumbers) (b : SeenBoard) (t : FrontTold) : Type 0 where

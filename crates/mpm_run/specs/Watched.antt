@@ -24,10 +24,11 @@ IsBoundOnce n t = t.bound ≡ record { listen = n.listen; control = n.control } 
 abbrev pub IsHushed : FrontTold → Type 0
 IsHushed t = t.hushed ≡ true
 
--- both
+-- both, and it dialled nothing
 pub record IsOpenedAndHushed (n : RunNumbers) (t : FrontTold) : Type 0 where
   pub bound : IsBoundOnce n t
   pub hushed : IsHushed t
+  pub dialled : t.dialled ≡ []
 
 -- ## Watches
 

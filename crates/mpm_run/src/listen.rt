@@ -15,7 +15,7 @@ ghost use Rattle.board.specs.Finds.{acceptable, next_deadline_of};
 ghost use Rattle.board.specs.Book.{row_in};
 ghost use Rattle.worker_group.specs.Service.{IsUp, LeavesRest};
 ghost use Rattle.mpm_run.specs.Commands.{HeedsLines, stop_line};
-ghost use Rattle.mpm_run.specs.ListenInside.{AsksFor, Follows, HandedOut, HandsOut, HasNoneToHeed, HasOneToHeed, HasReadAll, HasStarted, HasStopped, HeedsUntil, IsArrival, IsAtStart, IsInStep, IsKnownOfFront, IsOpening, IsRestful, IsWatching, MustStop, OnlyReads, OnlyReadsAndTakes, OnlyTakes, TellsAlike, TookAll, TurnsEnd, asked_children, bound_of, why_of};
+ghost use Rattle.mpm_run.specs.ListenInside.{AsksFor, Follows, HandedOut, HandsOut, HasNoneToHeed, HasOneToHeed, HasReadAll, HasStarted, HasStopped, HeedsUntil, IsArrival, IsAtStart, IsInStep, IsKnownOfFront, IsOpening, IsRestful, IsWatching, MustStop, OnlyReads, OnlyReadsAndTakes, OnlyTakes, TellsAlike, TookAll, TurnsEnd, asked_children, contacts_of, why_of};
 ghost use Rattle.mpm_run.specs.Patient.{IsPatientRun};
 ghost use Rattle.mpm_run.specs.RoundInside.{BreaksOff, EndsTaking, FailsTaking, GoesRound, IsTaking, NoneHas, ServesSome, StartsAsAsked, StartsSome, TakesSome, TakesUntil};
 ghost use Rattle.mpm_run.specs.Started.{BeginsWithStarts};
@@ -126,7 +126,7 @@ impl<'a, L: Link + Send, N: Known, B: Bell, G: Gate> Listener<'a, L, N, B, G> {
         ensures asked { StartsAsAsked self.old.board.book self.new.board.book }
         ensures stopped { HasStopped (F.seen front.old) (F.seen front.new) self.new.board.book.state }
         ensures follows { Follows (F.seen front.old) (F.seen front.new) }
-        ensures bound { bound_of (F.seen front.new).told ≡ bound_of (F.seen front.old).told }
+        ensures contacts { contacts_of (F.seen front.new).told ≡ contacts_of (F.seen front.old).told }
         ensures hushed { IfSome (F.seen front.new).told IsHushed }
         ensures heeded { IfSome (F.seen front.new).told (HeedsLines self.new.board.book.state.going) }
         ensures started { IsOpening self.old.board.book → HasStarted (waits_of (F.seen front.old).told) (waits_of (F.seen front.new).told) self.old.board.book self.new.board.book }
@@ -166,7 +166,7 @@ impl<'a, L: Link + Send, N: Known, B: Bell, G: Gate> Listener<'a, L, N, B, G> {
         ensures free { NoneHas self.new.board.book }
         ensures up { IsUp self.new.board.book.state.going }
         ensures follows { Follows (F.seen front.old) (F.seen front.new) }
-        ensures bound { bound_of (F.seen front.new).told ≡ bound_of (F.seen front.old).told }
+        ensures contacts { contacts_of (F.seen front.new).told ≡ contacts_of (F.seen front.old).told }
         ensures heeded { IfSome (F.seen front.new).told (HeedsUntil result) }
         ensures started { IsOpening self.old.board.book → HasStarted (waits_of (F.seen front.old).told) (waits_of (F.seen front.new).told) self.old.board.book self.new.board.book }
         ensures watched { IsWatching (F.seen front.old).told self.old.board.book → IsWatching (F.seen front.new).told self.new.board.book }

@@ -53,7 +53,7 @@ pub fn run<R: Threads + Wait + Sync, D: Store, F: Front, C: Clock, G: Gate + Syn
     // Its store tells what the lines of the script make of the site.
     ensures site { IfSome result.scripted (λ s. s.store.told ≡ editions_of s.front.script) }
 
-    // Its front was bound once, to what the configuration says, and has stopped listening in the end.
+    // Its front was bound once, to what the configuration says, dialled nothing, and has stopped listening in the end.
     ensures front { IfSome result.scripted (λ s. IsOpenedAndHushed (opening.numbers_of s.config) s.front.told) }
 
     // Where its front waited at all, the children that its shape asks for were started before all else, in order of number.

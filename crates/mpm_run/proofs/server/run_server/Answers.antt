@@ -67,7 +67,7 @@ returns-clause-outside g c =
     (record {
       front =
           keeps-front c.args.numbers c.listen.new.self.board (clients_known g.N.Known.known) (g.F.Front.seen c.listen.new.front).told named
-          (opened-hushed c.args.numbers (g.F.Front.seen c.args.front.now) (g.F.Front.seen c.bind.new.self) (g.F.Front.seen c.listen.new.front) binds c.requires.unused c.listen.ensures.bound c.listen.ensures.hushed)
+          (opened-hushed c.args.numbers (g.F.Front.seen c.args.front.now) (g.F.Front.seen c.bind.new.self) (g.F.Front.seen c.listen.new.front) binds c.requires.unused c.listen.ensures.contacts c.listen.ensures.hushed)
           (started-first c.args.numbers (g.F.Front.seen c.bind.new.self).told (g.F.Front.seen c.listen.new.front).told c.listen.new.self.board.book (unwaited (g.F.Front.seen c.bind.new.self).told (g.C.Clock.told c.args.clock.now) idle) started)
           (are-watched (g.F.Front.seen c.listen.new.front).told c.listen.new.self.board.book
           (c.listen.ensures.watched (watching-opened c.args.numbers (g.F.Front.seen c.bind.new.self).told (g.C.Clock.told c.args.clock.now) c.in-Ok-open_board.board.book c.in-Ok-open_board.ensures.book idle)))

@@ -6,7 +6,7 @@ use Rattle.mpm_run.specs.Times.{WasInformed}
 use Rattle.mpm_run.proofs.AskedLemmas.{asked-silent, startless-gone, startless-halts, startless-retires}
 use Rattle.mpm_run.proofs.ChildrenLemmas.{begins-down}
 use Rattle.mpm_run.proofs.CommandLemmas.{heeds-hushed}
-use Rattle.mpm_run.proofs.FrontLemmas.{bound-hushed, follows-hushed, follows-trans, is-hushed, waits-hushed}
+use Rattle.mpm_run.proofs.FrontLemmas.{contacts-hushed, follows-hushed, follows-trans, is-hushed, waits-hushed}
 use Rattle.mpm_run.proofs.PaceLemmas.{patience-down}
 use Rattle.mpm_run.proofs.StopLemmas.{free-halted, has-halted, has-stopped, must-halt, was-informed}
 use Rattle.mpm_run.proofs.TurnLemmas.{few-acts}
@@ -119,6 +119,6 @@ pub returns-clause-hushed : goal.returns-clause-hushed
 returns-clause-hushed g c =
     is-hushed (g.F.Front.seen c.take_turns-turns.new.front).told (g.F.Front.seen c.hush.new.self).told (ap (λ (f : FrontSeen). f.told) c.hush.ensures)
 
-pub returns-clause-bound : goal.returns-clause-bound
-returns-clause-bound g c =
-    bound-hushed (g.F.Front.seen c.take_turns-turns.new.front) (g.F.Front.seen c.hush.new.self) c.hush.ensures ∙ c.take_turns-turns.ensures.bound
+pub returns-clause-contacts : goal.returns-clause-contacts
+returns-clause-contacts g c =
+    contacts-hushed (g.F.Front.seen c.take_turns-turns.new.front) (g.F.Front.seen c.hush.new.self) c.hush.ensures ∙ c.take_turns-turns.ensures.contacts

@@ -53,10 +53,10 @@ returns-in_err-first-clause-follows g c =
     (between-started c.passes_act_in_steps.ensures.acts (listener_of c.args.self.now.board (g.F.Front.seen c.args.front.now) (g.C.Clock.told c.args.clock.now) c.args.self.now.ready) (listener_of c.start.new.self.board (g.F.Front.seen c.args.front.now) (g.C.Clock.told c.args.clock.now) c.start.new.self.ready) c.requires.passes c.requires.free c.requires.going c.requires.step c.requires.informed
     (ap (λ (ready : List ℕ). listener_of c.start.new.self.board (g.F.Front.seen c.args.front.now) (g.C.Clock.told c.args.clock.now) ready) (ap (λ (l : _). l.ready) c.start.ensures.others)) c.start.ensures.starts c.start.ensures.going c.start.ensures.rest).follows
 
-pub returns-in_err-first-clause-bound : goal.returns-in_err-first-clause-bound
-returns-in_err-first-clause-bound g c =
+pub returns-in_err-first-clause-contacts : goal.returns-in_err-first-clause-contacts
+returns-in_err-first-clause-contacts g c =
     (between-started c.passes_act_in_steps.ensures.acts (listener_of c.args.self.now.board (g.F.Front.seen c.args.front.now) (g.C.Clock.told c.args.clock.now) c.args.self.now.ready) (listener_of c.start.new.self.board (g.F.Front.seen c.args.front.now) (g.C.Clock.told c.args.clock.now) c.start.new.self.ready) c.requires.passes c.requires.free c.requires.going c.requires.step c.requires.informed
-    (ap (λ (ready : List ℕ). listener_of c.start.new.self.board (g.F.Front.seen c.args.front.now) (g.C.Clock.told c.args.clock.now) ready) (ap (λ (l : _). l.ready) c.start.ensures.others)) c.start.ensures.starts c.start.ensures.going c.start.ensures.rest).bound
+    (ap (λ (ready : List ℕ). listener_of c.start.new.self.board (g.F.Front.seen c.args.front.now) (g.C.Clock.told c.args.clock.now) ready) (ap (λ (l : _). l.ready) c.start.ensures.others)) c.start.ensures.starts c.start.ensures.going c.start.ensures.rest).contacts
 
 pub returns-in_err-first-clause-base : goal.returns-in_err-first-clause-base
 returns-in_err-first-clause-base g c =
@@ -171,12 +171,12 @@ returns-in-Ended-clause-watched g c =
     c.show.ensures.after c.show.ensures.sound c.moment-present.ensures c.take_pause-pause.ensures.waits c.take_pause-pause.ensures.asks in
     (between-ended c.loop.rest c.take_pause-pause.result (listener_of c.args.self.now.board (g.F.Front.seen c.args.front.now) (g.C.Clock.told c.args.clock.now) c.args.self.now.ready) (listener_of c.loop.self.board (g.F.Front.seen c.loop.front) (g.C.Clock.told c.loop.clock) c.loop.self.ready) (listener_of c.loop.self.board (g.F.Front.seen c.take_pause-pause.new.front) (g.C.Clock.told c.take_pause-pause.new.clock) c.take_pause-pause.new.ready) c.loop.invariant.between waited c.in-Ended.is).watched
 
-pub returns-in-Ended-clause-bound : goal.returns-in-Ended-clause-bound
-returns-in-Ended-clause-bound g c =
+pub returns-in-Ended-clause-contacts : goal.returns-in-Ended-clause-contacts
+returns-in-Ended-clause-contacts g c =
     let waited =
     has-waited c.loop.rest c.take_pause-pause.result (listener_of c.loop.self.board (g.F.Front.seen c.loop.front) (g.C.Clock.told c.loop.clock) c.loop.self.ready) (listener_of c.loop.self.board (g.F.Front.seen c.loop.front) (g.C.Clock.told c.loop.clock) c.loop.self.ready) (g.F.Front.seen c.take_pause-pause.new.front) (g.C.Clock.told c.take_pause-pause.new.clock) c.take_pause-pause.new.ready c.moment-present.result refl
     c.show.ensures.after c.show.ensures.sound c.moment-present.ensures c.take_pause-pause.ensures.waits c.take_pause-pause.ensures.asks in
-    (between-ended c.loop.rest c.take_pause-pause.result (listener_of c.args.self.now.board (g.F.Front.seen c.args.front.now) (g.C.Clock.told c.args.clock.now) c.args.self.now.ready) (listener_of c.loop.self.board (g.F.Front.seen c.loop.front) (g.C.Clock.told c.loop.clock) c.loop.self.ready) (listener_of c.loop.self.board (g.F.Front.seen c.take_pause-pause.new.front) (g.C.Clock.told c.take_pause-pause.new.clock) c.take_pause-pause.new.ready) c.loop.invariant.between waited c.in-Ended.is).bound
+    (between-ended c.loop.rest c.take_pause-pause.result (listener_of c.args.self.now.board (g.F.Front.seen c.args.front.now) (g.C.Clock.told c.args.clock.now) c.args.self.now.ready) (listener_of c.loop.self.board (g.F.Front.seen c.loop.front) (g.C.Clock.told c.loop.clock) c.loop.self.ready) (listener_of c.loop.self.board (g.F.Front.seen c.take_pause-pause.new.front) (g.C.Clock.told c.take_pause-pause.new.clock) c.take_pause-pause.new.ready) c.loop.invariant.between waited c.in-Ended.is).contacts
 
 pub returns-in-Ended-clause-time : goal.returns-in-Ended-clause-time
 returns-in-Ended-clause-time g c =
@@ -273,12 +273,12 @@ returns-in-Failed-clause-watched g c =
     c.show.ensures.after c.show.ensures.sound c.moment-present.ensures c.take_pause-pause.ensures.waits c.take_pause-pause.ensures.asks in
     (between-failed c.loop.rest c.take_pause-pause.result (listener_of c.args.self.now.board (g.F.Front.seen c.args.front.now) (g.C.Clock.told c.args.clock.now) c.args.self.now.ready) (listener_of c.loop.self.board (g.F.Front.seen c.loop.front) (g.C.Clock.told c.loop.clock) c.loop.self.ready) (listener_of c.loop.self.board (g.F.Front.seen c.take_pause-pause.new.front) (g.C.Clock.told c.take_pause-pause.new.clock) c.take_pause-pause.new.ready) c.loop.invariant.between waited c.in-Failed.is).watched
 
-pub returns-in-Failed-clause-bound : goal.returns-in-Failed-clause-bound
-returns-in-Failed-clause-bound g c =
+pub returns-in-Failed-clause-contacts : goal.returns-in-Failed-clause-contacts
+returns-in-Failed-clause-contacts g c =
     let waited =
     has-waited c.loop.rest c.take_pause-pause.result (listener_of c.loop.self.board (g.F.Front.seen c.loop.front) (g.C.Clock.told c.loop.clock) c.loop.self.ready) (listener_of c.loop.self.board (g.F.Front.seen c.loop.front) (g.C.Clock.told c.loop.clock) c.loop.self.ready) (g.F.Front.seen c.take_pause-pause.new.front) (g.C.Clock.told c.take_pause-pause.new.clock) c.take_pause-pause.new.ready c.moment-present.result refl
     c.show.ensures.after c.show.ensures.sound c.moment-present.ensures c.take_pause-pause.ensures.waits c.take_pause-pause.ensures.asks in
-    (between-failed c.loop.rest c.take_pause-pause.result (listener_of c.args.self.now.board (g.F.Front.seen c.args.front.now) (g.C.Clock.told c.args.clock.now) c.args.self.now.ready) (listener_of c.loop.self.board (g.F.Front.seen c.loop.front) (g.C.Clock.told c.loop.clock) c.loop.self.ready) (listener_of c.loop.self.board (g.F.Front.seen c.take_pause-pause.new.front) (g.C.Clock.told c.take_pause-pause.new.clock) c.take_pause-pause.new.ready) c.loop.invariant.between waited c.in-Failed.is).bound
+    (between-failed c.loop.rest c.take_pause-pause.result (listener_of c.args.self.now.board (g.F.Front.seen c.args.front.now) (g.C.Clock.told c.args.clock.now) c.args.self.now.ready) (listener_of c.loop.self.board (g.F.Front.seen c.loop.front) (g.C.Clock.told c.loop.clock) c.loop.self.ready) (listener_of c.loop.self.board (g.F.Front.seen c.take_pause-pause.new.front) (g.C.Clock.told c.take_pause-pause.new.clock) c.take_pause-pause.new.ready) c.loop.invariant.between waited c.in-Failed.is).contacts
 
 pub returns-in-Failed-clause-time : goal.returns-in-Failed-clause-time
 returns-in-Failed-clause-time g c =
@@ -398,13 +398,13 @@ returns-in_err-asked-clause-watched g c =
     (broken-round c.passes_act_in_steps.ensures.acts c.in_err-asked.field-0.0 c.loop.rest c.take_pause-pause.result (listener_of c.args.self.now.board (g.F.Front.seen c.args.front.now) (g.C.Clock.told c.args.clock.now) c.args.self.now.ready) (listener_of c.loop.self.board (g.F.Front.seen c.loop.front) (g.C.Clock.told c.loop.clock) c.loop.self.ready) (listener_of c.loop.self.board (g.F.Front.seen c.take_pause-pause.new.front) (g.C.Clock.told c.take_pause-pause.new.clock) c.take_pause-pause.new.ready) (listener_of c.take_in.new.self.board (g.F.Front.seen c.take_in.new.front) (g.C.Clock.told c.take_pause-pause.new.clock) c.take_in.new.self.ready) c.loop.invariant.between waited
     c.in_err-asked.ensures.broken c.take_in.ensures.up c.take_in.ensures.follows c.take_in.ensures.front c.take_in.ensures.watched refl).watched
 
-pub returns-in_err-asked-clause-bound : goal.returns-in_err-asked-clause-bound
-returns-in_err-asked-clause-bound g c =
+pub returns-in_err-asked-clause-contacts : goal.returns-in_err-asked-clause-contacts
+returns-in_err-asked-clause-contacts g c =
     let waited =
     has-waited c.loop.rest c.take_pause-pause.result (listener_of c.loop.self.board (g.F.Front.seen c.loop.front) (g.C.Clock.told c.loop.clock) c.loop.self.ready) (listener_of c.loop.self.board (g.F.Front.seen c.loop.front) (g.C.Clock.told c.loop.clock) c.loop.self.ready) (g.F.Front.seen c.take_pause-pause.new.front) (g.C.Clock.told c.take_pause-pause.new.clock) c.take_pause-pause.new.ready c.moment-present.result refl
     c.show.ensures.after c.show.ensures.sound c.moment-present.ensures c.take_pause-pause.ensures.waits c.take_pause-pause.ensures.asks in
     (broken-round c.passes_act_in_steps.ensures.acts c.in_err-asked.field-0.0 c.loop.rest c.take_pause-pause.result (listener_of c.args.self.now.board (g.F.Front.seen c.args.front.now) (g.C.Clock.told c.args.clock.now) c.args.self.now.ready) (listener_of c.loop.self.board (g.F.Front.seen c.loop.front) (g.C.Clock.told c.loop.clock) c.loop.self.ready) (listener_of c.loop.self.board (g.F.Front.seen c.take_pause-pause.new.front) (g.C.Clock.told c.take_pause-pause.new.clock) c.take_pause-pause.new.ready) (listener_of c.take_in.new.self.board (g.F.Front.seen c.take_in.new.front) (g.C.Clock.told c.take_pause-pause.new.clock) c.take_in.new.self.ready) c.loop.invariant.between waited
-    c.in_err-asked.ensures.broken c.take_in.ensures.up c.take_in.ensures.follows c.take_in.ensures.front c.take_in.ensures.watched refl).bound
+    c.in_err-asked.ensures.broken c.take_in.ensures.up c.take_in.ensures.follows c.take_in.ensures.front c.take_in.ensures.watched refl).contacts
 
 pub returns-in_err-asked-clause-time : goal.returns-in_err-asked-clause-time
 returns-in_err-asked-clause-time g c =
@@ -521,14 +521,14 @@ returns-then-asked-clause-watched g c =
     c.in_ok-asked.ensures.round c.in_ok-asked.ensures.moment c.in_ok-asked.ensures.step c.take_in.ensures.up c.take_in.ensures.follows c.take_in.ensures.front
     c.take_in.ensures.watched refl).watched
 
-pub returns-then-asked-clause-bound : goal.returns-then-asked-clause-bound
-returns-then-asked-clause-bound g c =
+pub returns-then-asked-clause-contacts : goal.returns-then-asked-clause-contacts
+returns-then-asked-clause-contacts g c =
     let waited =
     has-waited c.loop.rest c.take_pause-pause.result (listener_of c.loop.self.board (g.F.Front.seen c.loop.front) (g.C.Clock.told c.loop.clock) c.loop.self.ready) (listener_of c.loop.self.board (g.F.Front.seen c.loop.front) (g.C.Clock.told c.loop.clock) c.loop.self.ready) (g.F.Front.seen c.take_pause-pause.new.front) (g.C.Clock.told c.take_pause-pause.new.clock) c.take_pause-pause.new.ready c.moment-present.result refl
     c.show.ensures.after c.show.ensures.sound c.moment-present.ensures c.take_pause-pause.ensures.waits c.take_pause-pause.ensures.asks in
     (between-round c.loop.rest c.take_pause-pause.result (listener_of c.args.self.now.board (g.F.Front.seen c.args.front.now) (g.C.Clock.told c.args.clock.now) c.args.self.now.ready) (listener_of c.loop.self.board (g.F.Front.seen c.loop.front) (g.C.Clock.told c.loop.clock) c.loop.self.ready) (listener_of c.loop.self.board (g.F.Front.seen c.take_pause-pause.new.front) (g.C.Clock.told c.take_pause-pause.new.clock) c.take_pause-pause.new.ready) c.passes_act_in_steps.ensures.acts (listener_of c.take_in.new.self.board (g.F.Front.seen c.take_in.new.front) (g.C.Clock.told c.take_pause-pause.new.clock) c.take_in.new.self.ready) c.loop.invariant.between waited
     c.in_ok-asked.ensures.round c.in_ok-asked.ensures.moment c.in_ok-asked.ensures.step c.take_in.ensures.up c.take_in.ensures.follows c.take_in.ensures.front
-    c.take_in.ensures.watched refl).bound
+    c.take_in.ensures.watched refl).contacts
 
 pub returns-then-asked-clause-time : goal.returns-then-asked-clause-time
 returns-then-asked-clause-time g c =
@@ -742,8 +742,8 @@ returns-in_err-rest-clause-watched g c =
     } in
     (broken-served c.passes_act_in_steps.ensures.acts (listener_of c.args.self.now.board (g.F.Front.seen c.args.front.now) (g.C.Clock.told c.args.clock.now) c.args.self.now.ready) (listener_of c.take_in.new.self.board (g.F.Front.seen c.take_in.new.front) (g.C.Clock.told c.take_pause-pause.new.clock) c.take_in.new.self.ready) (listener_of c.serve.new.self.board (g.F.Front.seen c.take_in.new.front) (g.C.Clock.told c.take_pause-pause.new.clock) c.serve.new.self.ready) between served).watched
 
-pub returns-in_err-rest-clause-bound : goal.returns-in_err-rest-clause-bound
-returns-in_err-rest-clause-bound g c =
+pub returns-in_err-rest-clause-contacts : goal.returns-in_err-rest-clause-contacts
+returns-in_err-rest-clause-contacts g c =
     let waited =
     has-waited c.loop.rest c.take_pause-pause.result (listener_of c.loop.self.board (g.F.Front.seen c.loop.front) (g.C.Clock.told c.loop.clock) c.loop.self.ready) (listener_of c.loop.self.board (g.F.Front.seen c.loop.front) (g.C.Clock.told c.loop.clock) c.loop.self.ready) (g.F.Front.seen c.take_pause-pause.new.front) (g.C.Clock.told c.take_pause-pause.new.clock) c.take_pause-pause.new.ready c.moment-present.result refl
     c.show.ensures.after c.show.ensures.sound c.moment-present.ensures c.take_pause-pause.ensures.waits c.take_pause-pause.ensures.asks in
@@ -758,7 +758,7 @@ returns-in_err-rest-clause-bound g c =
       others =
           ap (λ (ready : List ℕ). listener_of c.serve.new.self.board (g.F.Front.seen c.take_in.new.front) (g.C.Clock.told c.take_pause-pause.new.clock) ready) (ap (λ (l : _). l.ready) c.serve.ensures.others);
     } in
-    (broken-served c.passes_act_in_steps.ensures.acts (listener_of c.args.self.now.board (g.F.Front.seen c.args.front.now) (g.C.Clock.told c.args.clock.now) c.args.self.now.ready) (listener_of c.take_in.new.self.board (g.F.Front.seen c.take_in.new.front) (g.C.Clock.told c.take_pause-pause.new.clock) c.take_in.new.self.ready) (listener_of c.serve.new.self.board (g.F.Front.seen c.take_in.new.front) (g.C.Clock.told c.take_pause-pause.new.clock) c.serve.new.self.ready) between served).bound
+    (broken-served c.passes_act_in_steps.ensures.acts (listener_of c.args.self.now.board (g.F.Front.seen c.args.front.now) (g.C.Clock.told c.args.clock.now) c.args.self.now.ready) (listener_of c.take_in.new.self.board (g.F.Front.seen c.take_in.new.front) (g.C.Clock.told c.take_pause-pause.new.clock) c.take_in.new.self.ready) (listener_of c.serve.new.self.board (g.F.Front.seen c.take_in.new.front) (g.C.Clock.told c.take_pause-pause.new.clock) c.serve.new.self.ready) between served).contacts
 
 pub returns-in_err-rest-clause-time : goal.returns-in_err-rest-clause-time
 returns-in_err-rest-clause-time g c =
