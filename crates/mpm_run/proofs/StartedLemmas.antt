@@ -13,6 +13,7 @@ use Rattle.mpm_run.specs.FirstNumbersInside.{AreNumbers, opened_book}
 use Rattle.mpm_run.specs.Links.{EndsLinks, TakesLinks}
 use Rattle.mpm_run.specs.ListenInside.{clients_told, Follows, HasNoneToHeed, HasStopped, IsAtStart, IsInStep, WatchesAll, contacts, contacts_of}
 use Rattle.mpm_run.specs.Outside.{KeepsFront}
+use Rattle.mpm_run.specs.Patient.{HasNothingCome}
 use Rattle.mpm_run.specs.Started.{AreAskedFor, IsStartedFirst}
 use Rattle.mpm_run.specs.Tells.{AllReceive}
 use Rattle.mpm_run.specs.Times.{AreBehind, IsInTime, IsInformed, SignalsAre, TicksAre, waits_of}
@@ -77,18 +78,14 @@ unused-bound listen control None told' is unused = subst (λ (o : Option FrontTo
 unused-bound listen control (Some t) told' is unused =
     subst (λ (o : Option FrontTold). IfSome o (λ t. IsUnused (record t { bound = [] }))) (sym is)
     (record {
-      arrived = unused.arrived;
       accepted = unused.accepted;
       watches = unused.watches;
       turned_away = unused.turned_away;
-      lines = unused.lines;
       read = unused.read;
       bound = refl;
       dialled = unused.dialled;
       hushed = unused.hushed;
       waits = unused.waits;
-      failed = unused.failed;
-      stands = unused.stands;
     })
 
 -- the bind succeeded
@@ -186,32 +183,47 @@ are-watched (Some t) b all = all.watches
 
 -- ## Patience
 
--- nothing has come, and no time has passed
+come-bound : (listen : Addr) (control : Option ℕ) (told told' : Option FrontTold) → told' ≡ option_map (after_bind true listen control) told
+    → IfSome told HasNothingCome → IfSome told' HasNothingCome
+come-bound listen control None told' is none = subst (λ (o : Option FrontTold). IfSome o HasNothingCome) (sym is) tt
+come-bound listen control (Some t) told' is none =
+    subst (λ (o : Option FrontTold). IfSome o HasNothingCome) (sym is) (record { arrived = none.arrived; lines = none.lines; stands = none.stands })
+
+-- nothing has come of it where it was bound
+pub nothing-bound : (n : RunNumbers) (old new : FrontSeen) → Binds old new n.listen n.control true → IfSome old.told HasNothingCome
+    → IfSome new.told HasNothingCome
+nothing-bound n old new binds none = come-bound n.listen n.control old.told new.told binds.told_is none
+
+-- so nothing was done, and no time has passed
 pub starts-opened : (n : RunNumbers) (told : Option FrontTold) (calls : Option (List (ℕ × ℕ))) (b : SeenBook) → b ≡ opened_book n → IsIdle told calls
-    → IsAtStart told b
-starts-opened n None calls b opened idle = record {
+    → IfSome told HasNothingCome → IsAtStart told b
+starts-opened n None calls b opened idle none = record {
   none = tt;
   first = tt;
   moment = ap (λ (x : SeenBook). x.state.moment) opened;
   history = ap (λ (x : SeenBook). x.history) opened;
   read = tt;
 }
-starts-opened n (Some t) calls b opened idle = record {
-  none = idle.front.accepted ∙ sym idle.front.arrived;
-  first = idle.front.stands;
+starts-opened n (Some t) calls b opened idle none = record {
+  none = idle.front.accepted ∙ sym none.arrived;
+  first = none.stands;
   moment = ap (λ (x : SeenBook). x.state.moment) opened;
   history = ap (λ (x : SeenBook). x.history) opened;
-  read = idle.front.read ∙ sym (ap length idle.front.lines);
+  read = idle.front.read ∙ sym (ap length none.lines);
 }
+
+-- of no lines none stops the server
+none-first : (lines : List (List ℕ)) → NoneStops (take 0 lines)
+none-first [] = tt
+none-first (line ∷ lines) = tt
 
 -- no command line was read
 pub heeded-opened : (told : Option FrontTold) (calls : Option (List (ℕ × ℕ))) → IsIdle told calls → IfSome told HasNoneToHeed
 heeded-opened None calls idle = tt
 heeded-opened (Some t) calls idle =
-    let lines = idle.front.lines in
     let read = idle.front.read in
     record {
-      none = subst NoneStops (sym (ap (λ (n : ℕ). take n t.lines) read ∙ ap (take 0) lines)) tt;
+      none = subst NoneStops (sym (ap (λ (n : ℕ). take n t.lines) read)) (none-first t.lines);
       came = omega (arith, read);
     }
 

@@ -4,7 +4,7 @@ use Rattle.mpm_base.specs.Front.{FrontSeen, FrontTold}
 use Rattle.board.specs.Board.{SeenBoard}
 use Rattle.mpm_run.specs.Commands.{HeedsLines}
 use Rattle.mpm_run.specs.Links.{KeepsLinks}
-use Rattle.mpm_run.specs.Patient.{IsPatientRun}
+use Rattle.mpm_run.specs.Patient.{IsPatientFrom}
 use Rattle.mpm_run.specs.Started.{IsStartedFirst}
 use Rattle.mpm_run.specs.Stops.{StoppedFor}
 use Rattle.mpm_run.specs.Tells.{AllReceive}
@@ -25,11 +25,11 @@ pub record KeepsFront (n : RunNumbers) (b : SeenBoard) (t : FrontTold) : Type 0 
   pub heeded : HeedsLines b.book.state.going t
 
 -- the same, and of any front and clock: the clock was told what the waits gave; the ticks and signals of the history come from both;
--- over a patient front, and a clock that answers what it is told, time passed only where nothing was left to be done; and the server
--- stopped for what the front shows
+-- over a patient front, of which nothing had come at first, and a clock that answers what it is told, time passed only where nothing was
+-- left to be done; and the server stopped for what the front shows
 pub record KeepsOutside (n : RunNumbers) (f f' : FrontSeen) (calls : Option (List (ℕ × ℕ))) (b : SeenBoard) : Type 0 where
   pub front : IfSome f'.told (KeepsFront n b)
   pub time : IsInTime (waits_of f'.told) calls
   pub informed : WasInformed (waits_of f'.told) calls b.book
-  pub patient : IsPatientRun f'.told calls b.book
+  pub patient : IsPatientFrom f.told f'.told calls b.book
   pub stopped : StoppedFor f f' b.book.state

@@ -1,5 +1,5 @@
 -- When time passes in a run over a patient front: where nothing is left to be done before.
-use Rattle.std.specs.Prelude.{◌≡◌, ◌⊎◌, ◌<◌, ℕ, true, false, List, [], ◌∷◌, Option, None, Some, slice_get, Contains, ⊤}
+use Rattle.std.specs.Prelude.{◌≡◌, ◌⊎◌, ◌<◌, ℕ, true, false, List, [], ◌∷◌, Option, None, Some, is_some, slice_get, Contains, IfSome, ⊤}
 use Rattle.mpm_base.specs.Front.{FrontTold, WaitTold, Backlog}
 use Rattle.mpm_base.specs.declared.front.Woke.TheVariants as woke
 use Rattle.conn_machine.specs.declared.event.Entry.{Entry}
@@ -94,6 +94,12 @@ ArePatient comings waits s history = AllAt (IsPatientEvent comings waits) s hist
 
 -- ## Over a front and a clock of any kind
 
+-- nothing has come of the front yet, and a patient one stands at moment 0
+pub record HasNothingCome (t : FrontTold) : Type 0 where
+  pub arrived : t.arrived ≡ 0
+  pub lines : t.lines ≡ []
+  pub stands : is_some t.comings ≡ true → t.moment ≡ 0
+
 -- a patient front that tells, and a clock that tells and answered what it was told
 pub record IsSteady (told : Option FrontTold) (calls : Option (List (ℕ × ℕ))) : Type 0 where
   pub front : FrontTold
@@ -107,3 +113,7 @@ pub record IsSteady (told : Option FrontTold) (calls : Option (List (ℕ × ℕ)
 -- over such ones time passes patiently
 abbrev pub IsPatientRun : Option FrontTold → Option (List (ℕ × ℕ)) → SeenBook → Type 0
 IsPatientRun told calls b = (steady : IsSteady told calls) → ArePatient steady.comings steady.front.waits b.base b.history
+
+-- over such ones time passes patiently in a run that began when nothing had come of the front
+abbrev pub IsPatientFrom : Option FrontTold → Option FrontTold → Option (List (ℕ × ℕ)) → SeenBook → Type 0
+IsPatientFrom told told' calls b = IfSome told HasNothingCome → IsPatientRun told' calls b

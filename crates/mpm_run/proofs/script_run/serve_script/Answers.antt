@@ -2,6 +2,7 @@ use Rattle.std.proofs.Common.{◌≡◌, ◌∙◌, ℕ, List, Some, refl, ap, s
 use Rattle.script_front.specs.Editions.{editions_of}
 use Rattle.script_front.specs.ScriptFront.{SeenFront, comings_of, front_seen}
 use Rattle.mpm_run.specs.ExitStatusesInside.{WritesAll}
+use Rattle.mpm_run.specs.Patient.{HasNothingCome}
 use Rattle.mpm_run.specs.Started.{IsStartedFirst}
 use Rattle.mpm_run.specs.Watched.{IsOpenedAndHushed}
 use Rattle.mpm_run.specs.declared.run_numbers.RunNumbers.{RunNumbers}
@@ -22,6 +23,8 @@ returns-in-Ok-answer-clause-left g c =
     let kept = c.in-Ok-answer.ensures in
     let front = kept.outside.front in
     let same = c.numbers_of-numbers.ensures.value in
+    let nothing : HasNothingCome c.in-Ok.front.told =
+    subst (λ (x : SeenFront). HasNothingCome x.told) (sym c.in-Ok.ensures) (record { arrived = refl; lines = refl; stands = λ patient. refl }) in
     let script : f.script ≡ c.args.script = cc (kept.follows.script ∙ ap (λ (x : SeenFront). Some x.script) c.in-Ok.ensures) in
     record {
       site = c.requires.store ∙ ap editions_of (sym script);

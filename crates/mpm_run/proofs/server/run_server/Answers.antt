@@ -75,7 +75,10 @@ returns-clause-outside g c =
           (λ clients knows. c.show_run.ensures.receive clients knows) c.listen.ensures.heeded;
       time = c.listen.ensures.time (time-opened (g.F.Front.seen c.bind.new.self).told (g.C.Clock.told c.args.clock.now) idle);
       informed = c.listen.ensures.informed;
-      patient = c.listen.ensures.patient (starts-opened c.args.numbers (g.F.Front.seen c.bind.new.self).told (g.C.Clock.told c.args.clock.now) c.in-Ok-open_board.board.book c.in-Ok-open_board.ensures.book idle);
+      patient =
+          λ none. c.listen.ensures.patient
+          (starts-opened c.args.numbers (g.F.Front.seen c.bind.new.self).told (g.C.Clock.told c.args.clock.now) c.in-Ok-open_board.board.book c.in-Ok-open_board.ensures.book idle
+          (nothing-bound c.args.numbers (g.F.Front.seen c.args.front.now) (g.F.Front.seen c.bind.new.self) binds none));
       stopped = stopped.cause;
     })
 
