@@ -44,7 +44,7 @@ stopped-end old new s (inr (inr (inl failed))) = inr (inr (inl failed.going))
 stopped-end old new s (inr (inr (inr rest))) = inr (inr (inr rest))
 
 -- one whose front never failed didn't stop for that
-never-failed : (old new : FrontSeen) (s : State) → StoppedFor old new s → new.counts.faults ≡ 0 → s.going ≡ Halted why.FrontFailed → ⊥
+pub never-failed : (old new : FrontSeen) (s : State) → StoppedFor old new s → new.counts.faults ≡ 0 → s.going ≡ Halted why.FrontFailed → ⊥
 never-failed old new s (inl ended) still going = absurd (cc (ended.going, going))
 never-failed old new s (inr (inl asked)) still going = absurd (cc (asked.going, going))
 never-failed old new s (inr (inr (inl failed))) still going = never-rises old.counts.faults new.counts.faults failed.failed still

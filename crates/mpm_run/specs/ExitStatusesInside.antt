@@ -1,5 +1,5 @@
 -- What the parts of the top call say of the exit status and of what was written.
-use Rattle.std.specs.Prelude.{◌≡◌, ◌==◌, ℕ, ◌≤◌, Bool, true, false, if◌then◌else◌, ◌⊎◌, List, ◌++◌, Option, None, Some, option_map}
+use Rattle.std.specs.Prelude.{◌≡◌, ◌≢◌, ◌==◌, ℕ, ◌≤◌, Bool, true, false, if◌then◌else◌, ◌⊎◌, List, ◌++◌, Option, None, Some, option_map}
 use Rattle.mpm_base.specs.Count.{NeverFalls, Rises}
 use Rattle.mpm_base.specs.Sink.{SinkSeen}
 use Rattle.mpm_base.specs.declared.script_line.ScriptLine.{ScriptLine}
@@ -92,6 +92,7 @@ pub record IsLeftOfRun (s : Scripted) : Type 0 where
   pub patient : KeepsPatience s.board s.front
   pub heeded : HeedsLines s.board.book.state.going s.front.told
   pub ended : s.board.book.state.going ≡ Halted why.FrontEnded → HasEnd s.board s.front
+  pub unfailed : s.board.book.state.going ≢ Halted why.FrontFailed
 
 -- what is left is of a run of the script, by the configuration that its lines write, and the site that they have by it
 pub record IsPlayed (lines : List ScriptLine) (s : Scripted) : Type 0 where

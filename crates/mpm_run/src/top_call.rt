@@ -1,5 +1,5 @@
 //! The top call: from the words of the command line to the texts.
-ghost use Rattle.std.specs.Prelude.{◌≡◌, [], IfSome, IsNone};
+ghost use Rattle.std.specs.Prelude.{◌≡◌, ◌≢◌, [], IfSome, IsNone};
 ghost use Rattle.conn_machine.specs.declared.event.Why.TheVariants as why;
 ghost use Rattle.conn_machine.specs.declared.state.Going.TheVariants.{Halted};
 ghost use Rattle.script_front.specs.Editions.{editions_of};
@@ -77,8 +77,9 @@ pub fn run<R: Threads + Wait + Sync, D: Store, F: Front, C: Clock, G: Gate + Syn
     // It was stopped by a command line exactly where one that was read stops it, and read none behind that.
     ensures heeded { IfSome result.scripted (λ s. HeedsLines s.board.book.state.going s.front.told) }
 
-    // Why it stopped: where nothing more could come the whole script was played, whatever the exit status.
+    // Why it stopped: where nothing more could come the whole script was played, whatever the exit status. Its front never fails.
     ensures ended { IfSome result.scripted (λ s. s.board.book.state.going ≡ Halted why.FrontEnded → HasEnd s.board s.front) }
+    ensures unfailed { IfSome result.scripted (λ s. s.board.book.state.going ≢ Halted why.FrontFailed) }
     ensures stopped { IfSome result.scripted (λ s. MayEndWith s.board.book.state.going result.status) }
 
     // The same of what is left of a server, as far as its front, its clock and its store tell; and how it ended.

@@ -38,6 +38,7 @@ returns-in-Ok-answer-clause-left g c =
       ended =
           has-end (front_seen c.in-Ok.front) (front_seen f) b f kept.outside.stopped refl c.show.ensures.is (ap (λ (x : SeenFront). x.ends) c.in-Ok.ensures)
           refl;
+      unfailed = never-failed (front_seen c.in-Ok.front) (front_seen f) b.book.state kept.outside.stopped refl;
     }
 
 pub returns-in-Ok-answer-clause-ends : goal.returns-in-Ok-answer-clause-ends

@@ -1,4 +1,4 @@
-use Rattle.std.proofs.Common.{◌≡◌, ℕ, List, IfSome, inl, inr, refl, sym, subst}
+use Rattle.std.proofs.Common.{◌≡◌, ◌≢◌, IfSome, inl, inr, refl, sym, subst}
 use Rattle.std.proofs.lemmas.Option.{IfSome_then}
 use Rattle.conn_machine.specs.declared.event.Why.TheVariants as why
 use Rattle.conn_machine.specs.declared.state.Going.TheVariants.{Halted}
@@ -32,6 +32,12 @@ returns-in-Ok-Script-clause-ended g c =
     subst (λ (o : Outcome _). IfSome o.scripted (λ s. s.board.book.state.going ≡ Halted why.FrontEnded → HasEnd s.board s.front))
     (sym c.scripted_outcome.ensures)
     (IfSome_then c.run_script.result.left c.run_script.ensures.left (λ s left. left.ended))
+
+pub returns-in-Ok-Script-clause-unfailed : goal.returns-in-Ok-Script-clause-unfailed
+returns-in-Ok-Script-clause-unfailed g c =
+    subst (λ (o : Outcome _). IfSome o.scripted (λ s. s.board.book.state.going ≢ Halted why.FrontFailed))
+    (sym c.scripted_outcome.ensures)
+    (IfSome_then c.run_script.result.left c.run_script.ensures.left (λ s left. left.unfailed))
 
 pub returns-in-Ok-Script-clause-served : goal.returns-in-Ok-Script-clause-served
 returns-in-Ok-Script-clause-served g c =
@@ -69,6 +75,12 @@ returns-in-Ok-Load-clause-ended g c =
     subst (λ (o : Outcome _). IfSome o.scripted (λ s. s.board.book.state.going ≡ Halted why.FrontEnded → HasEnd s.board s.front))
     (sym c.scripted_outcome-in-Ok-Load.ensures)
     (IfSome_then c.run_load.result.left c.run_load.ensures.left (λ s left. left.ended))
+
+pub returns-in-Ok-Load-clause-unfailed : goal.returns-in-Ok-Load-clause-unfailed
+returns-in-Ok-Load-clause-unfailed g c =
+    subst (λ (o : Outcome _). IfSome o.scripted (λ s. s.board.book.state.going ≢ Halted why.FrontFailed))
+    (sym c.scripted_outcome-in-Ok-Load.ensures)
+    (IfSome_then c.run_load.result.left c.run_load.ensures.left (λ s left. left.unfailed))
 
 pub returns-in-Ok-Load-clause-served : goal.returns-in-Ok-Load-clause-served
 returns-in-Ok-Load-clause-served g c =
