@@ -1,7 +1,9 @@
 -- What is read of a configuration.
 use Rattle.std.proofs.Common.{◌≡◌, inl, inr, ℕ, ◌≤◌, ◌⊎◌, ◌++◌, nat_lt, Bool, true, false, if◌then◌else◌, List, codes, length, Option, None, Some, IfSome, option_map, Result, Ok, Err, refl, ap, sym, subst, ◌∙◌, arith}
 use Rattle.std.proofs.lemmas.Bool.Decides.{nat_tests}
+use Rattle.mpm_base.specs.CommandWord.{command_word}
 use Rattle.mpm_base.specs.Count.{Rises}
+use Rattle.mpm_base.specs.Front.{Dials, FrontSeen}
 use Rattle.mpm_base.specs.Sink.{SinkSeen}
 use Rattle.mpm_base.specs.Store.{ReadsFile, StoreSeen, bytes_of}
 use Rattle.mpm_base.specs.declared.script_line.CommandWord.{CommandWord}
@@ -19,7 +21,7 @@ use Rattle.script_front.specs.Editions.{editions_of}
 use Rattle.mpm_run.specs.Calls.{Call, HasAccepted}
 use Rattle.mpm_run.specs.Configured.{Configures, HasConfig, config_fault, most_config, warnings_of}
 use Rattle.mpm_run.specs.ConfiguredInside.{IsAccepted, HasReadConfig, IsConfigFrom, IsConfigOf, IsOfText, IsRefusalFor, IsScriptConfig}
-use Rattle.mpm_run.specs.ExitStatuses.{EndsConfigRefused, EndsTested, EndsTestUnwritten, EndsUncontrolled, EndsUnread, HasRun, Sends}
+use Rattle.mpm_run.specs.ExitStatuses.{EndsConfigRefused, EndsTested, EndsTestUnwritten, EndsUncontrolled, EndsUnread, HasDialled, HasRun, Sends}
 use Rattle.mpm_run.specs.ExitStatusesInside.{IsConfigRefusalOf, IsPlayed, RefusesConfig, RefusesConfigOf, RefusesRun}
 use Rattle.command_words.specs.Invocations.{IsSendWords, IsTestWords, NamesConfig}
 use Rattle.mpm_run.specs.Sites.{HasSite}
@@ -226,7 +228,7 @@ ends-test-unwritten call name answer conf command reads is shows failed = record
 -- ## Commands
 
 -- the command was to be sent to this port
-pub sends : (call : Call) (word : CommandWord) (name : List ℕ) (port : ℕ) (answer : Result (List ℕ) StoreFault) (conf : Configuration × List ℕ)
+sends : (call : Call) (word : CommandWord) (name : List ℕ) (port : ℕ) (answer : Result (List ℕ) StoreFault) (conf : Configuration × List ℕ)
     → IsSendWords call.words word name → ReadsFile call.store call.store' name most_config answer → IsConfigFrom answer (Ok conf)
     → conf.0.control ≡ Some port → call.shown ≡ None → Sends call word port
 sends call word name port answer conf command reads is control shows = record {
@@ -236,6 +238,18 @@ sends call word name port answer conf command reads is control shows = record {
   accepted = has-accepted call call.store' name answer conf reads refl is;
   control = control;
   shows = shows;
+}
+
+-- and the front dialled it
+pub has-dialled : (call : Call) (word : CommandWord) (name : List ℕ) (port : ℕ) (answer : Result (List ℕ) StoreFault) (conf : Configuration × List ℕ)
+    (f f' : FrontSeen) (spelled : List ℕ) (taken : Bool) → IsSendWords call.words word name
+    → ReadsFile call.store call.store' name most_config answer → IsConfigFrom answer (Ok conf) → conf.0.control ≡ Some port → call.shown ≡ None
+    → spelled ≡ command_word word → Dials f f' port spelled taken → HasDialled call f f' taken
+has-dialled call word name port answer conf f f' spelled taken command reads is control shows spells dials = record {
+  word = word;
+  port = port;
+  sends = sends call word name port answer conf command reads is control shows;
+  dials = subst (λ (w : List ℕ). Dials f f' port w taken) spells dials;
 }
 
 -- there is none

@@ -21,8 +21,8 @@ use Rattle.mpm_run.specs.Configured.{warnings_of}
 use Rattle.mpm_run.specs.ListenInside.{IsEnd}
 use Rattle.mpm_run.specs.Patient.{ArePatient, IsPatientRun}
 use Rattle.mpm_run.specs.Stops.{HasEnded, HasGivenAll, StoppedFor}
-use Rattle.mpm_run.specs.ExitStatuses.{EndsAs, EndsFailed, EndsFull, EndsUnwritten, EndsWell, HasEnd, IsGoodEnd, KeepsTime, MayEndWith, board_report, run_text}
-use Rattle.mpm_run.specs.ExitStatusesInside.{EndsReport, IsExitStatusOf, IsFullStop, IsPlayedStatus, IsStoppedStatus, ReportsAs, WritesAll, status_of_writes}
+use Rattle.mpm_run.specs.ExitStatuses.{EndsAs, EndsLacking, HasEnd, IsGoodEnd, KeepsTime, MayEndWith, board_report}
+use Rattle.mpm_run.specs.ExitStatusesInside.{EndsReport, IsExitStatusOf, IsFullStop, IsPlayedStatus, IsStoppedStatus, LacksInRun, LacksReport, ReportsAs, WritesAll, status_of_writes}
 use Rattle.mpm_run.specs.Times.{IsInTime, WasInformed, waits_of}
 use Rattle.mpm_run.proofs.CountLemmas.{never-rises, rises-before, rises-behind}
 
@@ -110,7 +110,21 @@ seven-full going status (inr (inr (inr (inl full)))) is seven = full
 seven-full going status (inr (inr (inr (inr no_memory)))) is seven =
     absurd (omega (arith, subst (λ (g : Going). IsExitStatusOf g status) no_memory is, seven))
 
--- then the history has a stop for that
+-- and 6 only where it did for want of memory
+six-lacks : (going : Going) (status : ℕ) → IsEnd going → IsExitStatusOf going status → status ≡ 6 → going ≡ Halted why.NoMemory
+six-lacks going status (inl ended) is six = absurd (omega (arith, subst (λ (g : Going). IsExitStatusOf g status) ended is, six))
+six-lacks going status (inr (inl asked)) is six = absurd (omega (arith, subst (λ (g : Going). IsExitStatusOf g status) asked is, six))
+six-lacks going status (inr (inr (inl failed))) is six = absurd (omega (arith, subst (λ (g : Going). IsExitStatusOf g status) failed is, six))
+six-lacks going status (inr (inr (inr (inl full)))) is six = absurd (omega (arith, subst (λ (g : Going). IsExitStatusOf g status) full is, six))
+six-lacks going status (inr (inr (inr (inr no_memory)))) is six = no_memory
+
+-- so the report was written behind that, or memory lacked for it
+pub lacks-in-run : (old new : SinkSeen) (b : SeenBoard) (status : ℕ) → IsEnd b.book.state.going → IsExitStatusOf b.book.state.going status
+    → LacksReport old new (board_report b) status → LacksInRun old new b
+lacks-in-run old new b status end is (inl wrote) = inl (six-lacks b.book.state.going status end is wrote.0, wrote.1)
+lacks-in-run old new b status end is (inr same) = inr same
+
+-- where the history is full it has a stop for that
 pub full-stop : (b : SeenBoard) (status status' : ℕ) → StopsByLoad b.book.history → TellsFullStop b.book.state.going b.book.history
     → IsEnd b.book.state.going → IsExitStatusOf b.book.state.going status → ReportsAs status status' → status' ≡ 7 → IsFullStop b
 full-stop b status status' stops full end is reports seven =
@@ -207,20 +221,38 @@ both-whole old mid new first second warned faults writes = record {
       ];
 }
 
+-- what was written of the one text, or a write failed, and then all of the other was, or a write failed
+text-behind : (old mid new : SinkSeen) (first second : List ℕ) (written : Bool) → WritesAll old mid first written → NeverFalls old.faults mid.faults
+    → WritesText mid new second → WritesText old new (first ++ second)
+text-behind old mid new first second true warned faults writes = both-whole old mid new first second warned faults writes
+text-behind old mid new first second false warned faults writes = record {
+  faults = omega (arith, faults, writes.faults);
+  whole = inr (rises-before old.faults mid.faults new.faults warned writes.faults);
+}
+
 pub report-text : (old mid new : SinkSeen) (first second : List ℕ) (written : Bool) (status : ℕ) → WritesAll old mid first written
     → NeverFalls old.faults mid.faults → EndsReport mid new second written status → (status ≡ 4) ⊎ (status ≡ 7) → WritesText old new (first ++ second)
-report-text old mid new first second true status warned faults report is =
-    both-whole old mid new first second warned faults (report.writes is)
-report-text old mid new first second false status warned faults report is = record {
-  faults = omega (arith, faults, report.faults);
-  whole = inr (rises-before old.faults mid.faults new.faults warned report.faults);
-}
+report-text old mid new first second written status warned faults report is =
+    text-behind old mid new first second written warned faults (report.writes is)
+
+-- a text was written, or a write failed
+writes-text : (old new : SinkSeen) (text : List ℕ) (whole : Bool) → WritesAll old new text whole → NeverFalls old.faults new.faults → WritesText old new text
+writes-text old new text true all faults = record { faults = faults; whole = inl all }
+writes-text old new text false all faults = record { faults = faults; whole = inr all }
+
+-- with exit status 6
+ends-lacking : (old mid new : SinkSeen) (c : Configuration) (b : SeenBoard) (written : Bool) → WritesAll old mid (warnings_of c) written
+    → NeverFalls old.faults mid.faults → LacksInRun mid new b → EndsLacking old new c b
+ends-lacking old mid new c b written warned faults (inl stopped) =
+    inl (stopped.0, text-behind old mid new (warnings_of c) (board_report b) written warned faults stopped.1)
+ends-lacking old mid new c b written warned faults (inr same) =
+    inr (subst (λ (s : SinkSeen). WritesText old s (warnings_of c)) (sym same) (writes-text old mid (warnings_of c) written warned faults))
 
 -- how a run ends with its exit status, whose warnings were written or not, and then its report
 pub ends-as : (old mid new : SinkSeen) (c : Configuration) (b : SeenBoard) (written : Bool) (status : ℕ) → WritesAll old mid (warnings_of c) written
     → NeverFalls old.faults mid.faults → IsEnd b.book.state.going → MayEndWith b.book.state.going status → EndsReport mid new (board_report b) written status
-    → (status ≡ 7 → IsFullStop b) → EndsAs old new c b status
-ends-as old mid new c b written status warned faults end may report full = record {
+    → (status ≡ 6 → LacksInRun mid new b) → (status ≡ 7 → IsFullStop b) → EndsAs old new c b status
+ends-as old mid new c b written status warned faults end may report lacking full = record {
   may = may;
   well = λ zero. record {
     going = good-end b.book.state.going status end may (inl zero);
@@ -234,6 +266,7 @@ ends-as old mid new c b written status warned faults end may report full = recor
     going = good-end b.book.state.going status end may (inr five);
     failed = report-unwritten old mid new (warnings_of c) (board_report b) written status warned faults report five;
   };
+  lacking = λ six. ends-lacking old mid new c b written warned faults (lacking six);
   full = λ seven. record {
     stop = (full seven).stop;
     full = (full seven).full;
@@ -294,3 +327,14 @@ reports-as false status (inr (inr (inr seven))) = inl (subst (λ (n : ℕ). stat
 -- and what becomes of the status
 pub reports-status : (all : Bool) (status status' : ℕ) → IsStoppedStatus status → status' ≡ status_of_writes all status → ReportsAs status status'
 reports-status all status status' stopped is = subst (ReportsAs status) (sym is) (reports-as all status stopped)
+
+-- writes make no status 6
+of-six : (all : Bool) (status : ℕ) → status_of_writes all status ≡ 6 → status ≡ 6
+of-six true status six = six
+of-six false status six = grind (arith, nat_tests, six)
+
+-- so it was written behind one
+pub lacks-report : (old new : SinkSeen) (text : List ℕ) (whole written : Bool) (status status' : ℕ) → WritesAll old new text whole
+    → NeverFalls old.faults new.faults → status' ≡ status_of_writes (whole && written) status → status' ≡ 6 → LacksReport old new text status
+lacks-report old new text whole written status status' all faults is six =
+    inl (of-six (whole && written) status (sym is ∙ six), writes-text old new text whole all faults)

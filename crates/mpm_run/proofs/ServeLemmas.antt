@@ -13,8 +13,8 @@ use Rattle.file_table.specs.Site.{IsSiteOf, SeenSite}
 use Rattle.board.specs.Board.{AreOfOutside, SeenBoard}
 use Rattle.mpm_run.specs.Calls.{Call, HasAccepted, LoadsSite}
 use Rattle.mpm_run.specs.Configured.{most_config}
-use Rattle.mpm_run.specs.ExitStatuses.{EndsAs, EndsSiteRefused, EndsUnbound, EndsUnread, HasRun, HasServed}
-use Rattle.mpm_run.specs.ExitStatusesInside.{RefusesRun}
+use Rattle.mpm_run.specs.ExitStatuses.{EndsAs, EndsSiteRefused, EndsUnbound, EndsUnread, HasRun, HasServed, IsUnbound, LeavesFront}
+use Rattle.mpm_run.specs.ExitStatusesInside.{LeavesUnbound, RefusesRun}
 use Rattle.mpm_run.specs.FirstNumbers.{numbers_of}
 use Rattle.command_words.specs.Invocations.{IsServeWords}
 use Rattle.mpm_run.specs.Listen.{HasClosedAll, IsRunFrom, NeverFolded}
@@ -80,6 +80,26 @@ serves (Some b) call name c site f f' calls status ready shows run outside ends 
   ends = ends;
 }
 
+-- the front could not be bound
+is-unbound : (call : Call) (name : List ℕ) (c : Configuration) (site : SeenSite) (f f' : FrontSeen) → IsReady call name c site
+    → Binds f f' c.listen c.control false → IsUnbound call f f'
+is-unbound call name c site f f' ready binds = record {
+  name = name;
+  config = c;
+  site = site;
+  command = ready.command;
+  accepted = ready.accepted;
+  loads = ready.loads;
+  binds = binds;
+}
+
+-- what became of it where none opened
+pub leaves-front : (call : Call) (name : List ℕ) (c : Configuration) (site : SeenSite) (f f' : FrontSeen) (status : ℕ) → IsReady call name c site
+    → LeavesUnbound f f' c status → LeavesFront call f f' status
+leaves-front call name c site f f' status ready (inl same) = inl same
+leaves-front call name c site f f' status ready (inr failed) =
+    inr (inr (record { status_is = failed.0; failed = inl (is-unbound call name c site f f' ready failed.1) }))
+
 -- none did, as the front could not be bound
 pub unbound : (o : Option SeenBoard) (call : Call) (name : List ℕ) (c : Configuration) (site : SeenSite) (f f' : FrontSeen)
     → IsReady call name c site → (IsNone o → Binds f f' c.listen c.control false × RefusesRun call.sink call.sink' None front_fault call.shown)
@@ -87,17 +107,7 @@ pub unbound : (o : Option SeenBoard) (call : Call) (name : List ℕ) (c : Config
 unbound (Some b) call name c site f f' ready refused = inl refl
 unbound None call name c site f f' ready refused =
     let back = refused refl in
-    inr (record {
-      name = name;
-      config = c;
-      site = site;
-      command = ready.command;
-      accepted = ready.accepted;
-      loads = ready.loads;
-      binds = back.0;
-      shows = back.1.shows;
-      text = back.1.writes;
-    })
+    inr (record { unbound = is-unbound call name c site f f' ready back.0; shows = back.1.shows; text = back.1.writes })
 
 -- ## A site that is refused
 

@@ -1,5 +1,5 @@
 -- Why a run ends with its exit status, and what it leaves of the output.
-use Rattle.std.specs.Prelude.{◌≡◌, ℕ, ◌≤◌, ◌<◌, ◌⊎◌, true, false, List, ◌++◌, length, map, Option, Some, None, option_map, IsSome, IsSomeAnd, Ok, Err}
+use Rattle.std.specs.Prelude.{◌≡◌, ℕ, ◌≤◌, ◌<◌, ◌⊎◌, Bool, true, false, List, ◌++◌, length, map, Option, Some, None, option_map, IsSome, IsSomeAnd, Err}
 use Rattle.mpm_base.specs.CommandWord.{command_word}
 use Rattle.mpm_base.specs.Count.{Rises}
 use Rattle.mpm_base.specs.Front.{Binds, Dials, FrontSeen, moments_of}
@@ -201,12 +201,16 @@ pub record Sends (call : Call) (word : CommandWord) (port : ℕ) : Type 0 where
   pub control : config.control ≡ Some port
   pub shows : call.shown ≡ None
 
--- with exit status 0, of a command: the front dialled the port with its word, and nothing was written
-pub record EndsSent (call : Call) (f f' : FrontSeen) : Type 0 where
+-- the front was asked once to dial the port of such a command with its word, and answered so
+pub record HasDialled (call : Call) (f f' : FrontSeen) (answer : Bool) : Type 0 where
   pub word : CommandWord
   pub port : ℕ
   pub sends : Sends call word port
-  pub dials : Dials f f' port (command_word word) true
+  pub dials : Dials f f' port (command_word word) answer
+
+-- with exit status 0, of a command: the front dialled the port with its word, and nothing was written
+pub record EndsSent (call : Call) (f f' : FrontSeen) : Type 0 where
+  pub dialled : HasDialled call f f' true
   pub unwritten : call.sink' ≡ call.sink
 
 -- with exit status 10: the configuration is accepted, and has no control line
@@ -224,14 +228,11 @@ pub record EndsUncontrolled (call : Call) : Type 0 where
 
 -- with exit status 4, of a command: the dial failed
 pub record EndsUndialled (call : Call) (f f' : FrontSeen) : Type 0 where
-  pub word : CommandWord
-  pub port : ℕ
-  pub sends : Sends call word port
-  pub dials : Dials f f' port (command_word word) false
+  pub dialled : HasDialled call f f' false
   pub text : WritesText call.sink call.sink' front_fault
 
--- with exit status 4, of a server: its configuration is accepted and its site loaded, and the front could not be bound
-pub record EndsUnbound (call : Call) (f f' : FrontSeen) : Type 0 where
+-- the configuration of a server is accepted and its site loaded, and the front could not be bound to what the configuration says
+pub record IsUnbound (call : Call) (f f' : FrontSeen) : Type 0 where
   pub name : List ℕ
   pub config : Configuration
   pub site : SeenSite
@@ -239,8 +240,34 @@ pub record EndsUnbound (call : Call) (f f' : FrontSeen) : Type 0 where
   pub accepted : HasAccepted call name config
   pub loads : LoadsSite call config site
   pub binds : Binds f f' config.listen config.control false
+
+-- with exit status 4, of a server: the front could not be bound
+pub record EndsUnbound (call : Call) (f f' : FrontSeen) : Type 0 where
+  pub unbound : IsUnbound call f f'
   pub shows : call.shown ≡ None
   pub text : WritesText call.sink call.sink' front_fault
+
+-- ## What became of the front and the clock where no run of a server opened
+
+-- a bind or a dial of the front failed, with exit status 4, or with 6 where memory lacked for the text of that
+pub record FailsFront (call : Call) (f f' : FrontSeen) (status : ℕ) : Type 0 where
+  pub status_is : (status ≡ 4) ⊎ (status ≡ 6)
+  pub failed : IsUnbound call f f' ⊎ HasDialled call f f' false
+
+-- the front is as it was; or it dialled for a command, with exit status 0; or a bind or a dial of it failed
+abbrev pub LeavesFront : Call → FrontSeen → FrontSeen → ℕ → Type 0
+LeavesFront call f f' status = (f' ≡ f) ⊎ ((status ≡ 0) × HasDialled call f f' true) ⊎ FailsFront call f f' status
+
+-- so it is with the front, and the clock is as it was, told by its calls before and after
+pub record LeavesOutside (call : Call) (f f' : FrontSeen) (calls calls' : Option (List (ℕ × ℕ))) (status : ℕ) : Type 0 where
+  pub front : LeavesFront call f f' status
+  pub clock : calls' ≡ calls
+
+-- ## Where memory lacked before a run opened
+
+-- with exit status 6, where no run opened: the output is as it was, and nothing is shown
+abbrev pub EndsSilently : SinkSeen → SinkSeen → Option ℕ → Type 0
+EndsSilently sink sink' shown = (sink' ≡ sink) × (shown ≡ None)
 
 -- ## Where a run opened
 
@@ -290,12 +317,19 @@ pub record EndsFailed (sink sink' : SinkSeen) (c : Configuration) (b : SeenBoard
   pub going : b.book.state.going ≡ Halted why.FrontFailed
   pub text : WritesText sink sink' (run_text c b)
 
+-- with exit status 6, of a run: its server stopped for want of memory, and the warnings and the report were written; or memory lacked
+-- for the report, and nothing was written behind the warnings
+abbrev pub EndsLacking : SinkSeen → SinkSeen → Configuration → SeenBoard → Type 0
+EndsLacking sink sink' c b =
+    ((b.book.state.going ≡ Halted why.NoMemory) × WritesText sink sink' (run_text c b)) ⊎ WritesText sink sink' (warnings_of c)
+
 -- how a run ends with its exit status
 pub record EndsAs (sink sink' : SinkSeen) (c : Configuration) (b : SeenBoard) (status : ℕ) : Type 0 where
   pub may : MayEndWith b.book.state.going status
   pub well : status ≡ 0 → EndsWell sink sink' c b
   pub failed : status ≡ 4 → EndsFailed sink sink' c b
   pub unwritten : status ≡ 5 → EndsUnwritten sink sink' b
+  pub lacking : status ≡ 6 → EndsLacking sink sink' c b
   pub full : status ≡ 7 → EndsFull sink sink' c b
 
 -- what is left of a run of this configuration and this site: nothing of its history was folded, it closed each connection that it

@@ -1,8 +1,10 @@
 -- What the parts of the top call say of the exit status and of what was written.
 use Rattle.std.specs.Prelude.{◌≡◌, ◌≢◌, ◌==◌, ℕ, ◌≤◌, Bool, true, false, if◌then◌else◌, ◌⊎◌, List, ◌++◌, Option, None, Some, option_map}
 use Rattle.mpm_base.specs.Count.{NeverFalls, Rises}
+use Rattle.mpm_base.specs.Front.{Binds, FrontSeen}
 use Rattle.mpm_base.specs.Sink.{SinkSeen}
 use Rattle.mpm_base.specs.declared.script_line.ScriptLine.{ScriptLine}
+use Rattle.mpm_config.specs.Config.{Configuration}
 use Rattle.mpm_script.specs.Clients.{clients_of}
 use Rattle.mpm_script.specs.declared.script.ScriptFault.{ScriptFault}
 use Rattle.script_front.specs.Editions.{editions_of}
@@ -17,7 +19,7 @@ use Rattle.mpm_run.specs.Configured.{Configures, HasConfig}
 use Rattle.mpm_run.specs.ConfiguredInside.{HasBadConfig}
 use Rattle.mpm_run.specs.Calls.{WritesText}
 use Rattle.mpm_run.specs.Commands.{HeedsLines}
-use Rattle.mpm_run.specs.ExitStatuses.{HasEnd, HasRun, KeepsPatience, KeepsTime, fault_at}
+use Rattle.mpm_run.specs.ExitStatuses.{HasEnd, HasRun, KeepsPatience, KeepsTime, board_report, fault_at}
 use Rattle.mpm_run.specs.FirstNumbers.{numbers_of}
 use Rattle.mpm_run.specs.Links.{KeepsLinks}
 use Rattle.mpm_run.specs.Sites.{HasSite}
@@ -159,3 +161,17 @@ pub record EndsReport (sink sink' : SinkSeen) (text : List ℕ) (written : Bool)
   pub well : status ≡ 0 → (written ≡ true) × (sink'.told ≡ option_map (λ before. before ++ text) sink.told)
   pub failed : status ≡ 5 → (written ≡ false) ⊎ Rises sink.faults sink'.faults
   pub writes : (status ≡ 4) ⊎ (status ≡ 7) → WritesText sink sink' text
+
+-- the report was written behind exit status 6, or memory lacked for it, and the output is as it was
+abbrev pub LacksReport : SinkSeen → SinkSeen → List ℕ → ℕ → Type 0
+LacksReport sink sink' text status = ((status ≡ 6) × WritesText sink sink' text) ⊎ (sink' ≡ sink)
+
+-- the server stopped for want of memory, and the report was written; or memory lacked for that, and the output is as it was
+abbrev pub LacksInRun : SinkSeen → SinkSeen → SeenBoard → Type 0
+LacksInRun sink sink' b = ((b.book.state.going ≡ Halted why.NoMemory) × WritesText sink sink' (board_report b)) ⊎ (sink' ≡ sink)
+
+-- ## What became of the front on the way
+
+-- the front is as it was; or it could not be bound, with exit status 4, or with 6 where memory lacked for the text of that
+abbrev pub LeavesUnbound : FrontSeen → FrontSeen → Configuration → ℕ → Type 0
+LeavesUnbound f f' c status = (f' ≡ f) ⊎ (((status ≡ 4) ⊎ (status ≡ 6)) × Binds f f' c.listen c.control false)

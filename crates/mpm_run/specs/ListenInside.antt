@@ -101,10 +101,11 @@ clients_known (Some k) = k.clients
 abbrev pub IsKnownOfFront : Option KnownOutside → Option FrontTold → Type 0
 IsKnownOfFront known told = clients_known known ≡ clients_told told
 
--- the server did not open for the fault: a front that could not be bound to what the numbers say has counted a failed call
+-- the server did not open for the fault: a front that could not be bound to what the numbers say has counted a failed call, and one that
+-- wasn't asked to be bound is as it was
 abbrev pub IsUnopened : RunNumbers → FrontSeen → FrontSeen → OpenFault → Type 0
 IsUnopened n old new opening.Bind = Binds old new n.listen n.control false
-IsUnopened n old new opening.NoMemory = ⊤
+IsUnopened n old new opening.NoMemory = new ≡ old
 
 -- the front is still the one that it was
 pub record Follows (old new : FrontSeen) : Type 0 where

@@ -1,7 +1,7 @@
 //! A command that is sent to a running server: `-k WORD -f FILE`. It loads no files, and writes nothing where it succeeds.
 ghost use Rattle.std.specs.Prelude.{◌≡◌, ℕ, List};
 ghost use Rattle.mpm_run.specs.Calls.{seen_call};
-ghost use Rattle.mpm_run.specs.ExitStatuses.{EndsConfigRefused, EndsSent, EndsUncontrolled, EndsUndialled, EndsUnread};
+ghost use Rattle.mpm_run.specs.ExitStatuses.{EndsConfigRefused, EndsSent, EndsSilently, EndsUncontrolled, EndsUndialled, EndsUnread, LeavesFront};
 ghost use Rattle.mpm_run.specs.ExitStatusesInside.{IsSentStatus};
 ghost use Rattle.command_words.specs.Invocations.{IsSendWords};
 
@@ -28,7 +28,8 @@ pub fn send_command<D: Store, F: Front, K: Sink>(
     ensures unread { (words : List (List ℕ)) → IsSendWords words command name.now → result.status ≡ 3 → EndsUnread (seen_call words (D.seen store.old) (D.seen store.new) (K.seen out.old) (K.seen out.new) result.shown) }
     ensures undialled { (words : List (List ℕ)) → IsSendWords words command name.now → result.status ≡ 4 → EndsUndialled (seen_call words (D.seen store.old) (D.seen store.new) (K.seen out.old) (K.seen out.new) result.shown) (F.seen front.old) (F.seen front.new) }
     ensures uncontrolled { (words : List (List ℕ)) → IsSendWords words command name.now → result.status ≡ 10 → EndsUncontrolled (seen_call words (D.seen store.old) (D.seen store.new) (K.seen out.old) (K.seen out.new) result.shown) }
-    ensures silent { result.status ≡ 6 → (K.seen out.new).told ≡ (K.seen out.old).told }
+    ensures front { (words : List (List ℕ)) → IsSendWords words command name.now → LeavesFront (seen_call words (D.seen store.old) (D.seen store.new) (K.seen out.old) (K.seen out.new) result.shown) (F.seen front.old) (F.seen front.new) result.status }
+    ensures silent { result.status ≡ 6 → EndsSilently (K.seen out.old) (K.seen out.new) result.shown }
 {
     let answer = store.read(alloc, name, MOST_CONFIG);
     let config = match config_from(alloc, answer) {

@@ -2,7 +2,7 @@
 ghost use Rattle.std.specs.Prelude.{◌≡◌, ◌⊎◌, ◌++◌, ℕ, List, None, option_map};
 ghost use Rattle.mpm_base.specs.Count.{Rises};
 ghost use Rattle.mpm_run.specs.Calls.{seen_call};
-ghost use Rattle.mpm_run.specs.ExitStatuses.{EndsConfigRefused, EndsTestUnwritten, EndsTested, EndsUnread};
+ghost use Rattle.mpm_run.specs.ExitStatuses.{EndsConfigRefused, EndsSilently, EndsTestUnwritten, EndsTested, EndsUnread};
 ghost use Rattle.mpm_run.specs.ExitStatusesInside.{IsTestStatus};
 ghost use Rattle.command_words.specs.Invocations.{IsTestWords};
 ghost use Rattle.mpm_run.specs.Texts.{syntax_ok};
@@ -28,7 +28,7 @@ pub fn test_config<D: Store, K: Sink>(
     ensures refused { (words : List (List ℕ)) → IsTestWords words name.now → result.status ≡ 1 → EndsConfigRefused (seen_call words (D.seen store.old) (D.seen store.new) (K.seen out.old) (K.seen out.new) result.shown) }
     ensures unread { (words : List (List ℕ)) → IsTestWords words name.now → result.status ≡ 3 → EndsUnread (seen_call words (D.seen store.old) (D.seen store.new) (K.seen out.old) (K.seen out.new) result.shown) }
     ensures unwritten { (words : List (List ℕ)) → IsTestWords words name.now → result.status ≡ 5 → EndsTestUnwritten (seen_call words (D.seen store.old) (D.seen store.new) (K.seen out.old) (K.seen out.new) result.shown) }
-    ensures silent { result.status ≡ 6 → (K.seen out.new).told ≡ (K.seen out.old).told }
+    ensures silent { result.status ≡ 6 → EndsSilently (K.seen out.old) (K.seen out.new) result.shown }
 {
     let answer = store.read(alloc, name, MOST_CONFIG);
     match config_from(alloc, answer) {
@@ -43,7 +43,7 @@ fn pass<K: Sink>(told: Octets, out: &mut K) -> Ending<()>
     ensures shown { result.shown ≡ None }
     ensures written { result.status ≡ 0 → (K.seen out.new).told ≡ option_map (λ written. written ++ (told ++ syntax_ok)) (K.seen out.old).told }
     ensures failed { result.status ≡ 5 → Rises (K.seen out.old).faults (K.seen out.new).faults }
-    ensures silent { result.status ≡ 6 → (K.seen out.new).told ≡ (K.seen out.old).told }
+    ensures silent { result.status ≡ 6 → EndsSilently (K.seen out.old) (K.seen out.new) result.shown }
 {
     let mut text = told;
     match add_syntax_ok(&mut text) {

@@ -1,5 +1,6 @@
 //! The ends of runs that are refused: each writes its text, unless memory lacks for it.
 ghost use Rattle.std.specs.Prelude.{◌≡◌, ◌⊎◌, None, Some, IsNone};
+ghost use Rattle.mpm_run.specs.ExitStatuses.{EndsSilently};
 ghost use Rattle.mpm_run.specs.ExitStatusesInside.{RefusesConfigOf, RefusesRun};
 ghost use Rattle.mpm_run.specs.Texts.{config_refused, front_fault, no_control_line, script_refused, site_refused, store_fault, usage};
 
@@ -19,7 +20,7 @@ pub fn refuse_words<X, K: Sink>(alloc: Global, out: &mut K) -> Ending<X>
     ensures known { (result.status ≡ 2) ⊎ (result.status ≡ 6) }
     ensures left { IsNone result.left }
     ensures refused { result.status ≡ 2 → RefusesRun (K.seen out.old) (K.seen out.new) None usage result.shown }
-    ensures silent { result.status ≡ 6 → (K.seen out.new).told ≡ (K.seen out.old).told }
+    ensures silent { result.status ≡ 6 → EndsSilently (K.seen out.old) (K.seen out.new) result.shown }
 {
     match usage_text(alloc) {
         Ok(text) => refuse(out, exit_status::UNKNOWN_WORDS, None, &text),
@@ -37,7 +38,7 @@ pub fn refuse_unread<X, K: Sink>(
     ensures known { (result.status ≡ 3) ⊎ (result.status ≡ 6) }
     ensures left { IsNone result.left }
     ensures refused { result.status ≡ 3 → RefusesRun (K.seen out.old) (K.seen out.new) shown (store_fault name.now) result.shown }
-    ensures silent { result.status ≡ 6 → (K.seen out.new).told ≡ (K.seen out.old).told }
+    ensures silent { result.status ≡ 6 → EndsSilently (K.seen out.old) (K.seen out.new) result.shown }
 {
     match store_fault_text(alloc, name) {
         Ok(text) => refuse(out, exit_status::UNREAD, shown, &text),
@@ -55,7 +56,7 @@ pub fn refuse_script<X, K: Sink>(
     ensures known { (result.status ≡ 8) ⊎ (result.status ≡ 6) }
     ensures left { IsNone result.left }
     ensures refused { result.status ≡ 8 → RefusesRun (K.seen out.old) (K.seen out.new) (Some line) (script_refused line why) result.shown }
-    ensures silent { result.status ≡ 6 → (K.seen out.new).told ≡ (K.seen out.old).told }
+    ensures silent { result.status ≡ 6 → EndsSilently (K.seen out.old) (K.seen out.new) result.shown }
 {
     match script_refused_text(alloc, line, why) {
         Ok(text) => refuse(out, exit_status::REFUSED, Some(line), &text),
@@ -73,7 +74,7 @@ pub fn refuse_config<X, K: Sink>(
     ensures known { (result.status ≡ 1) ⊎ (result.status ≡ 6) }
     ensures left { IsNone result.left }
     ensures refused { result.status ≡ 1 → RefusesRun (K.seen out.old) (K.seen out.new) (Some number) (config_refused number why) result.shown }
-    ensures silent { result.status ≡ 6 → (K.seen out.new).told ≡ (K.seen out.old).told }
+    ensures silent { result.status ≡ 6 → EndsSilently (K.seen out.old) (K.seen out.new) result.shown }
 {
     match config_refused_text(alloc, number, why) {
         Ok(text) => refuse(out, exit_status::MISCONFIGURED, Some(number), &text),
@@ -91,7 +92,7 @@ pub fn refuse_config_of<X, K: Sink>(
     ensures known { (result.status ≡ 1) ⊎ (result.status ≡ 3) ⊎ (result.status ≡ 6) }
     ensures left { IsNone result.left }
     ensures refused { (result.status ≡ 1) ⊎ (result.status ≡ 3) → RefusesConfigOf (K.seen out.old) (K.seen out.new) name.now why result.status result.shown }
-    ensures silent { result.status ≡ 6 → (K.seen out.new).told ≡ (K.seen out.old).told }
+    ensures silent { result.status ≡ 6 → EndsSilently (K.seen out.old) (K.seen out.new) result.shown }
 {
     match why {
         NoConfig::Missing => refuse_unread(alloc, name.as_bytes(), Some(0), out),
@@ -106,7 +107,7 @@ pub fn refuse_site<X, K: Sink>(alloc: Global, name: &[u8], out: &mut K) -> Endin
     ensures known { (result.status ≡ 9) ⊎ (result.status ≡ 6) }
     ensures left { IsNone result.left }
     ensures refused { result.status ≡ 9 → RefusesRun (K.seen out.old) (K.seen out.new) None (site_refused name.now) result.shown }
-    ensures silent { result.status ≡ 6 → (K.seen out.new).told ≡ (K.seen out.old).told }
+    ensures silent { result.status ≡ 6 → EndsSilently (K.seen out.old) (K.seen out.new) result.shown }
 {
     match site_refused_text(alloc, name) {
         Ok(text) => refuse(out, exit_status::SITE_REFUSED, None, &text),
@@ -119,7 +120,7 @@ pub fn refuse_front<X, K: Sink>(alloc: Global, out: &mut K) -> Ending<X>
     ensures known { (result.status ≡ 4) ⊎ (result.status ≡ 6) }
     ensures left { IsNone result.left }
     ensures refused { result.status ≡ 4 → RefusesRun (K.seen out.old) (K.seen out.new) None front_fault result.shown }
-    ensures silent { result.status ≡ 6 → (K.seen out.new).told ≡ (K.seen out.old).told }
+    ensures silent { result.status ≡ 6 → EndsSilently (K.seen out.old) (K.seen out.new) result.shown }
 {
     match front_fault_text(alloc) {
         Ok(text) => refuse(out, exit_status::FRONT_FAILED, None, &text),
@@ -132,7 +133,7 @@ pub fn refuse_uncontrolled<X, K: Sink>(alloc: Global, out: &mut K) -> Ending<X>
     ensures known { (result.status ≡ 10) ⊎ (result.status ≡ 6) }
     ensures left { IsNone result.left }
     ensures refused { result.status ≡ 10 → RefusesRun (K.seen out.old) (K.seen out.new) None no_control_line result.shown }
-    ensures silent { result.status ≡ 6 → (K.seen out.new).told ≡ (K.seen out.old).told }
+    ensures silent { result.status ≡ 6 → EndsSilently (K.seen out.old) (K.seen out.new) result.shown }
 {
     match no_control_line_text(alloc) {
         Ok(text) => refuse(out, exit_status::UNCONTROLLED, None, &text),

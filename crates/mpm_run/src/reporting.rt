@@ -1,7 +1,7 @@
 //! The end of a run that opened: its report is written.
 ghost use Rattle.std.specs.Prelude.{◌≡◌, ◌&&◌, IfOk};
 ghost use Rattle.mpm_run.specs.ExitStatuses.{MayEndWith, board_report};
-ghost use Rattle.mpm_run.specs.ExitStatusesInside.{EndsReport, IsExitStatusOf, IsFullStop, IsStoppedStatus, ReportsAs, status_of_writes};
+ghost use Rattle.mpm_run.specs.ExitStatusesInside.{EndsReport, IsExitStatusOf, IsFullStop, IsStoppedStatus, LacksInRun, LacksReport, ReportsAs, status_of_writes};
 ghost use Rattle.mpm_run.specs.ListenInside.{IsEnd};
 
 use crate::counting::tally;
@@ -24,6 +24,7 @@ pub fn report_run<L: Link, N: Known, K: Sink>(
     requires stopped { IsEnd board.now.book.state.going }
     ensures stopped { MayEndWith board.now.book.state.going result }
     ensures report { EndsReport (K.seen out.old) (K.seen out.new) (board_report board.now) written result }
+    ensures lacking { result ≡ 6 → LacksInRun (K.seen out.old) (K.seen out.new) board.now }
     ensures full { result ≡ 7 → IsFullStop board.now }
 {
     board.show();
@@ -55,6 +56,7 @@ fn report<L: Link, N: Known, K: Sink>(
     requires status { IsStoppedStatus status }
     ensures status { ReportsAs status result }
     ensures report { EndsReport (K.seen out.old) (K.seen out.new) (board_report board.now) written result }
+    ensures lacking { result ≡ 6 → LacksReport (K.seen out.old) (K.seen out.new) (board_report board.now) status }
 {
     match report_of(alloc, board) {
         Ok(text) => {

@@ -8,7 +8,7 @@ ghost use Rattle.script_front.specs.Editions.{editions_of, store_of};
 ghost use Rattle.mpm_run.specs.Configured.{warnings_of};
 ghost use Rattle.mpm_run.specs.ConfiguredInside.{IsOfText, IsScriptConfig};
 ghost use Rattle.mpm_run.specs.Calls.{seen_call};
-ghost use Rattle.mpm_run.specs.ExitStatuses.{EndsAs, EndsConfigRefused, EndsRefused, EndsSiteRefused, EndsUnread, HasPlayed, HasRun, fault_at};
+ghost use Rattle.mpm_run.specs.ExitStatuses.{EndsAs, EndsConfigRefused, EndsRefused, EndsSilently, EndsSiteRefused, EndsUnread, HasPlayed, HasRun, fault_at};
 ghost use Rattle.mpm_run.specs.ExitStatusesInside.{IsConfigRefusalOf, IsLeftOfRun, IsPlayed, IsPlayedStatus, IsRefusalOf, IsScriptStatus, RefusesConfig};
 ghost use Rattle.command_words.specs.Invocations.{IsScriptWords};
 ghost use Rattle.mpm_run.specs.Sites.{head_limits_of};
@@ -58,7 +58,7 @@ pub fn run_script<R: Wait, D: Store, G: Gate, K: Sink>(
     ensures unread { (words : List (List ℕ)) → IsScriptWords words name.now → result.status ≡ 3 → EndsUnread (seen_call words (D.seen store.old) (D.seen store.new) (K.seen out.old) (K.seen out.new) result.shown) }
     ensures site_refused { (words : List (List ℕ)) → IsScriptWords words name.now → result.status ≡ 9 → EndsSiteRefused (seen_call words (D.seen store.old) (D.seen store.new) (K.seen out.old) (K.seen out.new) result.shown) }
     ensures refused { (words : List (List ℕ)) → IsScriptWords words name.now → result.status ≡ 8 → EndsRefused (seen_call words (D.seen store.old) (D.seen store.new) (K.seen out.old) (K.seen out.new) result.shown) }
-    ensures silent { result.status ≡ 6 → IsNone result.left → (K.seen out.new).told ≡ (K.seen out.old).told }
+    ensures silent { result.status ≡ 6 → IsNone result.left → EndsSilently (K.seen out.old) (K.seen out.new) result.shown }
 {
     let bytes = match store.read(alloc, name, MOST_SCRIPT) {
         Ok(bytes) => bytes,
@@ -91,7 +91,7 @@ pub fn run_load<R: Wait, G: Gate, K: Sink>(
     ensures known { IsPlayedStatus result.status ⊎ (result.status ≡ 1) ⊎ (result.status ≡ 9) }
     ensures misconfigured { result.status ≡ 1 → IsConfigRefusalOf (K.seen out.old) (K.seen out.new) (load_lines count) result.shown }
     ensures site_refused { result.status ≡ 9 → IsSiteRefusalOf (K.seen out.old) (K.seen out.new) (load_lines count) result.shown }
-    ensures silent { result.status ≡ 6 → IsNone result.left → (K.seen out.new).told ≡ (K.seen out.old).told }
+    ensures silent { result.status ≡ 6 → IsNone result.left → EndsSilently (K.seen out.old) (K.seen out.new) result.shown }
 {
     match load_script(alloc, count) {
         Ok(script) => play_script(rt, alloc, script, gate, out),
@@ -104,7 +104,7 @@ fn refuse_for<K: Sink>(alloc: Global, fault: ScriptFault, out: &mut K) -> Ending
     ensures known { (result.status ≡ 8) ⊎ (result.status ≡ 6) }
     ensures scripted { IsNone result.left }
     ensures refused { result.status ≡ 8 → IsRefusalOf (K.seen out.old) (K.seen out.new) fault result.shown }
-    ensures silent { result.status ≡ 6 → (K.seen out.new).told ≡ (K.seen out.old).told }
+    ensures silent { result.status ≡ 6 → EndsSilently (K.seen out.old) (K.seen out.new) result.shown }
 {
     match refusal_at(fault) {
         Some((line, why)) => refuse_script(alloc, why, line, out),
@@ -142,7 +142,7 @@ fn play_script<R: Wait, G: Gate, K: Sink>(
     ensures known { IsPlayedStatus result.status ⊎ (result.status ≡ 1) ⊎ (result.status ≡ 9) }
     ensures misconfigured { result.status ≡ 1 → IsConfigRefusalOf (K.seen out.old) (K.seen out.new) script result.shown }
     ensures site_refused { result.status ≡ 9 → IsSiteRefusalOf (K.seen out.old) (K.seen out.new) script result.shown }
-    ensures silent { result.status ≡ 6 → IsNone result.left → (K.seen out.new).told ≡ (K.seen out.old).told }
+    ensures silent { result.status ≡ 6 → IsNone result.left → EndsSilently (K.seen out.old) (K.seen out.new) result.shown }
 {
     let Ok(mut store) = script_store(alloc, &script) else {
         return no_memory();
@@ -173,7 +173,7 @@ fn play_site<R: Wait, G: Gate, K: Sink>(
     ensures shown { IsSome result.left → result.shown ≡ None }
     ensures known { IsPlayedStatus result.status ⊎ (result.status ≡ 9) }
     ensures site_refused { result.status ≡ 9 → RefusesSite (K.seen out.old) (K.seen out.new) script config result.shown }
-    ensures silent { result.status ≡ 6 → IsNone result.left → (K.seen out.new).told ≡ (K.seen out.old).told }
+    ensures silent { result.status ≡ 6 → IsNone result.left → EndsSilently (K.seen out.old) (K.seen out.new) result.shown }
 {
     let mut store = store;
     let answer = load_site(alloc, &mut store, &config);
@@ -201,7 +201,7 @@ fn refuse_unloaded<K: Sink>(
     ensures known { (result.status ≡ 9) ⊎ (result.status ≡ 6) }
     ensures scripted { IsNone result.left }
     ensures refused { result.status ≡ 9 → RefusesLoad (K.seen out.old) (K.seen out.new) config.entry.now fault result.shown }
-    ensures silent { result.status ≡ 6 → (K.seen out.new).told ≡ (K.seen out.old).told }
+    ensures silent { result.status ≡ 6 → EndsSilently (K.seen out.old) (K.seen out.new) result.shown }
 {
     match fault {
         LoadFault::TooMany => refuse_site(alloc, config.root.as_slice(), out),
@@ -217,7 +217,7 @@ fn refuse_unconfigured<K: Sink>(alloc: Global, why: NoConfig, out: &mut K) -> En
     ensures known { (result.status ≡ 1) ⊎ (result.status ≡ 6) }
     ensures scripted { IsNone result.left }
     ensures refused { result.status ≡ 1 → RefusesConfig (K.seen out.old) (K.seen out.new) why result.shown }
-    ensures silent { result.status ≡ 6 → (K.seen out.new).told ≡ (K.seen out.old).told }
+    ensures silent { result.status ≡ 6 → EndsSilently (K.seen out.old) (K.seen out.new) result.shown }
 {
     match why {
         NoConfig::Refused(why, number) => refuse_config(alloc, why, number, out),
@@ -265,7 +265,7 @@ fn serve_script<R: Wait, G: Gate, K: Sink>(
     ensures opened { (result.status ≡ 0) ⊎ (result.status ≡ 5) ⊎ (result.status ≡ 7) → IsSome result.left }
     ensures shown { result.shown ≡ None }
     ensures known { IsPlayedStatus result.status }
-    ensures silent { IsNone result.left → (K.seen out.new).told ≡ (K.seen out.old).told }
+    ensures silent { IsNone result.left → EndsSilently (K.seen out.old) (K.seen out.new) result.shown }
 {
     let numbers = numbers_of(&config);
     let Ok(mut front) = ScriptFront::make(alloc, script) else {

@@ -3,8 +3,8 @@ ghost use Rattle.std.specs.Prelude.{◌≡◌, ◌⊎◌, ℕ, List, [], None, f
 ghost use Rattle.mpm_base.specs.Front.{Binds};
 ghost use Rattle.mpm_run.specs.Calls.{seen_call};
 ghost use Rattle.mpm_run.specs.Configured.{warnings_of};
-ghost use Rattle.mpm_run.specs.ExitStatuses.{EndsAs, EndsConfigRefused, EndsSiteRefused, EndsUnbound, EndsUnread, HasRun, HasServed};
-ghost use Rattle.mpm_run.specs.ExitStatusesInside.{IsOpenedStatus, IsServedStatus, RefusesRun};
+ghost use Rattle.mpm_run.specs.ExitStatuses.{EndsAs, EndsConfigRefused, EndsSilently, EndsSiteRefused, EndsUnbound, EndsUnread, HasRun, HasServed, LeavesOutside};
+ghost use Rattle.mpm_run.specs.ExitStatusesInside.{IsOpenedStatus, IsServedStatus, LeavesUnbound, RefusesRun};
 ghost use Rattle.mpm_run.specs.FirstNumbers as opening;
 ghost use Rattle.command_words.specs.Invocations.{IsServeWords};
 ghost use Rattle.mpm_run.specs.Outside.{KeepsOutside};
@@ -51,7 +51,8 @@ pub fn serve_file<R: Wait, D: Store, F: Front, C: Clock, G: Gate, K: Sink>(
     ensures unread { (words : List (List ℕ)) → IsServeWords words name.now → result.status ≡ 3 → EndsUnread (seen_call words (D.seen store.old) (D.seen store.new) (K.seen out.old) (K.seen out.new) result.shown) }
     ensures front_failed { (words : List (List ℕ)) → IsServeWords words name.now → result.status ≡ 4 → IsSome result.left ⊎ EndsUnbound (seen_call words (D.seen store.old) (D.seen store.new) (K.seen out.old) (K.seen out.new) result.shown) (F.seen front.old) (F.seen front.new) }
     ensures site_refused { (words : List (List ℕ)) → IsServeWords words name.now → result.status ≡ 9 → EndsSiteRefused (seen_call words (D.seen store.old) (D.seen store.new) (K.seen out.old) (K.seen out.new) result.shown) }
-    ensures silent { result.status ≡ 6 → IsNone result.left → (K.seen out.new).told ≡ (K.seen out.old).told }
+    ensures unopened { (words : List (List ℕ)) → IsServeWords words name.now → IsNone result.left → LeavesOutside (seen_call words (D.seen store.old) (D.seen store.new) (K.seen out.old) (K.seen out.new) result.shown) (F.seen front.old) (F.seen front.new) (C.told clock.old) (C.told clock.new) result.status }
+    ensures silent { result.status ≡ 6 → IsNone result.left → EndsSilently (K.seen out.old) (K.seen out.new) result.shown }
 {
     let answer = store.read(alloc, name, MOST_CONFIG);
     let (config, told) = match config_from(alloc, answer) {
@@ -80,7 +81,7 @@ fn refuse_folder<X, K: Sink>(
     ensures known { (result.status ≡ 3) ⊎ (result.status ≡ 9) ⊎ (result.status ≡ 6) }
     ensures left { IsNone result.left }
     ensures refused { (result.status ≡ 3) ⊎ (result.status ≡ 9) → RefusesFolder (K.seen out.old) (K.seen out.new) config.entry.now fault result.status result.shown }
-    ensures silent { result.status ≡ 6 → (K.seen out.new).told ≡ (K.seen out.old).told }
+    ensures silent { result.status ≡ 6 → EndsSilently (K.seen out.old) (K.seen out.new) result.shown }
 {
     config.show();
     match fault {
@@ -114,7 +115,9 @@ fn serve_edition<R: Wait, F: Front, C: Clock, G: Gate, K: Sink>(
     ensures known { IsOpenedStatus result.status }
     ensures opened { (result.status ≡ 0) ⊎ (result.status ≡ 5) ⊎ (result.status ≡ 7) → IsSome result.left }
     ensures unbound { result.status ≡ 4 → IsNone result.left → Binds (F.seen front.old) (F.seen front.new) config.entry.now.listen config.entry.now.control false × RefusesRun (K.seen out.old) (K.seen out.new) None front_fault result.shown }
-    ensures silent { result.status ≡ 6 → IsNone result.left → (K.seen out.new).told ≡ (K.seen out.old).told }
+    ensures front { IsNone result.left → LeavesUnbound (F.seen front.old) (F.seen front.new) config.entry.now result.status }
+    ensures clock { IsNone result.left → C.told clock.new ≡ C.told clock.old }
+    ensures silent { result.status ≡ 6 → IsNone result.left → EndsSilently (K.seen out.old) (K.seen out.new) result.shown }
 {
     let numbers = numbers_of(config);
     let answer = run_server::<R, F::L, F, C, G, K, Brand>(

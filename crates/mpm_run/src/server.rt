@@ -76,6 +76,7 @@ pub fn run_server<R: Wait, L: Link + Send, F: Front<L = L>, C: Clock, G: Gate, K
     ensures written { IfOk result (λ s. WritesAll (K.seen out.old) (K.seen out.new) text.now s.written) }
     ensures faults { IfOk result (λ s. NeverFalls (K.seen out.old).faults (K.seen out.new).faults) }
     ensures unopened { IfErr result (IsUnopened numbers (F.seen front.old) (F.seen front.new)) }
+    ensures clock { OnErr result (C.told clock.new ≡ C.told clock.old) }
     ensures silent { OnErr result (K.seen out.new ≡ K.seen out.old) }
 {
     let Ok(ready) = Ready::make(alloc) else {

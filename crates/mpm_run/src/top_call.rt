@@ -5,7 +5,7 @@ ghost use Rattle.conn_machine.specs.declared.state.Going.TheVariants.{Halted};
 ghost use Rattle.script_front.specs.Editions.{editions_of};
 ghost use Rattle.mpm_run.specs.Calls.{seen_call};
 ghost use Rattle.mpm_run.specs.Commands.{HeedsLines};
-ghost use Rattle.mpm_run.specs.ExitStatuses.{EndsConfigRefused, EndsFilled, EndsFrontFault, EndsRefused, EndsSiteRefused, EndsUncontrolled, EndsUnknown, EndsUnread, HasEnd, HasPlayed, HasServed, IsExitStatus, KeepsPatience, KeepsTime, LacksOutput, MayEndWith, Succeeds};
+ghost use Rattle.mpm_run.specs.ExitStatuses.{EndsConfigRefused, EndsFilled, EndsFrontFault, EndsLacking, EndsRefused, EndsSilently, EndsSiteRefused, EndsUncontrolled, EndsUnknown, EndsUnread, HasEnd, HasPlayed, HasServed, IsExitStatus, KeepsPatience, KeepsTime, LacksOutput, LeavesOutside, MayEndWith, Succeeds};
 ghost use Rattle.mpm_run.specs.FirstNumbers as opening;
 ghost use Rattle.command_words.specs.Invocations.{CallsFront};
 ghost use Rattle.mpm_run.specs.Links.{KeepsLinks};
@@ -85,6 +85,10 @@ pub fn run<R: Threads + Wait + Sync, D: Store, F: Front, C: Clock, G: Gate + Syn
     // The same of what is left of a server, as far as its front, its clock and its store tell; and how it ended.
     ensures server { IfSome result.board (λ b. HasServed (seen_call words.now (D.seen store.old) (D.seen store.new) (K.seen out.old) (K.seen out.new) result.shown) (F.seen front.old) (F.seen front.new) (C.told clock.new) result.status b) }
 
+    // Where no run of a server opened the clock is as it was, and so is the front, but for the dial that the words ask for, and for a bind
+    // or a dial that failed.
+    ensures unopened { IsNone result.board → LeavesOutside (seen_call words.now (D.seen store.old) (D.seen store.new) (K.seen out.old) (K.seen out.new) result.shown) (F.seen front.old) (F.seen front.new) (C.told clock.old) (C.told clock.new) result.status }
+
     // Other words than those that serve or send a command leave the front and the clock as they were.
     ensures unmoved { ¬ CallsFront words.now → (F.seen front.new ≡ F.seen front.old) × (C.told clock.new ≡ C.told clock.old) }
 
@@ -104,8 +108,12 @@ pub fn run<R: Threads + Wait + Sync, D: Store, F: Front, C: Clock, G: Gate + Syn
     ensures site_refused { result.status ≡ 9 → EndsSiteRefused (seen_call words.now (D.seen store.old) (D.seen store.new) (K.seen out.old) (K.seen out.new) result.shown) }
     ensures uncontrolled { result.status ≡ 10 → EndsUncontrolled (seen_call words.now (D.seen store.old) (D.seen store.new) (K.seen out.old) (K.seen out.new) result.shown) }
 
-    // Where no run opened for want of memory, nothing is written.
-    ensures silent { result.status ≡ 6 → IsNone result.scripted → IsNone result.board → (K.seen out.new).told ≡ (K.seen out.old).told }
+    // With exit status 6 a script's run stopped for want of memory, and the output has the warnings and the report, or memory lacked for
+    // the report, and it has the warnings alone; of a server's run it is said of its board.
+    ensures lacking { result.status ≡ 6 → IfSome result.scripted (λ s. EndsLacking (K.seen out.old) (K.seen out.new) s.config s.board) }
+
+    // Where no run opened for want of memory, the output is as it was, and nothing is shown.
+    ensures silent { result.status ≡ 6 → IsNone result.scripted → IsNone result.board → EndsSilently (K.seen out.old) (K.seen out.new) result.shown }
 {
     match invocation_of(alloc, words) {
         Ok(Invocation::Script(name)) => {

@@ -3,7 +3,7 @@ use Rattle.file_table.specs.Site.{SeenSite}
 use Rattle.mpm_run.specs.ExitStatuses.{HasRun}
 use Rattle.mpm_run.proofs.ConfigLemmas.{config-refused, config-unread, has-accepted}
 use Rattle.mpm_run.proofs.InvocationLemmas.{serve-config}
-use Rattle.mpm_run.proofs.ServeLemmas.{folder-refused, folder-unread, is-ready, serves, unbound}
+use Rattle.mpm_run.proofs.ServeLemmas.{folder-refused, folder-unread, is-ready, leaves-front, serves, unbound}
 use Rattle.mpm_run.proofs.serve_run.serve_file.Goals as goal
 
 pub returns-in-Err-clause-misconfigured : goal.returns-in-Err-clause-misconfigured
@@ -53,3 +53,17 @@ returns-clause-front_failed g c words command four =
     (is-ready _ read c.args.name.now c.in-Ok.read.0 c.in-Ok-load_site.site command
     (has-accepted _ read c.args.name.now c.read-answer.result c.in-Ok.read c.read-answer.ensures loaded.leaves.told c.in-Ok.ensures)
     c.read-answer.ensures.told_stays loaded.limits loaded.site) (c.serve_edition.ensures.unbound four)
+
+pub returns-clause-unopened : goal.returns-clause-unopened
+returns-clause-unopened g c words command none =
+    let read = g.D.Store.seen c.read-answer.new.self in
+    let loaded = c.in-Ok-load_site.ensures in
+    record {
+      front =
+          leaves-front _ c.args.name.now c.in-Ok.read.0 c.in-Ok-load_site.site (g.F.Front.seen c.args.front.now) (g.F.Front.seen c.serve_edition.new.front)
+          c.serve_edition.result.status
+          (is-ready _ read c.args.name.now c.in-Ok.read.0 c.in-Ok-load_site.site command
+          (has-accepted _ read c.args.name.now c.read-answer.result c.in-Ok.read c.read-answer.ensures loaded.leaves.told c.in-Ok.ensures)
+          c.read-answer.ensures.told_stays loaded.limits loaded.site) (c.serve_edition.ensures.front none);
+      clock = c.serve_edition.ensures.clock none;
+    }
