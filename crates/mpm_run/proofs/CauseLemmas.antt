@@ -9,7 +9,7 @@ use Rattle.mpm_script.specs.Clients.{clients_of}
 use Rattle.mpm_script.specs.Load.{load_lines}
 use Rattle.mpm_script.specs.Script.{ScriptIs}
 use Rattle.mpm_script.specs.declared.script.ScriptFault.{ScriptFault}
-use Rattle.mpm_run.specs.Calls.{Call, HasFile, HasScript, IsRefusedAsLarge, PlaysLines, most_script}
+use Rattle.mpm_run.specs.Calls.{Call, HasFile, IsRefusedAsLarge, PlaysLines, most_script}
 use Rattle.mpm_run.specs.Configured.{HasConfig}
 use Rattle.mpm_run.specs.ExitStatuses.{EndsConfigRefused, EndsRefused, EndsSiteRefused, EndsUnread, HasPlayed, fault_at}
 use Rattle.mpm_run.specs.ExitStatusesInside.{IsConfigRefusalOf, IsPlayed, IsRefusalOf, RefusesRun}

@@ -1,10 +1,10 @@
 -- Command lines that are read, and what they say.
-use Rattle.std.proofs.Common.{◌≡◌, ◌≢◌, ◌⊎◌, ◌<◌, ◌≤◌, ◌+◌, inl, inr, ℕ, zero, suc, Bool, true, false, List, [], ◌∷◌, ◌++◌, length, take, slice_get, Option, None, Some, is_some, option_map, IfSome, Result, Ok, Err, refl, sym, ap, subst, ◌∙◌, min, arith}
+use Rattle.std.proofs.Common.{◌≡◌, ◌≢◌, ◌⊎◌, ◌<◌, ◌≤◌, inl, inr, ℕ, zero, suc, Bool, true, false, List, [], ◌∷◌, ◌++◌, length, take, slice_get, Option, None, Some, option_map, IfSome, Result, Ok, Err, refl, sym, ap, subst, ◌∙◌, arith}
 use Rattle.std.proofs.lemmas.List.{take-append-le}
 use Rattle.std.proofs.lemmas.Bool.{cases_order}
 use Rattle.mpm_base.specs.CommandWord.{command_word}
-use Rattle.mpm_base.specs.Count.{greatest_count, next_count, Rises, RisesExactlyWhere, NeverFalls}
-use Rattle.mpm_base.specs.Front.{Commands, FrontSeen, FrontTold, GivesLine, GoesForward, TellsOn, after_command, after_hush, hushed_front}
+use Rattle.mpm_base.specs.Count.{greatest_count, next_count}
+use Rattle.mpm_base.specs.Front.{FrontTold, GivesLine, GoesForward, TellsOn, after_command, hushed_front}
 use Rattle.mpm_base.specs.declared.front.Woke.{Woke}
 use Rattle.mpm_base.specs.declared.script_line.CommandWord.{CommandWord}
 use Rattle.mpm_base.specs.declared.script_line.CommandWord.TheVariants as words
@@ -14,8 +14,8 @@ use Rattle.conn_machine.specs.declared.state.Going.TheVariants.{Halted}
 use Rattle.board.specs.declared.faults.BoardFault.{BoardFault}
 use Rattle.mpm_run.specs.declared.listen.End.{End}
 use Rattle.mpm_run.specs.declared.listen.End.TheVariants as end
-use Rattle.mpm_run.specs.Commands.{HeedsLines, NoneStops, StopsAtLast, lines_read, stop_line}
-use Rattle.mpm_run.specs.ListenInside.{HaltsAs, HasNoneToHeed, HasOneToHeed, HasReadAll, HeedsUntil, OnlyReads, OnlyReadsAndTakes, OnlyTakes}
+use Rattle.mpm_run.specs.Commands.{HeedsLines, NoneStops, lines_read, stop_line}
+use Rattle.mpm_run.specs.ListenInside.{HaltsAs, HasNoneToHeed, HasOneToHeed, HasReadAll, HeedsUntil, OnlyTakes}
 
 -- ## Lists
 

@@ -7,7 +7,6 @@ use Rattle.mpm_base.specs.Front.{FrontSeen, FrontTold, GoesForward, HasNoneToTak
 use Rattle.mpm_base.specs.declared.front.Woke.{Woke}
 use Rattle.mpm_base.specs.declared.front.Woke.TheVariants as woke
 use Rattle.mpm_base.specs.declared.conn.ConnName.{ConnName}
-use Rattle.script_front.specs.ScriptClock.{AreEchoes}
 use Rattle.conn_machine.specs.declared.event.Event.{Event}
 use Rattle.conn_machine.specs.declared.state.State.{State}
 use Rattle.conn_machine.specs.Runs.{after}

@@ -1,5 +1,5 @@
 -- What a server that was run shows, and why one wasn't.
-use Rattle.std.proofs.Common.{◌≡◌, ◌⊎◌, inl, inr, ℕ, false, List, [], ◌∷◌, Option, None, Some, IfSome, IsNone, IsSome, Result, Ok, Err, refl, sym, subst, ◌∙◌, arith}
+use Rattle.std.proofs.Common.{◌≡◌, ◌⊎◌, inl, inr, ℕ, false, List, [], ◌∷◌, Option, None, Some, IfSome, IsNone, IsSome, Result, Ok, Err, refl, subst, arith}
 use Rattle.mpm_base.specs.Front.{Binds, FrontSeen}
 use Rattle.mpm_base.specs.Store.{ReadsFile, StoreSeen, StoreTold, answers_with, is_failure, is_refusal}
 use Rattle.mpm_base.specs.declared.store.File.{File}

@@ -5,13 +5,12 @@ use Rattle.conn_machine.specs.declared.event.Entry.{Entry}
 use Rattle.conn_machine.specs.declared.event.Event.{Event}
 use Rattle.conn_machine.specs.declared.event.Event.TheVariants as event
 use Rattle.conn_machine.specs.declared.event.Why.{Why}
-use Rattle.conn_machine.specs.declared.state.Going.{Going}
 use Rattle.conn_machine.specs.declared.state.Going.TheVariants.{Halted}
 use Rattle.conn_machine.specs.declared.state.State.{State}
 use Rattle.conn_machine.specs.Runs.{Run, after}
 use Rattle.conn_machine.specs.States.{is_halted}
 use Rattle.conn_machine.specs.Table.{is_allowed, next}
-use Rattle.board.specs.Book.{HasEntryOf, SeenBook}
+use Rattle.board.specs.Book.{SeenBook}
 use Rattle.mpm_run.specs.Commands.{TellsStop}
 
 -- a server that stopped takes no command

@@ -1,5 +1,5 @@
 -- What the listener keeps on its way, of its front, its clock and its table, and how its turns end.
-use Rattle.std.specs.Prelude.{◌≡◌, ◌<◌, ℕ, List, map, Option, IfSome, option_map, is_some, min, ◌⊎◌, ◌↔◌, ◌≤◌, Bool, true, false, [], ◌∷◌, None, Some, slice_get, length, Result, Ok, Err, ⊤}
+use Rattle.std.specs.Prelude.{◌≡◌, ◌<◌, ℕ, List, Option, IfSome, option_map, is_some, min, ◌⊎◌, ◌↔◌, ◌≤◌, Bool, true, false, [], ◌∷◌, None, Some, slice_get, length, Result, Ok, Err, ⊤}
 use Rattle.mpm_base.specs.Clock.{Answers}
 use Rattle.mpm_base.specs.Front.{Binds, FrontTold, FrontSeen, BoundTold, DialTold, WaitTold, HasNoneToTake}
 use Rattle.mpm_base.specs.declared.front.Woke.{Woke}

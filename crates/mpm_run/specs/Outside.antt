@@ -1,5 +1,5 @@
 -- What ties the history of a run to its front and its clock, each as far as it tells.
-use Rattle.std.specs.Prelude.{◌≡◌, ℕ, List, Option, IfSome}
+use Rattle.std.specs.Prelude.{ℕ, List, Option, IfSome}
 use Rattle.mpm_base.specs.Front.{FrontSeen, FrontTold}
 use Rattle.board.specs.Board.{SeenBoard}
 use Rattle.mpm_run.specs.Commands.{HeedsLines}

@@ -1,6 +1,4 @@
-use Rattle.std.proofs.Common.{◌≡◌, ℕ, true, false, List, Some, None, inl, inr, refl, ap, sym, subst, ◌∙◌}
-use Rattle.mpm_base.specs.CommandWord.{command_word}
-use Rattle.mpm_base.specs.Front.{Dials}
+use Rattle.std.proofs.Common.{◌≡◌, true, false, None, inl, inr, refl, ap, sym, ◌∙◌}
 use Rattle.mpm_config.specs.Config.{Configuration}
 use Rattle.mpm_run.proofs.ConfigLemmas.{config-refused, config-unread, ends-uncontrolled, has-dialled}
 use Rattle.mpm_run.proofs.InvocationLemmas.{send-config}

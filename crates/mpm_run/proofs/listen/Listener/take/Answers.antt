@@ -8,7 +8,7 @@ use Rattle.board.specs.declared.faults.BoardFault.{BoardFault}
 use Rattle.board.specs.Board.{SeenBoard}
 use Rattle.board.specs.Faults.{IsRefusedFor}
 use Rattle.worker_group.specs.Acts.{Acts}
-use Rattle.mpm_run.specs.ListenInside.{IsArrival, WatchesAll}
+use Rattle.mpm_run.specs.ListenInside.{WatchesAll}
 use Rattle.worker_group.specs.Service.{left_events}
 use Rattle.mpm_run.specs.RoundInside.{FailsTaking, GivesUp, way_of}
 use Rattle.mpm_run.proofs.FrontLemmas.{follows-turned, follows-watch, step-watch, takes-turned, takes-watch}

@@ -1,7 +1,6 @@
-use Rattle.std.proofs.Common.{ℕ, List, None, inl, inr, refl, sym, ap, ◌∙◌, ◌≡◌, rules}
+use Rattle.std.proofs.Common.{ℕ, List, None, inl, inr, refl, sym, ap, ◌∙◌, rules}
 use Rattle.conn_machine.specs.States.{is_halted}
 use Rattle.mpm_run.specs.ListenInside.{asked_children}
-use Rattle.mpm_run.specs.Times.{waits_of}
 use Rattle.mpm_run.proofs.ChildrenLemmas.{begins-broken, begins-more, begins-round, begins-waited}
 use Rattle.mpm_run.proofs.CommandLemmas.{heeded-wait, heeds-asked, heeds-ended, heeds-failed, heeds-none}
 use Rattle.mpm_run.proofs.CountLemmas.{rises-behind}
