@@ -4,19 +4,15 @@ ghost use Rattle.board_lock.specs.Passes.{HasNoTurn};
 ghost use Rattle.conn_machine.specs.Table.{is_allowed};
 ghost use Rattle.conn_machine.specs.declared.event.Event.TheVariants as event;
 
-use board::{Board, BoardFault};
+use crate::seen::ScriptBoard;
+use crate::texts::grown;
+use board::Board;
 use board_lock::{Pass, Shared, number};
-use conn_machine::{Event, Reply, may};
-use conn_state::Nothing;
+use conn_machine::{Entry, Event, Reply, may};
 use mpm_base::{NoMemory, Shape};
-use stand_ins::ScriptLink;
 use std::alloc::Global;
-use std::process::Abort;
+use std::io;
 use std::sync::Wait;
-use std::test::Fail;
-
-/// A board of scripted links.
-type ScriptBoard = Board<ScriptLink, Nothing>;
 
 const SHAPE: Shape = Shape {
     threads: 2,
@@ -56,20 +52,16 @@ fn last_of(
     passes.pop()
 }
 
-/// The start of child 0 is to be allowed.
-fn allow(rt: &impl Abort, board: &ScriptBoard)
-    ensures { is_allowed board.now.book.state (event.StartChild 0) ≡ true }
+/// Whether the start of child 0 is allowed.
+fn may_start(board: &ScriptBoard) -> bool
+    ensures { result ≡ is_allowed board.now.book.state (event.StartChild 0) }
 {
     board.show();
-    assert!(rt; may(board.state(), &Event::StartChild(0)));
+    may(board.state(), &Event::StartChild(0))
 }
 
-/// A turn of pass 0 that starts child 0.
-fn starts(
-    rt: &(impl Abort + Wait),
-    shared: &Shared<ScriptBoard>,
-    pass: &mut Pass<ScriptBoard>,
-) -> Result<(), BoardFault>
+/// A turn of pass 0 that starts child 0. Whether it did.
+fn starts<R: Wait>(rt: &R, shared: &Shared<ScriptBoard>, pass: &mut Pass<ScriptBoard>) -> bool
     requires own { pass.old.seat.table_id ≡ shared.now.table.shared.table_id }
     requires free { HasNoTurn pass.old.seat.me }
     requires number { pass.old.seat.me.0.who.number ≡ 0 }
@@ -78,43 +70,67 @@ fn starts(
 {
     let mut turn = shared.turn(rt, pass);
     turn.kept.show();
-    allow(rt, &turn.kept);
+    if !may_start(&turn.kept) {
+        shared.done(pass, turn);
+        return false;
+    }
     let started = turn.kept.start_child(0, 0);
     shared.done(pass, turn);
-    started
+    started.is_ok()
 }
 
-/// A turn without an entry, which is to find the one entry of pass 0.
-fn finds(rt: &(impl Abort + Wait), shared: &Shared<ScriptBoard>, pass: &mut Pass<ScriptBoard>)
+/// A turn without an entry. Whether it finds the one entry of pass 0.
+fn finds<R: Wait>(rt: &R, shared: &Shared<ScriptBoard>, pass: &mut Pass<ScriptBoard>) -> bool
     requires own { pass.old.seat.table_id ≡ shared.now.table.shared.table_id }
     requires free { HasNoTurn pass.old.seat.me }
     ensures own { pass.new.seat.table_id ≡ pass.old.seat.table_id }
     ensures free { HasNoTurn pass.new.seat.me }
 {
     let turn = shared.turn(rt, pass);
-    let history = turn.kept.history();
-    assert_eq!(rt; history.len(), 1);
-    assert_eq!(rt; (history[0].pass, history[0].ordinal), (0, 0));
-    assert_eq!(rt; history[0].event, Event::StartChild(0));
-    assert_eq!(rt; history[0].reply, Reply::Done);
+    let found = is_start(turn.kept.history());
     shared.done(pass, turn);
+    found
 }
 
-#[test]
-fn both_passes_find_the_child_that_pass_0_started(rt: HostRuntime) -> Result<(), Fail> {
-    let (shared, mut passes) = opened(rt.alloc())?;
+/// Whether the history is the start of child 0 alone, by pass 0.
+fn is_start(history: &[Entry]) -> bool {
+    let start = Entry {
+        pass: 0,
+        ordinal: 0,
+        event: Event::StartChild(0),
+        reply: Reply::Done,
+    };
+    match history {
+        [entry] => *entry == start,
+        _ => false,
+    }
+}
+
+/// Shows what both passes find behind the entry of pass 0.
+pub fn show_passes<R: Print + Wait>(rt: &R, alloc: Global) -> io::Result<()> {
+    match grown(take_turns(rt, alloc))? {
+        Some((started, one, zero)) => {
+            println!(rt; "pass 0 starts the child => {started}")?;
+            println!(rt; "pass 1 finds it => {one}, pass 0 finds it => {zero}")
+        }
+        None => println!(rt; "a pass is missing"),
+    }
+}
+
+/// Pass 0 starts a child: whether it did, and whether pass 1 and pass 0 find that.
+fn take_turns<R: Wait>(rt: &R, alloc: Global) -> Result<Option<(bool, bool, bool)>, NoMemory> {
+    let (shared, mut passes) = opened(alloc)?;
     let Some(mut one) = last_of(&shared, &mut passes) else {
-        panic!(rt; "a pass is missing")
+        return Ok(None);
     };
     let Some(mut zero) = last_of(&shared, &mut passes) else {
-        panic!(rt; "a pass is missing")
+        return Ok(None);
     };
-    assert_eq!(rt; number(&one), 1);
-    if number(&zero) != 0 {
-        panic!(rt; "pass 0 is missing");
+    if number(&one) != 1 || number(&zero) != 0 {
+        return Ok(None);
     }
-    starts(&rt, &shared, &mut zero)?;
-    finds(&rt, &shared, &mut one);
-    finds(&rt, &shared, &mut zero);
-    Ok(())
+    let started = starts(rt, &shared, &mut zero);
+    let found_by_one = finds(rt, &shared, &mut one);
+    let found_by_zero = finds(rt, &shared, &mut zero);
+    Ok(Some((started, found_by_one, found_by_zero)))
 }

@@ -1,0 +1,52 @@
+//! Tests of the board, by its public calls alone: that its finds answer as a walk over all rows does, and that passes under the lock
+//! find what one of them did. The file `stdin` says what is tried, section by section, and `stdout` what must come of it.
+//!
+//! In the input a line that begins with `== ` begins a section: the words up to a colon say what its rows are, and the rest is its
+//! title.
+//!
+//! - `finds SLOTS`: a seed, and a number of calls that numbers from it ask for, of boards of so many slots and three children. Behind
+//!   each call that makes an event each find is compared with a walk over all rows. What is shown is the first find that answers
+//!   otherwise, how often each event was made, and how often each find found something.
+//! - `passes`: no rows. Pass 0 makes an entry, and each of two passes looks.
+#![tactic(auto)]
+
+mod clients;
+mod driven;
+mod moves;
+mod numbers;
+mod passes;
+mod scans;
+mod seen;
+mod texts;
+
+use std::alloc::Global;
+use std::io;
+use std::sync::Wait;
+
+fn main(rt: HostRuntime) -> io::Result<()> {
+    let input = io::read_to_string(rt.alloc(), rt.reader())?;
+    let mut sections = input.as_str().split("\n== ");
+    let _ = sections.next();
+    for section in sections {
+        let (title, rows) = section.split_once('\n').unwrap_or((section, ""));
+        println!(&rt; "== {title}")?;
+        let (kind, _) = title.split_once(':').unwrap_or((title, ""));
+        let (word, rest) = texts::words(kind);
+        show_section(&rt, rt.alloc(), word, rest, rows)?;
+    }
+    Ok(())
+}
+
+/// Shows what comes of the rows of a section of that kind.
+fn show_section<R: Print + Wait>(
+    rt: &R,
+    alloc: Global,
+    word: &str,
+    rest: &str,
+    rows: &str,
+) -> io::Result<()> {
+    match word {
+        "finds" => moves::show_finds(rt, alloc, rest, rows),
+        _ => passes::show_passes(rt, alloc),
+    }
+}

@@ -1,0 +1,129 @@
+//! Boards that do what numbers ask for, as far as they allow it.
+use crate::clients::empty_site;
+use crate::driven::Driven;
+use crate::numbers::{NumberStream, below};
+use crate::seen::{ScriptBoard, Seen};
+use crate::texts::{grown, number_of, small_of, words};
+use conn_machine::{Commanded, Event, Place, Row, Why};
+use file_table::Site;
+use mpm_base::{ConnName, NoMemory};
+use std::alloc::Global;
+use std::io::{self, ErrorKind};
+use std::sync::Arc;
+
+/// The most moves of a board.
+const MOVES: u32 = 4_000;
+
+/// Shows what is seen of boards of so many slots, for the seed and the number of calls of each row.
+pub fn show_finds(rt: &impl Print, alloc: Global, slots: &str, rows: &str) -> io::Result<()> {
+    let site = site_of(alloc)?;
+    for row in rows.lines() {
+        let seen = grown(drive(alloc, &site, small_of(slots), row))?;
+        show_seen(rt, row, &seen)?;
+    }
+    Ok(())
+}
+
+/// Shows what was seen for the row.
+fn show_seen(rt: &impl Print, row: &str, seen: &Seen) -> io::Result<()> {
+    match seen.wrong() {
+        Some(find) => println!(rt; "{row} => {find} answers otherwise")?,
+        None => println!(rt; "{row} => equal behind {} calls", seen.made())?,
+    }
+    seen.show(rt)
+}
+
+/// The site of each connection.
+fn site_of(alloc: Global) -> io::Result<Arc<Site>> {
+    match empty_site(alloc) {
+        Ok(site) => Ok(Arc::new(alloc, site)?),
+        Err(_) => Err(io::Error::from(ErrorKind::OutOfMemory)),
+    }
+}
+
+/// What is seen of boards for the seed, until so many calls were made or a find answered otherwise.
+fn drive(alloc: Global, site: &Arc<Site>, slots: u32, row: &str) -> Result<Seen, NoMemory> {
+    let (seed, calls) = words(row);
+    let mut numbers = NumberStream::from(number_of(seed));
+    let mut seen = Seen::nothing(number_of(calls));
+    for _ in 0..number_of(calls) {
+        if seen.is_over() {
+            break;
+        }
+        let driven = Driven::make(alloc, slots)?;
+        live(driven, alloc, site, &mut numbers, &mut seen);
+    }
+    Ok(seen)
+}
+
+/// The moves of a board, until it has stopped and nothing is left in it.
+fn live(
+    driven: Driven,
+    alloc: Global,
+    site: &Arc<Site>,
+    numbers: &mut NumberStream,
+    seen: &mut Seen,
+) {
+    let mut driven = driven;
+    for _ in 0..MOVES {
+        if seen.is_over() || is_empty(driven.board()) {
+            return;
+        }
+        let event = event_from(driven.board(), numbers.next(), numbers.next());
+        match driven.make_move(alloc, seen, site, &event, numbers.next()) {
+            Some(next) => driven = next,
+            None => return,
+        }
+    }
+}
+
+/// Whether the server has stopped, and nothing is left in it.
+fn is_empty(board: &ScriptBoard) -> bool {
+    board.going().is_halted() && !board.state().has_live() && board.can_retire().is_none()
+}
+
+/// The event that the numbers ask for: the first one says what happens, the second one to which connection, and more.
+fn event_from(board: &ScriptBoard, number: u64, detail: u64) -> Event {
+    match number % 16 {
+        0 => Event::Tick(board.moment().saturating_add(number / 16 % 4096)),
+        1 => Event::StartChild(below(detail, 3)),
+        2 if number / 16 % 32 == 0 => Event::Command(Commanded::Stop(Why::Asked)),
+        2 => Event::Retire(below(detail, 3)),
+        3 => late_event(board),
+        _ => event_of_slot(board, number / 16, detail),
+    }
+}
+
+/// The hold of a connection that is late, or what nothing allows where there is none.
+fn late_event(board: &ScriptBoard) -> Event {
+    match board.overdue() {
+        Some(name) => Event::Hold(name),
+        None => Event::Tick(board.moment()),
+    }
+}
+
+/// An event of a slot.
+fn event_of_slot(board: &ScriptBoard, number: u64, detail: u64) -> Event {
+    let state = board.state();
+    let slot = below(detail, state.rows.len());
+    match state.rows.get(slot) {
+        Some(row) => event_of_row(row, slot, number),
+        None => Event::Ready(slot),
+    }
+}
+
+/// An event that fits the place of the row.
+fn event_of_row(row: &Row, slot: u32, number: u64) -> Event {
+    let name = ConnName {
+        slot,
+        life: row.life,
+    };
+    match row.place {
+        Place::Vacant => Event::Accept(slot),
+        _ => match number % 3 {
+            0 => Event::Ready(slot),
+            1 => Event::Hold(name),
+            _ => Event::Queue(name),
+        },
+    }
+}
