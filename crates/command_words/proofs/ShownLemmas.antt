@@ -15,7 +15,7 @@ use Rattle.mpm_base.specs.CommandWord.{command_word}
 use Rattle.mpm_base.specs.Digits.{decimal}
 use Rattle.mpm_base.specs.declared.script_line.CommandWord.{CommandWord}
 use Rattle.mpm_base.specs.declared.script_line.CommandWord.TheVariants as word
-use Rattle.command_words.specs.Invocations.{HasForm, IsLoadText, IsPlainWord, Parses, command, loads, option_values, plays, sends, serves, tests, values_in}
+use Rattle.command_words.specs.Invocations.{AreOfForm, IsLoadText, IsPlainWord, Parses, command, loads, option_values, plays, sends, serves, tests, values_in}
 
 -- ## Words that aren't taken for options
 
@@ -123,7 +123,7 @@ script_walk : (name : Text) → IsPlainWord name → walk shape.rules [] nothing
 unfolding command clap_on_literals
 script_walk name plain = goes_on shape.rules (codes "script") name [] plain
 
-pub script_form : (name : Text) → IsPlainWord name → HasForm (codes "--script" ∷ name ∷ []) (plays name)
+pub script_form : (name : Text) → IsPlainWord name → AreOfForm (codes "--script" ∷ name ∷ []) (plays name)
 unfolding Parses option_values command clap_on_literals
 script_form name plain = record {
   parsed = ap₂ ends_with (script_walk name plain) (ap (λ (k : Kinds). or_else k []) (no_fault shape (codes "script") name [] plain));
@@ -134,7 +134,7 @@ load_walk : (text : Text) → IsPlainWord text → walk shape.rules [] nothing_h
 unfolding command clap_on_literals
 load_walk text plain = goes_on shape.rules (codes "load") text [] plain
 
-pub load_form : (text : Text) (n : ℕ) → IsLoadText text n → HasForm (codes "--load" ∷ text ∷ []) (loads n)
+pub load_form : (text : Text) (n : ℕ) → IsLoadText text n → AreOfForm (codes "--load" ∷ text ∷ []) (loads n)
 unfolding Parses option_values command clap_on_literals
 load_form text n is_load =
     let plain = plain_number text n is_load.number in
@@ -157,7 +157,7 @@ serve_walk : (name : Text) → IsPlainWord name → walk shape.rules [] nothing_
 unfolding command clap_on_literals
 serve_walk name plain = goes_on shape.rules (codes "file") name [] plain
 
-pub serve_form : (name : Text) → IsPlainWord name → HasForm (codes "-f" ∷ name ∷ []) (serves name)
+pub serve_form : (name : Text) → IsPlainWord name → AreOfForm (codes "-f" ∷ name ∷ []) (serves name)
 unfolding Parses option_values command clap_on_literals
 serve_form name plain = record {
   parsed = ap₂ ends_with (serve_walk name plain) (ap (λ (k : Kinds). or_else k []) (no_fault shape (codes "file") name [] plain));
@@ -173,7 +173,7 @@ test_walk : (name : Text) → IsPlainWord name
 unfolding command clap_on_literals
 test_walk name plain = goes_on shape.rules (codes "file") name (rows_of_words (codes "-t" ∷ [])) plain
 
-pub test_form : (name : Text) → IsPlainWord name → HasForm (codes "-t" ∷ codes "-f" ∷ name ∷ []) (tests name)
+pub test_form : (name : Text) → IsPlainWord name → AreOfForm (codes "-t" ∷ codes "-f" ∷ name ∷ []) (tests name)
 unfolding Parses option_values command clap_on_literals
 test_form name plain = record {
   parsed = ap₂ ends_with (test_walk name plain)
@@ -192,7 +192,7 @@ send_walk word.Graceful name plain = goes_on shape.rules (codes "file") name (wo
 send_walk word.GracefulStop name plain = goes_on shape.rules (codes "file") name (word_rows word.GracefulStop) plain
 send_walk word.Stop name plain = goes_on shape.rules (codes "file") name (word_rows word.Stop) plain
 
-pub send_form : (w : CommandWord) (name : Text) → IsPlainWord name → HasForm (codes "-k" ∷ command_word w ∷ codes "-f" ∷ name ∷ []) (sends w name)
+pub send_form : (w : CommandWord) (name : Text) → IsPlainWord name → AreOfForm (codes "-k" ∷ command_word w ∷ codes "-f" ∷ name ∷ []) (sends w name)
 unfolding Parses option_values command clap_on_literals
 send_form word.Graceful name plain = record {
   parsed = ap₂ ends_with (send_walk word.Graceful name plain)

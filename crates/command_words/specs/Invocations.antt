@@ -2,11 +2,14 @@
 use Rattle.std.specs.Prelude.{◌≡◌, ◌≢◌, ◌⊎◌, ℕ, ◌≤◌, Bool, true, false, List, [], ◌∷◌, Option, Some, None, codes, ⊤}
 use Rattle.std.specs.Option.{option_map_or}
 use Rattle.std.specs.Str.{bytes_eq}
+use Rattle.std.specs.String.{string_bytes}
 use Rattle.clap.specs.Words.{App, Row, Rule, fault_of, first_of, matches_of, new_app, new_rule}
 use Rattle.clap.specs.declared.builder.action.ArgAction.TheVariants.{SetTrue}
 use Rattle.mpm_base.specs.CommandWord.{command_word}
 use Rattle.mpm_base.specs.Digits.{decimal}
 use Rattle.mpm_base.specs.declared.script_line.CommandWord.{CommandWord}
+use Rattle.command_words.specs.declared.invocation.Invocation.{Invocation}
+use Rattle.command_words.specs.declared.invocation.Invocation.TheVariants as invocation
 
 -- ## The options
 
@@ -92,7 +95,7 @@ IsForm values (tests name) = values ≡ record no_option { file = Some name; tes
 IsForm values (sends word name) = values ≡ record no_option { file = Some name; word = Some (command_word word) }
 
 -- the words have the form: they can be parsed as the command, with the options of the form
-pub record HasForm (words : List (List ℕ)) (form : Form) : Type 0 where
+pub record AreOfForm (words : List (List ℕ)) (form : Form) : Type 0 where
   pub parsed : Parses words
   pub found : IsForm (option_values words) form
 
@@ -104,29 +107,41 @@ IsPlainWord (byte ∷ other ∷ rest) = byte ≢ 45
 
 -- the words have none of the forms
 abbrev pub IsNoInvocation : List (List ℕ) → Type 0
-IsNoInvocation words = (form : Form) → ¬ (HasForm words form)
+IsNoInvocation words = (form : Form) → ¬ (AreOfForm words form)
+
+-- the form that the program holds
+abbrev pub held_form : Invocation → Form
+held_form (invocation.Script name) = plays (string_bytes name)
+held_form (invocation.Load n) = loads n
+held_form (invocation.Serve name) = serves (string_bytes name)
+held_form (invocation.Test name) = tests (string_bytes name)
+held_form (invocation.Send word name) = sends word (string_bytes name)
+
+-- the words have the form that the program holds
+abbrev pub IsInvocation : List (List ℕ) → Invocation → Type 0
+IsInvocation words invocation = AreOfForm words (held_form invocation)
 
 -- ## What the words name
 
 -- the words have the script of that name played
 abbrev pub IsScriptWords : List (List ℕ) → List ℕ → Type 0
-IsScriptWords words name = HasForm words (plays name)
+IsScriptWords words name = AreOfForm words (plays name)
 
 -- the words have the script of a load of so many connections played
 abbrev pub IsLoadWords : List (List ℕ) → ℕ → Type 0
-IsLoadWords words n = HasForm words (loads n)
+IsLoadWords words n = AreOfForm words (loads n)
 
 -- the words have the site served by the configuration of that name
 abbrev pub IsServeWords : List (List ℕ) → List ℕ → Type 0
-IsServeWords words name = HasForm words (serves name)
+IsServeWords words name = AreOfForm words (serves name)
 
 -- the words have the configuration of that name tested
 abbrev pub IsTestWords : List (List ℕ) → List ℕ → Type 0
-IsTestWords words name = HasForm words (tests name)
+IsTestWords words name = AreOfForm words (tests name)
 
 -- the words have this word sent to the server of the configuration of that name
 abbrev pub IsSendWords : List (List ℕ) → CommandWord → List ℕ → Type 0
-IsSendWords words word name = HasForm words (sends word name)
+IsSendWords words word name = AreOfForm words (sends word name)
 
 -- the words name this configuration, to serve by it, to test it, or to send its server a word
 abbrev pub NamesConfig : List (List ℕ) → List ℕ → Type 0

@@ -1,8 +1,8 @@
--- The form of the command line that was read.
+-- The options of the command line, and the form that was read of them.
 use Rattle.std.specs.Prelude.{◌≡◌, ℕ, List, option_map}
 use Rattle.std.specs.String.{string_bytes}
 use Rattle.mpm_base.specs.CommandWord.{command_word}
-use Rattle.command_words.specs.Invocations.{Form, HasForm, IsLoadText, OptionValues, loads, plays, sends, serves, tests}
+use Rattle.command_words.specs.Invocations.{IsLoadText, OptionValues}
 use Rattle.command_words.specs.declared.options.Options.{Options}
 use Rattle.command_words.specs.declared.invocation.Invocation.{Invocation}
 use Rattle.command_words.specs.declared.invocation.Invocation.TheVariants as invocation
@@ -16,18 +16,6 @@ values_of o = record {
   test = o.test;
   word = option_map (λ text. text.now) o.word;
 }
-
--- the form, as the program holds it
-abbrev pub form_of : Invocation → Form
-form_of (invocation.Script name) = plays (string_bytes name)
-form_of (invocation.Load n) = loads n
-form_of (invocation.Serve name) = serves (string_bytes name)
-form_of (invocation.Test name) = tests (string_bytes name)
-form_of (invocation.Send word name) = sends word (string_bytes name)
-
--- the words have this form
-abbrev pub IsInvocation : List (List ℕ) → Invocation → Type 0
-IsInvocation words invocation = HasForm words (form_of invocation)
 
 -- the form is the load of this text
 abbrev pub IsLoadOf : List ℕ → Invocation → Type 0

@@ -3,8 +3,8 @@ ghost use Rattle.std.specs.Prelude.{◌≡◌, ◌≢◌, IfOk, IfErr, MatchResu
 ghost use Rattle.std.specs.String.{string_bytes};
 ghost use Rattle.mpm_base.specs.CommandWord.{command_word};
 ghost use Rattle.mpm_base.specs.declared.script_line.CommandWord.{CommandWord};
-ghost use Rattle.command_words.specs.Invocations.{Form, IsForm, IsNoInvocation};
-ghost use Rattle.command_words.specs.InvocationsInside.{IsInvocation, IsLoadOf, IsNoLoad, IsSendOf, form_of, values_of};
+ghost use Rattle.command_words.specs.Invocations.{Form, IsForm, IsInvocation, IsNoInvocation, held_form};
+ghost use Rattle.command_words.specs.InvocationsInside.{IsLoadOf, IsNoLoad, IsSendOf, values_of};
 ghost use Rattle.command_words.specs.declared.invocation.NoInvocation.TheVariants as no;
 
 use crate::options::{Options, read_options, texts_of};
@@ -80,7 +80,7 @@ pub fn invocation_of(alloc: Global, words: &Words) -> Result<Invocation, NoInvoc
 
 /// The form that the options have. Unknown where they have none.
 fn form_of_options(alloc: Global, options: Options<'_>) -> Result<Invocation, NoInvocation>
-    ensures form { IfOk result (λ invocation. IsForm (values_of options.entry) (form_of invocation)) }
+    ensures form { IfOk result (λ invocation. IsForm (values_of options.entry) (held_form invocation)) }
     ensures none { IfErr result (λ why. why ≡ no.Unknown → (form : Form) → ¬ (IsForm (values_of options.entry) form)) }
 {
     match (

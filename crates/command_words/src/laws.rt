@@ -2,11 +2,11 @@
 ghost use Rattle.std.specs.Prelude.{◌≡◌, ℕ, List, [], ◌∷◌, codes};
 ghost use Rattle.mpm_base.specs.CommandWord.{command_word};
 ghost use Rattle.mpm_base.specs.declared.script_line.CommandWord.{CommandWord};
-ghost use Rattle.command_words.specs.Invocations.{Form, HasForm, IsLoadText, IsLoadWords, IsPlainWord, IsScriptWords, IsSendWords, IsServeWords, IsTestWords};
+ghost use Rattle.command_words.specs.Invocations.{Form, AreOfForm, IsLoadText, IsLoadWords, IsPlainWord, IsScriptWords, IsSendWords, IsServeWords, IsTestWords};
 
 /// Words have at most one form: of one kind, with one name, one number and one word.
 pub fn words_have_one_form()
-    ensures { (words : List (List ℕ)) (form other : Form) → HasForm words form → HasForm words other → form ≡ other }
+    ensures { (words : List (List ℕ)) (form other : Form) → AreOfForm words form → AreOfForm words other → form ≡ other }
 {}
 
 /// The words of the usage line have their forms, with each name that isn't taken for an option, each number of a load, from 1 to

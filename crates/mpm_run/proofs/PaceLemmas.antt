@@ -31,7 +31,7 @@ use Rattle.mpm_run.proofs.ClosingLemmas.{GoesOnFrom, acts-state}
 use Rattle.mpm_run.proofs.EventLemmas.{silent-gone, silent-retires, silent-starts, ticks-round}
 use Rattle.mpm_run.proofs.PassLemmas.{serves-acts}
 use Rattle.mpm_run.proofs.StopLemmas.{silent-halts}
-use Rattle.mpm_run.proofs.TurnLemmas.{HasServed}
+use Rattle.mpm_run.proofs.TurnLemmas.{HasServedRows}
 use Rattle.mpm_run.proofs.UnsignalledLemmas.{none-signalled}
 use Rattle.mpm_run.proofs.PatientLemmas.{MomentOf, echoed-before, none-late-then, patient-round, patient-served, patient-silent, patient-weaker, told-before}
 use Rattle.mpm_run.proofs.WaitLemmas.{HasWaited, SeenListener}
@@ -367,7 +367,7 @@ patience-started l m start is starts =
     (patience-start l.front.told l.calls l.board.book start))
 
 -- behind the service
-pub served-patience : ActsInSteps → (a b : SeenListener) → HasPatience a → HasServed a b → HasPatience b
+pub served-patience : ActsInSteps → (a b : SeenListener) → HasPatience a → HasServedRows a b → HasPatience b
 served-patience steps a b patient served =
     let serves = serves-acts steps a.board b.board served.serves in
     subst HasPatience (sym served.others)
@@ -387,7 +387,7 @@ abbrev pub IsAfter : SeenListener → Type 0
 IsAfter l = after l.board.book.base l.board.book.history ≡ l.board.book.state
 
 pub pace-served : ActsInSteps → GoesOnFrom → (rest : Rest) (a b : SeenListener) → IsAfter a → IsAfter b → Abreast a → HasPatience a → TookAll a.front.told a.board.book.state
-    → HasReadAll a.front.told → HasServed a b → rest.until ≡ next_deadline_of a.board.book.state → IsRestful rest.quiet a.board.book.state → KeepsPace rest b
+    → HasReadAll a.front.told → HasServedRows a b → rest.until ≡ next_deadline_of a.board.book.state → IsRestful rest.quiet a.board.book.state → KeepsPace rest b
 pace-served steps law rest a b here there abreast patient took read served until restful =
     let serves = serves-acts steps a.board b.board served.serves in
     subst (KeepsPace rest) (sym served.others)

@@ -13,7 +13,7 @@ use Rattle.file_table.specs.Site.{IsSiteOf, SeenSite}
 use Rattle.board.specs.Board.{AreOfOutside, SeenBoard}
 use Rattle.mpm_run.specs.Calls.{Call, HasAccepted, LoadsSite}
 use Rattle.mpm_run.specs.Configured.{most_config}
-use Rattle.mpm_run.specs.ExitStatuses.{EndsAs, EndsSiteRefused, EndsUnbound, EndsUnread, HasRun, HasServed, IsUnbound, LeavesFront}
+use Rattle.mpm_run.specs.ExitStatuses.{EndsAs, EndsSiteRefused, EndsUnbound, EndsUnread, HasRun, HasRunServer, IsUnbound, LeavesFront}
 use Rattle.mpm_run.specs.ExitStatusesInside.{LeavesUnbound, RefusesRun}
 use Rattle.mpm_run.specs.FirstNumbers.{numbers_of}
 use Rattle.command_words.specs.Invocations.{IsServeWords}
@@ -65,7 +65,7 @@ is-ready call read name c site command accepted same within loads =
 pub serves : (o : Option SeenBoard) (call : Call) (name : List ℕ) (c : Configuration) (site : SeenSite) (f f' : FrontSeen)
     (calls : Option (List (ℕ × ℕ))) (status : ℕ) → IsReady call name c site → (IsSome o → call.shown ≡ None) → IfSome o (HasRun c site)
     → IfSome o (KeepsOutside (numbers_of c) f f' calls) → IfSome o (λ b. EndsAs call.sink call.sink' c b status)
-    → IfSome o (HasServed call f f' calls status)
+    → IfSome o (HasRunServer call f f' calls status)
 serves None call name c site f f' calls status ready shows run outside ends = tt
 serves (Some b) call name c site f f' calls status ready shows run outside ends = record {
   name = name;

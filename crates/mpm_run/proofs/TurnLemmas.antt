@@ -299,19 +299,19 @@ broken-round steps fault rest pause first a w b before waited round up follows t
     }
 
 -- the service by another pass
-pub record HasServed (a b : SeenListener) : Type 0 where
+pub record HasServedRows (a b : SeenListener) : Type 0 where
   pub serves : ServesSome a.board b.board
   pub rest : LeavesRest a.board.book b.board.book
   pub others : b ≡ record a { board = b.board }
 
-served-informed : ActsInSteps → (first a b : SeenListener) → IsBetween first a → HasServed a b → IsInformed (waits_of a.front.told) a.calls b.board.book
+served-informed : ActsInSteps → (first a b : SeenListener) → IsBetween first a → HasServedRows a b → IsInformed (waits_of a.front.told) a.calls b.board.book
 served-informed steps first a b before served =
     let serves = serves-acts steps a.board b.board served.serves in
     informed-as (waits_of a.front.told) a.calls a.board.book b.board.book
     (tells-same a.board.book b.board.book serves.acts.base serves.acts.folded
     (ap (map (λ (e : Entry). e.event)) (steps.others 1 0 serves.events None a.board.book b.board.book serves.acts another))) served.rest.moment before.informed
 
-served-watched : ActsInSteps → (first a b : SeenListener) → IsBetween first a → HasServed a b → Watching first
+served-watched : ActsInSteps → (first a b : SeenListener) → IsBetween first a → HasServedRows a b → Watching first
     → IfSome a.front.told (WatchesAll b.board.book)
 served-watched steps first a b before served began =
     let serves = serves-acts steps a.board b.board served.serves in
@@ -319,7 +319,7 @@ served-watched steps first a b before served began =
     served.rest.accepted (before.watched began)
 
 -- after it
-pub between-served : ActsInSteps → (first a b : SeenListener) → IsBetween first a → HasServed a b → IsBetween first b
+pub between-served : ActsInSteps → (first a b : SeenListener) → IsBetween first a → HasServedRows a b → IsBetween first b
 between-served steps first a b before served =
     let serves = serves-acts steps a.board b.board served.serves in
     subst (IsBetween first) (sym served.others)
@@ -341,7 +341,7 @@ between-served steps first a b before served =
     })
 
 -- where it was broken off
-pub broken-served : ActsInSteps → (first a b : SeenListener) → IsBetween first a → HasServed a b → HasBroken first b
+pub broken-served : ActsInSteps → (first a b : SeenListener) → IsBetween first a → HasServedRows a b → HasBroken first b
 broken-served steps first a b before served =
     let serves = serves-acts steps a.board b.board served.serves in
     subst (HasBroken first) (sym served.others)

@@ -376,7 +376,7 @@ pub record HasEnd (b : SeenBoard) (f : SeenFront) : Type 0 where
 
 -- a server was run over the front and the clock, and what is left is of a run by the configuration of the file that the words name and
 -- by the site of the store; it is tied to the front and the clock, and ended as its exit status says
-pub record HasServed (call : Call) (f f' : FrontSeen) (calls : Option (List (ℕ × ℕ))) (status : ℕ) (b : SeenBoard) : Type 0 where
+pub record HasRunServer (call : Call) (f f' : FrontSeen) (calls : Option (List (ℕ × ℕ))) (status : ℕ) (b : SeenBoard) : Type 0 where
   pub name : List ℕ
   pub config : Configuration
   pub site : SeenSite

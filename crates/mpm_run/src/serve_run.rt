@@ -3,7 +3,7 @@ ghost use Rattle.std.specs.Prelude.{◌≡◌, ◌⊎◌, ℕ, List, [], None, f
 ghost use Rattle.mpm_base.specs.Front.{Binds};
 ghost use Rattle.mpm_run.specs.Calls.{seen_call};
 ghost use Rattle.mpm_run.specs.Configured.{warnings_of};
-ghost use Rattle.mpm_run.specs.ExitStatuses.{EndsAs, EndsConfigRefused, EndsSilently, EndsSiteRefused, EndsUnbound, EndsUnread, HasRun, HasServed, LeavesOutside};
+ghost use Rattle.mpm_run.specs.ExitStatuses.{EndsAs, EndsConfigRefused, EndsSilently, EndsSiteRefused, EndsUnbound, EndsUnread, HasRun, HasRunServer, LeavesOutside};
 ghost use Rattle.mpm_run.specs.ExitStatusesInside.{IsOpenedStatus, IsServedStatus, LeavesUnbound, RefusesRun};
 ghost use Rattle.mpm_run.specs.FirstNumbers as opening;
 ghost use Rattle.command_words.specs.Invocations.{IsServeWords};
@@ -44,7 +44,7 @@ pub fn serve_file<R: Wait, D: Store, F: Front, C: Clock, G: Gate, K: Sink>(
 ) -> Ending<Board<F::L, Nothing>>
     requires unused { IfSome (F.seen front.old).told IsUnused }
     requires unasked { IfSome (C.told clock.old) (λ calls. calls ≡ []) }
-    ensures server { (words : List (List ℕ)) → IsServeWords words name.now → IfSome result.left (λ b. HasServed (seen_call words (D.seen store.old) (D.seen store.new) (K.seen out.old) (K.seen out.new) result.shown) (F.seen front.old) (F.seen front.new) (C.told clock.new) result.status b) }
+    ensures server { (words : List (List ℕ)) → IsServeWords words name.now → IfSome result.left (λ b. HasRunServer (seen_call words (D.seen store.old) (D.seen store.new) (K.seen out.old) (K.seen out.new) result.shown) (F.seen front.old) (F.seen front.new) (C.told clock.new) result.status b) }
     ensures known { IsServedStatus result.status }
     ensures opened { (result.status ≡ 0) ⊎ (result.status ≡ 5) ⊎ (result.status ≡ 7) → IsSome result.left }
     ensures misconfigured { (words : List (List ℕ)) → IsServeWords words name.now → result.status ≡ 1 → EndsConfigRefused (seen_call words (D.seen store.old) (D.seen store.new) (K.seen out.old) (K.seen out.new) result.shown) }

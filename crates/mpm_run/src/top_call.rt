@@ -5,7 +5,7 @@ ghost use Rattle.conn_machine.specs.declared.state.Going.TheVariants.{Halted};
 ghost use Rattle.script_front.specs.Editions.{editions_of};
 ghost use Rattle.mpm_run.specs.Calls.{seen_call};
 ghost use Rattle.mpm_run.specs.Commands.{HeedsLines};
-ghost use Rattle.mpm_run.specs.ExitStatuses.{EndsConfigRefused, EndsFilled, EndsFrontFault, EndsLacking, EndsRefused, EndsSilently, EndsSiteRefused, EndsUncontrolled, EndsUnknown, EndsUnread, HasEnd, HasPlayed, HasServed, IsExitStatus, KeepsPatience, KeepsTime, LacksOutput, LeavesOutside, MayEndWith, Succeeds};
+ghost use Rattle.mpm_run.specs.ExitStatuses.{EndsConfigRefused, EndsFilled, EndsFrontFault, EndsLacking, EndsRefused, EndsSilently, EndsSiteRefused, EndsUncontrolled, EndsUnknown, EndsUnread, HasEnd, HasPlayed, HasRunServer, IsExitStatus, KeepsPatience, KeepsTime, LacksOutput, LeavesOutside, MayEndWith, Succeeds};
 ghost use Rattle.mpm_run.specs.FirstNumbers as opening;
 ghost use Rattle.command_words.specs.Invocations.{CallsFront};
 ghost use Rattle.mpm_run.specs.Links.{KeepsLinks};
@@ -83,7 +83,7 @@ pub fn run<R: Threads + Wait + Sync, D: Store, F: Front, C: Clock, G: Gate + Syn
     ensures stopped { IfSome result.scripted (λ s. MayEndWith s.board.book.state.going result.status) }
 
     // The same of what is left of a server, as far as its front, its clock and its store tell; and how it ended.
-    ensures server { IfSome result.board (λ b. HasServed (seen_call words.now (D.seen store.old) (D.seen store.new) (K.seen out.old) (K.seen out.new) result.shown) (F.seen front.old) (F.seen front.new) (C.told clock.new) result.status b) }
+    ensures server { IfSome result.board (λ b. HasRunServer (seen_call words.now (D.seen store.old) (D.seen store.new) (K.seen out.old) (K.seen out.new) result.shown) (F.seen front.old) (F.seen front.new) (C.told clock.new) result.status b) }
 
     // Where no run of a server opened the clock is as it was, and so is the front, but for the dial that the words ask for, and for a bind
     // or a dial that failed.

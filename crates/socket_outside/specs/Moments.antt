@@ -8,6 +8,6 @@ moment_behind start since = min ((start + since) / 1000000) greatest_moment
 
 -- what a clock that answered this moment last answers: what it reads, or where it can't be read the moment that it was told;
 -- but never one before the last
-abbrev pub next_answer : ℕ → ℕ → Option ℕ → ℕ
-next_answer last at (Some moment) = max last moment
-next_answer last at None = max last at
+abbrev pub clock_answer : ℕ → ℕ → Option ℕ → ℕ
+clock_answer last at (Some moment) = max last moment
+clock_answer last at None = max last at

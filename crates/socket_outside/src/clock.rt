@@ -3,7 +3,7 @@ ghost use Rattle.std.specs.Prelude.{◌≡◌, ◌≤◌, None, IfSome};
 ghost use Rattle.std.specs.Duration.{as_nanos};
 ghost use Rattle.mpm_base.specs.Clock.{Answers};
 ghost use Rattle.mpm_base.specs.Moment.{greatest_moment};
-ghost use Rattle.socket_outside.specs.Moments.{moment_behind, next_answer};
+ghost use Rattle.socket_outside.specs.Moments.{moment_behind, clock_answer};
 
 use mpm_base::{Clock, GREATEST_MOMENT, Moment};
 use std::marker::Model;
@@ -89,8 +89,8 @@ pub fn moment_behind(start: Duration, since: Duration) -> Moment
 }
 
 /// What a clock that answered this moment last answers, where it is told one and reads another or none.
-pub fn next_answer(last: Moment, at: Moment, reading: Option<Moment>) -> Moment
-    ensures is { result ≡ next_answer last at reading }
+pub fn clock_answer(last: Moment, at: Moment, reading: Option<Moment>) -> Moment
+    ensures is { result ≡ clock_answer last at reading }
     ensures never_back { last ≤ result }
 {
     match reading {
@@ -107,7 +107,7 @@ impl<'a, T: time::Clock> Clock for SystemClock<'a, T> {
         ensures never_back { self.old ≤ result }
         ensures last { self.new ≡ result }
     {
-        self.last = next_answer(self.last, at, self.read());
+        self.last = clock_answer(self.last, at, self.read());
         self.last
     }
 }

@@ -27,7 +27,7 @@ mod speaker;
 pub use accepting::{NoStream, none_for};
 pub use answers::{got_for, lacks_room, read_some, sent_for, shut_for, woke_for, write_some};
 pub use bell::SocketBell;
-pub use clock::{SystemClock, moment_behind, next_answer};
+pub use clock::{SystemClock, clock_answer, moment_behind};
 pub use command_lines::{Heard, Spoken, heard_in};
 pub use dial::{read_out, send_line};
 pub use events::{Source, gives_slot, longest_wait, source_of};

@@ -4,7 +4,7 @@ use Rattle.conn_machine.specs.declared.event.Why.TheVariants as why
 use Rattle.conn_machine.specs.declared.state.Going.TheVariants.{Halted}
 use Rattle.mpm_script.specs.Load.{load_lines}
 use Rattle.command_words.specs.Invocations.{IsLoadWords}
-use Rattle.command_words.specs.InvocationsInside.{IsInvocation}
+use Rattle.command_words.specs.Invocations.{IsInvocation}
 use Rattle.command_words.specs.declared.invocation.Invocation.{Invocation}
 use Rattle.mpm_run.specs.Calls.{seen_call}
 use Rattle.mpm_run.specs.ExitStatuses.{EndsConfigRefused, EndsFilled, EndsLacking, EndsSiteRefused, HasEnd, HasPlayed, KeepsTime, LacksOutput, Succeeds}

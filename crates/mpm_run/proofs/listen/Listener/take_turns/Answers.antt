@@ -9,7 +9,7 @@ use Rattle.mpm_run.proofs.LinkLemmas.{hands-step}
 use Rattle.mpm_run.proofs.PaceLemmas.{abreast-round, pace-broken, pace-round, pace-served, pace-started, patience-started, patience-waited, served-patience}
 use Rattle.mpm_run.proofs.PassLemmas.{serves-acts}
 use Rattle.mpm_run.proofs.RoundLemmas.{on-err}
-use Rattle.mpm_run.proofs.TurnLemmas.{HasServed, IsBetween, between-ended, between-failed, between-round, between-served, between-started, broken-between, broken-round, broken-served, ends-ended, ends-failed}
+use Rattle.mpm_run.proofs.TurnLemmas.{HasServedRows, IsBetween, between-ended, between-failed, between-round, between-served, between-started, broken-between, broken-round, broken-served, ends-ended, ends-failed}
 use Rattle.mpm_run.proofs.WaitLemmas.{has-waited, listener_of}
 use Rattle.mpm_run.proofs.listen.Listener.take_turns.Goals as goal
 
@@ -606,7 +606,7 @@ returns-in_err-rest-clause-free g c =
     between-round c.loop.rest c.take_pause-pause.result (listener_of c.args.self.now.board (g.F.Front.seen c.args.front.now) (g.C.Clock.told c.args.clock.now) c.args.self.now.ready) (listener_of c.loop.self.board (g.F.Front.seen c.loop.front) (g.C.Clock.told c.loop.clock) c.loop.self.ready) (listener_of c.loop.self.board (g.F.Front.seen c.take_pause-pause.new.front) (g.C.Clock.told c.take_pause-pause.new.clock) c.take_pause-pause.new.ready) c.passes_act_in_steps.ensures.acts (listener_of c.take_in.new.self.board (g.F.Front.seen c.take_in.new.front) (g.C.Clock.told c.take_pause-pause.new.clock) c.take_in.new.self.ready) c.loop.invariant.between waited
     c.in_ok-asked.ensures.round c.in_ok-asked.ensures.moment c.in_ok-asked.ensures.step c.take_in.ensures.up c.take_in.ensures.follows
     c.take_in.ensures.front c.take_in.ensures.watched refl in
-    let served : HasServed (listener_of c.take_in.new.self.board (g.F.Front.seen c.take_in.new.front) (g.C.Clock.told c.take_pause-pause.new.clock) c.take_in.new.self.ready) (listener_of c.serve.new.self.board (g.F.Front.seen c.take_in.new.front) (g.C.Clock.told c.take_pause-pause.new.clock) c.serve.new.self.ready) =
+    let served : HasServedRows (listener_of c.take_in.new.self.board (g.F.Front.seen c.take_in.new.front) (g.C.Clock.told c.take_pause-pause.new.clock) c.take_in.new.self.ready) (listener_of c.serve.new.self.board (g.F.Front.seen c.take_in.new.front) (g.C.Clock.told c.take_pause-pause.new.clock) c.serve.new.self.ready) =
     record {
       serves = c.serve.ensures.serves;
       rest = c.serve.ensures.rest;
@@ -624,7 +624,7 @@ returns-in_err-rest-clause-base g c =
     between-round c.loop.rest c.take_pause-pause.result (listener_of c.args.self.now.board (g.F.Front.seen c.args.front.now) (g.C.Clock.told c.args.clock.now) c.args.self.now.ready) (listener_of c.loop.self.board (g.F.Front.seen c.loop.front) (g.C.Clock.told c.loop.clock) c.loop.self.ready) (listener_of c.loop.self.board (g.F.Front.seen c.take_pause-pause.new.front) (g.C.Clock.told c.take_pause-pause.new.clock) c.take_pause-pause.new.ready) c.passes_act_in_steps.ensures.acts (listener_of c.take_in.new.self.board (g.F.Front.seen c.take_in.new.front) (g.C.Clock.told c.take_pause-pause.new.clock) c.take_in.new.self.ready) c.loop.invariant.between waited
     c.in_ok-asked.ensures.round c.in_ok-asked.ensures.moment c.in_ok-asked.ensures.step c.take_in.ensures.up c.take_in.ensures.follows
     c.take_in.ensures.front c.take_in.ensures.watched refl in
-    let served : HasServed (listener_of c.take_in.new.self.board (g.F.Front.seen c.take_in.new.front) (g.C.Clock.told c.take_pause-pause.new.clock) c.take_in.new.self.ready) (listener_of c.serve.new.self.board (g.F.Front.seen c.take_in.new.front) (g.C.Clock.told c.take_pause-pause.new.clock) c.serve.new.self.ready) =
+    let served : HasServedRows (listener_of c.take_in.new.self.board (g.F.Front.seen c.take_in.new.front) (g.C.Clock.told c.take_pause-pause.new.clock) c.take_in.new.self.ready) (listener_of c.serve.new.self.board (g.F.Front.seen c.take_in.new.front) (g.C.Clock.told c.take_pause-pause.new.clock) c.serve.new.self.ready) =
     record {
       serves = c.serve.ensures.serves;
       rest = c.serve.ensures.rest;
@@ -642,7 +642,7 @@ returns-in_err-rest-clause-passes g c =
     between-round c.loop.rest c.take_pause-pause.result (listener_of c.args.self.now.board (g.F.Front.seen c.args.front.now) (g.C.Clock.told c.args.clock.now) c.args.self.now.ready) (listener_of c.loop.self.board (g.F.Front.seen c.loop.front) (g.C.Clock.told c.loop.clock) c.loop.self.ready) (listener_of c.loop.self.board (g.F.Front.seen c.take_pause-pause.new.front) (g.C.Clock.told c.take_pause-pause.new.clock) c.take_pause-pause.new.ready) c.passes_act_in_steps.ensures.acts (listener_of c.take_in.new.self.board (g.F.Front.seen c.take_in.new.front) (g.C.Clock.told c.take_pause-pause.new.clock) c.take_in.new.self.ready) c.loop.invariant.between waited
     c.in_ok-asked.ensures.round c.in_ok-asked.ensures.moment c.in_ok-asked.ensures.step c.take_in.ensures.up c.take_in.ensures.follows
     c.take_in.ensures.front c.take_in.ensures.watched refl in
-    let served : HasServed (listener_of c.take_in.new.self.board (g.F.Front.seen c.take_in.new.front) (g.C.Clock.told c.take_pause-pause.new.clock) c.take_in.new.self.ready) (listener_of c.serve.new.self.board (g.F.Front.seen c.take_in.new.front) (g.C.Clock.told c.take_pause-pause.new.clock) c.serve.new.self.ready) =
+    let served : HasServedRows (listener_of c.take_in.new.self.board (g.F.Front.seen c.take_in.new.front) (g.C.Clock.told c.take_pause-pause.new.clock) c.take_in.new.self.ready) (listener_of c.serve.new.self.board (g.F.Front.seen c.take_in.new.front) (g.C.Clock.told c.take_pause-pause.new.clock) c.serve.new.self.ready) =
     record {
       serves = c.serve.ensures.serves;
       rest = c.serve.ensures.rest;
@@ -660,7 +660,7 @@ returns-in_err-rest-clause-up g c =
     between-round c.loop.rest c.take_pause-pause.result (listener_of c.args.self.now.board (g.F.Front.seen c.args.front.now) (g.C.Clock.told c.args.clock.now) c.args.self.now.ready) (listener_of c.loop.self.board (g.F.Front.seen c.loop.front) (g.C.Clock.told c.loop.clock) c.loop.self.ready) (listener_of c.loop.self.board (g.F.Front.seen c.take_pause-pause.new.front) (g.C.Clock.told c.take_pause-pause.new.clock) c.take_pause-pause.new.ready) c.passes_act_in_steps.ensures.acts (listener_of c.take_in.new.self.board (g.F.Front.seen c.take_in.new.front) (g.C.Clock.told c.take_pause-pause.new.clock) c.take_in.new.self.ready) c.loop.invariant.between waited
     c.in_ok-asked.ensures.round c.in_ok-asked.ensures.moment c.in_ok-asked.ensures.step c.take_in.ensures.up c.take_in.ensures.follows
     c.take_in.ensures.front c.take_in.ensures.watched refl in
-    let served : HasServed (listener_of c.take_in.new.self.board (g.F.Front.seen c.take_in.new.front) (g.C.Clock.told c.take_pause-pause.new.clock) c.take_in.new.self.ready) (listener_of c.serve.new.self.board (g.F.Front.seen c.take_in.new.front) (g.C.Clock.told c.take_pause-pause.new.clock) c.serve.new.self.ready) =
+    let served : HasServedRows (listener_of c.take_in.new.self.board (g.F.Front.seen c.take_in.new.front) (g.C.Clock.told c.take_pause-pause.new.clock) c.take_in.new.self.ready) (listener_of c.serve.new.self.board (g.F.Front.seen c.take_in.new.front) (g.C.Clock.told c.take_pause-pause.new.clock) c.serve.new.self.ready) =
     record {
       serves = c.serve.ensures.serves;
       rest = c.serve.ensures.rest;
@@ -678,7 +678,7 @@ returns-in_err-rest-clause-follows g c =
     between-round c.loop.rest c.take_pause-pause.result (listener_of c.args.self.now.board (g.F.Front.seen c.args.front.now) (g.C.Clock.told c.args.clock.now) c.args.self.now.ready) (listener_of c.loop.self.board (g.F.Front.seen c.loop.front) (g.C.Clock.told c.loop.clock) c.loop.self.ready) (listener_of c.loop.self.board (g.F.Front.seen c.take_pause-pause.new.front) (g.C.Clock.told c.take_pause-pause.new.clock) c.take_pause-pause.new.ready) c.passes_act_in_steps.ensures.acts (listener_of c.take_in.new.self.board (g.F.Front.seen c.take_in.new.front) (g.C.Clock.told c.take_pause-pause.new.clock) c.take_in.new.self.ready) c.loop.invariant.between waited
     c.in_ok-asked.ensures.round c.in_ok-asked.ensures.moment c.in_ok-asked.ensures.step c.take_in.ensures.up c.take_in.ensures.follows
     c.take_in.ensures.front c.take_in.ensures.watched refl in
-    let served : HasServed (listener_of c.take_in.new.self.board (g.F.Front.seen c.take_in.new.front) (g.C.Clock.told c.take_pause-pause.new.clock) c.take_in.new.self.ready) (listener_of c.serve.new.self.board (g.F.Front.seen c.take_in.new.front) (g.C.Clock.told c.take_pause-pause.new.clock) c.serve.new.self.ready) =
+    let served : HasServedRows (listener_of c.take_in.new.self.board (g.F.Front.seen c.take_in.new.front) (g.C.Clock.told c.take_pause-pause.new.clock) c.take_in.new.self.ready) (listener_of c.serve.new.self.board (g.F.Front.seen c.take_in.new.front) (g.C.Clock.told c.take_pause-pause.new.clock) c.serve.new.self.ready) =
     record {
       serves = c.serve.ensures.serves;
       rest = c.serve.ensures.rest;
@@ -696,7 +696,7 @@ returns-in_err-rest-clause-few g c =
     between-round c.loop.rest c.take_pause-pause.result (listener_of c.args.self.now.board (g.F.Front.seen c.args.front.now) (g.C.Clock.told c.args.clock.now) c.args.self.now.ready) (listener_of c.loop.self.board (g.F.Front.seen c.loop.front) (g.C.Clock.told c.loop.clock) c.loop.self.ready) (listener_of c.loop.self.board (g.F.Front.seen c.take_pause-pause.new.front) (g.C.Clock.told c.take_pause-pause.new.clock) c.take_pause-pause.new.ready) c.passes_act_in_steps.ensures.acts (listener_of c.take_in.new.self.board (g.F.Front.seen c.take_in.new.front) (g.C.Clock.told c.take_pause-pause.new.clock) c.take_in.new.self.ready) c.loop.invariant.between waited
     c.in_ok-asked.ensures.round c.in_ok-asked.ensures.moment c.in_ok-asked.ensures.step c.take_in.ensures.up c.take_in.ensures.follows
     c.take_in.ensures.front c.take_in.ensures.watched refl in
-    let served : HasServed (listener_of c.take_in.new.self.board (g.F.Front.seen c.take_in.new.front) (g.C.Clock.told c.take_pause-pause.new.clock) c.take_in.new.self.ready) (listener_of c.serve.new.self.board (g.F.Front.seen c.take_in.new.front) (g.C.Clock.told c.take_pause-pause.new.clock) c.serve.new.self.ready) =
+    let served : HasServedRows (listener_of c.take_in.new.self.board (g.F.Front.seen c.take_in.new.front) (g.C.Clock.told c.take_pause-pause.new.clock) c.take_in.new.self.ready) (listener_of c.serve.new.self.board (g.F.Front.seen c.take_in.new.front) (g.C.Clock.told c.take_pause-pause.new.clock) c.serve.new.self.ready) =
     record {
       serves = c.serve.ensures.serves;
       rest = c.serve.ensures.rest;
@@ -714,7 +714,7 @@ returns-in_err-rest-clause-asked g c =
     between-round c.loop.rest c.take_pause-pause.result (listener_of c.args.self.now.board (g.F.Front.seen c.args.front.now) (g.C.Clock.told c.args.clock.now) c.args.self.now.ready) (listener_of c.loop.self.board (g.F.Front.seen c.loop.front) (g.C.Clock.told c.loop.clock) c.loop.self.ready) (listener_of c.loop.self.board (g.F.Front.seen c.take_pause-pause.new.front) (g.C.Clock.told c.take_pause-pause.new.clock) c.take_pause-pause.new.ready) c.passes_act_in_steps.ensures.acts (listener_of c.take_in.new.self.board (g.F.Front.seen c.take_in.new.front) (g.C.Clock.told c.take_pause-pause.new.clock) c.take_in.new.self.ready) c.loop.invariant.between waited
     c.in_ok-asked.ensures.round c.in_ok-asked.ensures.moment c.in_ok-asked.ensures.step c.take_in.ensures.up c.take_in.ensures.follows
     c.take_in.ensures.front c.take_in.ensures.watched refl in
-    let served : HasServed (listener_of c.take_in.new.self.board (g.F.Front.seen c.take_in.new.front) (g.C.Clock.told c.take_pause-pause.new.clock) c.take_in.new.self.ready) (listener_of c.serve.new.self.board (g.F.Front.seen c.take_in.new.front) (g.C.Clock.told c.take_pause-pause.new.clock) c.serve.new.self.ready) =
+    let served : HasServedRows (listener_of c.take_in.new.self.board (g.F.Front.seen c.take_in.new.front) (g.C.Clock.told c.take_pause-pause.new.clock) c.take_in.new.self.ready) (listener_of c.serve.new.self.board (g.F.Front.seen c.take_in.new.front) (g.C.Clock.told c.take_pause-pause.new.clock) c.serve.new.self.ready) =
     record {
       serves = c.serve.ensures.serves;
       rest = c.serve.ensures.rest;
@@ -732,7 +732,7 @@ returns-in_err-rest-clause-watched g c =
     between-round c.loop.rest c.take_pause-pause.result (listener_of c.args.self.now.board (g.F.Front.seen c.args.front.now) (g.C.Clock.told c.args.clock.now) c.args.self.now.ready) (listener_of c.loop.self.board (g.F.Front.seen c.loop.front) (g.C.Clock.told c.loop.clock) c.loop.self.ready) (listener_of c.loop.self.board (g.F.Front.seen c.take_pause-pause.new.front) (g.C.Clock.told c.take_pause-pause.new.clock) c.take_pause-pause.new.ready) c.passes_act_in_steps.ensures.acts (listener_of c.take_in.new.self.board (g.F.Front.seen c.take_in.new.front) (g.C.Clock.told c.take_pause-pause.new.clock) c.take_in.new.self.ready) c.loop.invariant.between waited
     c.in_ok-asked.ensures.round c.in_ok-asked.ensures.moment c.in_ok-asked.ensures.step c.take_in.ensures.up c.take_in.ensures.follows
     c.take_in.ensures.front c.take_in.ensures.watched refl in
-    let served : HasServed (listener_of c.take_in.new.self.board (g.F.Front.seen c.take_in.new.front) (g.C.Clock.told c.take_pause-pause.new.clock) c.take_in.new.self.ready) (listener_of c.serve.new.self.board (g.F.Front.seen c.take_in.new.front) (g.C.Clock.told c.take_pause-pause.new.clock) c.serve.new.self.ready) =
+    let served : HasServedRows (listener_of c.take_in.new.self.board (g.F.Front.seen c.take_in.new.front) (g.C.Clock.told c.take_pause-pause.new.clock) c.take_in.new.self.ready) (listener_of c.serve.new.self.board (g.F.Front.seen c.take_in.new.front) (g.C.Clock.told c.take_pause-pause.new.clock) c.serve.new.self.ready) =
     record {
       serves = c.serve.ensures.serves;
       rest = c.serve.ensures.rest;
@@ -750,7 +750,7 @@ returns-in_err-rest-clause-contacts g c =
     between-round c.loop.rest c.take_pause-pause.result (listener_of c.args.self.now.board (g.F.Front.seen c.args.front.now) (g.C.Clock.told c.args.clock.now) c.args.self.now.ready) (listener_of c.loop.self.board (g.F.Front.seen c.loop.front) (g.C.Clock.told c.loop.clock) c.loop.self.ready) (listener_of c.loop.self.board (g.F.Front.seen c.take_pause-pause.new.front) (g.C.Clock.told c.take_pause-pause.new.clock) c.take_pause-pause.new.ready) c.passes_act_in_steps.ensures.acts (listener_of c.take_in.new.self.board (g.F.Front.seen c.take_in.new.front) (g.C.Clock.told c.take_pause-pause.new.clock) c.take_in.new.self.ready) c.loop.invariant.between waited
     c.in_ok-asked.ensures.round c.in_ok-asked.ensures.moment c.in_ok-asked.ensures.step c.take_in.ensures.up c.take_in.ensures.follows
     c.take_in.ensures.front c.take_in.ensures.watched refl in
-    let served : HasServed (listener_of c.take_in.new.self.board (g.F.Front.seen c.take_in.new.front) (g.C.Clock.told c.take_pause-pause.new.clock) c.take_in.new.self.ready) (listener_of c.serve.new.self.board (g.F.Front.seen c.take_in.new.front) (g.C.Clock.told c.take_pause-pause.new.clock) c.serve.new.self.ready) =
+    let served : HasServedRows (listener_of c.take_in.new.self.board (g.F.Front.seen c.take_in.new.front) (g.C.Clock.told c.take_pause-pause.new.clock) c.take_in.new.self.ready) (listener_of c.serve.new.self.board (g.F.Front.seen c.take_in.new.front) (g.C.Clock.told c.take_pause-pause.new.clock) c.serve.new.self.ready) =
     record {
       serves = c.serve.ensures.serves;
       rest = c.serve.ensures.rest;
@@ -768,7 +768,7 @@ returns-in_err-rest-clause-time g c =
     between-round c.loop.rest c.take_pause-pause.result (listener_of c.args.self.now.board (g.F.Front.seen c.args.front.now) (g.C.Clock.told c.args.clock.now) c.args.self.now.ready) (listener_of c.loop.self.board (g.F.Front.seen c.loop.front) (g.C.Clock.told c.loop.clock) c.loop.self.ready) (listener_of c.loop.self.board (g.F.Front.seen c.take_pause-pause.new.front) (g.C.Clock.told c.take_pause-pause.new.clock) c.take_pause-pause.new.ready) c.passes_act_in_steps.ensures.acts (listener_of c.take_in.new.self.board (g.F.Front.seen c.take_in.new.front) (g.C.Clock.told c.take_pause-pause.new.clock) c.take_in.new.self.ready) c.loop.invariant.between waited
     c.in_ok-asked.ensures.round c.in_ok-asked.ensures.moment c.in_ok-asked.ensures.step c.take_in.ensures.up c.take_in.ensures.follows
     c.take_in.ensures.front c.take_in.ensures.watched refl in
-    let served : HasServed (listener_of c.take_in.new.self.board (g.F.Front.seen c.take_in.new.front) (g.C.Clock.told c.take_pause-pause.new.clock) c.take_in.new.self.ready) (listener_of c.serve.new.self.board (g.F.Front.seen c.take_in.new.front) (g.C.Clock.told c.take_pause-pause.new.clock) c.serve.new.self.ready) =
+    let served : HasServedRows (listener_of c.take_in.new.self.board (g.F.Front.seen c.take_in.new.front) (g.C.Clock.told c.take_pause-pause.new.clock) c.take_in.new.self.ready) (listener_of c.serve.new.self.board (g.F.Front.seen c.take_in.new.front) (g.C.Clock.told c.take_pause-pause.new.clock) c.serve.new.self.ready) =
     record {
       serves = c.serve.ensures.serves;
       rest = c.serve.ensures.rest;
@@ -791,7 +791,7 @@ returns-in_err-rest-clause-begun g c =
     between-round c.loop.rest c.take_pause-pause.result (listener_of c.args.self.now.board (g.F.Front.seen c.args.front.now) (g.C.Clock.told c.args.clock.now) c.args.self.now.ready) (listener_of c.loop.self.board (g.F.Front.seen c.loop.front) (g.C.Clock.told c.loop.clock) c.loop.self.ready) (listener_of c.loop.self.board (g.F.Front.seen c.take_pause-pause.new.front) (g.C.Clock.told c.take_pause-pause.new.clock) c.take_pause-pause.new.ready) c.passes_act_in_steps.ensures.acts (listener_of c.take_in.new.self.board (g.F.Front.seen c.take_in.new.front) (g.C.Clock.told c.take_pause-pause.new.clock) c.take_in.new.self.ready) c.loop.invariant.between waited
     c.in_ok-asked.ensures.round c.in_ok-asked.ensures.moment c.in_ok-asked.ensures.step c.take_in.ensures.up c.take_in.ensures.follows
     c.take_in.ensures.front c.take_in.ensures.watched refl in
-    let served : HasServed (listener_of c.take_in.new.self.board (g.F.Front.seen c.take_in.new.front) (g.C.Clock.told c.take_pause-pause.new.clock) c.take_in.new.self.ready) (listener_of c.serve.new.self.board (g.F.Front.seen c.take_in.new.front) (g.C.Clock.told c.take_pause-pause.new.clock) c.serve.new.self.ready) =
+    let served : HasServedRows (listener_of c.take_in.new.self.board (g.F.Front.seen c.take_in.new.front) (g.C.Clock.told c.take_pause-pause.new.clock) c.take_in.new.self.ready) (listener_of c.serve.new.self.board (g.F.Front.seen c.take_in.new.front) (g.C.Clock.told c.take_pause-pause.new.clock) c.serve.new.self.ready) =
     record {
       serves = c.serve.ensures.serves;
       rest = c.serve.ensures.rest;
@@ -805,7 +805,7 @@ returns-in_err-rest-clause-patient g c start =
     let waited =
     has-waited c.loop.rest c.take_pause-pause.result (listener_of c.loop.self.board (g.F.Front.seen c.loop.front) (g.C.Clock.told c.loop.clock) c.loop.self.ready) (listener_of c.loop.self.board (g.F.Front.seen c.loop.front) (g.C.Clock.told c.loop.clock) c.loop.self.ready) (g.F.Front.seen c.take_pause-pause.new.front) (g.C.Clock.told c.take_pause-pause.new.clock) c.take_pause-pause.new.ready c.moment-present.result refl
     c.show.ensures.after c.show.ensures.sound c.moment-present.ensures c.take_pause-pause.ensures.waits c.take_pause-pause.ensures.asks in
-    let served : HasServed (listener_of c.take_in.new.self.board (g.F.Front.seen c.take_in.new.front) (g.C.Clock.told c.take_pause-pause.new.clock) c.take_in.new.self.ready) (listener_of c.serve.new.self.board (g.F.Front.seen c.take_in.new.front) (g.C.Clock.told c.take_pause-pause.new.clock) c.serve.new.self.ready) =
+    let served : HasServedRows (listener_of c.take_in.new.self.board (g.F.Front.seen c.take_in.new.front) (g.C.Clock.told c.take_pause-pause.new.clock) c.take_in.new.self.ready) (listener_of c.serve.new.self.board (g.F.Front.seen c.take_in.new.front) (g.C.Clock.told c.take_pause-pause.new.clock) c.serve.new.self.ready) =
     record {
       serves = c.serve.ensures.serves;
       rest = c.serve.ensures.rest;
@@ -834,7 +834,7 @@ returns-in_err-rest-clause-links g c =
     between-round c.loop.rest c.take_pause-pause.result (listener_of c.args.self.now.board (g.F.Front.seen c.args.front.now) (g.C.Clock.told c.args.clock.now) c.args.self.now.ready) (listener_of c.loop.self.board (g.F.Front.seen c.loop.front) (g.C.Clock.told c.loop.clock) c.loop.self.ready) (listener_of c.loop.self.board (g.F.Front.seen c.take_pause-pause.new.front) (g.C.Clock.told c.take_pause-pause.new.clock) c.take_pause-pause.new.ready) c.passes_act_in_steps.ensures.acts (listener_of c.take_in.new.self.board (g.F.Front.seen c.take_in.new.front) (g.C.Clock.told c.take_pause-pause.new.clock) c.take_in.new.self.ready) c.loop.invariant.between waited
     c.in_ok-asked.ensures.round c.in_ok-asked.ensures.moment c.in_ok-asked.ensures.step c.take_in.ensures.up c.take_in.ensures.follows
     c.take_in.ensures.front c.take_in.ensures.watched refl in
-    let served : HasServed (listener_of c.take_in.new.self.board (g.F.Front.seen c.take_in.new.front) (g.C.Clock.told c.take_pause-pause.new.clock) c.take_in.new.self.ready) (listener_of c.serve.new.self.board (g.F.Front.seen c.take_in.new.front) (g.C.Clock.told c.take_pause-pause.new.clock) c.serve.new.self.ready) =
+    let served : HasServedRows (listener_of c.take_in.new.self.board (g.F.Front.seen c.take_in.new.front) (g.C.Clock.told c.take_pause-pause.new.clock) c.take_in.new.self.ready) (listener_of c.serve.new.self.board (g.F.Front.seen c.take_in.new.front) (g.C.Clock.told c.take_pause-pause.new.clock) c.serve.new.self.ready) =
     record {
       serves = c.serve.ensures.serves;
       rest = c.serve.ensures.rest;
@@ -853,7 +853,7 @@ loop-preserved g c =
     between-round c.loop.rest c.take_pause-pause.result (listener_of c.args.self.now.board (g.F.Front.seen c.args.front.now) (g.C.Clock.told c.args.clock.now) c.args.self.now.ready) (listener_of c.loop.self.board (g.F.Front.seen c.loop.front) (g.C.Clock.told c.loop.clock) c.loop.self.ready) (listener_of c.loop.self.board (g.F.Front.seen c.take_pause-pause.new.front) (g.C.Clock.told c.take_pause-pause.new.clock) c.take_pause-pause.new.ready) c.passes_act_in_steps.ensures.acts (listener_of c.take_in.new.self.board (g.F.Front.seen c.take_in.new.front) (g.C.Clock.told c.take_pause-pause.new.clock) c.take_in.new.self.ready) c.loop.invariant.between waited
     c.in_ok-asked.ensures.round c.in_ok-asked.ensures.moment c.in_ok-asked.ensures.step c.take_in.ensures.up c.take_in.ensures.follows
     c.take_in.ensures.front c.take_in.ensures.watched refl in
-    let served : HasServed (listener_of c.take_in.new.self.board (g.F.Front.seen c.take_in.new.front) (g.C.Clock.told c.take_pause-pause.new.clock) c.take_in.new.self.ready) (listener_of c.serve.new.self.board (g.F.Front.seen c.take_in.new.front) (g.C.Clock.told c.take_pause-pause.new.clock) c.serve.new.self.ready) =
+    let served : HasServedRows (listener_of c.take_in.new.self.board (g.F.Front.seen c.take_in.new.front) (g.C.Clock.told c.take_pause-pause.new.clock) c.take_in.new.self.ready) (listener_of c.serve.new.self.board (g.F.Front.seen c.take_in.new.front) (g.C.Clock.told c.take_pause-pause.new.clock) c.serve.new.self.ready) =
     record {
       serves = c.serve.ensures.serves;
       rest = c.serve.ensures.rest;
