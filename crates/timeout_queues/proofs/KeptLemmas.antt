@@ -1,12 +1,16 @@
 -- What the kept slots stand for, read one by one.
-use Rattle.std.proofs.Common.{◌≡◌, ℕ, List, [], ◌∷◌, map, replicate, zero, suc, get_or, Option, Some, None, refl, ap}
+use Rattle.std.proofs.Common.{◌≡◌, ℕ, ◌+◌, ◌≤◌, Bool, true, false, nat_eq, List, [], ◌∷◌, length, map, replicate, zero, suc, get_or, slice_get, Option, Some, None, refl, ap, ◌∙◌, arith}
+use Rattle.std.specs.Bool.{OnTrue}
 use Rattle.std.specs.Option.{option_map_or}
 use Rattle.std.proofs.Math.ListN.{get_or-map}
-use Rattle.std.proofs.lemmas.Bool.{eq-eqb}
+use Rattle.std.proofs.lemmas.Bool.{eq-eqb, eqb-true}
+use Rattle.std.proofs.lemmas.List.{length-map}
+use Rattle.std.proofs.lemmas.Option.{slice_get_past}
 use Rattle.timeout_queues.specs.Waiting.{ParkedName, nothing_parked, deadline_of}
 use Rattle.timeout_queues.specs.Entries.{parked_in}
-use Rattle.timeout_queues.specs.RingsInside.{by_kind, due_at}
+use Rattle.timeout_queues.specs.RingsInside.{by_kind, due_at, ring_at, ring_number, ring_of}
 use Rattle.timeout_queues.specs.declared.Entry.{Entry}
+use Rattle.timeout_queues.proofs.MapLemmas.{get_or_some}
 
 -- the deadline of the name that is kept in a slot
 pub deadline_at : (kept : List (Option Entry)) (i : ℕ) (e : Entry) → get_or kept i None ≡ Some e →
@@ -20,6 +24,29 @@ due_kept [] i = refl
 due_kept (None ∷ kept) zero = refl
 due_kept (Some e ∷ kept) zero = refl
 due_kept (k ∷ kept) (suc i) = due_kept kept i
+
+-- the ring of what is kept at a place
+ring_kept : (kept : List (Option Entry)) (i : ℕ) (e : Entry) → get_or kept i None ≡ Some e →
+    ring_at by_kind (map parked_in kept) i ≡ Some (length kept + ring_number e.kind)
+ring_kept kept i e read =
+    let p : ParkedName = record { life = e.life; kind = e.kind; deadline = e.deadline } in
+    let at = get_or_some (map parked_in kept) i p (get_or-map parked_in kept i None ∙ ap parked_in read) in
+    ap (ring_of by_kind (map parked_in kept) i) at ∙ ap (λ (n : ℕ). Some (n + ring_number e.kind)) (length-map kept parked_in)
+
+-- so it is in the ring of a head that is its own
+pub in_ring_kept : (kept : List (Option Entry)) (i own head : ℕ) (e : Entry) (same : Bool) → get_or kept i None ≡ Some e →
+    own ≡ length kept + ring_number e.kind → nat_eq own head ≡ same → OnTrue same (ring_at by_kind (map parked_in kept) i ≡ Some head)
+in_ring_kept kept i own head e true read is same = ring_kept kept i e read ∙ ap Some (omega (arith, is, eqb-true own head same))
+in_ring_kept kept i own head e false read is same = tt
+
+-- a head is in its own ring
+pub in_ring_head : (kept : List (Option Entry)) (i head : ℕ) (same : Bool) → length kept ≤ head → nat_eq i head ≡ same →
+    OnTrue same (ring_at by_kind (map parked_in kept) i ≡ Some head)
+in_ring_head kept i head true past same =
+    let is : i ≡ head = eqb-true i head same in
+    let none : slice_get (map parked_in kept) i ≡ None = slice_get_past (map parked_in kept) i (omega (arith, length-map kept parked_in, past, is)) in
+    ap (ring_of by_kind (map parked_in kept) i) none ∙ ap Some is
+in_ring_head kept i head false past same = tt
 
 -- slots in which nothing was ever kept
 map-replicate : (n : ℕ) → map parked_in (replicate n None) ≡ replicate n None

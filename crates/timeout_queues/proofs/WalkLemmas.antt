@@ -1,17 +1,12 @@
 -- The walk back along a ring: where it stands, and that it comes to an end.
-use Rattle.std.proofs.Common.{◌≡◌, ℕ, zero, suc, ◌+◌, ◌<◌, ◌≤◌, inl, inr, cond, List, length, Option, Some, None, nat_lt, slice_get, refl, sym, ap, ◌∙◌, arith}
+use Rattle.std.proofs.Common.{◌≡◌, ℕ, zero, suc, ◌+◌, ◌<◌, ◌≤◌, inl, inr, Bool, true, false, cond, List, length, Option, Some, None, nat_lt, slice_get, refl, sym, ap, subst, ◌∙◌, arith}
+use Rattle.std.specs.Bool.{OnTrue}
 use Rattle.std.proofs.lemmas.Bool.{cases_lt, lt-ltb, le-ltb}
 use Rattle.std.proofs.lemmas.Option.{none-some, slice_get-get_or, slice_get_past}
 use Rattle.timeout_queues.specs.Waiting.{ParkedName}
-use Rattle.timeout_queues.specs.RingsInside.{by_kind, ring_of, ring_at, due_of, due_at, place_at, IsRings}
+use Rattle.timeout_queues.specs.RingsInside.{by_kind, ring_of, ring_at, due_of, due_at, place_at, IsRings, IsBack, IsDueFrom}
 
 -- ## Where it stands
-
--- the place is in the ring, and all behind it is due at or after the deadline
-pub record IsBack (slots : List (Option ParkedName)) (behind : List ℕ) (head deadline place : ℕ) : Type 0 where
-  pub within : place < length slots + 5
-  pub ring : ring_at by_kind slots place ≡ Some head
-  pub later : (q : ParkedName) → slice_get slots (place_at behind place) ≡ Some (Some q) → deadline ≤ q.deadline
 
 -- it begins at the end of the ring
 pub back_first : (slots : List (Option ParkedName)) (before behind : List ℕ) (head deadline : ℕ) → IsRings by_kind slots before behind →
@@ -35,6 +30,14 @@ back_more slots before behind head deadline place r at late =
           let same : due_at by_kind slots place ≡ q.deadline = ap (due_of by_kind) (ap (λ i. slice_get slots i) (sym l.forth) ∙ there) in
           omega (arith, late, same);
     }
+
+-- a place of the ring does where what stands behind it is due at or after the deadline
+pub back_here : (slots : List (Option ParkedName)) (behind : List ℕ) (head deadline place next : ℕ) (due : Bool) → place < length slots + 5 →
+    ring_at by_kind slots place ≡ Some head → next ≡ place_at behind place → OnTrue due (IsDueFrom slots deadline next) →
+    OnTrue due (IsBack slots behind head deadline place)
+back_here slots behind head deadline place next true within ring is from =
+    record { within = within; ring = ring; later = subst (IsDueFrom slots deadline) is from }
+back_here slots behind head deadline place next false within ring is from = tt
 
 -- a place that is due after some moment is a slot
 pub due_within : (slots : List (Option ParkedName)) (deadline place : ℕ) → deadline < due_at by_kind slots place → place < length slots

@@ -78,6 +78,16 @@ pub record IsAlone (places : List ℕ) (n : ℕ) : Type 0 where
   pub count : length places ≡ n
   pub itself : (i : ℕ) → i < n → place_at places i ≡ i
 
+-- what is parked in a slot is due at or after the deadline
+abbrev pub IsDueFrom : List (Option ParkedName) → ℕ → ℕ → Type 0
+IsDueFrom slots deadline place = (q : ParkedName) → slice_get slots place ≡ Some (Some q) → deadline ≤ q.deadline
+
+-- the place is in the ring, and what stands behind it is due at or after the deadline
+pub record IsBack (slots : List (Option ParkedName)) (behind : List ℕ) (head deadline place : ℕ) : Type 0 where
+  pub within : place < length slots + 5
+  pub ring : ring_at by_kind slots place ≡ Some head
+  pub later : IsDueFrom slots deadline (place_at behind place)
+
 -- the place is the last of a ring whose deadline is at or before this one
 pub record IsLastBefore {X : Type 0} (rule : RingRule X) (slots : List (Option X)) (behind : List ℕ) (head deadline place : ℕ) : Type 0 where
   pub within : place < length slots + rule.rings

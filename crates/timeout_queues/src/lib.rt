@@ -3,28 +3,34 @@
 //! Contracts see the queues as a map from the parked names to kind and deadline. The name that `overdue`
 //! answers is late, and none has an earlier deadline. All memory is taken by `make`, so that a connection
 //! in hand can always be parked. The names of each kind stand in a ring, in the order of their deadlines, so
-//! no call but `make` goes over the slots, and `park` only over the names of its kind that are due later. The
-//! definitions stand in `specs/Waiting.antt`.
+//! no call but `make` goes over the slots. `park` puts a name that is due last at the end, and one that is parked again where
+//! the last of its kind was taken out goes back there; only another one looks for its place among the names of its kind that
+//! are due later. The definitions stand in `specs/Waiting.antt`.
 //!
 //! Rings of slots say of each slot in which ring it stands, and find one that stands in a ring without a look at the
-//! others. Their definitions stand in `specs/Filed.antt`.
+//! others. Their definitions stand in `specs/Filed.antt`. Of several that would do both answer the one that waited longest, though
+//! no clause says it.
 #![tactic(auto)]
 
 ghost use Rattle.std.specs.Prelude.{◌≡◌, ◌+◌, ◌<◌, ◌≤◌, ◌↔◌, ◌⊎◌, [], map, length, Some, None, option_map, is_some, IsTrue, IsNone, IfSome, IsSomeAnd, IfOk, slice_index_or};
 ghost use Rattle.std.specs.Bool.{OnTrue, OnFalse};
 ghost use Rattle.timeout_queues.specs.declared.Due.{Due};
 ghost use Rattle.timeout_queues.specs.Entries.{parked_in};
-ghost use Rattle.timeout_queues.specs.RingsInside.{by_kind, ring_number, due_at, IsRings, IsLastBefore, IsFirstOf};
+ghost use Rattle.timeout_queues.specs.RingsInside.{by_kind, ring_number, ring_at, due_at, IsRings, IsBack, IsLastBefore, IsFirstOf, IsDueFrom};
 ghost use Rattle.timeout_queues.specs.Waiting.{nothing_parked, IsFree, parked_of, parked_as, with_parked, without_name, Updates, overdue_at, least_deadline, IsOverdue, deadline_of};
 
+mod gaps;
 mod rings;
 mod slot_rings;
+mod turns;
 
+use gaps::Gaps;
 use mpm_base::{ConnName, Kind, Moment, NoMemory};
 use rings::Rings;
 pub use slot_rings::SlotRings;
 use std::alloc::Global;
 use std::marker::Model;
+use turns::Turns;
 
 // How many kinds there are, each with a ring of its own.
 const KINDS: u32 = 5;
@@ -35,6 +41,8 @@ pub struct Queues {
     slots: Vec<Option<Entry>>,
     // The places are the slots, and behind them the heads of the rings.
     rings: Rings,
+    gaps: Gaps,
+    turns: Turns,
 }
 
 #[derive(Clone, Copy, Debug)]
@@ -81,6 +89,8 @@ impl Queues {
         Ok(Queues {
             slots: kept,
             rings: Rings::make(alloc, slots + KINDS)?,
+            gaps: Gaps::none(),
+            turns: Turns::make(alloc, slots)?,
         })
     }
 
@@ -98,8 +108,10 @@ impl Queues {
         ensures updates { Updates self.old self.new name (Some (parked_as name kind deadline)) }
     {
         let head = head_of(self.slots.len() as u32, kind);
-        let place = last_before(&self.slots, &self.rings, head, deadline);
+        let gap = self.gaps.get(kind);
+        let place = last_before(&self.slots, &self.rings, head, gap, deadline);
         self.rings.insert(place, name.slot);
+        self.turns.note(name.slot);
         self.slots[name.slot as usize] = Some(Entry {
             life: name.life,
             kind,
@@ -117,6 +129,9 @@ impl Queues {
         if !self.is_parked(name) {
             return false;
         }
+        let kind = kind_at(&self.slots, name.slot);
+        let gap = self.rings.before[name.slot as usize];
+        self.gaps.note(kind, gap);
         self.rings.remove(name.slot);
         self.slots[name.slot as usize] = None;
         true
@@ -160,7 +175,7 @@ impl Queues {
     {
         let mut first: Option<Due> = None;
         for number in 0..KINDS {
-            first = earlier(first, self.first_in(number));
+            first = earlier(&self.turns, first, self.first_in(number));
         }
         first
     }
@@ -209,6 +224,11 @@ fn kept_at(slots: &[Option<Entry>], place: u32) -> Option<Entry>
     }
 }
 
+// What is waited for in a slot.
+fn kind_at(slots: &[Option<Entry>], place: u32) -> Option<Kind> {
+    Some(kept_at(slots, place)?.kind)
+}
+
 // The deadline of what is parked in a slot, and 0 at the head of a ring.
 fn deadline_at(slots: &[Option<Entry>], place: u32) -> Moment
     ensures { result ≡ due_at by_kind (map parked_in slots.now) place }
@@ -219,27 +239,81 @@ fn deadline_at(slots: &[Option<Entry>], place: u32) -> Moment
     }
 }
 
-// The last of a ring whose deadline is at or before this one, found by going back from the end.
-fn last_before(slots: &[Option<Entry>], rings: &Rings, head: u32, deadline: Moment) -> u32
+// The last of a ring whose deadline is at or before this one, found by going back from the end, or from the gap where that is a
+// place behind which all is due later.
+fn last_before(slots: &[Option<Entry>], rings: &Rings, head: u32, gap: u32, deadline: Moment) -> u32
     requires rings { IsRings by_kind (map parked_in slots.now) rings.now.before.items rings.now.behind.items }
     requires head { (length slots.now ≤ head) × (head < length slots.now + 5) }
     ensures { IsLastBefore by_kind (map parked_in slots.now) rings.now.behind.items head deadline result }
 {
-    let mut place = rings.before[head as usize];
+    let mut place = back_from(slots, rings, head, gap, deadline);
     while deadline_at(slots, place) > deadline {
         place = rings.before[place as usize];
     }
     place
 }
 
-// The due of the two that comes first; the former where both have one deadline.
-fn earlier(former: Option<Due>, other: Option<Due>) -> Option<Due>
+// A place of the ring behind which all is due at or after the deadline: the end, or the gap where that is such a place before it.
+fn back_from(slots: &[Option<Entry>], rings: &Rings, head: u32, gap: u32, deadline: Moment) -> u32
+    requires rings { IsRings by_kind (map parked_in slots.now) rings.now.before.items rings.now.behind.items }
+    requires head { (length slots.now ≤ head) × (head < length slots.now + 5) }
+    ensures { IsBack (map parked_in slots.now) rings.now.behind.items head deadline result }
+{
+    let last = rings.before[head as usize];
+    if deadline_at(slots, last) > deadline && is_back(slots, rings, head, gap, deadline) {
+        gap
+    } else {
+        last
+    }
+}
+
+// Whether the place is in the ring, and what stands behind it is due at or after the deadline.
+fn is_back(slots: &[Option<Entry>], rings: &Rings, head: u32, place: u32, deadline: Moment) -> bool
+    requires rings { IsRings by_kind (map parked_in slots.now) rings.now.before.items rings.now.behind.items }
+    requires head { length slots.now ≤ head }
+    ensures { OnTrue result (IsBack (map parked_in slots.now) rings.now.behind.items head deadline place) }
+{
+    if (place as usize) < rings.behind.len() && is_in_ring(slots, head, place) {
+        let next = rings.behind[place as usize];
+        is_due_from(slots, next, deadline)
+    } else {
+        false
+    }
+}
+
+// Whether the place is in the ring of that head.
+fn is_in_ring(slots: &[Option<Entry>], head: u32, place: u32) -> bool
+    requires few { length slots.now ≤ 8192 }
+    requires head { length slots.now ≤ head }
+    ensures { OnTrue result (ring_at by_kind (map parked_in slots.now) place ≡ Some head) }
+{
+    match kept_at(slots, place) {
+        Some(entry) => head_of(slots.len() as u32, entry.kind) == head,
+        None => place == head,
+    }
+}
+
+// Whether what is parked in a slot is due at or after the deadline; so it is at the head of a ring.
+fn is_due_from(slots: &[Option<Entry>], place: u32, deadline: Moment) -> bool
+    ensures { OnTrue result (IsDueFrom (map parked_in slots.now) deadline place) }
+{
+    match kept_at(slots, place) {
+        Some(entry) => deadline <= entry.deadline,
+        None => true,
+    }
+}
+
+// The due of the two that comes first; where both have one deadline the one that was parked first.
+fn earlier(turns: &Turns, former: Option<Due>, other: Option<Due>) -> Option<Due>
     ensures former { IfSome former (λ (due : Due). IsSomeAnd result (λ (first : Due). first.deadline ≤ due.deadline)) }
     ensures other { IfSome other (λ (due : Due). IsSomeAnd result (λ (first : Due). first.deadline ≤ due.deadline)) }
     ensures either { (result ≡ former) ⊎ (result ≡ other) }
 {
     match (former, other) {
         (Some(former), Some(other)) if other.deadline < former.deadline => Some(other),
+        (Some(former), Some(other))
+            if other.deadline == former.deadline
+                && turns.is_before(other.name.slot, former.name.slot) => { Some(other) }
         (None, other) => other,
         (former, _) => former,
     }

@@ -3,6 +3,7 @@ ghost use Rattle.std.specs.Prelude.{◌≡◌, ◌<◌, ◌≤◌, ℕ, Some, No
 ghost use Rattle.timeout_queues.specs.Filed.{none_filed, StandsIn};
 
 use crate::rings::Rings;
+use crate::turns::Turns;
 use mpm_base::NoMemory;
 use std::alloc::Global;
 use std::marker::Model;
@@ -16,6 +17,7 @@ pub struct SlotRings {
     filed: Vec<Option<u32>>,
     // The places are the slots, and behind them the heads of the rings.
     rings: Rings,
+    turns: Turns,
 }
 
 impl Model for SlotRings {
@@ -42,6 +44,7 @@ impl SlotRings {
         Ok(SlotRings {
             filed,
             rings: Rings::make(alloc, slots + RINGS)?,
+            turns: Turns::make(alloc, slots)?,
         })
     }
 
@@ -69,6 +72,11 @@ impl SlotRings {
         let slots = self.filed.len() as u32;
         let place = self.rings.behind[(slots + ring) as usize];
         if place < slots { Some(place) } else { None }
+    }
+
+    /// Whether the slot was put into its ring before the other was put into its own. No clause says so.
+    pub fn is_before(&self, slot: u32, other: u32) -> bool {
+        self.turns.is_before(slot, other)
     }
 
     /// The ring in which the slot stands.
@@ -101,6 +109,7 @@ impl SlotRings {
         let head = self.filed.len() as u32 + ring;
         let last = self.rings.before[head as usize];
         self.rings.insert(last, slot);
+        self.turns.note(slot);
         self.filed[slot as usize] = Some(ring);
     }
 }

@@ -12,6 +12,6 @@ loop-place-smaller c =
     let place = c.loop-place.place in
     let late : c.args.deadline < due_at by_kind ps place = omega (arith, c.loop-place-test.true, c.deadline_at.ensures) in
     let within : place < length before = omega (arith, c.loop-place.invariant.within, c.requires.rings.befores) in
-    let to = get_or_read before place c.index-place-in-loop-place.result.now within c.index-place-in-loop-place.ensures 0 in
+    let to = get_or_read before place c.index-place.result.now within c.index-place.ensures 0 in
     rw to (steps_fall ps before c.args.rings.now.behind.items c.requires.rings c.args.head place
     (due_within ps c.args.deadline place late) c.loop-place.invariant.ring)

@@ -1,6 +1,7 @@
 use Rattle.std.proofs.Common.{suc, length, map}
 use Rattle.timeout_queues.specs.Entries.{parked_in}
-use Rattle.timeout_queues.proofs.WalkLemmas.{IsBack, steps_back}
+use Rattle.timeout_queues.specs.RingsInside.{IsBack}
+use Rattle.timeout_queues.proofs.WalkLemmas.{steps_back}
 use Rattle.timeout_queues.proofs.last_before.Given as goal
 
 abbrev pub invariant-loop-place : goal.invariant-loop-place
