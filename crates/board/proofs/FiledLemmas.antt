@@ -1,5 +1,5 @@
 -- The rings in which slots stand: what an event changes of them, and what stands in each.
-use Rattle.std.proofs.Common.{◌≡◌, ◌≢◌, ◌==◌, inl, inr, ℕ, zero, suc, ◌+◌, ◌<◌, ◌≤◌, Bool, true, false, not, ◌&&◌, nat_lt, List, [], ◌∷◌, length, Option, None, Some, slice_get, get_or, replicate, refl, sym, ap, subst, ◌∙◌, eqb-true, eq-eqb, get_or-set_other, arith}
+use Rattle.std.proofs.Common.{◌≡◌, ◌≢◌, ◌==◌, ◌⊎◌, inl, inr, ℕ, zero, suc, ◌+◌, ◌<◌, ◌≤◌, Bool, true, false, not, ◌&&◌, nat_lt, List, [], ◌∷◌, length, Option, None, Some, IsNone, slice_get, get_or, replicate, refl, sym, ap, subst, ◌∙◌, eqb-true, eq-eqb, get_or-set_other, arith}
 use Rattle.std.proofs.Math.ListN.{set, length-set}
 use Rattle.std.proofs.lemmas.Bool.{and_from, and_parts, cases_lt, lt-ltb, ltb-true, not-true, not_from_false}
 use Rattle.std.proofs.lemmas.List.{get_or_past, length-replicate}
@@ -328,14 +328,17 @@ row_let_go s slot r go =
     let waits = and_parts (is_parked r.place) (is_from KeepAlive r) stops.0 in
     record { parked = waits.0; from = waits.1; stops = stops.1; unsignalled = not-true (is_signalled s slot) all.1 }
 
--- where a worker of the child is free, the row that is found of those for service is due
-pub due_found : (s : State) (k : ℕ) (o : Option ConnName) → k < 32 → carried_count s.rows k < (child_at s.children k).shape.threads
-    → FindsInRing s (0 + k) o → FindsInChild (is_due s) k s o
-due_found s k None few free none = λ slot r at own.
+-- where no row is found of those for service, none of the child is due
+pub due_none : (s : State) (k : ℕ) → k < 32 → FindsInRing s (0 + k) None → FindsInChild (is_due s) k s None
+due_none s k few none = λ slot r at own.
     not_so (is_due s slot r) (λ due.
     let row = due_row s slot r due in
     none slot r at (ap (λ (b : Bool). ring_of_row b r) row.signalled ∙ ring-for_service r k few row.parked row.stays own))
-due_found s k (Some name) few free is =
+
+-- where a worker of the child is free, the row that is found of those for service is due
+pub due_found : (s : State) (k : ℕ) (name : ConnName) → k < 32 → carried_count s.rows k < (child_at s.children k).shape.threads
+    → FindsInRing s (0 + k) (Some name) → FindsInChild (is_due s) k s (Some name)
+due_found s k name few free is =
     let of = of_ring (is_signalled s name.slot) is.row (0 + k) is.ring_is in
     let low : 0 + k < 32 = omega (arith, few) in
     let parked = of.parked in
@@ -417,6 +420,26 @@ go_beyond s slot r past =
     subst (λ (c : Child). is_stopping c.phase ≡ true) (beyond s r past) (row_let_go s slot r go).stops in
     cc)
 
+-- the name is that of a live connection whose row passes, or no row of a child below n passes
+abbrev pub FindsBelow : (ℕ → Row → Bool) → State → ℕ → Option ConnName → Type 0
+FindsBelow test s n None = FailsInChildren test s n
+FindsBelow test s n (Some name) = lives_and (test name.slot) s.rows name ≡ true
+
+-- there is no child below 0
+pub finds_first : (test : ℕ → Row → Bool) (s : State) → FindsBelow test s 0 None
+finds_first test s = λ slot r at below. absurd (omega arith)
+
+-- what was found so far, or of the child n, is found of one child more
+pub finds_more : (test : ℕ → Row → Bool) (s : State) (n : ℕ) (one other of_both : Option ConnName) → FindsBelow test s n one → FindsInChild test n s other
+    → (of_both ≡ one) ⊎ (of_both ≡ other) → (IsNone of_both → IsNone one × IsNone other) → FindsBelow test s (n + 1) of_both
+finds_more test s n None None None before of either none = fails_in_more test s n before of
+finds_more test s n (Some name) other None before of either none = let no : true ≡ false = (none refl).0 in absurd (cc)
+finds_more test s n None (Some name) None before of either none = let no : true ≡ false = (none refl).1 in absurd (cc)
+finds_more test s n one other (Some name) before of either none = elim either [
+  | inl e ↦ subst (FindsBelow test s n) (sym e) before
+  | inr e ↦ subst (FindsInChild test n s) (sym e) of
+]
+
 -- where no row of any child passes, nor one of a number beyond them, none does
 pub fails_in_all : (test : ℕ → Row → Bool) (s : State) (n : ℕ) → FailsInChildren test s n → length s.children ≤ n
     → ((slot : ℕ) (r : Row) → length s.children ≤ r.child → test slot r ≡ false) → FindsRow test s None
@@ -424,3 +447,9 @@ fails_in_all test s n before all past slot r at = elim (cases_lt r.child n) [
   | inl less ↦ before slot r at less
   | inr over ↦ past slot r (omega (arith, all, over))
 ]
+
+-- what is found below all children is found of all rows
+pub finds_in_all : (test : ℕ → Row → Bool) (s : State) (n : ℕ) (o : Option ConnName) → FindsBelow test s n o → length s.children ≤ n
+    → ((slot : ℕ) (r : Row) → length s.children ≤ r.child → test slot r ≡ false) → FindsRow test s o
+finds_in_all test s n None before all past = fails_in_all test s n before all past
+finds_in_all test s n (Some name) before all past = before

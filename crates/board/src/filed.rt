@@ -1,6 +1,6 @@
 //! The state of a book, whose slots stand in rings by what is to be done with their rows, so that a call finds such a row without
-//! a walk over all.
-ghost use Rattle.std.specs.Prelude.{◌≡◌, ◌<◌, ◌≤◌, ◌+◌, true, false, length, IfOk, IfSome, IsOk, OnOk, OnErr};
+//! a walk over all. Of several it finds the one whose slot was put into its ring first, whichever child it is of.
+ghost use Rattle.std.specs.Prelude.{◌≡◌, ◌<◌, ◌≤◌, ◌+◌, ◌⊎◌, true, false, length, IfOk, IfSome, IsOk, IsNone, OnOk, OnErr};
 ghost use Rattle.conn_machine.specs.States.{opening_state};
 ghost use Rattle.conn_machine.specs.Table.{is_allowed, may_be_queued, next, reply, takes_memory};
 ghost use Rattle.conn_machine.specs.Sizes.{HasSizesOf, IsSized};
@@ -75,12 +75,11 @@ impl FiledState {
         requires few_children { length self.now.children ≤ 32 }
         ensures { FindsRow (is_due self.now) self.now result }
     {
+        let mut found = None;
         for child in 0..self.state.children.len() as u32 {
-            if let Some(name) = self.signalled_in(child) {
-                return Some(name);
-            }
+            found = self.longer(found, self.signalled_in(child));
         }
-        None
+        found
     }
 
     /// The same of one child.
@@ -89,9 +88,10 @@ impl FiledState {
         requires child { child < 32 }
         ensures { FindsInChild (is_due self.now) child self.now result }
     {
+        let first = self.first_in(SIGNALLED + child)?;
         let carried = self.state.rows.carried(child) as u32;
         if carried < self.state.children.get(child).shape.threads {
-            self.first_in(SIGNALLED + child)
+            Some(first)
         } else {
             None
         }
@@ -102,12 +102,11 @@ impl FiledState {
         requires few_children { length self.now.children ≤ 32 }
         ensures { FindsRow (is_let_go self.now) self.now result }
     {
+        let mut found = None;
         for child in 0..self.state.children.len() as u32 {
-            if let Some(name) = self.retiring_in(child) {
-                return Some(name);
-            }
+            found = self.longer(found, self.retiring_in(child));
         }
-        None
+        found
     }
 
     /// The same of one child.
@@ -127,6 +126,20 @@ impl FiledState {
         ensures { FindsRow (has_to_be_drained self.now) self.now result }
     {
         self.first_in(TO_DRAIN)
+    }
+
+    /// Of two connections, where there are two, the one whose slot was put into its ring first.
+    fn longer(&self, one: Option<ConnName>, other: Option<ConnName>) -> Option<ConnName>
+        ensures either { (result ≡ one) ⊎ (result ≡ other) }
+        ensures none { IsNone result → IsNone one × IsNone other }
+    {
+        match (one, other) {
+            (Some(first), Some(second)) if self.rings.is_before(second.slot, first.slot) => {
+                Some(second)
+            }
+            (None, other) => other,
+            (one, _) => one,
+        }
     }
 
     /// The connection of the slot that stands first in the ring: the one that waited there longest.

@@ -7,8 +7,9 @@
 //! `specs/Fits.antt`, what is kept of the history in `specs/Book.antt` and `specs/RoomInside.antt`, why a call is refused in
 //! `specs/Faults.antt`, and what the tests look for in `specs/Finds.antt`. The connections stand in a table of slots, of which
 //! contracts see the connections alone (`specs/Layout.antt`). The rows that wait stand in timeout queues besides, and the slots
-//! in rings by what is to be done with their rows, so no call goes over the rows, but that a connection which is late before
-//! others of its kind looks for its place among them. No contract tells of either, nor of how far the slots are used
+//! in rings by what is to be done with their rows, so no call goes over the rows, but that behind a restart with shorter timeouts
+//! one which waits looks for its place among those that wait longer. Where several connections would do, each test prefers the one
+//! that waited longest. No contract tells of either, nor of how far the slots are used
 //! (`specs/QueuesInside.antt`, `specs/FiledInside.antt`, `specs/SlotsInside.antt`).
 #![tactic(auto)]
 
