@@ -1,15 +1,21 @@
 -- Places at which something may be due, and the clients that stand there.
-use Rattle.std.specs.Prelude.{◌≡◌, ◌⊎◌, ℕ, suc, ◌<◌, ◌≤◌, Bool, true, false, List, length, slice_index_or, slice_set, Option, None}
+use Rattle.std.specs.Prelude.{◌≡◌, ◌⊎◌, ℕ, suc, ◌+◌, ◌*◌, ◌<◌, ◌≤◌, Bool, true, false, List, length, slice_index_or, slice_set, Option, None}
 use Rattle.mpm_base.specs.declared.conn.ConnName.{ConnName}
 use Rattle.script_front.specs.declared.due_places.DuePlaces.{DuePlaces}
 use Rattle.script_front.specs.Signals.{LooksAt, SeenClient}
 
--- all marked places stand between the two
+-- there is a block of 64 places for each, and that of a marked place is marked
+pub record AreTold (marks blocks : List Bool) : Type 0 where
+  pub few : length marks < 64 * length blocks
+  pub each : (b k : ℕ) → 64 * b ≤ k → k < 64 * b + 64 → slice_index_or marks k false ≡ true → slice_index_or blocks b false ≡ true
+
+-- all marked places stand between the two, and their blocks are marked
 pub record AreMarked (due : DuePlaces) : Type 0 where
   pub low_within : due.low ≤ length due.marks.items
   pub high_within : due.high ≤ length due.marks.items
   pub below : (k : ℕ) → k < due.low → slice_index_or due.marks.items k false ≡ false
   pub above : (k : ℕ) → due.high ≤ k → slice_index_or due.marks.items k false ≡ false
+  pub told : AreTold due.marks.items due.blocks.items
 
 -- no place from the one up to the other is marked
 abbrev pub AreUnmarked : List Bool → ℕ → ℕ → Type 0

@@ -1,5 +1,5 @@
 use Rattle.std.proofs.Common.{◌≡◌, ℕ, false, length, get_or}
-use Rattle.script_front.proofs.due_places.DuePlaces.make.Given as goal
+use Rattle.script_front.proofs.due_places.unmarked.Given as goal
 
 abbrev pub invariant-loop-place : goal.invariant-loop-place
 invariant-loop-place l = record {
