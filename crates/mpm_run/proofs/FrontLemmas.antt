@@ -16,7 +16,8 @@ use Rattle.conn_machine.specs.declared.state.State.{State}
 use Rattle.conn_state.specs.Conn.{IsFresh}
 use Rattle.conn_state.specs.Known.{IsOfClient, KnownOutside, TellsFrom}
 use Rattle.mpm_run.specs.Watched.{IsHushed}
-use Rattle.mpm_run.specs.ListenInside.{AsksFor, Follows, clients_told, IsArrival, IsInStep, IsKnownOfFront, KeepsStep, OnlyReads, OnlyReadsAndTakes, OnlyTakes, TellsAlike, contacts, contacts_of}
+use Rattle.mpm_run.specs.ListenInside.{AsksFor, Follows, IsArrival, IsInStep, IsKnownOfFront, KeepsStep, OnlyReads, OnlyReadsAndTakes, OnlyTakes, TellsAlike, contacts, contacts_of}
+use Rattle.mpm_run.specs.Outside.{clients_told}
 use Rattle.mpm_run.specs.Stops.{HasFailedLast, HasGivenAll}
 use Rattle.mpm_run.specs.Times.{IsInTime, waits_of}
 use Rattle.mpm_run.proofs.CountLemmas.{exactly-stays, where-stays}

@@ -11,7 +11,8 @@ use Rattle.board.specs.Book.{SeenBook}
 use Rattle.mpm_run.specs.Commands.{HeedsLines, NoneStops}
 use Rattle.mpm_run.specs.FirstNumbersInside.{AreNumbers, opened_book}
 use Rattle.mpm_run.specs.Links.{EndsLinks, TakesLinks}
-use Rattle.mpm_run.specs.ListenInside.{clients_told, Follows, HasNoneToHeed, HasStopped, IsAtStart, IsInStep, WatchesAll, contacts, contacts_of}
+use Rattle.mpm_run.specs.ListenInside.{Follows, HasNoneToHeed, HasStopped, IsAtStart, IsInStep, WatchesAll, contacts, contacts_of}
+use Rattle.mpm_run.specs.Outside.{clients_told}
 use Rattle.mpm_run.specs.Outside.{KeepsFront}
 use Rattle.mpm_run.specs.Patient.{HasNothingCome}
 use Rattle.mpm_run.specs.Started.{AreAskedFor, IsStartedFirst}

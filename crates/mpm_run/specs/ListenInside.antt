@@ -32,6 +32,7 @@ use Rattle.mpm_run.specs.declared.server.OpenFault.TheVariants as opening
 use Rattle.mpm_run.specs.Commands.{NoneStops, StopsAtLast, lines_read}
 use Rattle.mpm_run.specs.Links.{HandsOutTaken, TakesLinks, TurnsOneAway}
 use Rattle.mpm_run.specs.Listen.{HasNoLive, IsClosedDown}
+use Rattle.mpm_run.specs.Outside.{clients_told}
 use Rattle.mpm_run.specs.Patient.{IsAtRest}
 use Rattle.mpm_run.specs.Started.{BeginsWithStarts}
 use Rattle.mpm_run.specs.Stops.{HasFailedLast, HasTakenAll, StoppedFor}
@@ -87,10 +88,6 @@ abbrev pub AsksFor : Woke → ℕ → Option (List (ℕ × ℕ)) → Option (Lis
 AsksFor (woke.Woke m) present calls calls' moment = Answers calls calls' m moment
 AsksFor woke.Ended present calls calls' moment = (calls' ≡ calls) × (moment ≡ present)
 AsksFor woke.Failed present calls calls' moment = (calls' ≡ calls) × (moment ≡ present)
-
--- what the clients of a front send, in the order of arrival, where it tells that
-abbrev pub clients_told : Option FrontTold → Option (List (List ℕ))
-clients_told told = option_map (λ t. t.clients) told
 
 -- what the type knows that the clients send
 abbrev pub clients_known : Option KnownOutside → Option (List (List ℕ))

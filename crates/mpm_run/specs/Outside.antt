@@ -1,5 +1,5 @@
 -- What ties the history of a run to its front and its clock, each as far as it tells.
-use Rattle.std.specs.Prelude.{ℕ, List, Option, IfSome}
+use Rattle.std.specs.Prelude.{◌≡◌, ℕ, List, Option, option_map, is_some, IfSome}
 use Rattle.mpm_base.specs.Front.{FrontSeen, FrontTold}
 use Rattle.board.specs.Board.{SeenBoard}
 use Rattle.mpm_run.specs.Commands.{HeedsLines}
@@ -33,3 +33,13 @@ pub record KeepsOutside (n : RunNumbers) (f f' : FrontSeen) (calls : Option (Lis
   pub informed : WasInformed (waits_of f'.told) calls b.book
   pub patient : IsPatientFrom f.told f'.told calls b.book
   pub stopped : StoppedFor f f' b.book.state
+
+-- what the clients of a front send, in the order of arrival, where it tells that
+abbrev pub clients_told : Option FrontTold → Option (List (List ℕ))
+clients_told told = option_map (λ t. t.clients) told
+
+-- nothing that was told fell away: the front tells exactly where it did, and of clients that send the same, and so does the clock, of its
+-- calls
+pub record TellsStill (f f' : FrontSeen) (calls calls' : Option (List (ℕ × ℕ))) : Type 0 where
+  pub front : clients_told f'.told ≡ clients_told f.told
+  pub clock : is_some calls' ≡ is_some calls

@@ -132,6 +132,7 @@ impl<'a, L: Link + Send, N: Known, B: Bell, G: Gate> Listener<'a, L, N, B, G> {
         ensures started { IsOpening self.old.board.book → HasStarted (waits_of (F.seen front.old).told) (waits_of (F.seen front.new).told) self.old.board.book self.new.board.book }
         ensures watched { IsWatching (F.seen front.old).told self.old.board.book → IsWatching (F.seen front.new).told self.new.board.book }
         ensures links { HandedOut (F.seen front.new).told self.new.board.book.state }
+        ensures clock { is_some (C.told clock.new) ≡ is_some (C.told clock.old) }
         ensures time { IsInTime (waits_of (F.seen front.old).told) (C.told clock.old) → IsInTime (waits_of (F.seen front.new).told) (C.told clock.new) }
         ensures patient { IsAtStart (F.seen front.old).told self.old.board.book → IsPatientRun (F.seen front.new).told (C.told clock.new) self.new.board.book }
         ensures informed { WasInformed (waits_of (F.seen front.new).told) (C.told clock.new) self.new.board.book }
@@ -172,6 +173,7 @@ impl<'a, L: Link + Send, N: Known, B: Bell, G: Gate> Listener<'a, L, N, B, G> {
         ensures watched { IsWatching (F.seen front.old).told self.old.board.book → IsWatching (F.seen front.new).told self.new.board.book }
         ensures step { OnOk result (IsInStep (F.seen front.new).told self.new.board.book.state) }
         ensures links { OnErr result (HandsOut (F.seen front.new).told self.new.board.book.state) }
+        ensures clock { is_some (C.told clock.new) ≡ is_some (C.told clock.old) }
         ensures time { IsInTime (waits_of (F.seen front.old).told) (C.told clock.old) → IsInTime (waits_of (F.seen front.new).told) (C.told clock.new) }
         ensures patient { IsAtStart (F.seen front.old).told self.old.board.book → IsPatientRun (F.seen front.new).told (C.told clock.new) self.new.board.book }
         ensures ends { TurnsEnd result (F.seen front.old) (F.seen front.new) self.new.board.book }
@@ -440,6 +442,7 @@ fn take_pause<R: Wait, L: Link + Send, F: Front<L = L>, C: Clock>(
 ) -> Pause
     ensures waits { Waits (F.seen front.old) (F.seen front.new) rest.until rest.quiet result.woke ready.new }
     ensures asks { AsksFor result.woke present (C.told clock.old) (C.told clock.new) result.moment }
+    ensures clock { is_some (C.told clock.new) ≡ is_some (C.told clock.old) }
 {
     let woke = front.wait(rt, rest.until, rest.quiet, ready);
     Pause {

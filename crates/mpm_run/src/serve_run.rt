@@ -7,7 +7,7 @@ ghost use Rattle.mpm_run.specs.ExitStatuses.{EndsAs, EndsConfigRefused, EndsSile
 ghost use Rattle.mpm_run.specs.ExitStatusesInside.{IsOpenedStatus, IsServedStatus, LeavesUnbound, RefusesRun};
 ghost use Rattle.mpm_run.specs.FirstNumbers as opening;
 ghost use Rattle.command_words.specs.Invocations.{IsServeWords};
-ghost use Rattle.mpm_run.specs.Outside.{KeepsOutside};
+ghost use Rattle.mpm_run.specs.Outside.{KeepsOutside, TellsStill};
 ghost use Rattle.mpm_run.specs.Sites.{head_limits_of};
 ghost use Rattle.mpm_run.specs.SitesInside.{RefusesFolder};
 ghost use Rattle.mpm_run.specs.Texts.{front_fault};
@@ -45,6 +45,7 @@ pub fn serve_file<R: Wait, D: Store, F: Front, C: Clock, G: Gate, K: Sink>(
     requires unused { IfSome (F.seen front.old).told IsUnused }
     requires unasked { IfSome (C.told clock.old) (λ calls. calls ≡ []) }
     ensures server { (words : List (List ℕ)) → IsServeWords words name.now → IfSome result.left (λ b. HasRunServer (seen_call words (D.seen store.old) (D.seen store.new) (K.seen out.old) (K.seen out.new) result.shown) (F.seen front.old) (F.seen front.new) (C.told clock.new) result.status b) }
+    ensures telling { TellsStill (F.seen front.old) (F.seen front.new) (C.told clock.old) (C.told clock.new) }
     ensures known { IsServedStatus result.status }
     ensures opened { (result.status ≡ 0) ⊎ (result.status ≡ 5) ⊎ (result.status ≡ 7) → IsSome result.left }
     ensures misconfigured { (words : List (List ℕ)) → IsServeWords words name.now → result.status ≡ 1 → EndsConfigRefused (seen_call words (D.seen store.old) (D.seen store.new) (K.seen out.old) (K.seen out.new) result.shown) }
@@ -111,6 +112,7 @@ fn serve_edition<R: Wait, F: Front, C: Clock, G: Gate, K: Sink>(
     ensures run { IfSome result.left (HasRun config.entry.now edition.site.value) }
     ensures outside { IfSome result.left (KeepsOutside (opening.numbers_of config.entry.now) (F.seen front.old) (F.seen front.new) (C.told clock.new)) }
     ensures ends { IfSome result.left (λ b. EndsAs (K.seen out.old) (K.seen out.new) config.entry.now b result.status) }
+    ensures telling { TellsStill (F.seen front.old) (F.seen front.new) (C.told clock.old) (C.told clock.new) }
     ensures shown { IsSome result.left → result.shown ≡ None }
     ensures known { IsOpenedStatus result.status }
     ensures opened { (result.status ≡ 0) ⊎ (result.status ≡ 5) ⊎ (result.status ≡ 7) → IsSome result.left }

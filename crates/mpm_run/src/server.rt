@@ -1,5 +1,5 @@
 //! The run of a server over a front and a clock, whichever they are, with what is written where it opens.
-ghost use Rattle.std.specs.Prelude.{◌≡◌, ℕ, List, [], Some, IfErr, IfOk, IfSome, OnErr};
+ghost use Rattle.std.specs.Prelude.{◌≡◌, ℕ, List, [], Some, is_some, IfErr, IfOk, IfSome, OnErr};
 ghost use Rattle.mpm_base.specs.Count.{NeverFalls};
 ghost use Rattle.mpm_run.specs.Unused.{IsUnused};
 ghost use Rattle.conn_machine.specs.Made.{AreOfPasses};
@@ -73,6 +73,7 @@ pub fn run_server<R: Wait, L: Link + Send, F: Front<L = L>, C: Clock, G: Gate, K
     ensures edition { IfOk result (λ s. AreOfOutside N.known s.board) }
     ensures outside { IfOk result (λ s. KeepsOutside numbers (F.seen front.old) (F.seen front.new) (C.told clock.new) s.board) }
     ensures follows { Follows (F.seen front.old) (F.seen front.new) }
+    ensures still { is_some (C.told clock.new) ≡ is_some (C.told clock.old) }
     ensures written { IfOk result (λ s. WritesAll (K.seen out.old) (K.seen out.new) text.now s.written) }
     ensures faults { IfOk result (λ s. NeverFalls (K.seen out.old).faults (K.seen out.new).faults) }
     ensures unopened { IfErr result (IsUnopened numbers (F.seen front.old) (F.seen front.new)) }

@@ -9,6 +9,7 @@ ghost use Rattle.mpm_run.specs.ExitStatuses.{EndsConfigRefused, EndsFilled, Ends
 ghost use Rattle.mpm_run.specs.FirstNumbers as opening;
 ghost use Rattle.command_words.specs.Invocations.{CallsFront};
 ghost use Rattle.mpm_run.specs.Links.{KeepsLinks};
+ghost use Rattle.mpm_run.specs.Outside.{TellsStill};
 ghost use Rattle.mpm_run.specs.Started.{IsStartedFirst};
 ghost use Rattle.mpm_run.specs.Unused.{IsUnused};
 ghost use Rattle.mpm_run.specs.Watched.{AreWatched, IsOpenedAndHushed};
@@ -84,6 +85,9 @@ pub fn run<R: Threads + Wait + Sync, D: Store, F: Front, C: Clock, G: Gate + Syn
 
     // The same of what is left of a server, as far as its front, its clock and its store tell; and how it ended.
     ensures server { IfSome result.board (λ b. HasRunServer (seen_call words.now (D.seen store.old) (D.seen store.new) (K.seen out.old) (K.seen out.new) result.shown) (F.seen front.old) (F.seen front.new) (C.told clock.new) result.status b) }
+
+    // Whatever became of them, a front and a clock that told tell still.
+    ensures telling { TellsStill (F.seen front.old) (F.seen front.new) (C.told clock.old) (C.told clock.new) }
 
     // Where no run of a server opened the clock is as it was, and so is the front, but for the dial that the words ask for, and for a bind
     // or a dial that failed.

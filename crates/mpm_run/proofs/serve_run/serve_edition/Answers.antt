@@ -1,6 +1,6 @@
 use Rattle.std.proofs.Common.{◌∙◌, ℕ, List, subst}
 use Rattle.mpm_run.specs.ExitStatusesInside.{WritesAll}
-use Rattle.mpm_run.specs.ListenInside.{clients_told}
+use Rattle.mpm_run.specs.Outside.{clients_told}
 use Rattle.mpm_run.proofs.EndLemmas.{ends-as, stopped-end}
 use Rattle.mpm_run.proofs.ServeLemmas.{has-run}
 use Rattle.mpm_run.proofs.serve_run.serve_edition.Goals as goal

@@ -1,5 +1,5 @@
 use Rattle.std.proofs.Common.{Some, [], ◌∷◌}
-use Rattle.mpm_run.specs.ListenInside.{clients_told}
+use Rattle.mpm_run.specs.Outside.{clients_told}
 use Rattle.mpm_run.proofs.serve_run.serve_edition.Given as goal
 
 -- the type knows what the front tells of its clients, where it tells, and the one edition by which they are served

@@ -19,6 +19,7 @@ loop-init g c =
       between =
           between-started c.passes_act_in_steps.ensures.acts (listener_of c.args.self.now.board (g.F.Front.seen c.args.front.now) (g.C.Clock.told c.args.clock.now) c.args.self.now.ready) (listener_of c.start.new.self.board (g.F.Front.seen c.args.front.now) (g.C.Clock.told c.args.clock.now) c.start.new.self.ready) c.requires.passes c.requires.free c.requires.going c.requires.step c.requires.informed
           (ap (λ (ready : List ℕ). listener_of c.start.new.self.board (g.F.Front.seen c.args.front.now) (g.C.Clock.told c.args.clock.now) ready) (ap (λ (l : _). l.ready) c.start.ensures.others)) c.start.ensures.starts c.start.ensures.going c.start.ensures.rest;
+      clock = refl;
       going = ap is_halted c.start.ensures.going ∙ c.requires.going;
       heeded = c.requires.heeded;
       started = c.in_ok-first.ensures.first;
@@ -863,6 +864,7 @@ loop-preserved g c =
     let serves = serves-acts c.passes_act_in_steps.ensures.acts c.take_in.new.self.board c.serve.new.self.board c.serve.ensures.serves in
     record {
       between = between-served c.passes_act_in_steps.ensures.acts (listener_of c.args.self.now.board (g.F.Front.seen c.args.front.now) (g.C.Clock.told c.args.clock.now) c.args.self.now.ready) (listener_of c.take_in.new.self.board (g.F.Front.seen c.take_in.new.front) (g.C.Clock.told c.take_pause-pause.new.clock) c.take_in.new.self.ready) (listener_of c.serve.new.self.board (g.F.Front.seen c.take_in.new.front) (g.C.Clock.told c.take_pause-pause.new.clock) c.serve.new.self.ready) between served;
+      clock = c.take_pause-pause.ensures.clock ∙ c.loop.invariant.clock;
       going = c.in_ok-rest.ensures.going;
       heeded = c.in_ok-asked.ensures.heeded c.if-asked.false;
       started =

@@ -1,4 +1,4 @@
-use Rattle.std.proofs.Common.{◌≡◌, false, IfSome}
+use Rattle.std.proofs.Common.{◌≡◌, false, is_some, IfSome}
 use Rattle.conn_machine.specs.States.{is_halted}
 use Rattle.mpm_run.specs.ListenInside.{HasNoneToHeed, IsAtStart, IsOpening, asked_children}
 use Rattle.mpm_run.specs.Started.{BeginsWithStarts}
@@ -7,12 +7,13 @@ use Rattle.mpm_run.proofs.TurnLemmas.{IsBetween}
 use Rattle.mpm_run.proofs.WaitLemmas.{listener_of}
 use Rattle.mpm_run.proofs.listen.Listener.take_turns.Given as goal
 
--- between two turns the server goes on, no pass has a connection, and all that the waits and the clock gave was done; and no command
--- line that was read stops it
+-- between two turns the server goes on, no pass has a connection, and all that the waits and the clock gave was done; no command line
+-- that was read stops it, and the clock tells exactly where it did
 abbrev pub invariant-loop : goal.invariant-loop
 invariant-loop g l =
     record {
       between : IsBetween (listener_of l.fn.self.board (g.F.Front.seen l.fn.front) (g.C.Clock.told l.fn.clock) l.fn.self.ready) (listener_of l.self.board (g.F.Front.seen l.front) (g.C.Clock.told l.clock) l.self.ready);
+      clock : is_some (g.C.Clock.told l.clock) ≡ is_some (g.C.Clock.told l.fn.clock);
       going : is_halted l.self.board.book.state.going ≡ false;
       heeded : IfSome (g.F.Front.seen l.front).told HasNoneToHeed;
       started : IsOpening l.fn.self.board.book → BeginsWithStarts (asked_children l.fn.self.board.book.base) l.self.board.book.history;
