@@ -1,5 +1,5 @@
 -- A server that has just opened.
-use Rattle.std.proofs.Common.{◌≡◌, inl, inr, ℕ, Bool, true, false, List, [], ◌∷◌, ◌++◌, length, map, take, Option, None, Some, option_map, IfSome, refl, sym, ap, subst, ◌∙◌, arith}
+use Rattle.std.proofs.Common.{◌≡◌, inl, inr, ℕ, Bool, true, List, [], ◌∷◌, ◌++◌, length, map, take, Option, None, Some, option_map, IfSome, refl, sym, ap, subst, ◌∙◌, arith}
 use Rattle.mpm_base.specs.Clock.{asked_at}
 use Rattle.mpm_base.specs.Front.{Binds, BoundTold, DialTold, FrontSeen, FrontTold, WaitTold, after_bind, moments_of}
 use Rattle.mpm_run.specs.Unused.{IsUnused}
