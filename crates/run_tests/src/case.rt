@@ -27,6 +27,10 @@ pub struct Case {
     pub file: Octets,
     /// The name of the file whose script the front plays; nothing comes of the front where there is none.
     pub front: Option<String>,
+    /// The waits of that front that fail.
+    pub bad_waits: Calls,
+    /// The accepts of that front that fail.
+    pub bad_accepts: Calls,
     /// The calls of `dial` fail.
     pub undialled: bool,
     /// The calls of the store that fail.
@@ -49,6 +53,8 @@ pub fn case_of(alloc: Global, lines: &str) -> Result<Case, NoMemory> {
         name: String::from_str(alloc, "s")?,
         file: Octets::make(alloc),
         front: None,
+        bad_waits: Calls::make(alloc),
+        bad_accepts: Calls::make(alloc),
         undialled: false,
         bad_reads: Calls::make(alloc),
         bad_writes: Calls::make(alloc),
@@ -77,6 +83,8 @@ fn take_line(alloc: Global, case: &mut Case, line: &str) -> Result<(), NoMemory>
         "+" => case.file.add(rest.as_bytes()),
         "times" => add_often(&mut case.file, rest),
         "each" => add_each(&mut case.file, rest),
+        "wait" => case.bad_waits.add(number_of(rest)),
+        "accept" => case.bad_accepts.add(number_of(rest)),
         "store" => case.bad_reads.add(number_of(rest)),
         "output" => case.bad_writes.add(number_of(rest)),
         _ => {

@@ -5,12 +5,20 @@ use crate::shown::{show_outcome, shows_want_of_memory};
 use mpm_base::{NoMemory, Words};
 use mpm_run::{Outcome, run};
 use mpm_script::{Script, ScriptFault, read_script};
-use script_front::{ScriptClock, ScriptFront};
+use script_front::{FailingFront, ScriptClock, ScriptFront};
 use stand_ins::{Calls, Files, MemSink, MemStore, ScriptLink};
 use std::alloc::Global;
 use std::io::{self, ErrorKind};
 use std::sync::Wait;
 use std::thread::Threads;
+
+/// What a front of a script is made of: the script, and which of its waits and accepts fail.
+#[derive(Drop)]
+struct ScriptedFront {
+    script: Script,
+    waits: Calls,
+    accepts: Calls,
+}
 
 /// Plays each run of the input behind its title. What stands before the first title is no run.
 pub fn play_all<R: Print + Threads + Wait + Sync>(
@@ -48,6 +56,8 @@ fn play<R: Print + Threads + Wait + Sync>(rt: &R, alloc: Global, case: Case) -> 
         words,
         files,
         front,
+        bad_waits,
+        bad_accepts,
         undialled,
         bad_reads,
         bad_writes,
@@ -55,16 +65,32 @@ fn play<R: Print + Threads + Wait + Sync>(rt: &R, alloc: Global, case: Case) -> 
         view,
         ..
     } = case;
-    let script = match front {
-        Some(name) => Some(script_in(alloc, &files, name.as_str())?),
+    let scripted = match front {
+        Some(name) => Some(front_in(alloc, &files, name.as_str(), bad_waits, bad_accepts)?),
         None => None,
     };
     let mut store = MemStore::make(alloc, files, bad_reads);
     let mut out = output(alloc, bad_writes, slow);
-    match script {
-        Some(script) => play_over(rt, alloc, &words, &mut store, script, &mut out, view),
+    match scripted {
+        Some(front) => play_over(rt, alloc, &words, &mut store, front, &mut out, view),
         None => play_alone(rt, alloc, &words, &mut store, undialled, &mut out, view),
     }
+}
+
+/// A front that plays the script of the file of that name, and whose listed waits and accepts fail.
+fn front_in(
+    alloc: Global,
+    files: &Files,
+    name: &str,
+    waits: Calls,
+    accepts: Calls,
+) -> io::Result<ScriptedFront> {
+    let script = script_in(alloc, files, name)?;
+    Ok(ScriptedFront {
+        script,
+        waits,
+        accepts,
+    })
 }
 
 /// The script of the file of that name.
@@ -79,20 +105,20 @@ fn script_in(alloc: Global, files: &Files, name: &str) -> io::Result<Script> {
     }
 }
 
-/// Plays the run over a front that plays the script, and shows what came of it.
+/// Plays the run over a front that plays a script, and shows what came of it.
 fn play_over<R: Print + Threads + Wait + Sync>(
     rt: &R,
     alloc: Global,
     words: &Words,
     store: &mut MemStore,
-    script: Script,
+    scripted: ScriptedFront,
     out: &mut MemSink,
     view: View,
 ) -> io::Result<()> {
-    match end_over(rt, alloc, words, store, script, out) {
+    match end_over(rt, alloc, words, store, scripted, out) {
         Ok((outcome, front)) => {
             show_end(rt, &outcome, store, out)?;
-            show_outcome(rt, alloc, &outcome, Some(&front), out, view)
+            show_outcome(rt, alloc, &outcome, Some(front.front()), out, view)
         }
         Err(NoMemory) => Err(out_of_memory()),
     }
@@ -143,10 +169,15 @@ fn end_over<R: Threads + Wait + Sync>(
     alloc: Global,
     words: &Words,
     store: &mut MemStore,
-    script: Script,
+    scripted: ScriptedFront,
     out: &mut MemSink,
-) -> Result<(Outcome<ScriptLink>, ScriptFront), NoMemory> {
-    let mut front = ScriptFront::make(alloc, script)?;
+) -> Result<(Outcome<ScriptLink>, FailingFront), NoMemory> {
+    let ScriptedFront {
+        script,
+        waits,
+        accepts,
+    } = scripted;
+    let mut front = ScriptFront::failing(alloc, script, waits, accepts)?;
     let mut clock = ScriptClock::make();
     let outcome = run(
         rt, alloc, words, store, &mut front, &mut clock, &OpenGate, out,
