@@ -17,7 +17,7 @@ use Rattle.conn_state.specs.Conn.{IsFresh}
 use Rattle.conn_state.specs.Known.{IsOfClient, KnownOutside, TellsFrom}
 use Rattle.mpm_run.specs.Watched.{IsHushed}
 use Rattle.mpm_run.specs.ListenInside.{AsksFor, Follows, IsArrival, IsInStep, IsKnownOfFront, KeepsStep, OnlyReads, OnlyReadsAndTakes, OnlyTakes, TellsAlike, contacts, contacts_of}
-use Rattle.mpm_run.specs.Outside.{clients_told}
+use Rattle.mpm_run.specs.Outside.{clients_told, comings_told}
 use Rattle.mpm_run.specs.Stops.{HasFailedLast, HasGivenAll}
 use Rattle.mpm_run.specs.Times.{IsInTime, waits_of}
 use Rattle.mpm_run.proofs.CountLemmas.{exactly-stays, where-stays}
@@ -28,13 +28,14 @@ pub follows-trans : (a b c : FrontSeen) → Follows a b → Follows b c → Foll
 follows-trans a b c first second = record {
   script = second.script ∙ first.script;
   clients = second.clients ∙ first.clients;
+  comings = second.comings ∙ first.comings;
   faults = omega (arith, first.faults, second.faults);
   ends = omega (arith, first.ends, second.ends);
   commands = omega (arith, first.commands, second.commands);
 }
 
 pub follows-same : (a : FrontSeen) → Follows a a
-follows-same a = record { script = refl; clients = refl; faults = omega arith; ends = omega arith; commands = omega arith }
+follows-same a = record { script = refl; clients = refl; comings = refl; faults = omega arith; ends = omega arith; commands = omega arith }
 
 -- a part that a change keeps
 mapped-part : {X : Type 0} (part : FrontTold → X) (change : FrontTold → FrontTold) (told told' : Option FrontTold)
@@ -47,12 +48,23 @@ clients-mapped : (told told' : Option FrontTold) (change : FrontTold → FrontTo
     → told' ≡ option_map change told → clients_told told' ≡ clients_told told
 clients-mapped told told' change keeps is = mapped-part (λ (t : FrontTold). t.clients) change told told' keeps is
 
--- and in a wait
+-- so does when something comes by itself
+comings-mapped : (told told' : Option FrontTold) (change : FrontTold → FrontTold) → ((t : FrontTold) → (change t).comings ≡ t.comings)
+    → told' ≡ option_map change told → comings_told told' ≡ comings_told told
+comings-mapped told told' change keeps is = mapped-part (λ (t : FrontTold). t.comings) change told told' keeps is
+
+-- and both in a wait
 waits-clients : (until : Option ℕ) (quiet : Bool) (answer : Woke) (ready : List ℕ) (told told' : Option FrontTold)
     → TellsOn (GoesForward until quiet answer ready) told told' → clients_told told' ≡ clients_told told
 waits-clients until quiet answer ready None told' tells = ap clients_told tells
 waits-clients until quiet answer ready (Some t) told' tells =
     ap clients_told tells.1 ∙ ap (λ (clients : List (List ℕ)). Some clients) tells.2.clients
+
+waits-comings : (until : Option ℕ) (quiet : Bool) (answer : Woke) (ready : List ℕ) (told told' : Option FrontTold)
+    → TellsOn (GoesForward until quiet answer ready) told told' → comings_told told' ≡ comings_told told
+waits-comings until quiet answer ready None told' tells = ap comings_told tells
+waits-comings until quiet answer ready (Some t) told' tells =
+    ap comings_told tells.1 ∙ ap (λ (comings : Option (List ℕ)). Some comings) tells.2.comings
 
 -- after a wait
 pub follows-wait : (old new : FrontSeen) (until : Option ℕ) (quiet : Bool) (answer : Woke) (ready : List ℕ) → Waits old new until quiet answer ready
@@ -60,6 +72,7 @@ pub follows-wait : (old new : FrontSeen) (until : Option ℕ) (quiet : Bool) (an
 follows-wait old new until quiet answer ready waits = record {
   script = waits.script;
   clients = waits-clients until quiet answer ready old.told new.told waits.tells;
+  comings = waits-comings until quiet answer ready old.told new.told waits.tells;
   faults = where-stays (wait_failed answer) old.counts.faults new.counts.faults waits.faults;
   ends = exactly-stays (is_ended answer) old.counts.ends new.counts.ends waits.ends;
   commands = omega (arith, waits.commands);
@@ -70,11 +83,17 @@ after_accept-clients (arrival.Some link) t = refl
 after_accept-clients arrival.None t = refl
 after_accept-clients arrival.Failed t = refl
 
+after_accept-comings : {L : Type 0} (answer : Arrival L) (t : FrontTold) → (after_accept answer t).comings ≡ t.comings
+after_accept-comings (arrival.Some link) t = refl
+after_accept-comings arrival.None t = refl
+after_accept-comings arrival.Failed t = refl
+
 -- after an accept
 pub follows-accept : {L : Type 0} (link_seen : L → LinkSeen) (old new : FrontSeen) (answer : Arrival L) → Accepts link_seen old new answer → Follows old new
 follows-accept link_seen old new answer accepts = record {
   script = accepts.script;
   clients = clients-mapped old.told new.told (after_accept answer) (after_accept-clients answer) accepts.told_is;
+  comings = comings-mapped old.told new.told (after_accept answer) (after_accept-comings answer) accepts.told_is;
   faults = omega (arith, accepts.faults);
   ends = omega (arith, accepts.ends);
   commands = omega (arith, accepts.commands);
@@ -423,6 +442,10 @@ after_watch-clients : (name : ConnName) (answer : Bool) (link : Option LinkTold)
 after_watch-clients name answer None t = refl
 after_watch-clients name answer (Some l) t = refl
 
+after_watch-comings : (name : ConnName) (answer : Bool) (link : Option LinkTold) (t : FrontTold) → (after_watch name answer link t).comings ≡ t.comings
+after_watch-comings name answer None t = refl
+after_watch-comings name answer (Some l) t = refl
+
 after_watch-step : (name : ConnName) (answer : Bool) (link : Option LinkTold) (t : FrontTold) (s : State) → KeepsStep s t
     → KeepsStep s (after_watch name answer link t)
 after_watch-step name answer None t s step = step
@@ -436,6 +459,8 @@ follows-watch old new name answer link is = record {
   script = ap (λ (f : FrontSeen). f.script) is;
   clients =
       clients-mapped old.told new.told (after_watch name answer link) (after_watch-clients name answer link) (ap (λ (f : FrontSeen). f.told) is);
+  comings =
+      comings-mapped old.told new.told (after_watch name answer link) (after_watch-comings name answer link) (ap (λ (f : FrontSeen). f.told) is);
   faults = omega (arith, ap (λ (f : FrontSeen). f.counts.faults) is);
   ends = omega (arith, ap (λ (f : FrontSeen). f.counts.ends) is);
   commands = omega (arith, ap (λ (f : FrontSeen). f.counts.commands) is);
@@ -453,12 +478,18 @@ after_turning_away-clients : (link : Option LinkTold) (t : FrontTold) → (after
 after_turning_away-clients None t = refl
 after_turning_away-clients (Some l) t = refl
 
+after_turning_away-comings : (link : Option LinkTold) (t : FrontTold) → (after_turning_away link t).comings ≡ t.comings
+after_turning_away-comings None t = refl
+after_turning_away-comings (Some l) t = refl
+
 -- the front is still the one that it was
 pub follows-turned : (old new : FrontSeen) (link : Option LinkTold) → new ≡ front_after_turning_away link old → Follows old new
 follows-turned old new link is = record {
   script = ap (λ (f : FrontSeen). f.script) is;
   clients =
       clients-mapped old.told new.told (after_turning_away link) (after_turning_away-clients link) (ap (λ (f : FrontSeen). f.told) is);
+  comings =
+      comings-mapped old.told new.told (after_turning_away link) (after_turning_away-comings link) (ap (λ (f : FrontSeen). f.told) is);
   faults = omega (arith, ap (λ (f : FrontSeen). f.counts.faults) is);
   ends = omega (arith, ap (λ (f : FrontSeen). f.counts.ends) is);
   commands = omega (arith, ap (λ (f : FrontSeen). f.counts.commands) is);
@@ -471,6 +502,7 @@ pub follows-hushed : (old new : FrontSeen) → new ≡ after_hush old → Follow
 follows-hushed old new is = record {
   script = ap (λ (f : FrontSeen). f.script) is;
   clients = clients-mapped old.told new.told hushed_front (λ t. refl) (ap (λ (f : FrontSeen). f.told) is);
+  comings = comings-mapped old.told new.told hushed_front (λ t. refl) (ap (λ (f : FrontSeen). f.told) is);
   faults = omega (arith, ap (λ (f : FrontSeen). f.counts.faults) is);
   ends = omega (arith, ap (λ (f : FrontSeen). f.counts.ends) is);
   commands = omega (arith, ap (λ (f : FrontSeen). f.counts.commands) is);
@@ -515,12 +547,18 @@ after_bind-clients : (answer : Bool) (listen : Addr) (control : Option ℕ) (t :
 after_bind-clients true listen control t = refl
 after_bind-clients false listen control t = refl
 
+after_bind-comings : (answer : Bool) (listen : Addr) (control : Option ℕ) (t : FrontTold) → (after_bind answer listen control t).comings ≡ t.comings
+after_bind-comings true listen control t = refl
+after_bind-comings false listen control t = refl
+
 -- after it the front is still the one that it was
 pub follows-bind : (old new : FrontSeen) (listen : Addr) (control : Option ℕ) (answer : Bool) → Binds old new listen control answer → Follows old new
 follows-bind old new listen control answer binds = record {
   script = binds.script;
   clients =
       clients-mapped old.told new.told (after_bind answer listen control) (after_bind-clients answer listen control) binds.told_is;
+  comings =
+      comings-mapped old.told new.told (after_bind answer listen control) (after_bind-comings answer listen control) binds.told_is;
   faults = where-stays (not answer) old.counts.faults new.counts.faults binds.faults;
   ends = omega (arith, binds.ends);
   commands = omega (arith, binds.commands);
@@ -532,11 +570,16 @@ after_command-clients : (given : Bool) (t : FrontTold) → (after_command given 
 after_command-clients true t = refl
 after_command-clients false t = refl
 
+after_command-comings : (given : Bool) (t : FrontTold) → (after_command given t).comings ≡ t.comings
+after_command-comings true t = refl
+after_command-comings false t = refl
+
 -- after a call for one the front is still the one that it was
 pub follows-command : (old new : FrontSeen) (answer : Option (List ℕ)) → Commands old new answer → Follows old new
 follows-command old new answer commands = record {
   script = commands.script;
   clients = clients-mapped old.told new.told (after_command (is_some answer)) (after_command-clients (is_some answer)) commands.told_is;
+  comings = comings-mapped old.told new.told (after_command (is_some answer)) (after_command-comings (is_some answer)) commands.told_is;
   faults = omega (arith, commands.faults);
   ends = omega (arith, commands.ends);
   commands = exactly-stays (is_some answer) old.counts.commands new.counts.commands commands.commands;

@@ -258,7 +258,7 @@ pub record FailsFront (call : Call) (f f' : FrontSeen) (status : ℕ) : Type 0 w
 abbrev pub LeavesFront : Call → FrontSeen → FrontSeen → ℕ → Type 0
 LeavesFront call f f' status = (f' ≡ f) ⊎ ((status ≡ 0) × HasDialled call f f' true) ⊎ FailsFront call f f' status
 
--- so it is with the front, and the clock is as it was, told by its calls before and after
+-- so it is with the front, and a clock that tells has told no further call
 pub record LeavesOutside (call : Call) (f f' : FrontSeen) (calls calls' : Option (List (ℕ × ℕ))) (status : ℕ) : Type 0 where
   pub front : LeavesFront call f f' status
   pub clock : calls' ≡ calls

@@ -32,7 +32,7 @@ use Rattle.mpm_run.specs.declared.server.OpenFault.TheVariants as opening
 use Rattle.mpm_run.specs.Commands.{NoneStops, StopsAtLast, lines_read}
 use Rattle.mpm_run.specs.Links.{HandsOutTaken, TakesLinks, TurnsOneAway}
 use Rattle.mpm_run.specs.Listen.{HasNoLive, IsClosedDown}
-use Rattle.mpm_run.specs.Outside.{clients_told}
+use Rattle.mpm_run.specs.Outside.{clients_told, comings_told}
 use Rattle.mpm_run.specs.Patient.{IsAtRest}
 use Rattle.mpm_run.specs.Started.{BeginsWithStarts}
 use Rattle.mpm_run.specs.Stops.{HasFailedLast, HasTakenAll, StoppedFor}
@@ -108,6 +108,7 @@ IsUnopened n old new opening.NoMemory = new ≡ old
 pub record Follows (old new : FrontSeen) : Type 0 where
   pub script : new.script ≡ old.script
   pub clients : clients_told new.told ≡ clients_told old.told
+  pub comings : comings_told new.told ≡ comings_told old.told
   pub faults : NeverFalls old.counts.faults new.counts.faults
   pub ends : NeverFalls old.counts.ends new.counts.ends
   pub commands : NeverFalls old.counts.commands new.counts.commands

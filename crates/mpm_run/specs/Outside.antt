@@ -38,8 +38,13 @@ pub record KeepsOutside (n : RunNumbers) (f f' : FrontSeen) (calls : Option (Lis
 abbrev pub clients_told : Option FrontTold → Option (List (List ℕ))
 clients_told told = option_map (λ t. t.clients) told
 
--- nothing that was told fell away: the front tells exactly where it did, and of clients that send the same, and so does the clock, of its
--- calls
+-- the moments at which something comes by itself, where a front tells and is patient
+abbrev pub comings_told : Option FrontTold → Option (Option (List ℕ))
+comings_told told = option_map (λ t. t.comings) told
+
+-- nothing that a front or a clock told fell away: the front tells exactly where it did, of clients that send the same, and it is patient
+-- exactly where it was; and the clock tells its calls exactly where it did
 pub record TellsStill (f f' : FrontSeen) (calls calls' : Option (List (ℕ × ℕ))) : Type 0 where
-  pub front : clients_told f'.told ≡ clients_told f.told
+  pub clients : clients_told f'.told ≡ clients_told f.told
+  pub comings : comings_told f'.told ≡ comings_told f.told
   pub clock : is_some calls' ≡ is_some calls

@@ -3,7 +3,7 @@ ghost use Rattle.std.specs.Prelude.{◌≡◌, ℕ, List};
 ghost use Rattle.mpm_run.specs.Calls.{seen_call};
 ghost use Rattle.mpm_run.specs.ExitStatuses.{EndsConfigRefused, EndsSent, EndsSilently, EndsUncontrolled, EndsUndialled, EndsUnread, LeavesFront};
 ghost use Rattle.mpm_run.specs.ExitStatusesInside.{IsSentStatus};
-ghost use Rattle.mpm_run.specs.Outside.{clients_told};
+ghost use Rattle.mpm_run.specs.Outside.{clients_told, comings_told};
 ghost use Rattle.command_words.specs.Invocations.{IsSendWords};
 
 use crate::config_reading::{MOST_CONFIG, config_from};
@@ -25,6 +25,7 @@ pub fn send_command<D: Store, F: Front, K: Sink>(
 ) -> Ending<()>
     ensures known { IsSentStatus result.status }
     ensures clients { clients_told (F.seen front.new).told ≡ clients_told (F.seen front.old).told }
+    ensures comings { comings_told (F.seen front.new).told ≡ comings_told (F.seen front.old).told }
     ensures sent { (words : List (List ℕ)) → IsSendWords words command name.now → result.status ≡ 0 → EndsSent (seen_call words (D.seen store.old) (D.seen store.new) (K.seen out.old) (K.seen out.new) result.shown) (F.seen front.old) (F.seen front.new) }
     ensures refused { (words : List (List ℕ)) → IsSendWords words command name.now → result.status ≡ 1 → EndsConfigRefused (seen_call words (D.seen store.old) (D.seen store.new) (K.seen out.old) (K.seen out.new) result.shown) }
     ensures unread { (words : List (List ℕ)) → IsSendWords words command name.now → result.status ≡ 3 → EndsUnread (seen_call words (D.seen store.old) (D.seen store.new) (K.seen out.old) (K.seen out.new) result.shown) }

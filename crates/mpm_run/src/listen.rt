@@ -145,7 +145,7 @@ impl<'a, L: Link + Send, N: Known, B: Bell, G: Gate> Listener<'a, L, N, B, G> {
         retire_all(&mut self.board);
     }
 
-    /// Starts the children, and takes turns with the front until nothing more can come or a command line asks to stop, each followed by
+    /// Starts the children, and takes turns with the front until nothing more can come, a wait fails or a command line asks to stop, each followed by
     /// the service of what is signalled. Err where the server has to stop before.
     fn take_turns<R: Wait, F: Front<L = L>, C: Clock>(
         &mut self,

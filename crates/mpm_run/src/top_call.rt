@@ -78,7 +78,7 @@ pub fn run<R: Threads + Wait + Sync, D: Store, F: Front, C: Clock, G: Gate + Syn
     // It was stopped by a command line exactly where one that was read stops it, and read none behind that.
     ensures heeded { IfSome result.scripted (λ s. HeedsLines s.board.book.state.going s.front.told) }
 
-    // Why it stopped: where nothing more could come the whole script was played, whatever the exit status. Its front never fails.
+    // Why it stopped: where nothing more could come the whole script was played, whatever the exit status. It never stopped because its front failed.
     ensures ended { IfSome result.scripted (λ s. s.board.book.state.going ≡ Halted why.FrontEnded → HasEnd s.board s.front) }
     ensures unfailed { IfSome result.scripted (λ s. s.board.book.state.going ≢ Halted why.FrontFailed) }
     ensures stopped { IfSome result.scripted (λ s. MayEndWith s.board.book.state.going result.status) }
