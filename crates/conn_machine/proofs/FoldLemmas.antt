@@ -1,20 +1,16 @@
 -- What records say of passes: the opening one, and the one that a fold makes.
-use Rattle.std.proofs.Common.{◌≡◌, ◌≢◌, ◌↔◌, ℕ, zero, suc, ◌+◌, ◌≤◌, List, [], ◌∷◌, ◌++◌, length, map, replicate, Option, None, slice_index_or, refl, sym, ap, ◌∙◌, length-append, arith}
+use Rattle.std.proofs.Common.{◌≡◌, ◌↔◌, ℕ, zero, suc, ◌+◌, ◌≤◌, List, [], ◌∷◌, ◌++◌, length, map, replicate, Option, None, slice_index_or, refl, sym, ap, ◌∙◌, length-append, arith}
 use Rattle.std.specs.Prelude.{slice_index}
 use Rattle.std.specs.List.{enumerate_from}
 use Rattle.std.proofs.lemmas.List.{length-map}
 use Rattle.std.proofs.lemmas.List.FromFn.{length-enumerate_from}
 use Rattle.std.proofs.lemmas.List.Sums.{fold-append}
 use Rattle.mpm_base.specs.declared.conn.ConnName.{ConnName}
-use Rattle.conn_machine.specs.declared.event.Why.TheVariants as why
-use Rattle.conn_machine.specs.declared.event.Commanded.TheVariants.{Graceful, Refused, GracefulStop, Stop}
-use Rattle.conn_machine.specs.declared.event.Event.{Event}
-use Rattle.conn_machine.specs.declared.event.Event.TheVariants as event
 use Rattle.conn_machine.specs.declared.event.Entry.{Entry}
 use Rattle.conn_machine.specs.declared.folded.Folded.{Folded}
 use Rattle.conn_machine.specs.declared.state.State.{State}
 use Rattle.conn_machine.specs.Table.{is_allowed, reply}
-use Rattle.conn_machine.specs.Runs.{IsNextOf, after, entries_of, first_row, has_after, load, may_make, row_after, row_from, row_of}
+use Rattle.conn_machine.specs.Runs.{IsNextOf, after, entries_of, first_row, has_after, may_make, row_after, row_from, row_of}
 use Rattle.conn_machine.specs.Folds.{GoesOnFrom, HasPlacesFor, fold_of, opening_record}
 use Rattle.conn_machine.specs.Made.{AreOfPasses}
 use Rattle.conn_machine.proofs.HistoryLemmas.{entries_of-append}
@@ -93,30 +89,6 @@ places_stay passes base f history ended places = record {
 
 -- ## What a pass may make behind it
 
--- the weight matters to the stop for a full history alone
-weightless : (p w w' : ℕ) (had : Option ConnName) (e : Event) → e ≢ event.Command (Stop why.Full) → may_make p had w e ≡ may_make p had w' e
-weightless p w w' had (event.Accept slot) other = refl
-weightless p w w' had (event.Park name kind) other = refl
-weightless p w w' had (event.Hold name) other = refl
-weightless p w w' had (event.Queue name) other = refl
-weightless p w w' had (event.Start name) other = refl
-weightless p w w' had (event.Answer name ask) other = refl
-weightless p w w' had (event.Linger name cause) other = refl
-weightless p w w' had (event.Close name cause tail) other = refl
-weightless p w w' had (event.Ready slot) other = refl
-weightless p w w' had (event.Tick m) other = refl
-weightless p w w' had (event.StartChild k) other = refl
-weightless p w w' had (event.Command (Graceful shape)) other = refl
-weightless p w w' had (event.Command (Refused reason)) other = refl
-weightless p w w' had (event.Command (GracefulStop until)) other = refl
-weightless p w w' had (event.Command (Stop why.Asked)) other = refl
-weightless p w w' had (event.Command (Stop why.Overdue)) other = refl
-weightless p w w' had (event.Command (Stop why.FrontEnded)) other = refl
-weightless p w w' had (event.Command (Stop why.FrontFailed)) other = refl
-weightless p w w' had (event.Command (Stop why.Full)) other = absurd (other refl)
-weightless p w w' had (event.Command (Stop why.NoMemory)) other = refl
-weightless p w w' had (event.Retire k) other = refl
-
 -- the connection of a pass behind two histories
 pub row_on : (p : ℕ) (f later : Folded) (history rest : List Entry) → GoesOnFrom p f history later
     → row_from f p (history ++ rest) ≡ row_from later p rest
@@ -145,16 +117,14 @@ goes_twice p f later last a b first second = record {
 
 -- what a pass may make behind two histories it may make behind the second, by a record that goes on from the first, and the other way round
 pub next_goes_on : (p : ℕ) (base : State) (f later : Folded) (history rest : List Entry) (e : Entry) → GoesOnFrom p f history later
-    → e.event ≢ event.Command (Stop why.Full) → IsNextOf p base f (history ++ rest) e ↔ IsNextOf p (after base history) later rest e
-next_goes_on p base f later history rest e goes other = (forth, back)
+    → IsNextOf p base f (history ++ rest) e ↔ IsNextOf p (after base history) later rest e
+next_goes_on p base f later history rest e goes = (forth, back)
   where
     state : after base (history ++ rest) ≡ after (after base history) rest
     state = after-append base history rest
 
-    role : may_make p (row_from f p (history ++ rest)) (load (history ++ rest)) e.event ≡ may_make p (row_from later p rest) (load rest) e.event
-    role =
-        ap (λ (had : Option ConnName). may_make p had (load (history ++ rest)) e.event) (row_on p f later history rest goes)
-        ∙ weightless p (load (history ++ rest)) (load rest) (row_from later p rest) e.event other
+    role : may_make p (row_from f p (history ++ rest)) e.event ≡ may_make p (row_from later p rest) e.event
+    role = ap (λ (had : Option ConnName). may_make p had e.event) (row_on p f later history rest goes)
 
     forth : IsNextOf p base f (history ++ rest) e → IsNextOf p (after base history) later rest e
     forth is = record {

@@ -287,39 +287,39 @@ accept_moves s slot had may none =
         changed s.rows slot r (taken_row s) had _ at (inl (vacant_free r.place vacant, none)) (inr (_, refl, refl, refl, ap (λ (x : Option Row). option_map_or (λ y. y.life) x 0) (sym at)))
 
 -- an event that a pass may make changes the row that it has or finds
-pub event_moves : (s : State) (p weight : ℕ) (had : Option ConnName) (e : Event) → is_allowed s e ≡ true → may_make p had weight e ≡ true
+pub event_moves : (s : State) (p : ℕ) (had : Option ConnName) (e : Event) → is_allowed s e ≡ true → may_make p had e ≡ true
     → Moves s.rows (next s e).rows had (has_after had e (reply s e))
-event_moves s p weight had (event.Accept slot) may role = accept_moves s slot had may (no_row had (and_parts (p == 0) (is_none had) role).1)
-event_moves s p weight had (event.Park name kind) may role =
+event_moves s p had (event.Accept slot) may role = accept_moves s slot had may (no_row had (and_parts (p == 0) (is_none had) role).1)
+event_moves s p had (event.Park name kind) may role =
     let m = met (may_wait s.moment kind) s.rows name (and_parts (not (is_halted s.going)) _ may).1 in
     changed s.rows name.slot m.row (parked_row s kind) had _ m.at (inr (had_row had name role)) (inl (refl, refl))
-event_moves s p weight had (event.Hold name) may role =
+event_moves s p had (event.Hold name) may role =
     let m = met (may_be_held s (is_signalled s name.slot)) s.rows name may in
     let parked = (and_parts (is_parked m.row.place) _ m.passes).0 in
     changed s.rows name.slot m.row held_row had _ m.at (inl (parked_free m.row.place parked, no_row had (and_parts (p == 0) (is_none had) role).1)) (inr (name, refl, refl, refl, m.life))
-event_moves s p weight had (event.Queue name) may role =
+event_moves s p had (event.Queue name) may role =
     let m = met (may_be_queued s) s.rows name (and_parts (not (is_halted s.going) && is_signalled s name.slot) _ may).1 in
     let parked = (and_parts (is_parked m.row.place) (not (is_lingering m.row)) (and_parts (is_parked m.row.place && not (is_lingering m.row)) _ m.passes).0).0 in
     changed s.rows name.slot m.row queued_row had _ m.at (inl (parked_free m.row.place parked, no_row had role)) (inr (name, refl, refl, refl, m.life))
-event_moves s p weight had (event.Start name) may role =
+event_moves s p had (event.Start name) may role =
     let m = met (λ r. is_queued r.place) s.rows name may in
     let h = had_row had name role in
     changed s.rows name.slot m.row (served_row s) had _ m.at (inr h) (inr (h.0, h.1, h.2, refl, m.life ∙ had_life had name h.0 role h.1))
-event_moves s p weight had (event.Answer name ask) may role =
+event_moves s p had (event.Answer name ask) may role =
     let m = met (λ r. is_working r.place && not r.last) s.rows name (and_parts (not (is_halted s.going)) _ may).1 in
     let h = had_row had name role in
     changed s.rows name.slot m.row (answered_row s ask) had _ m.at (inr h) (inr (h.0, h.1, h.2, working_hand _ m.row.place (and_parts (is_working m.row.place) (not m.row.last) m.passes).0, m.life ∙ had_life had name h.0 role h.1))
-event_moves s p weight had (event.Linger name why) may role =
+event_moves s p had (event.Linger name why) may role =
     let m = met (λ r. not (is_lingering r) && linger_cause_fits s why (is_signalled s name.slot) r) s.rows name may in
     changed s.rows name.slot m.row (lingering_row s why) had _ m.at (inr (had_row had name role)) (inl (refl, refl))
-event_moves s p weight had (event.Close name why how) may role =
+event_moves s p had (event.Close name why how) may role =
     let m = met (λ r. (is_held r.place || is_working r.place) && end_fits s why how r) s.rows name may in
     changed s.rows name.slot m.row closed_row had _ m.at (inr (had_row had name role)) (inl (closed_free m.row, refl))
-event_moves s p weight had (event.Ready slot) may role = inl (refl, refl)
-event_moves s p weight had (event.Tick m) may role = inl (refl, refl)
-event_moves s p weight had (event.StartChild k) may role = inl (refl, refl)
-event_moves s p weight had (event.Command c) may role = inl (commanded_rows s c, refl)
-event_moves s p weight had (event.Retire k) may role = inl (refl, refl)
+event_moves s p had (event.Ready slot) may role = inl (refl, refl)
+event_moves s p had (event.Tick m) may role = inl (refl, refl)
+event_moves s p had (event.StartChild k) may role = inl (refl, refl)
+event_moves s p had (event.Command c) may role = inl (commanded_rows s c, refl)
+event_moves s p had (event.Retire k) may role = inl (refl, refl)
 
 -- ## Through a history
 
@@ -343,7 +343,7 @@ entry_moves start f p before e is =
     let s = after start before in
     let had = row_from f p before in
     let m : Moves s.rows (next s e.event).rows had (has_after had e.event (reply s e.event)) =
-    event_moves s p _ had e.event is.is_allowed is.role in
+    event_moves s p had e.event is.is_allowed is.role in
     let m' : Moves s.rows (next s e.event).rows had (row_from f p (before ++ e ∷ [])) =
     subst (λ o. Moves s.rows (next s e.event).rows had o)
     (ap (λ (r : Reply). has_after had e.event r) (sym is.replied) ∙ sym (row_own f p before e is.pass)) m in

@@ -8,9 +8,6 @@ use native.Mathlib.Decide.{ℕ_discrete}
 use Rattle.mpm_base.specs.declared.conn.ConnName.{ConnName}
 use Rattle.mpm_base.specs.declared.conn.Kind.{Kind}
 use Rattle.mpm_base.specs.declared.conn.Kind.TheVariants.{Reading, KeepAlive, Writing, Linger, ShortLinger}
-use Rattle.conn_machine.specs.declared.event.Why.TheVariants as why
-use Rattle.conn_machine.specs.declared.event.Commanded.{Commanded}
-use Rattle.conn_machine.specs.declared.event.Commanded.TheVariants.{Graceful, Refused, GracefulStop, Stop}
 use Rattle.conn_machine.specs.declared.event.Event.{Event}
 use Rattle.conn_machine.specs.declared.event.Event.TheVariants as event
 use Rattle.conn_machine.specs.declared.event.Entry.{Entry}
@@ -18,15 +15,13 @@ use Rattle.conn_machine.specs.declared.folded.Folded.{Folded}
 use Rattle.conn_machine.specs.declared.row.Place.{Place}
 use Rattle.conn_machine.specs.declared.row.Place.TheVariants.{Vacant, Spent, Held, Parked, Queued, Working}
 use Rattle.conn_machine.specs.declared.row.Row.{Row}
-use Rattle.conn_machine.specs.declared.state.Going.TheVariants.{Halted}
 use Rattle.conn_machine.specs.declared.state.State.{State}
 use Rattle.conn_machine.specs.Lists.{update}
 use Rattle.conn_machine.specs.Rows.{is_from, is_held, is_lingering, is_parked, is_queued, is_with_a_pass, is_working, row_passes}
-use Rattle.conn_machine.specs.Children.{all_stopped}
 use Rattle.conn_machine.specs.States.{is_halted, is_signalled}
-use Rattle.conn_machine.specs.Table.{answered_row, closed_row, command_fits, end_fits, is_allowed, linger_cause_fits, lingering_row, may_be_queued, may_wait, next, next_command, parked_row, queued_row, served_row}
-use Rattle.conn_machine.specs.Runs.{Adds, AreEntriesOf, IsNextOf, after, entries_of, may_make, may_order, row_from}
-use Rattle.conn_machine.specs.Passes.{GoesOnAs, OnlyServes, StopsFull, asking_count, asks_service, lingers_at, waits_lingering}
+use Rattle.conn_machine.specs.Table.{answered_row, closed_row, end_fits, is_allowed, linger_cause_fits, lingering_row, may_be_queued, may_wait, next, parked_row, queued_row, served_row}
+use Rattle.conn_machine.specs.Runs.{Adds, AreEntriesOf, IsNextOf, after, entries_of, may_make, row_from}
+use Rattle.conn_machine.specs.Passes.{OnlyServes, asking_count, asks_service, lingers_at, waits_lingering}
 use Rattle.conn_machine.proofs.HistoryLemmas.{entries_of-append}
 use Rattle.conn_machine.proofs.OwnRows.{get_else, met, off}
 use Rattle.conn_machine.proofs.RunLemmas.{after-append, after-snoc}
@@ -91,7 +86,8 @@ leaves_same s = record {
     accepted = refl;
     newest = refl;
     shape = refl;
-    server = inl (record { going = refl; children = refl });
+    going = refl;
+    children = refl;
     signals = λ slot set. inl set;
   };
   lingers = λ slot on. on;
@@ -115,7 +111,8 @@ leaves_row s slot r change signals is fails set = record {
     accepted = refl;
     newest = refl;
     shape = refl;
-    server = inl (record { going = refl; children = refl });
+    going = refl;
+    children = refl;
     signals = set;
   };
   lingers = lingering_kept s.rows slot r change is fails;
@@ -231,75 +228,40 @@ not_true : (b : Bool) → not b ≡ true → b ≡ false
 not_true true is = absurd (cc)
 not_true false is = refl
 
-command_leaves : (s : State) (p weight : ℕ) (c : Commanded) → p ≢ 0 → is_allowed s (event.Command c) ≡ true → may_order p weight c ≡ true
-    → Leaves s (next_command s c)
-command_leaves s p weight (Graceful shape) other may role = listener_alone p other role
-command_leaves s p weight (Refused reason) other may role = listener_alone p other role
-command_leaves s p weight (GracefulStop until) other may role = listener_alone p other role
-command_leaves s p weight (Stop why.Asked) other may role = listener_alone p other role
-command_leaves s p weight (Stop why.Overdue) other may role = listener_alone p other role
-command_leaves s p weight (Stop why.FrontEnded) other may role = listener_alone p other role
-command_leaves s p weight (Stop why.FrontFailed) other may role = listener_alone p other role
-command_leaves s p weight (Stop why.Full) other may role =
-    let goes = not_true (is_halted s.going) (and_parts (not (is_halted s.going)) (command_fits s (Stop why.Full)) may).0 in
-    record {
-      rest = record {
-        moment = refl;
-        accepted = refl;
-        newest = refl;
-        shape = refl;
-        server = inr (record { before = goes; going = refl; children = refl });
-        signals = λ slot set. inl set;
-      };
-      lingers = λ slot on. on;
-    }
-command_leaves s p weight (Stop why.NoMemory) other may role = listener_alone p other role
-
 -- an event that a pass other than the listener may make leaves so much
-event_leaves : (s : State) (p weight : ℕ) (had : Option ConnName) (e : Event) → p ≢ 0 → is_allowed s e ≡ true → may_make p had weight e ≡ true
+event_leaves : (s : State) (p : ℕ) (had : Option ConnName) (e : Event) → p ≢ 0 → is_allowed s e ≡ true → may_make p had e ≡ true
     → Leaves s (next s e)
-event_leaves s p weight had (event.Accept slot) other may role = listener_alone p other (and_parts (p == 0) (is_none had) role).0
-event_leaves s p weight had (event.Park name kind) other may role =
+event_leaves s p had (event.Accept slot) other may role = listener_alone p other (and_parts (p == 0) (is_none had) role).0
+event_leaves s p had (event.Park name kind) other may role =
     let m = met (may_wait s.moment kind) s.rows name (and_parts (not (is_halted s.going)) _ may).1 in
     leaves_quiet s name.slot m.row (parked_row s kind) m.at (hand_waits_not m.row (may_wait_in_hand s.moment kind m.row m.passes))
-event_leaves s p weight had (event.Hold name) other may role = listener_alone p other (and_parts (p == 0) (is_none had) role).0
-event_leaves s p weight had (event.Queue name) other may role =
+event_leaves s p had (event.Hold name) other may role = listener_alone p other (and_parts (p == 0) (is_none had) role).0
+event_leaves s p had (event.Queue name) other may role =
     let m = met (may_be_queued s) s.rows name (and_parts (not (is_halted s.going) && is_signalled s name.slot) _ may).1 in
     let serves = (and_parts (is_parked m.row.place) (not (is_lingering m.row)) (and_parts (is_parked m.row.place && not (is_lingering m.row)) _ m.passes).0).1 in
     leaves_cleared s name.slot m.row queued_row m.at (serves_on (is_parked m.row.place) (is_lingering m.row) serves)
-event_leaves s p weight had (event.Start name) other may role =
+event_leaves s p had (event.Start name) other may role =
     let m = met (λ r. is_queued r.place) s.rows name may in
     leaves_quiet s name.slot m.row (served_row s) m.at (hand_waits_not m.row (queued_in_hand m.row.place m.passes))
-event_leaves s p weight had (event.Answer name ask) other may role =
+event_leaves s p had (event.Answer name ask) other may role =
     let m = met (λ r. is_working r.place && not r.last) s.rows name (and_parts (not (is_halted s.going)) _ may).1 in
     leaves_quiet s name.slot m.row (answered_row s ask) m.at
     (hand_waits_not m.row (working_in_hand m.row.place (and_parts (is_working m.row.place) (not m.row.last) m.passes).0))
-event_leaves s p weight had (event.Linger name why) other may role =
+event_leaves s p had (event.Linger name why) other may role =
     let m = met (λ r. not (is_lingering r) && linger_cause_fits s why (is_signalled s name.slot) r) s.rows name may in
     let serves = (and_parts (not (is_lingering m.row)) _ m.passes).0 in
     leaves_set s name.slot m.row (lingering_row s why) m.at (serves_on (is_parked m.row.place) (is_lingering m.row) serves) refl
-event_leaves s p weight had (event.Close name why how) other may role =
+event_leaves s p had (event.Close name why how) other may role =
     let m = met (λ r. (is_held r.place || is_working r.place) && end_fits s why how r) s.rows name may in
     leaves_cleared s name.slot m.row closed_row m.at
     (hand_waits_not m.row (either_in_hand m.row.place (and_parts (is_held m.row.place || is_working m.row.place) _ m.passes).0))
-event_leaves s p weight had (event.Ready slot) other may role = listener_alone p other role
-event_leaves s p weight had (event.Tick m) other may role = listener_alone p other role
-event_leaves s p weight had (event.StartChild k) other may role = listener_alone p other role
-event_leaves s p weight had (event.Command c) other may role = command_leaves s p weight c other may role
-event_leaves s p weight had (event.Retire k) other may role = listener_alone p other role
+event_leaves s p had (event.Ready slot) other may role = listener_alone p other role
+event_leaves s p had (event.Tick m) other may role = listener_alone p other role
+event_leaves s p had (event.StartChild k) other may role = listener_alone p other role
+event_leaves s p had (event.Command c) other may role = listener_alone p other role
+event_leaves s p had (event.Retire k) other may role = listener_alone p other role
 
 -- ## One event after the other
-
-halted_full : (s : State) → s.going ≡ Halted why.Full → is_halted s.going ≡ true
-halted_full s is = ap is_halted is
-
-server_on : (a b c : State) → GoesOnAs a b ⊎ StopsFull a b → GoesOnAs b c ⊎ StopsFull b c → GoesOnAs a c ⊎ StopsFull a c
-server_on a b c (inl first) (inl second) = inl (record { going = second.going ∙ first.going; children = second.children ∙ first.children })
-server_on a b c (inl first) (inr second) =
-    inr (record { before = ap is_halted (sym first.going) ∙ second.before; going = second.going; children = second.children ∙ ap all_stopped first.children })
-server_on a b c (inr first) (inl second) =
-    inr (record { before = first.before; going = second.going ∙ first.going; children = second.children ∙ first.children })
-server_on a b c (inr first) (inr second) = off second.before (halted_full b first.going)
 
 leaves_more : (a b c : State) → Leaves a b → Leaves b c → Leaves a c
 leaves_more a b c first second = record {
@@ -308,7 +270,8 @@ leaves_more a b c first second = record {
     accepted = second.rest.accepted ∙ first.rest.accepted;
     newest = second.rest.newest ∙ first.rest.newest;
     shape = second.rest.shape ∙ first.rest.shape;
-    server = server_on a b c first.rest.server second.rest.server;
+    going = second.rest.going ∙ first.rest.going;
+    children = second.rest.children ∙ first.rest.children;
     signals = λ slot set. ⊎_elim
         (λ (middle : is_signalled b slot ≡ true). ⊎_elim
         (λ (before : is_signalled a slot ≡ true). inl before)
@@ -324,7 +287,7 @@ entry_leaves : (p : ℕ) (base : State) (f : Folded) (before : List Entry) (e : 
     → Leaves (after base before) (after base (before ++ e ∷ []))
 entry_leaves p base f before e other is =
     subst (Leaves (after base before)) (sym (after-snoc base before e))
-    (event_leaves (after base before) p _ (row_from f p before) e.event other is.is_allowed is.role)
+    (event_leaves (after base before) p (row_from f p before) e.event other is.is_allowed is.role)
 
 entries_leave : (p : ℕ) (base : State) (f : Folded) (before added : List Entry) → p ≢ 0 → AreEntriesOf p base f before added
     → Leaves (after base before) (after base (before ++ added))

@@ -2,13 +2,10 @@
 use Rattle.std.specs.Prelude.{◌≡◌, ℕ, ◌⊎◌, Bool, true, false, not, ◌&&◌, count_by, length, Option, Some, slice_get}
 use Rattle.std.specs.List.{range_with_len}
 use Rattle.mpm_base.specs.declared.conn.ConnName.{ConnName}
-use Rattle.conn_machine.specs.declared.event.Why.TheVariants as why
 use Rattle.conn_machine.specs.declared.row.Row.{Row}
-use Rattle.conn_machine.specs.declared.state.Going.TheVariants.{Halted}
 use Rattle.conn_machine.specs.declared.state.State.{State}
 use Rattle.conn_machine.specs.Rows.{is_lingering, is_parked, is_with_a_pass, live_row, row_passes}
-use Rattle.conn_machine.specs.Children.{all_stopped}
-use Rattle.conn_machine.specs.States.{is_halted, is_signalled}
+use Rattle.conn_machine.specs.States.{is_signalled}
 
 -- each pass has this connection, or none: each of these is live, and the listener holds it, or a worker has it, or will; two
 -- passes have different ones; and each connection that is held, queued or in work is some pass's
@@ -37,24 +34,13 @@ asks_service s slot = is_signalled s slot && not (lingers_at s slot)
 abbrev pub asking_count : State → ℕ
 asking_count s = count_by (asks_service s) (range_with_len 0 (length s.rows))
 
--- the server goes on as before, or has stopped as before, and so does each child
-pub record GoesOnAs (old new : State) : Type 0 where
-  pub going : new.going ≡ old.going
-  pub children : new.children ≡ old.children
-
--- the server was stopped because its history is full, and each child that ran with it
-pub record StopsFull (old new : State) : Type 0 where
-  pub before : is_halted old.going ≡ false
-  pub going : new.going ≡ Halted why.Full
-  pub children : new.children ≡ all_stopped old.children
-
--- what the listener alone decides is as it was: no time has passed, no connection was taken, no generation began, and the server
--- goes on as before, unless it was stopped because its history is full; and a slot is signalled only where it was before, or
--- where its connection lingers
+-- what the listener alone decides is as it was: no time has passed, no connection was taken, no generation began, the server goes on
+-- as before, and so does each child; and a slot is signalled only where it was before, or where its connection lingers
 pub record OnlyServes (old new : State) : Type 0 where
   pub moment : new.moment ≡ old.moment
   pub accepted : new.accepted ≡ old.accepted
   pub newest : new.newest ≡ old.newest
   pub shape : new.shape ≡ old.shape
-  pub server : GoesOnAs old new ⊎ StopsFull old new
+  pub going : new.going ≡ old.going
+  pub children : new.children ≡ old.children
   pub signals : (slot : ℕ) → is_signalled new slot ≡ true → (is_signalled old slot ≡ true) ⊎ (lingers_at new slot ≡ true)

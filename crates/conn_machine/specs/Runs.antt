@@ -1,11 +1,8 @@
 -- Histories of the machine, behind what was folded: runs of the event table, the order of each pass's entries, and what a pass may add.
-use Rattle.std.specs.Prelude.{◌≡◌, ◌==◌, ℕ, ◌+◌, ◌*◌, Bool, true, false, ◌&&◌, List, [], ◌∷◌, ◌++◌, length, map, filter, fold, count_by, nat_le, Option, None, Some, is_none, slice_index, slice_index_or, ⊤}
+use Rattle.std.specs.Prelude.{◌≡◌, ◌==◌, ℕ, ◌+◌, ◌*◌, Bool, true, false, ◌&&◌, List, [], ◌∷◌, ◌++◌, length, map, filter, fold, count_by, Option, None, Some, is_none, slice_index, slice_index_or, ⊤}
 use Rattle.std.specs.List.{range_with_len}
 use Rattle.std.specs.Option.{option_map_or}
 use Rattle.mpm_base.specs.declared.conn.ConnName.{ConnName}
-use Rattle.conn_machine.specs.declared.event.Why.TheVariants as why
-use Rattle.conn_machine.specs.declared.event.Commanded.{Commanded}
-use Rattle.conn_machine.specs.declared.event.Commanded.TheVariants.{Graceful, Refused, GracefulStop, Stop}
 use Rattle.conn_machine.specs.declared.event.Event.{Event}
 use Rattle.conn_machine.specs.declared.event.Event.TheVariants as event
 use Rattle.conn_machine.specs.declared.event.Reply.{Reply}
@@ -73,10 +70,6 @@ asks_page (event.Retire k) = false
 abbrev pub load : List Entry → ℕ
 load history = length history + 64 * count_by (λ e. asks_page e.event) history
 
--- at this load the history takes no more
-abbrev pub full_load : ℕ
-full_load = 4063232
-
 -- ## What a pass may add
 
 -- the name of the connection that was taken
@@ -126,33 +119,22 @@ is_name a b = a.slot == b.slot && a.life == b.life
 abbrev pub has_row : Option ConnName → ConnName → Bool
 has_row had name = option_map_or (is_name name) had false
 
--- a stop because the history is full needs that it is; the listener makes every other command
-abbrev pub may_order : ℕ → ℕ → Commanded → Bool
-may_order p weight (Graceful shape) = p == 0
-may_order p weight (Refused reason) = p == 0
-may_order p weight (GracefulStop until) = p == 0
-may_order p weight (Stop why.Asked) = p == 0
-may_order p weight (Stop why.Overdue) = p == 0
-may_order p weight (Stop why.FrontEnded) = p == 0
-may_order p weight (Stop why.FrontFailed) = p == 0
-may_order p weight (Stop why.Full) = nat_le full_load weight
-may_order p weight (Stop why.NoMemory) = p == 0
-
--- a pass that has this connection, where the history weighs so much, may make the event: pass 0 is the listener
-abbrev pub may_make : ℕ → Option ConnName → ℕ → Event → Bool
-may_make p had weight (event.Accept slot) = p == 0 && is_none had
-may_make p had weight (event.Park name kind) = has_row had name
-may_make p had weight (event.Hold name) = p == 0 && is_none had
-may_make p had weight (event.Queue name) = is_none had
-may_make p had weight (event.Start name) = has_row had name
-may_make p had weight (event.Answer name ask) = has_row had name
-may_make p had weight (event.Linger name cause) = has_row had name
-may_make p had weight (event.Close name cause tail) = has_row had name
-may_make p had weight (event.Ready slot) = p == 0
-may_make p had weight (event.Tick m) = p == 0
-may_make p had weight (event.StartChild k) = p == 0
-may_make p had weight (event.Command c) = may_order p weight c
-may_make p had weight (event.Retire k) = p == 0
+-- a pass that has this connection may make the event: pass 0 is the listener, which alone accepts, signals, lets time pass, starts and
+-- retires children, and commands
+abbrev pub may_make : ℕ → Option ConnName → Event → Bool
+may_make p had (event.Accept slot) = p == 0 && is_none had
+may_make p had (event.Park name kind) = has_row had name
+may_make p had (event.Hold name) = p == 0 && is_none had
+may_make p had (event.Queue name) = is_none had
+may_make p had (event.Start name) = has_row had name
+may_make p had (event.Answer name ask) = has_row had name
+may_make p had (event.Linger name cause) = has_row had name
+may_make p had (event.Close name cause tail) = has_row had name
+may_make p had (event.Ready slot) = p == 0
+may_make p had (event.Tick m) = p == 0
+may_make p had (event.StartChild k) = p == 0
+may_make p had (event.Command c) = p == 0
+may_make p had (event.Retire k) = p == 0
 
 -- after the history, behind the entries that the record counts, the pass may make the entry
 pub record IsNextOf (p : ℕ) (base : State) (f : Folded) (history : List Entry) (e : Entry) : Type 0 where
@@ -160,7 +142,7 @@ pub record IsNextOf (p : ℕ) (base : State) (f : Folded) (history : List Entry)
   pub ordinal : e.ordinal ≡ slice_index f.ordinals p + length (entries_of p history)
   pub is_allowed : is_allowed (after base history) e.event ≡ true
   pub replied : e.reply ≡ reply (after base history) e.event
-  pub role : may_make p (row_from f p history) (load history) e.event ≡ true
+  pub role : may_make p (row_from f p history) e.event ≡ true
 
 -- after the history, the pass may make these entries, one after the other
 abbrev pub AreEntriesOf : ℕ → State → Folded → List Entry → List Entry → Type 0

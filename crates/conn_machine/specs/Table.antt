@@ -428,7 +428,6 @@ stop_fits s why.Asked = true
 stop_fits s why.Overdue = is_over s.moment s.going
 stop_fits s why.FrontEnded = not (list_any is_live s.rows)
 stop_fits s why.FrontFailed = true
-stop_fits s why.Full = true
 stop_fits s why.NoMemory = true
 
 -- what each command needs

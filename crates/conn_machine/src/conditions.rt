@@ -318,7 +318,7 @@ impl State {
         match why {
             Why::Overdue => self.going.is_over(self.moment),
             Why::FrontEnded => !self.has_live(),
-            Why::Asked | Why::FrontFailed | Why::Full | Why::NoMemory => true,
+            Why::Asked | Why::FrontFailed | Why::NoMemory => true,
         }
     }
 }

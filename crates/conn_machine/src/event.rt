@@ -17,8 +17,6 @@ pub enum Why {
     FrontEnded,
     /// The front failed.
     FrontFailed,
-    /// The history is full.
-    Full,
     /// Memory was wanted and not found.
     NoMemory,
 }

@@ -137,9 +137,8 @@ pub fn connections_stay_while_others_go_on()
     ensures row { (base : State) (f : Folded) (p : ℕ) (seen history : List Entry) (name : ConnName) → EachHasItsOwn base (first_row f) → AreMade base f history → HasSeen p seen history → row_from f p seen ≡ Some name → slice_get (after base history).rows name.slot ≡ slice_get (after base seen).rows name.slot }
 {}
 
-/// What a pass other than the listener adds leaves all that the listener alone decides as it was, but that it may stop the
-/// server because the history is full. It signals nothing but a connection that lingers, so no more slots ask for service,
-/// and fewer once it handed a connection to the workers.
+/// What a pass other than the listener adds leaves all that the listener alone decides as it was. It signals nothing but a
+/// connection that lingers, so no more slots ask for service, and fewer once it handed a connection to the workers.
 pub fn passes_leave_the_rest_to_the_listener()
     ensures rest { (p : ℕ) (base : State) (f : Folded) (old new : List Entry) → p ≢ 0 → Adds p base f old new → OnlyServes (after base old) (after base new) }
     ensures asking { (p : ℕ) (base : State) (f : Folded) (old new : List Entry) → p ≢ 0 → Adds p base f old new → asking_count (after base new) ≤ asking_count (after base old) }

@@ -4,9 +4,6 @@
 ghost use Rattle.std.specs.Prelude.{◌≡◌, ◌≢◌, ◌↔◌, ◌<◌, ◌≤◌, ◌+◌, ◌*◌, ℕ, Bool, true, false, List, [], ◌∷◌, ◌++◌, count_by, length, None, Some, slice_get, slice_index, if◌then◌else◌};
 ghost use Rattle.std.specs.List.{list_any};
 ghost use Rattle.conn_machine.specs.declared.child.Child.{Child};
-ghost use Rattle.conn_machine.specs.declared.event.Why.TheVariants as why;
-ghost use Rattle.conn_machine.specs.declared.event.Commanded.TheVariants.{Stop};
-ghost use Rattle.conn_machine.specs.declared.event.Event.TheVariants as event;
 ghost use Rattle.conn_machine.specs.declared.event.Entry.{Entry};
 ghost use Rattle.conn_machine.specs.declared.folded.Folded.{Folded};
 ghost use Rattle.conn_machine.specs.declared.row.Row.{Row};
@@ -55,14 +52,14 @@ pub fn records_open_with_nothing()
 
 /// A fold takes the record on by what each pass did in the history, where the record has a place for each pass that made an
 /// entry, and leaves it as many places. Where a record goes on from another one and a history, each pass has the same connection
-/// behind it, and may make the same entries, but that a stop for a full history looks at what the value still keeps.
+/// behind it, and may make the same entries.
 pub fn records_go_on_by_folds()
     ensures fold { (passes : ℕ) (base : State) (f : Folded) (history : List Entry) (ended : List (List ℕ)) (p : ℕ) → HasPlacesFor passes f → AreOfPasses passes history → GoesOnFrom p f history (fold_of base history ended f) }
     ensures places { (passes : ℕ) (base : State) (f : Folded) (history : List Entry) (ended : List (List ℕ)) → HasPlacesFor passes f → HasPlacesFor passes (fold_of base history ended f) }
     ensures none { (p : ℕ) (f : Folded) → GoesOnFrom p f [] f }
     ensures more { (p : ℕ) (f later last : Folded) (a b : List Entry) → GoesOnFrom p f a later → GoesOnFrom p later b last → GoesOnFrom p f (a ++ b) last }
     ensures row { (p : ℕ) (f later : Folded) (history rest : List Entry) → GoesOnFrom p f history later → row_from f p (history ++ rest) ≡ row_from later p rest }
-    ensures next { (p : ℕ) (base : State) (f later : Folded) (history rest : List Entry) (e : Entry) → GoesOnFrom p f history later → e.event ≢ event.Command (Stop why.Full) → IsNextOf p base f (history ++ rest) e ↔ IsNextOf p (after base history) later rest e }
+    ensures next { (p : ℕ) (base : State) (f later : Folded) (history rest : List Entry) (e : Entry) → GoesOnFrom p f history later → IsNextOf p base f (history ++ rest) e ↔ IsNextOf p (after base history) later rest e }
 {}
 
 /// The state after two histories, one behind the other, and the entries of a pass in both.
