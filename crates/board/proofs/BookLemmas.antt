@@ -1,9 +1,8 @@
 -- A kept history that goes on by one entry.
-use Rattle.std.proofs.Common.{◌≡◌, ◌==◌, ℕ, ◌+◌, ◌<◌, ◌≤◌, Bool, true, false, cond, if◌then◌else◌, List, [], ◌∷◌, ◌++◌, length, get_or, replicate, nat_le, refl, sym, ap, subst, ◌∙◌, length-append, eqb-true, eq-eqb, arith}
+use Rattle.std.proofs.Common.{◌≡◌, ◌==◌, ℕ, ◌+◌, ◌<◌, ◌≤◌, Bool, true, false, cond, if◌then◌else◌, List, [], ◌∷◌, ◌++◌, length, get_or, replicate, refl, sym, ap, subst, ◌∙◌, length-append, eqb-true, eq-eqb, arith}
 use Rattle.std.specs.Prelude.{slice_index}
 use Rattle.std.proofs.Math.ListN.{set, length-set}
 use Rattle.std.proofs.Common.{get_or-set_same, get_or-set_other}
-use Rattle.std.proofs.lemmas.Bool.{leb-false}
 use Rattle.std.proofs.lemmas.List.{length-replicate}
 use Rattle.std.proofs.lemmas.List.Sums.{sum_by-append}
 use Rattle.std.proofs.lemmas.List.Folds.{sum_by-replicate}
@@ -14,7 +13,7 @@ use Rattle.conn_machine.specs.declared.event.Entry.{Entry}
 use Rattle.conn_machine.specs.declared.folded.Folded.{Folded}
 use Rattle.conn_machine.specs.declared.state.State.{State}
 use Rattle.conn_machine.specs.Table.{is_allowed, next, reply}
-use Rattle.conn_machine.specs.Runs.{after, entries_of, is_of_pass, asks_page, load, full_load, may_make, first_row, row_from, IsHistory, IsNextOf}
+use Rattle.conn_machine.specs.Runs.{after, entries_of, is_of_pass, asks_page, may_make, first_row, row_from, IsHistory, IsNextOf}
 use Rattle.conn_machine.specs.Folds.{opening_record}
 use Rattle.conn_machine.specs.Made.{AreMade}
 use Rattle.conn_machine.specs.Passes.{EachHasItsOwn}
@@ -29,7 +28,6 @@ use Rattle.board.specs.Faults.{IsOpen}
 use Rattle.board.specs.RoomInside.{row_owes, child_owes, owed_entries, room_with_event, is_sure}
 use Rattle.board.specs.RowsInside.{RowsChangeAlone}
 use Rattle.board.proofs.RoomLemmas.{room-suffices, owed-sure}
-use Rattle.board.proofs.StopLemmas.{IsStopFor, stops_first, stops_more, tells_first, tells_more}
 
 -- the entry is the last of its pass, and no other pass has it
 pub record IsLastOf (history : List Entry) (e : Entry) : Type 0 where
@@ -88,7 +86,7 @@ pub record IsStepped (s s' : State) : Type 0 where
 pub goes_by : (base : State) (f : Folded) (history : List Entry) (s : State) (ordinals : List ℕ) (pages room : ℕ) (e : Entry)
     → IsKept base f history s ordinals pages room
     → is_allowed s e.event ≡ true → e.reply ≡ reply s e.event → e.ordinal ≡ slice_index f.ordinals e.pass + length (entries_of e.pass history)
-    → may_make e.pass (row_from f e.pass history) (load history) e.event ≡ true
+    → may_make e.pass (row_from f e.pass history) e.event ≡ true
     → ((b : State) (h : List Entry) (x : Entry) → after b (h ++ x ∷ []) ≡ next (after b h) x.event)
     → ((b : State) (g : Folded) (h : List Entry) (x : Entry) → IsHistory b g h → is_allowed (after b h) x.event ≡ true → x.reply ≡ reply (after b h) x.event
     → x.ordinal ≡ slice_index g.ordinals x.pass + length (entries_of x.pass h) → IsHistory b g (h ++ x ∷ []))
@@ -107,9 +105,9 @@ goes_by base f history s ordinals pages room e before allowed replied ordinal ro
 kept_more : (base : State) (f : Folded) (history : List Entry) (s : State) (ordinals ordinals' : List ℕ) (pages room room' : ℕ) (e : Entry)
     → IsKept base f history s ordinals pages room → is_allowed s e.event ≡ true → AreNext f ordinals' (history ++ e ∷ []) → IsSound (next s e.event)
     → IsSized (next s e.event) → length (history ++ e ∷ []) + owed_entries (next s e.event) ≤ room'
-    → IsStopFor (load history) e.event → GoesOn base f history e
+    → GoesOn base f history e
     → IsKept base f (history ++ e ∷ []) (next s e.event) ordinals' (pages + (if asks_page e.event then 1 else 0)) room'
-kept_more base f history s ordinals ordinals' pages room room' e before is_allowed numbers sound sized has_room stop goes = record {
+kept_more base f history s ordinals ordinals' pages room room' e before is_allowed numbers sound sized has_room goes = record {
   is_history = goes.is_history;
   made = goes.made;
   own = before.own;
@@ -120,8 +118,6 @@ kept_more base f history s ordinals ordinals' pages room room' e before is_allow
   pages_is = rw before.pages_is (sym (pages_more history e));
   sized = sized;
   has_room = has_room;
-  stops = stops_more history e before.stops stop;
-  full = tells_more s history e before.full is_allowed;
 }
 
 -- the same, where memory was found for all that may follow
@@ -129,30 +125,30 @@ pub kept_with_room : RowsChangeAlone → (base : State) (f : Folded) (history hi
     → IsKept base f history s ordinals pages room → is_allowed s e.event ≡ true → AreNext f ordinals' history' → IsStepped s s'
     → history' ≡ history ++ e ∷ [] → s' ≡ next s e.event → pages' ≡ pages + (if asks_page e.event then 1 else 0)
     → length history + room_with_event s ≤ room'
-    → IsStopFor (load history) e.event → GoesOn base f history e
+    → GoesOn base f history e
     → IsKept base f history' s' ordinals' pages' room'
-kept_with_room law base f history history' s s' ordinals ordinals' pages pages' room room' e before is_allowed numbers stepped history_is state_is pages_is space stop goes =
+kept_with_room law base f history history' s s' ordinals ordinals' pages pages' room room' e before is_allowed numbers stepped history_is state_is pages_is space goes =
     let len : length (history ++ e ∷ []) ≡ length history + 1 = length-append history (e ∷ []) in
     let sizes : HasSizesOf s (next s e.event) = subst (HasSizesOf s) state_is stepped.sizes in
     let owes = room-suffices law s e.event sizes.children in
     rw (history_is, state_is, pages_is)
     (kept_more base f history s ordinals ordinals' pages room room' e before is_allowed (rw history_is at numbers)
     (rw state_is at (stepped.sound before.sound)) (rw state_is at (stepped.sized before.sized))
-    (omega (arith, len, owes, space)) stop goes)
+    (omega (arith, len, owes, space)) goes)
 
 -- the same, where the room was taken before
 pub kept_sure : (base : State) (f : Folded) (history history' : List Entry) (s s' : State) (ordinals ordinals' : List ℕ) (pages room room' : ℕ) (e : Entry)
     → IsKept base f history s ordinals pages room → is_allowed s e.event ≡ true → AreNext f ordinals' history' → IsStepped s s'
     → history' ≡ history ++ e ∷ [] → s' ≡ next s e.event → is_sure e.event ≡ true → room ≤ room'
-    → IsStopFor (load history) e.event → GoesOn base f history e
+    → GoesOn base f history e
     → IsKept base f history' s' ordinals' pages room'
-kept_sure base f history history' s s' ordinals ordinals' pages room room' e before is_allowed numbers stepped history_is state_is sure space stop goes =
+kept_sure base f history history' s s' ordinals ordinals' pages room room' e before is_allowed numbers stepped history_is state_is sure space goes =
     let len : length (history ++ e ∷ []) ≡ length history + 1 = length-append history (e ∷ []) in
     let owes = owed-sure s e.event is_allowed sure in
     let none = sure-pages e.event sure in
     let more = kept_more base f history s ordinals ordinals' pages room room' e before is_allowed (rw history_is at numbers)
     (rw state_is at (stepped.sound before.sound)) (rw state_is at (stepped.sized before.sized))
-    (omega (arith, len, owes, before.has_room, space)) stop goes in
+    (omega (arith, len, owes, before.has_room, space)) goes in
     let same : pages + (if asks_page e.event then 1 else 0) ≡ pages = rw none (omega arith) in
     rw (history_is, state_is)
     (subst (λ (n : ℕ). IsKept base f (history ++ e ∷ []) (next s e.event) ordinals' n room') same more)
@@ -178,8 +174,6 @@ kept_first slots children passes room shape few_slots few_children sound space o
         moment = omega arith;
       };
       has_room = omega (arith, sum_by-replicate row_owes slots unused_row, sum_by-replicate child_owes children no_child, space);
-      stops = stops_first;
-      full = tells_first;
     }
 
 -- what is seen of a book that has folded nothing, for so many passes
@@ -195,10 +189,6 @@ recorded_is b base history history' s s' n n' who event answer seen history_is s
     subst (λ (v : SeenBook). shown_book base history' s' n' ≡ book_with_entry who event v)
     seen (rw (history_is, state_is, replied, passes) refl)
 
--- a book that is neither halted nor full can be recorded in
-pub open_if : (b : SeenBook) (s : State) (halted full : Bool) → s ≡ b.state
-    → halted ≡ is_halted s.going → full ≡ nat_le full_load (load b.history) → halted ≡ false → full ≡ false → IsOpen b
-open_if b s halted full state_is halts fills goes has_room = record {
-  going = ap (λ (t : State). is_halted t.going) (sym state_is) ∙ sym halts ∙ goes;
-  light = leb-false full_load (load b.history) (sym fills ∙ has_room);
-}
+-- a book that isn't halted can be recorded in
+pub open_if : (b : SeenBook) (s : State) (halted : Bool) → s ≡ b.state → halted ≡ is_halted s.going → halted ≡ false → IsOpen b
+open_if b s halted state_is halts goes = record { going = ap (λ (t : State). is_halted t.going) (sym state_is) ∙ sym halts ∙ goes }

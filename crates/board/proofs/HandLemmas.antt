@@ -316,7 +316,6 @@ answer-note s name ask last moment may last_is moment_is =
 -- what a call that takes a connection answers for a refusal is the reason of that
 not_taken_at : (f : BoardFault) (b : SeenBook) → IsRefusedFor f b → IsNotTakenFor (accept_fault f) b
 not_taken_at fault.Halted b refused = refused
-not_taken_at fault.Full b refused = refused
 not_taken_at fault.NoMemory b refused = refused
 
 -- the same of the board from outside

@@ -12,5 +12,4 @@ pub mod QueueLemmas
 pub mod RankLemmas
 pub mod RoomLemmas
 pub mod SlotLemmas
-pub mod StopLemmas
 pub mod UseLemmas

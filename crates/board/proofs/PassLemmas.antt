@@ -5,7 +5,7 @@ use Rattle.conn_machine.specs.declared.event.Event.{Event}
 use Rattle.conn_machine.specs.declared.event.Entry.{Entry}
 use Rattle.conn_machine.specs.declared.event.Reply.{Reply}
 use Rattle.conn_machine.specs.Table.{is_allowed, reply}
-use Rattle.conn_machine.specs.Runs.{after, is_of_pass, load, is_name, has_row, has_after, row_from, may_make, IsNextOf, Adds}
+use Rattle.conn_machine.specs.Runs.{after, is_of_pass, is_name, has_row, has_after, row_from, may_make, IsNextOf, Adds}
 use Rattle.board.specs.Book.{SeenBook, AddsOnly, entry_of, book_with_entry, row_in}
 use Rattle.board.specs.Board.{SeenBoard}
 
@@ -13,7 +13,7 @@ use Rattle.board.specs.Board.{SeenBoard}
 
 -- the entry of an event is one that the pass may make
 pub may_be_next : (who : ℕ) (b : SeenBook) (e : Event) → after b.base b.history ≡ b.state → is_allowed b.state e ≡ true
-    → may_make who (row_in who b) (load b.history) e ≡ true → IsNextOf who b.base b.folded b.history (entry_of who e b)
+    → may_make who (row_in who b) e ≡ true → IsNextOf who b.base b.folded b.history (entry_of who e b)
 may_be_next who b e state_is may role =
     record { pass = refl; ordinal = refl; is_allowed = rw state_is may; replied = rw state_is refl; role = role }
 
@@ -46,9 +46,9 @@ pub has-own : (had : Option ConnName) (name : ConnName) → had ≡ Some name �
 has-own had name is = subst (λ (o : Option ConnName). has_row o name ≡ true) (sym is) (is_name-own name)
 
 -- the event that a pass may make is one that it may make inside
-pub role_inside : (who : ℕ) (seen b : SeenBook) (e : Event) → seen ≡ b → may_make who (row_in who b) (load b.history) e ≡ true
-    → may_make who (row_in who seen) (load seen.history) e ≡ true
-role_inside who seen b e is role = subst (λ (v : SeenBook). may_make who (row_in who v) (load v.history) e ≡ true) (sym is) role
+pub role_inside : (who : ℕ) (seen b : SeenBook) (e : Event) → seen ≡ b → may_make who (row_in who b) e ≡ true
+    → may_make who (row_in who seen) e ≡ true
+role_inside who seen b e is role = subst (λ (v : SeenBook). may_make who (row_in who v) e ≡ true) (sym is) role
 
 -- the pass has the connection inside too
 pub has_inside : (who : ℕ) (seen b : SeenBoard) (name : ConnName) → seen ≡ b → row_in who b.book ≡ Some name

@@ -9,7 +9,6 @@ use Rattle.conn_machine.specs.Passes.{EachHasItsOwn}
 use Rattle.conn_machine.specs.Sizes.{IsSized}
 use Rattle.conn_machine.specs.Sound.{IsSound}
 use Rattle.board.specs.RoomInside.{owed_entries}
-use Rattle.board.specs.Book.{StopsByLoad, TellsFullStop}
 
 -- the numbers that the entries of the passes have next, behind what was folded and the history
 abbrev pub AreNext : Folded → List ℕ → List Entry → Type 0
@@ -22,8 +21,7 @@ pages_of history = count_by (λ e. asks_page e.event) history
 
 -- the history is one of the machine, from its base to its state, behind what was folded, and the states are sound; each entry is
 -- one that its pass may make, and before it each pass had a connection of its own, or none; each pass's next number and the number
--- of pages are known; there is room for what must follow; a stop because the history is full stands only where it is, and one for want
--- of memory only where it isn't; and the first is told by the state
+-- of pages are known; and there is room for what must follow
 pub record IsKept (base : State) (f : Folded) (history : List Entry) (state : State) (ordinals : List ℕ) (pages room : ℕ) : Type 0 where
   pub is_history : IsHistory base f history
   pub made : AreMade base f history
@@ -35,5 +33,3 @@ pub record IsKept (base : State) (f : Folded) (history : List Entry) (state : St
   pub pages_is : pages ≡ pages_of history
   pub sized : IsSized state
   pub has_room : length history + owed_entries state ≤ room
-  pub stops : StopsByLoad history
-  pub full : TellsFullStop state.going history

@@ -17,7 +17,7 @@ use Rattle.board.specs.Faults.{IsOpen}
 abbrev pub with_recorded : ℕ → Event → SeenBoard → SeenBoard
 with_recorded who event b = record b { book = book_with_entry who event b.book }
 
--- the event was recorded, in a history that could be recorded in; all else stayed
+-- the event was recorded, and the server went on before; all else stayed
 pub record IsAdded (who : ℕ) (event : Event) (old new : SeenBoard) : Type 0 where
   pub was_open : IsOpen old.book
   pub new_is : new ≡ with_recorded who event old

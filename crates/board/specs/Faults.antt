@@ -1,28 +1,20 @@
 -- Why a call of the board is refused, and what it records.
-use Rattle.std.specs.Prelude.{◌≡◌, ℕ, ◌<◌, ◌≤◌, true, false, None, is_some}
+use Rattle.std.specs.Prelude.{◌≡◌, ℕ, true, false, None, is_some}
 use Rattle.conn_machine.specs.States.{is_halted, pick_child}
 use Rattle.conn_machine.specs.Table.{is_vacant_at}
-use Rattle.conn_machine.specs.Runs.{load, full_load}
 use Rattle.board.specs.declared.faults.BoardFault.{BoardFault}
 use Rattle.board.specs.declared.faults.BoardFault.TheVariants as fault
 use Rattle.board.specs.declared.faults.AcceptFault.{AcceptFault}
 use Rattle.board.specs.declared.faults.AcceptFault.TheVariants as accept
 use Rattle.board.specs.Book.{SeenBook}
 
--- the server goes on, and the history has room
+-- the server goes on
 pub record IsOpen (b : SeenBook) : Type 0 where
   pub going : is_halted b.state.going ≡ false
-  pub light : load b.history < full_load
-
--- the server goes on, and the history is full
-pub record IsFull (b : SeenBook) : Type 0 where
-  pub going : is_halted b.state.going ≡ false
-  pub heavy : full_load ≤ load b.history
 
 -- the call is refused for this: it had to be, unless memory lacked
 abbrev pub IsRefusedFor : BoardFault → SeenBook → Type 0
 IsRefusedFor fault.Halted b = is_halted b.state.going ≡ true
-IsRefusedFor fault.Full b = IsFull b
 IsRefusedFor fault.NoMemory b = IsOpen b
 
 -- no child takes a connection
@@ -39,7 +31,6 @@ pub record HasNoSlot (b : SeenBook) : Type 0 where
 -- no connection is taken for this
 abbrev pub IsNotTakenFor : AcceptFault → SeenBook → Type 0
 IsNotTakenFor accept.Halted b = is_halted b.state.going ≡ true
-IsNotTakenFor accept.Full b = IsFull b
 IsNotTakenFor accept.NoChild b = HasNoChild b
 IsNotTakenFor accept.NoSlot b = HasNoSlot b
 IsNotTakenFor accept.NoMemory b = IsOpen b
@@ -47,5 +38,4 @@ IsNotTakenFor accept.NoMemory b = IsOpen b
 -- the same fault of a call that takes a connection
 abbrev pub accept_fault : BoardFault → AcceptFault
 accept_fault fault.Halted = accept.Halted
-accept_fault fault.Full = accept.Full
 accept_fault fault.NoMemory = accept.NoMemory

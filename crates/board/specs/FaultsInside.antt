@@ -4,7 +4,7 @@ use Rattle.conn_machine.specs.declared.event.Event.{Event}
 use Rattle.board.specs.Book.{SeenBook, book_with_entry}
 use Rattle.board.specs.Faults.{IsOpen}
 
--- the pass recorded the event, in a history that could be recorded in
+-- the pass recorded the event, and the server went on before
 pub record IsRecorded (who : ℕ) (event : Event) (old new : SeenBook) : Type 0 where
   pub was_open : IsOpen old
   pub new_is : new ≡ book_with_entry who event old

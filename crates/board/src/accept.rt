@@ -28,9 +28,6 @@ pub(crate) fn slot_for_accept<T>(book: &Book, slots: &Slots<T>) -> Result<ConnNa
     if state.going.is_halted() {
         return Err(AcceptFault::Halted);
     }
-    if book.is_full() {
-        return Err(AcceptFault::Full);
-    }
     if state.pick_child().is_none() {
         return Err(AcceptFault::NoChild);
     }

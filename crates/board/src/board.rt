@@ -3,7 +3,7 @@ ghost use Rattle.std.specs.Prelude.{◌≡◌, ◌<◌, ◌≤◌, true, false, 
 ghost use Rattle.mpm_base.specs.Shape.{is_in_bounds};
 ghost use Rattle.conn_machine.specs.States.{is_halted, opening_state};
 ghost use Rattle.conn_machine.specs.Table.{is_allowed, cell_at, reply, taken_reply};
-ghost use Rattle.conn_machine.specs.Runs.{IsInPassOrderFrom, Run, after, first_row, full_load, load, may_order};
+ghost use Rattle.conn_machine.specs.Runs.{IsInPassOrderFrom, Run, after, first_row};
 ghost use Rattle.conn_machine.specs.Folds.{opening_record};
 ghost use Rattle.conn_machine.specs.Made.{AreMade};
 ghost use Rattle.conn_machine.specs.Passes.{EachHasItsOwn};
@@ -18,7 +18,7 @@ ghost use Rattle.conn_state.specs.declared.turn.LastLinger.TheVariants as linger
 ghost use Rattle.conn_state.specs.Answered.{IsEnded, MayLinger};
 ghost use Rattle.conn_state.specs.Conn.{SeenConn};
 ghost use Rattle.conn_state.specs.Known.{IsOfOutside};
-ghost use Rattle.board.specs.Book.{AddsOnly, StopsByLoad, TellsFullStop, book_with_entry, row_in};
+ghost use Rattle.board.specs.Book.{AddsOnly, book_with_entry, row_in};
 ghost use Rattle.board.specs.Board.{Agrees, AreOfOutside, conn_at};
 ghost use Rattle.board.specs.Events.{IsAdded, IsDecided, IsTaken, with_recorded};
 ghost use Rattle.board.specs.EventsInside.{decided_note};
@@ -174,8 +174,8 @@ impl<L: Link, N: Known> Board<L, N> {
 
     /// What holds of every board: its history is one of the machine, from its base to its state, which are sound, in the order of
     /// its passes behind what was folded; each entry is one that its pass may make where it stands, and before the first of them each
-    /// pass had a connection of its own, or none, and each one that somebody had was some pass's; a stop because the history is full
-    /// stands only where it is, and one for want of memory only where it isn't; and the connections agree with the history.
+    /// pass had a connection of its own, or none, and each one that somebody had was some pass's; and the connections agree with the
+    /// history.
     /// Where `N` knows the outside, the connections are of it. Nothing is folded yet.
     pub fn show(&self)
         ensures unfolded { self.now.book.folded ≡ opening_record self.now.book.passes }
@@ -187,8 +187,6 @@ impl<L: Link, N: Known> Board<L, N> {
         ensures opened { IsSound self.now.book.base }
         ensures sound { IsSound self.now.book.state }
         ensures sized { IsSized self.now.book.state }
-        ensures stops { StopsByLoad self.now.book.history }
-        ensures full { TellsFullStop self.now.book.state.going self.now.book.history }
         ensures agrees { Agrees self.now }
         ensures outside { AreOfOutside N.known self.now }
     {
@@ -451,11 +449,10 @@ impl<L: Link, N: Known> Board<L, N> {
         Ok(())
     }
 
-    /// The server stops: for a full history only where it is full, and for want of memory only where it isn't. Takes no memory.
+    /// The server stops. Takes no memory.
     pub fn halt(&mut self, who: u32, why: Why)
         requires who { who < self.old.book.passes }
-        requires role { may_order who (load self.old.book.history) (Stop why) ≡ true }
-        requires light { why ≡ reason.NoMemory → load self.old.book.history < full_load }
+        requires listener { who ≡ 0 }
         requires allowed { is_allowed self.old.book.state (event.Command (Stop why)) ≡ true }
         ensures is { self.new ≡ with_recorded who (event.Command (Stop why)) self.old }
         ensures entries { AddsOnly who self.old.book self.new.book }

@@ -1,15 +1,15 @@
 //! The history that a board keeps, and the state after it.
-ghost use Rattle.std.specs.Prelude.{◌≡◌, ◌<◌, ◌≤◌, ◌^◌, true, false, [], ◌∷◌, ◌++◌, length, nat_le, vec_len, vec_capacity, if◌then◌else◌, IfOk, IfErr, OnOk, OnErr};
+ghost use Rattle.std.specs.Prelude.{◌≡◌, ◌<◌, ◌≤◌, ◌^◌, true, false, [], ◌∷◌, ◌++◌, length, vec_len, vec_capacity, if◌then◌else◌, IfOk, IfErr, OnOk, OnErr};
 ghost use Rattle.mpm_base.specs.Shape.{is_in_bounds};
 ghost use Rattle.conn_machine.specs.States.{is_halted, opening_state};
 ghost use Rattle.conn_machine.specs.Table.{is_allowed, reply};
-ghost use Rattle.conn_machine.specs.Runs.{IsInPassOrderFrom, Run, after, asks_page, first_row, full_load, has_after, load, may_make};
+ghost use Rattle.conn_machine.specs.Runs.{IsInPassOrderFrom, Run, after, asks_page, first_row, has_after, may_make};
 ghost use Rattle.conn_machine.specs.Folds.{opening_record};
 ghost use Rattle.conn_machine.specs.Made.{AreMade};
 ghost use Rattle.conn_machine.specs.Passes.{EachHasItsOwn};
 ghost use Rattle.conn_machine.specs.Sizes.{IsSized};
 ghost use Rattle.conn_machine.specs.Sound.{IsSound};
-ghost use Rattle.board.specs.Book.{AddsOnly, StopsByLoad, TellsFullStop, book_with_entry, memory_stop, numbered_entry, row_in};
+ghost use Rattle.board.specs.Book.{AddsOnly, book_with_entry, numbered_entry, row_in};
 ghost use Rattle.board.specs.BookInside.{AreNext};
 ghost use Rattle.board.specs.Faults.{IsRefusedFor};
 ghost use Rattle.board.specs.FaultsInside.{IsRecorded};
@@ -28,9 +28,6 @@ use mpm_base::{NoMemory, Shape};
 use std::alloc::Global;
 use std::marker::Model;
 use std::snapshot::Snapshot;
-
-/// The load at which a history takes no more than what must follow it.
-const FULL_LOAD: u64 = 4_063_232;
 
 /// A history of the machine, the state before it, which only contracts see, and the state after it.
 #[derive(Drop)]
@@ -117,7 +114,7 @@ impl Book {
 
     /// The history is one of the machine, from its base to its state, in the order of its passes behind what was folded, which is
     /// nothing yet; each entry is one that its pass may make, and before the first of them each pass had a connection of its own, or
-    /// none; a stop because it is full stands only where it is, and one for want of memory only where it isn't.
+    /// none.
     pub fn show(&self)
         ensures unfolded { self.now.folded ≡ opening_record self.now.passes }
         ensures run { Run self.now.base self.now.history }
@@ -128,18 +125,8 @@ impl Book {
         ensures opened { IsSound self.now.base }
         ensures sound { IsSound self.now.state }
         ensures sized { IsSized self.now.state }
-        ensures stops { StopsByLoad self.now.history }
-        ensures full { TellsFullStop self.now.state.going self.now.history }
     {
         let _ = &self.history;
-    }
-
-    /// Whether the history takes no more than what must follow it.
-    pub fn is_full(&self) -> bool
-        ensures { result ≡ nat_le full_load (load self.now.history) }
-    {
-        let entries = self.history.len() as u64;
-        entries.saturating_add(self.pages.saturating_mul(64)) >= FULL_LOAD
     }
 
     /// Records an event that the pass may make, and takes the room for what must follow it. Where it is refused nothing
@@ -147,7 +134,7 @@ impl Book {
     pub fn record(&mut self, who: u32, event: Event) -> Result<Reply, BoardFault>
         requires who { who < self.old.passes }
         requires allowed { is_halted self.old.state.going ≡ false → is_allowed self.old.state event ≡ true }
-        requires role { may_make who (row_in who self.old) (load self.old.history) event ≡ true }
+        requires role { may_make who (row_in who self.old) event ≡ true }
         ensures ok { OnOk result (IsRecorded who event self.old self.new) }
         ensures entries { AddsOnly who self.old self.new }
         ensures row { IfOk result (λ answer. row_in who self.new ≡ has_after (row_in who self.old) event answer) }
@@ -160,9 +147,6 @@ impl Book {
         one_row_changes();
         if self.state().going.is_halted() {
             return Err(BoardFault::Halted);
-        }
-        if self.is_full() {
-            return Err(BoardFault::Full);
         }
         let room = room_with_event(self.state());
         if self.history.reserve(room).is_err() {
@@ -182,8 +166,7 @@ impl Book {
         requires who { who < self.old.passes }
         requires allowed { is_allowed self.old.state event ≡ true }
         requires sure { is_sure event ≡ true }
-        requires light { event ≡ memory_stop → load self.old.history < full_load }
-        requires role { may_make who (row_in who self.old) (load self.old.history) event ≡ true }
+        requires role { may_make who (row_in who self.old) event ≡ true }
         ensures is { self.new ≡ book_with_entry who event self.old }
         ensures entries { AddsOnly who self.old self.new }
         ensures row { row_in who self.new ≡ has_after (row_in who self.old) event result }

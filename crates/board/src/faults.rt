@@ -7,8 +7,6 @@ ghost use Rattle.board.specs.Faults.{accept_fault};
 pub enum BoardFault {
     /// The server has stopped.
     Halted,
-    /// The history takes no more: its load is 4,063,232 or more.
-    Full,
     /// Memory was wanted and not found.
     NoMemory,
 }
@@ -18,8 +16,6 @@ pub enum BoardFault {
 pub enum AcceptFault {
     /// The server has stopped.
     Halted,
-    /// The history takes no more: its load is 4,063,232 or more.
-    Full,
     /// No child takes a connection.
     NoChild,
     /// No slot is vacant.
@@ -35,7 +31,6 @@ impl AcceptFault {
     {
         match fault {
             BoardFault::Halted => AcceptFault::Halted,
-            BoardFault::Full => AcceptFault::Full,
             BoardFault::NoMemory => AcceptFault::NoMemory,
         }
     }

@@ -2,7 +2,6 @@
 ghost use Rattle.std.specs.Prelude.{◌≡◌, ℕ, ◌≤◌, ◌++◌, List, length, find, min, nat_le, IfSome};
 ghost use Rattle.std.specs.List.{range_with_len, reduce};
 ghost use Rattle.conn_machine.specs.Children.{is_empty};
-ghost use Rattle.conn_machine.specs.Runs.{full_load, load};
 ghost use Rattle.conn_machine.specs.Table.{child_passes};
 ghost use Rattle.board.specs.Finds.{FindsRetirable, FindsRow, IsFirstDue, acceptable, cause_of, ending_moments, has_to_be_drained, is_due, is_late, is_let_go, is_quiet, is_waiting, next_deadline_of, startable, waits_for};
 
@@ -104,13 +103,6 @@ impl<L: Link, N: Known> Board<L, N> {
         ensures { result ≡ is_quiet self.now.book.state }
     {
         !self.parts.book.state().rows.has_in_hand()
-    }
-
-    /// Whether the history takes no more than what must follow it.
-    pub fn is_full(&self) -> bool
-        ensures { result ≡ nat_le full_load (load self.now.book.history) }
-    {
-        self.parts.book.is_full()
     }
 
     /// Whether the server takes connections, ends, or has stopped.

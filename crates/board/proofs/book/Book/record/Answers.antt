@@ -1,15 +1,14 @@
-use Rattle.std.proofs.Common.{◌≡◌, List, ◌+◌, ◌<◌, ◌≤◌, true, false, length, vec_capacity, if◌then◌else◌, subst, sym, refl, ◌∙◌, ap, rules}
+use Rattle.std.proofs.Common.{◌≡◌, List, ◌+◌, ◌≤◌, true, false, length, vec_capacity, if◌then◌else◌, subst, sym, refl, ◌∙◌, ap, rules}
 use Rattle.conn_machine.specs.States.{is_halted}
 use Rattle.conn_machine.specs.declared.state.State.{State}
 use Rattle.conn_machine.specs.Table.{is_allowed, reply}
 use Rattle.conn_machine.specs.declared.event.Entry.{Entry}
 use Rattle.conn_machine.specs.Folds.{opening_record}
-use Rattle.conn_machine.specs.Runs.{Adds, after, asks_page, full_load, load}
+use Rattle.conn_machine.specs.Runs.{Adds, after, asks_page}
 use Rattle.board.specs.Book.{SeenBook, entry_of, numbered_entry}
 use Rattle.board.specs.RoomInside.{room_with_event}
 use Rattle.board.proofs.BookLemmas.{goes_by, open_if, kept_with_room, recorded_is}
 use Rattle.board.proofs.PassLemmas.{adds_recorded, is_own, may_be_next, role_inside, row-recorded}
-use Rattle.board.proofs.StopLemmas.{stop_by_role}
 use Rattle.board.proofs.book.Book.record.Goals as goal
 
 pub step-requires-clause-allowed : goal.step-requires-clause-allowed
@@ -33,15 +32,12 @@ invariant_of-self-2 c =
     let e = numbered_entry c.args.who c.args.event c.in-Ok.reply folded history in
     let role = role_inside c.args.who _ c.args.self.now c.args.event c.self.view_is c.requires.role in
     let goes_on = c.histories_go_on_by_one_entry.ensures in
-    let free = open_if c.args.self.now c.state.result.now c.is_halted.result c.is_full.result c.state.ensures c.is_halted.ensures c.is_full.ensures c.if-is_halted.false c.if-is_full.false in
-    let light : load history < full_load = subst (λ (v : SeenBook). load v.history < full_load) (sym c.self.view_is) free.light in
     rw c.append.ensures.passes
     (kept_with_room c.one_row_changes.ensures base folded history c.append.new.history.items inside.state c.step.new.state inside.ordinals.items
     c.append.new.ordinals.items inside.pages (inside.pages + c.pages_in-pages.result) (vec_capacity inside.history) (vec_capacity c.append.new.history)
     e c.self.invariant may c.append.ensures.numbers
     (record { sound = c.step.ensures.sound; sizes = c.step.ensures.sizes; sized = c.step.ensures.sized })
     (rw c.reserve.ensures.items at c.append.ensures.history) c.in-Ok.ensures.state pages space
-    (stop_by_role c.args.who _ (load history) c.args.event role (λ is. light))
     (goes_by base folded history inside.state inside.ordinals.items inside.pages (vec_capacity inside.history) e c.self.invariant may c.in-Ok.ensures.reply
     refl role goes_on.state goes_on.history goes_on.made))
 
@@ -49,7 +45,7 @@ pub returns-clause-ok : goal.returns-clause-ok
 returns-clause-ok c =
     let inside = c.self.inside in
     record {
-      was_open = open_if c.args.self.now c.state.result.now c.is_halted.result c.is_full.result c.state.ensures c.is_halted.ensures c.is_full.ensures c.if-is_halted.false c.if-is_full.false;
+      was_open = open_if c.args.self.now c.state.result.now c.is_halted.result c.state.ensures c.is_halted.ensures c.if-is_halted.false;
       new_is = recorded_is c.args.self.now inside.base.value inside.history.items c.append.new.history.items inside.state c.step.new.state _ _ c.args.who
           c.args.event c.in-Ok.reply c.self.view_is (rw c.reserve.ensures.items at c.append.ensures.history) c.in-Ok.ensures.state
           c.in-Ok.ensures.reply c.append.ensures.passes;

@@ -1,13 +1,12 @@
 use Rattle.std.proofs.Common.{◌≡◌, ◌+◌, ◌≤◌, ◌<◌, true, length, vec_capacity, subst, sym, refl, ap, ◌∙◌, rules, arith}
 use Rattle.conn_machine.specs.Table.{is_allowed, next, reply}
 use Rattle.conn_machine.specs.Folds.{opening_record}
-use Rattle.conn_machine.specs.Runs.{after, full_load, load}
+use Rattle.conn_machine.specs.Runs.{after}
 use Rattle.board.specs.Book.{SeenBook, entry_of, numbered_entry}
 use Rattle.board.specs.RoomInside.{owed_entries}
 use Rattle.board.proofs.BookLemmas.{goes_by, kept_sure, recorded_is}
 use Rattle.board.proofs.RoomLemmas.{owed-sure}
 use Rattle.board.proofs.PassLemmas.{adds_recorded, is_own, may_be_next, role_inside, row-recorded}
-use Rattle.board.proofs.StopLemmas.{stop_by_role}
 use Rattle.board.proofs.book.Book.record_sure.Goals as goal
 
 pub append-requires-clause-room : goal.append-requires-clause-room
@@ -29,15 +28,12 @@ invariant_of-self c =
     let e = numbered_entry c.args.who c.args.event c.in-Ok.reply folded history in
     let role = role_inside c.args.who _ c.args.self.now c.args.event c.self.view_is c.requires.role in
     let goes_on = c.histories_go_on_by_one_entry.ensures in
-    let stop =
-    stop_by_role c.args.who _ (load history) c.args.event role
-    (λ is. subst (λ (v : SeenBook). load v.history < full_load) (sym c.self.view_is) (c.requires.light is)) in
     rw c.append.ensures.passes
     (kept_sure base folded history c.append.new.history.items inside.state c.step.new.state inside.ordinals.items
     c.append.new.ordinals.items inside.pages (vec_capacity inside.history) (vec_capacity c.append.new.history)
     e c.self.invariant may c.append.ensures.numbers
     (record { sound = c.step.ensures.sound; sizes = c.step.ensures.sizes; sized = c.step.ensures.sized })
-    c.append.ensures.history c.in-Ok.ensures.state c.requires.sure c.append.ensures.room stop
+    c.append.ensures.history c.in-Ok.ensures.state c.requires.sure c.append.ensures.room
     (goes_by base folded history inside.state inside.ordinals.items inside.pages (vec_capacity inside.history) e c.self.invariant may c.in-Ok.ensures.reply
     refl role goes_on.state goes_on.history goes_on.made))
 
