@@ -69,7 +69,6 @@ closes-for turn.NoMemory c why how exits = cc
 -- the causes of one that is given up
 given-causes : (f : BoardFault) → (given_up_cause f ≡ cause.Stopped) ⊎ (given_up_cause f ≡ cause.NoMemory)
 given-causes fault.Halted = inl refl
-given-causes fault.Full = inl refl
 given-causes fault.NoMemory = inr refl
 
 -- one that was to wait may be given up

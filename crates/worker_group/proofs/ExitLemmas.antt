@@ -1,8 +1,7 @@
 -- How a connection is left: the kind that it waits for, what lasts of a refusal, and what only the listener changes.
-use Rattle.std.proofs.Common.{◌≡◌, ◌==◌, ℕ, ◌+◌, ◌<◌, ◌≤◌, not, true, List, [], ◌∷◌, ◌++◌, length, cond, count_by, refl, Option, None, Some, slice_set, Result, Ok, Err, OnOk, IfErr, sym, ap, subst, ◌∙◌, inl, inr, arith}
-use Rattle.std.proofs.lemmas.List.{get_or-set_same, length_push}
+use Rattle.std.proofs.Common.{◌≡◌, ◌==◌, ℕ, ◌<◌, not, true, List, [], ◌∷◌, ◌++◌, length, refl, Option, None, Some, slice_set, Result, Ok, Err, OnOk, IfErr, sym, ap, subst, ◌∙◌, inl, inr}
+use Rattle.std.proofs.lemmas.List.{get_or-set_same}
 use Rattle.std.proofs.lemmas.Option.{slice_get_within}
-use Rattle.std.proofs.lemmas.List.Sums.{sum_by-append}
 use Rattle.mpm_base.specs.declared.conn.ConnName.{ConnName}
 use Rattle.mpm_base.specs.declared.conn.Ask.{Ask}
 use Rattle.mpm_base.specs.declared.conn.Cause.{Cause}
@@ -11,12 +10,10 @@ use Rattle.mpm_base.specs.declared.conn.Kind.{Kind}
 use Rattle.mpm_base.specs.declared.conn.Kind.TheVariants.{KeepAlive}
 use Rattle.mpm_base.specs.declared.conn.Tail.{Tail}
 use Rattle.mpm_base.specs.declared.conn.Tail.TheVariants.{Direct}
-use Rattle.conn_machine.specs.declared.event.Entry.{Entry}
 use Rattle.conn_machine.specs.declared.event.Event.TheVariants as event
 use Rattle.conn_machine.specs.declared.row.Row.{Row}
 use Rattle.conn_machine.specs.Rows.{live_row}
 use Rattle.conn_machine.specs.States.{is_halted}
-use Rattle.conn_machine.specs.Runs.{asks_page, full_load, load}
 use Rattle.conn_state.specs.declared.turn.LastTurn.{LastTurn}
 use Rattle.conn_state.specs.declared.turn.LastTurn.TheVariants as turn
 use Rattle.conn_state.specs.declared.turn.ReadTurn.{ReadTurn}
@@ -27,7 +24,7 @@ use Rattle.conn_state.specs.Answered.{SeenEnded, IsEndOf}
 use Rattle.conn_state.specs.Turns.{ReadsOn, WritesOn, after_reading, after_writing}
 use Rattle.board.specs.declared.faults.BoardFault.{BoardFault}
 use Rattle.board.specs.declared.faults.BoardFault.TheVariants as fault
-use Rattle.board.specs.Book.{SeenBook, book_with_entry, entry_of, full_stop}
+use Rattle.board.specs.Book.{SeenBook, book_with_entry}
 use Rattle.board.specs.Board.{SeenBoard, Agrees, conn_at}
 use Rattle.board.specs.Faults.{IsRefusedFor}
 use Rattle.worker_group.specs.declared.service.Exit.{Exit}
@@ -91,31 +88,10 @@ park-left who kind c a b (Err fault) parked given why there ended =
 
 -- ## What lasts of a refusal
 
--- a history weighs no less with one more entry
-load-more : (history : List Entry) (e : Entry) → load history ≤ load (history ++ e ∷ [])
-load-more history e =
-    let longer = length_push history e in
-    let pages : count_by (λ (x : Entry). asks_page x.event) (history ++ e ∷ [])
-    ≡ count_by (λ (x : Entry). asks_page x.event) history + count_by (λ (x : Entry). asks_page x.event) (e ∷ []) =
-    sum_by-append (λ (x : Entry). cond (asks_page x.event) 1 0) history (e ∷ []) in
-    omega (arith, longer, pages)
-
 -- the server has stopped still, after a close
 pub halted-closed : (who : ℕ) (name : ConnName) (reason : Cause) (how : Tail) (b b' : SeenBook) → is_halted b.state.going ≡ true
     → b' ≡ book_with_entry who (event.Close name reason how) b → RefusalLasts fault.Halted b'
 halted-closed who name reason how b b' halted is = ap (λ (v : SeenBook). is_halted v.state.going) is ∙ halted
-
--- a full history stopped the server, and is full still, after a close
-pub full-closed : (who : ℕ) (name : ConnName) (reason : Cause) (how : Tail) (b b1 b2 : SeenBook) → full_load ≤ load b.history
-    → b1 ≡ book_with_entry who full_stop b → b2 ≡ book_with_entry who (event.Close name reason how) b1 → RefusalLasts fault.Full b2
-full-closed who name reason how b b1 b2 heavy stopped closed =
-    let stop_load = subst (λ (v : SeenBook). load b.history ≤ load v.history) (sym stopped) (load-more b.history (entry_of who full_stop b)) in
-    let close_load =
-    subst (λ (v : SeenBook). load b1.history ≤ load v.history) (sym closed)
-    (load-more b1.history (entry_of who (event.Close name reason how) b1)) in (
-      ap (λ (v : SeenBook). is_halted v.state.going) closed ∙ ap (λ (v : SeenBook). is_halted v.state.going) stopped,
-      omega (arith, heavy, stop_load, close_load),
-    )
 
 -- ## What only the listener changes
 
@@ -129,11 +105,6 @@ pub rest_closed : (who : ℕ) (name : ConnName) (reason : Cause) (how : Tail) (b
     → b' ≡ book_with_entry who (event.Close name reason how) b → LeavesRest b b'
 rest_closed who name reason how b b' is =
     subst (LeavesRest b) (sym is) (record { moment = refl; accepted = refl; up = λ up. up })
-
--- after a stop because the history is full
-pub rest_stopped : (who : ℕ) (b b' : SeenBook) → b' ≡ book_with_entry who full_stop b → LeavesRest b b'
-rest_stopped who b b' is =
-    subst (LeavesRest b) (sym is) (record { moment = refl; accepted = refl; up = λ up. inr refl })
 
 -- and after two steps that leave it so
 pub rest_more : (a b c : SeenBook) → LeavesRest a b → LeavesRest b c → LeavesRest a c

@@ -1,5 +1,5 @@
 -- What a worker does with one connection: which events it adds, and how it leaves the connection.
-use Rattle.std.specs.Prelude.{◌≡◌, ◌⊎◌, ◌==◌, ◌&&◌, not, ℕ, ◌≤◌, true, false, List, [], ◌∷◌, ◌++◌, length, map, if◌then◌else◌, None, Some, ⊤}
+use Rattle.std.specs.Prelude.{◌≡◌, ◌⊎◌, ◌==◌, ◌&&◌, not, ℕ, true, false, List, [], ◌∷◌, ◌++◌, length, map, if◌then◌else◌, None, Some, ⊤}
 use Rattle.mpm_base.specs.Count.{NeverFalls, Rises}
 use Rattle.mpm_base.specs.Link.{LinkCounts}
 use Rattle.mpm_base.specs.Notes.{says_last}
@@ -11,14 +11,11 @@ use Rattle.mpm_base.specs.declared.conn.Cause.{Cause}
 use Rattle.mpm_base.specs.declared.conn.Cause.TheVariants as cause
 use Rattle.mpm_base.specs.declared.conn.Tail.{Tail}
 use Rattle.mpm_base.specs.declared.conn.Tail.TheVariants.{Direct}
-use Rattle.conn_machine.specs.declared.event.Commanded.TheVariants.{Stop}
 use Rattle.conn_machine.specs.declared.event.Event.{Event}
 use Rattle.conn_machine.specs.declared.event.Event.TheVariants as event
-use Rattle.conn_machine.specs.declared.event.Why.TheVariants as why
 use Rattle.conn_machine.specs.declared.state.Going.{Going}
-use Rattle.conn_machine.specs.declared.state.Going.TheVariants.{Halted}
 use Rattle.conn_machine.specs.States.{is_halted}
-use Rattle.conn_machine.specs.Runs.{after, full_load, load}
+use Rattle.conn_machine.specs.Runs.{after}
 use Rattle.conn_state.specs.declared.turn.LastTurn.{LastTurn}
 use Rattle.conn_state.specs.declared.turn.LastTurn.TheVariants as turn
 use Rattle.conn_state.specs.declared.turn.LastLinger.{LastLinger}
@@ -112,7 +109,6 @@ pub record IsLastEnded (c : SeenConn) (why : Cause) (how : Tail) (ended : List S
 -- why a connection ends that is given up for the fault
 abbrev pub given_up_cause : BoardFault → Cause
 given_up_cause fault.Halted = cause.Stopped
-given_up_cause fault.Full = cause.Stopped
 given_up_cause fault.NoMemory = cause.NoMemory
 
 -- the connection was given up, and is the last of those that ended
@@ -136,20 +132,17 @@ pub record IsLetLinger (why : Cause) (c : SeenConn) (b : SeenBoard) : Type 0 whe
 
 -- ## What lasts of a refusal, and of the rest
 
--- what a refusal for the fault says, and what stays so whatever the passes record then: the server has stopped, or the history
--- is full
+-- what a refusal for the fault says, and what stays so whatever the passes record then: the server has stopped
 abbrev pub RefusalLasts : BoardFault → SeenBook → Type 0
 RefusalLasts fault.Halted b = is_halted b.state.going ≡ true
-RefusalLasts fault.Full b = (is_halted b.state.going ≡ true) × (full_load ≤ load b.history)
 RefusalLasts fault.NoMemory b = ⊤
 
--- the server has not stopped, unless for a full history, as each pass may stop it
+-- the server has not stopped
 abbrev pub IsUp : Going → Type 0
-IsUp going = (is_halted going ≡ false) ⊎ (going ≡ Halted why.Full)
+IsUp going = is_halted going ≡ false
 
--- the moment is as it was, and how many connections were taken, and the server didn't stop, unless for a full history. The
--- listener's own calls between two ticks leave this too, though they start and let go of children and signal slots; what another
--- pass leaves is more (`OnlyServes`)
+-- the moment is as it was, and how many connections were taken, and the server didn't stop. The listener's own calls between two
+-- ticks leave this too, though they start and let go of children and signal slots; what another pass leaves is more (`OnlyServes`)
 pub record LeavesRest (old new : SeenBook) : Type 0 where
   pub moment : new.state.moment ≡ old.state.moment
   pub accepted : new.state.accepted ≡ old.state.accepted
@@ -157,11 +150,9 @@ pub record LeavesRest (old new : SeenBook) : Type 0 where
 
 -- ## The events of that
 
--- the events by which a connection is given up for the fault: it is closed, and a full history stops the server before
+-- the events by which a connection is given up for the fault: it is closed
 abbrev pub give_up_events : BoardFault → ConnName → List Event
-give_up_events fault.Halted name = event.Close name cause.Stopped Direct ∷ []
-give_up_events fault.Full name = event.Command (Stop why.Full) ∷ event.Close name cause.Stopped Direct ∷ []
-give_up_events fault.NoMemory name = event.Close name cause.NoMemory Direct ∷ []
+give_up_events fault name = event.Close name (given_up_cause fault) Direct ∷ []
 
 -- the events by which a connection in hand is left
 abbrev pub left_events : Exit → ConnName → List Event
@@ -220,7 +211,7 @@ IsEnding (exit.Linger why) = ⊥
 IsEnding (exit.Close why how) = ⊤
 IsEnding (exit.GiveUp fault) = ⊤
 
--- a call of the board was refused: for a stop, or a full history, which makes one, or for want of memory
+-- a call of the board was refused: for a stop, or for want of memory
 abbrev pub IsRefusedCause : Cause → Type 0
 IsRefusedCause why = (why ≡ cause.Stopped) ⊎ (why ≡ cause.NoMemory)
 

@@ -20,7 +20,6 @@ ghost use Rattle.worker_group.specs.ServiceInside.{MayLeave};
 
 use crate::hands::Hands;
 use board::{Board, BoardFault};
-use conn_machine::Why;
 use conn_state::{Conn, Known, ReadTurn, WriteTurn};
 use mpm_base::{Ask, Bell, Cause, ConnName, Gate, Kind, Link, NoMemory, Tail};
 use std::sync::Wait;
@@ -240,8 +239,7 @@ pub fn let_linger<L: Link, N: Known>(
     }
 }
 
-/// Ends a connection for which a call of the board was refused: it was stopped, or memory lacks. A full history stops
-/// the server. Takes no memory.
+/// Ends a connection for which a call of the board was refused: the server has stopped, or memory lacks. Takes no memory.
 pub fn give_up<L: Link, N: Known>(
     board: &mut Board<L, N>,
     who: u32,
@@ -259,10 +257,6 @@ pub fn give_up<L: Link, N: Known>(
 {
     match fault {
         BoardFault::Halted => close(board, who, conn, Cause::Stopped, Tail::Direct),
-        BoardFault::Full => {
-            board.halt(who, Why::Full);
-            close(board, who, conn, Cause::Stopped, Tail::Direct);
-        }
         BoardFault::NoMemory => close(board, who, conn, Cause::NoMemory, Tail::Direct),
     }
 }

@@ -1,27 +1,18 @@
-use Rattle.std.proofs.Common.{◌≡◌, ℕ, true, ◌∷◌, [], None, Some, ap, sym, subst, ◌∙◌}
-use Rattle.std.proofs.lemmas.Bool.{le-leb}
+use Rattle.std.proofs.Common.{◌≡◌, ℕ, true, None, sym, subst}
 use Rattle.mpm_base.specs.declared.conn.ConnName.{ConnName}
 use Rattle.mpm_base.specs.declared.conn.Cause.TheVariants as cause
 use Rattle.mpm_base.specs.declared.conn.Tail.TheVariants.{Direct}
-use Rattle.conn_machine.specs.Runs.{full_load, load}
-use Rattle.conn_machine.specs.declared.event.Event.TheVariants as event
 use Rattle.conn_machine.specs.States.{is_halted}
 use Rattle.conn_state.specs.Conn.{SeenConn}
 use Rattle.board.specs.declared.faults.BoardFault.{BoardFault}
 use Rattle.board.specs.declared.faults.BoardFault.TheVariants as fault
-use Rattle.board.specs.Faults.{IsFull, IsRefusedFor}
-use Rattle.board.specs.Book.{SeenBook, full_stop}
+use Rattle.board.specs.Faults.{IsRefusedFor}
+use Rattle.board.specs.Book.{SeenBook}
 use Rattle.board.specs.Board.{SeenBoard}
 use Rattle.worker_group.specs.Acts.{Acts}
 use Rattle.worker_group.specs.Service.{IsGivenUp, RefusalLasts, give_up_events}
-use Rattle.worker_group.proofs.ActsLemmas.{acts_more, acts_recorded}
-use Rattle.worker_group.proofs.ExitLemmas.{full-closed, halted-closed, rest_closed, rest_more, rest_stopped}
+use Rattle.worker_group.proofs.ExitLemmas.{halted-closed, rest_closed}
 use Rattle.worker_group.proofs.service.give_up.Goals as goal
-
-pub halt-requires-clause-role : goal.halt-requires-clause-role
-halt-requires-clause-role g c =
-    let why : IsFull c.args.board.now.book = subst (λ (f : BoardFault). IsRefusedFor f c.args.board.now.book) c.in-Full.is c.requires.why in
-    le-leb full_load (load c.args.board.now.book.history) why.heavy
 
 -- the events of the fault that it is
 acts-for : (who : ℕ) (name : ConnName) (f g : BoardFault) (a b : SeenBook) → f ≡ g → Acts who (give_up_events g name) None a b
@@ -39,10 +30,6 @@ ended-for c f g b is ended = subst (λ (x : BoardFault). IsGivenUp x c b) (sym i
 pub returns-in-Halted-clause-ended : goal.returns-in-Halted-clause-ended
 returns-in-Halted-clause-ended g c =
     ended-for c.args.conn c.args.fault fault.Halted c.close.new.board c.in-Halted.is c.close.ensures.last
-
-pub returns-in-Full-clause-ended : goal.returns-in-Full-clause-ended
-returns-in-Full-clause-ended g c =
-    ended-for c.args.conn c.args.fault fault.Full c.close-in-Full.new.board c.in-Full.is c.close-in-Full.ensures.last
 
 pub returns-in-NoMemory-clause-ended : goal.returns-in-NoMemory-clause-ended
 returns-in-NoMemory-clause-ended g c =
@@ -63,28 +50,6 @@ returns-in-Halted-clause-lasts g c =
 pub returns-in-Halted-clause-rest : goal.returns-in-Halted-clause-rest
 returns-in-Halted-clause-rest g c listener =
     rest_closed c.args.who c.args.conn.name cause.Stopped Direct c.args.board.now.book c.close.new.board.book c.close.ensures.closed
-
-pub returns-in-Full-clause-acts : goal.returns-in-Full-clause-acts
-returns-in-Full-clause-acts g c =
-    let halted : Acts c.args.who (full_stop ∷ []) (Some c.args.conn.name) c.args.board.now.book c.halt.new.self.book =
-    acts_recorded c.args.who full_stop (Some c.args.conn.name) c.args.board.now c.halt.new.self c.halt.ensures.is c.halt.ensures.entries
-    (c.halt.ensures.row ∙ c.requires.row) in
-    acts-for c.args.who c.args.conn.name c.args.fault fault.Full c.args.board.now.book c.close-in-Full.new.board.book c.in-Full.is
-    (acts_more c.args.who (full_stop ∷ []) (event.Close c.args.conn.name cause.Stopped Direct ∷ []) (Some c.args.conn.name) None
-    c.args.board.now.book c.halt.new.self.book c.close-in-Full.new.board.book halted c.close-in-Full.ensures.acts)
-
-pub returns-in-Full-clause-lasts : goal.returns-in-Full-clause-lasts
-returns-in-Full-clause-lasts g c =
-    let why : IsFull c.args.board.now.book = subst (λ (f : BoardFault). IsRefusedFor f c.args.board.now.book) c.in-Full.is c.requires.why in
-    lasts-for c.args.fault fault.Full c.close-in-Full.new.board.book c.in-Full.is
-    (full-closed c.args.who c.args.conn.name cause.Stopped Direct c.args.board.now.book c.halt.new.self.book c.close-in-Full.new.board.book why.heavy
-    (ap (λ (b : SeenBoard). b.book) c.halt.ensures.is) c.close-in-Full.ensures.closed)
-
-pub returns-in-Full-clause-rest : goal.returns-in-Full-clause-rest
-returns-in-Full-clause-rest g c listener =
-    rest_more c.args.board.now.book c.halt.new.self.book c.close-in-Full.new.board.book
-    (rest_stopped c.args.who c.args.board.now.book c.halt.new.self.book (ap (λ (b : SeenBoard). b.book) c.halt.ensures.is))
-    (rest_closed c.args.who c.args.conn.name cause.Stopped Direct c.halt.new.self.book c.close-in-Full.new.board.book c.close-in-Full.ensures.closed)
 
 pub returns-in-NoMemory-clause-acts : goal.returns-in-NoMemory-clause-acts
 returns-in-NoMemory-clause-acts g c =
