@@ -1,64 +1,18 @@
 -- What is added to the entries that a value keeps is added to the whole history.
-use Rattle.std.proofs.Common.{◌≡◌, ℕ, ◌+◌, ◌<◌, ◌≤◌, true, List, [], ◌∷◌, ◌++◌, length, Option, None, sym, ap, subst, ◌∙◌, append_assoc, length-append, arith}
-use Rattle.std.specs.Prelude.{count_by, slice_index}
-use Rattle.std.proofs.lemmas.Bool.{le-leb, leb-true}
-use Rattle.std.proofs.lemmas.List.Sums.{sum_by-append}
-use Rattle.mpm_base.specs.declared.conn.ConnName.{ConnName}
-use Rattle.conn_machine.specs.declared.event.Why.TheVariants as why
-use Rattle.conn_machine.specs.declared.event.Commanded.{Commanded}
-use Rattle.conn_machine.specs.declared.event.Commanded.TheVariants.{Graceful, Refused, GracefulStop, Stop}
-use Rattle.conn_machine.specs.declared.event.Event.{Event}
-use Rattle.conn_machine.specs.declared.event.Event.TheVariants as event
+use Rattle.std.proofs.Common.{◌≡◌, ℕ, ◌+◌, ◌<◌, List, [], ◌∷◌, ◌++◌, length, None, sym, ap, subst, ◌∙◌, append_assoc, length-append, arith}
+use Rattle.std.specs.Prelude.{slice_index}
 use Rattle.conn_machine.specs.declared.event.Entry.{Entry}
 use Rattle.conn_machine.specs.declared.folded.Folded.{Folded}
 use Rattle.conn_machine.specs.declared.kept.Ledger.{Ledger}
 use Rattle.conn_machine.specs.declared.state.State.{State}
 use Rattle.conn_machine.specs.Folds.{GoesOnFrom, opening_record}
-use Rattle.conn_machine.specs.Runs.{AreEntriesOf, IsNextOf, after, asks_page, entries_of, first_row, full_load, load, may_make, may_order, row_after, row_from, row_of}
+use Rattle.conn_machine.specs.Runs.{AreEntriesOf, IsNextOf, after, entries_of, first_row, may_make, row_after, row_from, row_of}
 use Rattle.conn_machine.specs.Table.{is_allowed, reply}
 use Rattle.table_rule.specs.declared.view.Left.{Left}
 use Rattle.table_rule.specs.declared.view.Origin.{Origin}
 use Rattle.table_rule.specs.Ledgers.{IsSplit}
 use Rattle.table_rule.proofs.MachineLemmas.{after-append, entries_of-append, row_more}
 use Rattle.table_rule.proofs.RecordLemmas.{each_first}
-
--- ## The load
-
--- a history weighs no less than its end
-load_behind : (a b : List Entry) → load b ≤ load (a ++ b)
-load_behind a b =
-    let long = length-append a b in
-    let pages : count_by (λ (e : Entry). asks_page e.event) (a ++ b) ≡ count_by (λ (e : Entry). asks_page e.event) a + count_by (λ (e : Entry). asks_page e.event) b = sum_by-append _ a b in
-    omega (arith, long, pages)
-
--- what may be made may be made where the history weighs more
-order_more : (p weight more : ℕ) (c : Commanded) → weight ≤ more → may_order p weight c ≡ true → may_order p more c ≡ true
-order_more p weight more (Graceful shape) le may = may
-order_more p weight more (Refused reason) le may = may
-order_more p weight more (GracefulStop until) le may = may
-order_more p weight more (Stop why.Asked) le may = may
-order_more p weight more (Stop why.Overdue) le may = may
-order_more p weight more (Stop why.FrontEnded) le may = may
-order_more p weight more (Stop why.FrontFailed) le may = may
-order_more p weight more (Stop why.Full) le may = le-leb full_load more (let full = leb-true full_load weight may in omega (arith, full, le))
-order_more p weight more (Stop why.NoMemory) le may = may
-
-make_more : (p : ℕ) (had : Option ConnName) (weight more : ℕ) (e : Event) → weight ≤ more → may_make p had weight e ≡ true → may_make p had more e ≡ true
-make_more p had weight more (event.Accept slot) le may = may
-make_more p had weight more (event.Park name kind) le may = may
-make_more p had weight more (event.Hold name) le may = may
-make_more p had weight more (event.Queue name) le may = may
-make_more p had weight more (event.Start name) le may = may
-make_more p had weight more (event.Answer name ask) le may = may
-make_more p had weight more (event.Linger name cause) le may = may
-make_more p had weight more (event.Close name cause tail) le may = may
-make_more p had weight more (event.Ready slot) le may = may
-make_more p had weight more (event.Tick m) le may = may
-make_more p had weight more (event.StartChild k) le may = may
-make_more p had weight more (event.Command c) le may = order_more p weight more c le may
-make_more p had weight more (event.Retire k) le may = may
-
--- ## The whole history
 
 row_whole : (p : ℕ) (f later : Folded) (left history : List Entry) → GoesOnFrom p f left later → row_from f p (left ++ history) ≡ row_from later p history
 row_whole p f later left history goes =
@@ -79,8 +33,7 @@ next_whole p start base f later left history e same goes is =
       is_allowed = ap (λ s. is_allowed s e.event) state ∙ is.is_allowed;
       replied = is.replied ∙ ap (λ s. reply s e.event) (sym state);
       role =
-          ap (λ had. may_make p had (load (left ++ history)) e.event) (row_whole p f later left history goes)
-          ∙ make_more p (row_from later p history) (load history) (load (left ++ history)) e.event (load_behind left history) is.role;
+          ap (λ had. may_make p had e.event) (row_whole p f later left history goes) ∙ is.role;
     }
 
 entries_whole : (p : ℕ) (start base : State) (f later : Folded) (left history added : List Entry) → base ≡ after start left → GoesOnFrom p f left later

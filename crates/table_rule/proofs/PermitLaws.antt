@@ -23,7 +23,7 @@ use Rattle.conn_machine.specs.Children.{child_at, all_stopped, stopped_child, is
 use Rattle.conn_machine.specs.States.{is_serving, is_halted, is_signalled}
 use Rattle.conn_machine.specs.Table.{is_allowed, next, reply, may_be_queued, next_command, taken_row, held_row, queued_row, served_row, answered_row, child_passes}
 use Rattle.conn_machine.specs.declared.folded.Folded.{Folded}
-use Rattle.conn_machine.specs.Runs.{after, has_after, may_make, row_from, load, AreEntriesOf}
+use Rattle.conn_machine.specs.Runs.{after, has_after, may_make, row_from, AreEntriesOf}
 use Rattle.conn_machine.specs.Sound.{IsSound}
 use Rattle.table_rule.specs.Histories.{ArePermitted, IsPermitted, threads_of}
 use Rattle.table_rule.proofs.MachineLemmas.{after-snoc, get_changed, had_row, met, none_some, off, row_own, some_is}
@@ -84,44 +84,44 @@ accepted_row s slot i r' same at = by s.rows slot (subst (λ j. slice_get (updat
     by (x ∷ rows) (suc j) e = by rows j e
 
 -- an event that a pass with this permit may make leaves it so
-event_permits : (s : State) (p weight : ℕ) (had : Option ConnName) (permit : Option ℕ) (credits : List ℕ) (e : Event) → is_allowed s e ≡ true
-    → may_make p had weight e ≡ true → IsPermitted permit credits s e → IsPermittedRow s had permit
+event_permits : (s : State) (p : ℕ) (had : Option ConnName) (permit : Option ℕ) (credits : List ℕ) (e : Event) → is_allowed s e ≡ true
+    → may_make p had e ≡ true → IsPermitted permit credits s e → IsPermittedRow s had permit
     → IsPermittedRow (next s e) (has_after had e (reply s e)) permit
-event_permits s p weight had permit credits (event.Accept slot) may role permitted has name r is at carried =
+event_permits s p had permit credits (event.Accept slot) may role permitted has name r is at carried =
     off (accepted_row s slot name.slot r (ap (λ (n : ConnName). n.slot) (some_is _ name _ is refl)) at) carried
-event_permits s p weight had permit credits (event.Park name' kind) may role permitted has name r is at carried = none_some None name refl is
-event_permits s p weight had permit credits (event.Hold name') may role permitted has name r is at carried =
+event_permits s p had permit credits (event.Park name' kind) may role permitted has name r is at carried = none_some None name refl is
+event_permits s p had permit credits (event.Hold name') may role permitted has name r is at carried =
     let m = met _ s.rows name' may in
     held_permits s.rows name'.slot m.row r held_row permit m.at refl name.slot (ap (λ (n : ConnName). n.slot) (some_is (Some name') name name' is refl)) at carried
-event_permits s p weight had permit credits (event.Queue name') may role permitted has name r is at carried =
+event_permits s p had permit credits (event.Queue name') may role permitted has name r is at carried =
     let m = met (may_be_queued s) s.rows name' (and_parts (not (is_halted s.going) && is_signalled s name'.slot) _ may).1 in
     let row : permitted.0 ≡ m.row = some_is _ permitted.0 m.row permitted.1 m.live in
     kept_permits s.rows name'.slot m.row r queued_row permit m.at refl (permitted.2 ∙ ap (λ (x : Row). Some x.child) row)
     name.slot (ap (λ (n : ConnName). n.slot) (some_is (Some name') name name' is refl)) at
-event_permits s p weight had permit credits (event.Start name') may role permitted has name r is at carried =
+event_permits s p had permit credits (event.Start name') may role permitted has name r is at carried =
     let m = met (λ x. is_queued x.place) s.rows name' may in
     let h = had_row had name' role in
     let mine : permit ≡ Some m.row.child = has h.0 m.row h.1 (ap (λ i. slice_get s.rows i) h.2 ∙ m.at) (queued_carried m.row.place m.passes) in
     kept_permits s.rows name'.slot m.row r (served_row s) permit m.at refl mine name.slot (slot_is had h.0 name name'.slot h.1 is h.2) at
-event_permits s p weight had permit credits (event.Answer name' ask) may role permitted has name r is at carried =
+event_permits s p had permit credits (event.Answer name' ask) may role permitted has name r is at carried =
     let m = met (λ x. is_working x.place && not x.last) s.rows name' (and_parts (not (is_halted s.going)) _ may).1 in
     let h = had_row had name' role in
     let mine : permit ≡ Some m.row.child =
     has h.0 m.row h.1 (ap (λ i. slice_get s.rows i) h.2 ∙ m.at) (working_carried m.row.place (and_parts (is_working m.row.place) (not m.row.last) m.passes).0) in
     kept_permits s.rows name'.slot m.row r (answered_row s ask) permit m.at refl mine name.slot (slot_is had h.0 name name'.slot h.1 is h.2) at
-event_permits s p weight had permit credits (event.Linger name' why) may role permitted has name r is at carried = none_some None name refl is
-event_permits s p weight had permit credits (event.Close name' why how) may role permitted has name r is at carried = none_some None name refl is
-event_permits s p weight had permit credits (event.Ready slot) may role permitted has name r is at carried = has name r is at carried
-event_permits s p weight had permit credits (event.Tick m) may role permitted has name r is at carried = has name r is at carried
-event_permits s p weight had permit credits (event.StartChild k) may role permitted has name r is at carried = has name r is at carried
-event_permits s p weight had permit credits (event.Command c) may role permitted has name r is at carried = has name r is (ap (λ l. slice_get l name.slot) (sym (rows c)) ∙ at) carried
+event_permits s p had permit credits (event.Linger name' why) may role permitted has name r is at carried = none_some None name refl is
+event_permits s p had permit credits (event.Close name' why how) may role permitted has name r is at carried = none_some None name refl is
+event_permits s p had permit credits (event.Ready slot) may role permitted has name r is at carried = has name r is at carried
+event_permits s p had permit credits (event.Tick m) may role permitted has name r is at carried = has name r is at carried
+event_permits s p had permit credits (event.StartChild k) may role permitted has name r is at carried = has name r is at carried
+event_permits s p had permit credits (event.Command c) may role permitted has name r is at carried = has name r is (ap (λ l. slice_get l name.slot) (sym (rows c)) ∙ at) carried
   where
     rows : (c : Commanded) → (next_command s c).rows ≡ s.rows
     rows (Graceful shape) = refl
     rows (Refused reason) = refl
     rows (GracefulStop until) = refl
     rows (Stop reason) = refl
-event_permits s p weight had permit credits (event.Retire k) may role permitted has name r is at carried = has name r is at carried
+event_permits s p had permit credits (event.Retire k) may role permitted has name r is at carried = has name r is at carried
 
 -- so do its entries
 pub entries_permit : (start : State) (f : Folded) (p : ℕ) (before added : List Entry) (permit : Option ℕ) (credits : List ℕ) → AreEntriesOf p start f before added
@@ -132,7 +132,7 @@ entries_permit start f p before [] permit credits are permitted has =
 entries_permit start f p before (e ∷ added) permit credits are permitted has =
     let s = after start before in
     let one : IsPermittedRow (next s e.event) (has_after (row_from f p before) e.event (reply s e.event)) permit =
-    event_permits s p (load before) (row_from f p before) permit credits e.event are.0.is_allowed are.0.role permitted.0 has in
+    event_permits s p (row_from f p before) permit credits e.event are.0.is_allowed are.0.role permitted.0 has in
     let row : has_after (row_from f p before) e.event (reply s e.event) ≡ row_from f p (before ++ e ∷ []) =
     ap (λ (r : Reply). has_after (row_from f p before) e.event r) (sym are.0.replied) ∙ sym (row_own f p before e are.0.pass) in
     let two : IsPermittedRow (after start (before ++ e ∷ [])) (row_from f p (before ++ e ∷ [])) permit =
@@ -194,19 +194,19 @@ credits_same : (credits : List ℕ) (s s' : State) → IsCredited credits s → 
 credits_same credits s s' has same k lt = ⊎_elim (λ z. inl z) (λ t. inr (t ∙ sym (same k))) (has k lt)
 
 -- an event of a pass leaves each credit 0, or the workers of its child, where pass 0 may make its events with these credits
-event_credits : (s : State) (p weight : ℕ) (had : Option ConnName) (permit : Option ℕ) (credits : List ℕ) (e : Event) → IsSound s → is_allowed s e ≡ true
-    → may_make p had weight e ≡ true → (p ≡ 0 → IsPermitted permit credits s e) → IsCredited credits s → IsCredited credits (next s e)
-event_credits s p weight had permit credits (event.Accept slot) sound may role permitted has = has
-event_credits s p weight had permit credits (event.Park name kind) sound may role permitted has = has
-event_credits s p weight had permit credits (event.Hold name) sound may role permitted has = has
-event_credits s p weight had permit credits (event.Queue name) sound may role permitted has = has
-event_credits s p weight had permit credits (event.Start name) sound may role permitted has = has
-event_credits s p weight had permit credits (event.Answer name ask) sound may role permitted has = has
-event_credits s p weight had permit credits (event.Linger name why) sound may role permitted has = has
-event_credits s p weight had permit credits (event.Close name why how) sound may role permitted has = has
-event_credits s p weight had permit credits (event.Ready slot) sound may role permitted has = has
-event_credits s p weight had permit credits (event.Tick m) sound may role permitted has = has
-event_credits s p weight had permit credits (event.StartChild i) sound may role permitted has =
+event_credits : (s : State) (p : ℕ) (had : Option ConnName) (permit : Option ℕ) (credits : List ℕ) (e : Event) → IsSound s → is_allowed s e ≡ true
+    → may_make p had e ≡ true → (p ≡ 0 → IsPermitted permit credits s e) → IsCredited credits s → IsCredited credits (next s e)
+event_credits s p had permit credits (event.Accept slot) sound may role permitted has = has
+event_credits s p had permit credits (event.Park name kind) sound may role permitted has = has
+event_credits s p had permit credits (event.Hold name) sound may role permitted has = has
+event_credits s p had permit credits (event.Queue name) sound may role permitted has = has
+event_credits s p had permit credits (event.Start name) sound may role permitted has = has
+event_credits s p had permit credits (event.Answer name ask) sound may role permitted has = has
+event_credits s p had permit credits (event.Linger name why) sound may role permitted has = has
+event_credits s p had permit credits (event.Close name why how) sound may role permitted has = has
+event_credits s p had permit credits (event.Ready slot) sound may role permitted has = has
+event_credits s p had permit credits (event.Tick m) sound may role permitted has = has
+event_credits s p had permit credits (event.StartChild i) sound may role permitted has =
     let empty : child_passes (λ c. is_empty c.phase) s i ≡ true =
     (and_parts (is_serving s.going) (child_passes (λ c. is_empty c.phase) s i) (and_parts (is_serving s.going && child_passes (λ c. is_empty c.phase) s i) _ may).0).1 in
     let none : threads_of s i ≡ 0 = (sound.children.gone i (child_met (λ c. is_empty c.phase) s i empty)).none_works in
@@ -214,9 +214,9 @@ event_credits s p weight had permit credits (event.StartChild i) sound may role 
       | yes e ↦ inl (⊎_elim (λ z. z) (λ t. t ∙ ap (threads_of s) e ∙ none) (has k lt))
       | no ne ↦ ⊎_elim (λ z. inl z) (λ t. inr (t ∙ sym (ap (λ (c : Child). c.shape.threads) (child_else s.children i k (started_child s.newest s.shape) ne)))) (has k lt)
     ]
-event_credits s p weight had permit credits (event.Command c) sound may role permitted has =
+event_credits s p had permit credits (event.Command c) sound may role permitted has =
     credits_same credits s (next s (event.Command c)) has (commanded_threads s c)
-event_credits s p weight had permit credits (event.Retire i) sound may role permitted has =
+event_credits s p had permit credits (event.Retire i) sound may role permitted has =
     credits_else credits s (next s (event.Retire i)) i has
     (λ k ne. ap (λ (c : Child). c.shape.threads) (child_else s.children i k retired_child ne)) (permitted (eqb-true p 0 role))
 
@@ -228,7 +228,7 @@ entries_credit keeps start f p before [] permit credits sound are permitted has 
 entries_credit keeps start f p before (e ∷ added) permit credits sound are permitted has =
     let s = after start before in
     let one : IsCredited credits (next s e.event) =
-    event_credits s p (load before) (row_from f p before) permit credits e.event sound are.0.is_allowed are.0.role (λ z. (permitted z).0) has in
+    event_credits s p (row_from f p before) permit credits e.event sound are.0.is_allowed are.0.role (λ z. (permitted z).0) has in
     subst (λ h. IsCredited credits (after start h)) (append_assoc before (e ∷ []) added)
     (entries_credit keeps start f p (before ++ e ∷ []) added permit credits
     (subst IsSound (sym (after-snoc start before e)) (keeps s e.event sound are.0.is_allowed)) are.1
