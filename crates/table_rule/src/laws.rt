@@ -29,7 +29,7 @@ use conn_machine::laws::{
     connections_stay_while_others_go_on, each_pass_has_its_own_connection, events_keep_states_sound,
 };
 use conn_machine::laws_of_runs::{
-    made_histories_are_runs, passes_add_entries, records_open_with_nothing,
+    made_histories_are_runs, passes_add_entries, records_go_on_by_folds, records_open_with_nothing,
 };
 
 /// The rule holds of a new table.
@@ -137,4 +137,6 @@ pub fn views_tell_of_connections<K: Kept>()
 pub fn values_stand_for_whole_histories()
     ensures row { (origin : Origin) (left : Left) (l : Ledger) (whole : List Entry) (p : ℕ) → IsSplit origin left l whole → p < origin.passes → row_from l.folded p l.history ≡ row_of p whole }
     ensures entries { (origin : Origin) (left : Left) (l : Ledger) (whole added : List Entry) (p : ℕ) → IsSplit origin left l whole → p < origin.passes → AreEntriesOf p l.base l.folded l.history added → AreEntriesOf p origin.state (opening_record origin.passes) whole added }
-{}
+{
+    records_go_on_by_folds();
+}
