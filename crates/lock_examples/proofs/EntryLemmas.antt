@@ -10,7 +10,7 @@ use Rattle.conn_machine.specs.declared.state.State.{State}
 use Rattle.conn_machine.specs.Table.{is_allowed, next, reply}
 use Rattle.conn_machine.specs.declared.folded.Folded.{Folded}
 use Rattle.conn_machine.specs.Folds.{opening_record}
-use Rattle.conn_machine.specs.Runs.{after, entries_of, has_after, is_of_pass, load, may_make, row_after, row_of, AreEntriesOf}
+use Rattle.conn_machine.specs.Runs.{after, entries_of, has_after, is_of_pass, may_make, row_after, row_of, AreEntriesOf}
 use Rattle.std.proofs.lemmas.Bool.{eq-eqb}
 use Rattle.table_rule.specs.Histories.{ArePermitted}
 use Rattle.lock_examples.proofs.PlaceLemmas.{each_first}
@@ -211,7 +211,7 @@ abbrev AreFine : ℕ → State → ℕ → Option ConnName → List Entry → Ty
 AreFine p s n row [] = ⊤
 AreFine p s n row (e ∷ es) =
     (e.pass ≡ p) × (e.ordinal ≡ n) × (is_allowed s e.event ≡ true) × (e.reply ≡ reply s e.event)
-    × ((weight : ℕ) → may_make p row weight e.event ≡ true) × AreFine p (next s e.event) (n + 1) (has_after row e.event e.reply) es
+    × (may_make p row e.event ≡ true) × AreFine p (next s e.event) (n + 1) (has_after row e.event e.reply) es
 
 may_follow : (passes p : ℕ) (s : State) (n : ℕ) (row : Option ConnName) (start : State) (whole es : List Entry) → after start whole ≡ s
     → length (entries_of p whole) ≡ n → row_of p whole ≡ row → AreFine p s n row es → AreEntriesOf p start (opening_record passes) whole es
@@ -223,7 +223,7 @@ may_follow passes p s n row start whole (e ∷ es) state number had fine = (
     is_allowed = ap (λ t. is_allowed t e.event) state ∙ fine.2;
     replied = fine.3 ∙ ap (λ t. reply t e.event) (sym state);
     role =
-        ap (λ o. may_make p o (load whole) e.event) (ap (λ o. row_after o (entries_of p whole)) (each_first passes p None) ∙ had) ∙ fine.4 (load whole);
+        ap (λ o. may_make p o e.event) (ap (λ o. row_after o (entries_of p whole)) (each_first passes p None) ∙ had) ∙ fine.4;
   },
   may_follow passes p (next s e.event) (n + 1) (has_after row e.event e.reply) start (whole ++ e ∷ []) es
       (after-append start whole (e ∷ []) ∙ ap (λ t. next t e.event) state)
@@ -260,16 +260,16 @@ FitsRow Signals row = ⊤
 FitsRow Serves row = row ≡ None
 
 fine_step : (s : ToyStage) (r : ℕ) (row : Option ConnName) → FitsRow s row → AreFine (maker s) (state_of s) (first_number s r) row (step_entries s r)
-fine_step Starts r row fits = (refl, refl, refl, refl, λ w. refl, tt)
+fine_step Starts r row fits = (refl, refl, refl, refl, refl, tt)
 fine_step Takes r row fits =
     let two : r + 2 ≡ r + 1 + 1 = omega arith in
     subst (λ o. AreFine 0 (state_of Takes) (r + 1) o (step_entries Takes r)) (sym fits)
-    (refl, refl, refl, refl, λ w. refl, (refl, two, refl, refl, λ w. refl, tt))
-fine_step Signals r row fits = (refl, refl, refl, refl, λ w. refl, tt)
+    (refl, refl, refl, refl, refl, (refl, two, refl, refl, refl, tt))
+fine_step Signals r row fits = (refl, refl, refl, refl, refl, tt)
 fine_step Serves r row fits =
     let two : 3 * r + 2 ≡ 3 * r + 1 + 1 = omega arith in
     subst (λ o. AreFine 1 (state_of Serves) (3 * r) o (step_entries Serves r)) (sym fits)
-    (refl, refl, refl, refl, λ w. refl, (refl, refl, refl, refl, λ w. refl, (refl, two, refl, refl, λ w. refl, tt)))
+    (refl, refl, refl, refl, refl, (refl, refl, refl, refl, refl, (refl, two, refl, refl, refl, tt)))
 
 fits_next : (s : ToyStage) (r : ℕ) (row : Option ConnName) → FitsRow s row → maker s ≡ maker (next_stage s)
     → FitsRow (next_stage s) (row_after row (step_entries s r))
