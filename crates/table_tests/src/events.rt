@@ -145,7 +145,6 @@ fn why_of(text: &str) -> Option<Why> {
         "Overdue" => Some(Why::Overdue),
         "FrontEnded" => Some(Why::FrontEnded),
         "FrontFailed" => Some(Why::FrontFailed),
-        "Full" => Some(Why::Full),
         "NoMemory" => Some(Why::NoMemory),
         _ => None,
     }
