@@ -1,5 +1,5 @@
 -- That children are started only where they are asked for, and that each command is a stop.
-use Rattle.std.proofs.Common.{◌≡◌, ◌≢◌, ℕ, Bool, true, false, if◌then◌else◌, List, [], ◌∷◌, ◌++◌, map, None, Some, Result, Ok, Err, refl, sym, ap, subst, ◌∙◌, eqb-true}
+use Rattle.std.proofs.Common.{◌≡◌, ◌≢◌, ℕ, true, List, [], ◌∷◌, ◌++◌, map, None, Some, Result, Ok, Err, refl, sym, ap, subst, ◌∙◌, eqb-true}
 use Rattle.std.specs.List.{flat_map}
 use Rattle.mpm_base.specs.declared.conn.Cause.{Cause}
 use Rattle.mpm_base.specs.declared.conn.ConnName.{ConnName}
@@ -13,7 +13,6 @@ use Rattle.conn_machine.specs.declared.state.State.{State}
 use Rattle.conn_machine.specs.Runs.{AreEntriesOf, after, may_make}
 use Rattle.conn_machine.specs.Table.{next}
 use Rattle.board.specs.declared.faults.BoardFault.{BoardFault}
-use Rattle.board.specs.declared.faults.BoardFault.TheVariants as fault
 use Rattle.board.specs.Book.{SeenBook}
 use Rattle.board.specs.Finds.{startable}
 use Rattle.worker_group.specs.declared.service.Exit.{Exit}
@@ -22,7 +21,7 @@ use Rattle.worker_group.specs.Acts.{Acts}
 use Rattle.worker_group.specs.Service.{left_events}
 use Rattle.mpm_run.specs.declared.listen.End.{End}
 use Rattle.mpm_run.specs.ClosingInside.{Departure, departure_events, lingering_give_up_events}
-use Rattle.mpm_run.specs.RoundInside.{Departures, Intake, StartsAsAsked, departures_events, end_events, gone_events, intake_events, time_events}
+use Rattle.mpm_run.specs.RoundInside.{Departures, Intake, StartsAsAsked, departures_events, gone_events, halt_events, intake_events, time_events}
 use Rattle.mpm_run.specs.Started.{AreAskedFor, IsAskedFor}
 use Rattle.mpm_run.proofs.AddedLemmas.{added-events, events_in}
 use Rattle.mpm_run.proofs.EventLemmas.{in-both}
@@ -64,14 +63,10 @@ pub startless-left : (way : Exit) (name : ConnName) → AreStartless (left_event
 startless-left (exit.Park kind) name = refl
 startless-left (exit.Linger why) name = refl
 startless-left (exit.Close why how) name = refl
-startless-left (exit.GiveUp fault.Halted) name = refl
-startless-left (exit.GiveUp fault.Full) name = refl
-startless-left (exit.GiveUp fault.NoMemory) name = refl
+startless-left (exit.GiveUp fault) name = refl
 
 pub startless-held : (fault : BoardFault) (ending : Cause) (name : ConnName) → AreStartless (event.Hold name ∷ lingering_give_up_events fault ending name)
-startless-held fault.Halted ending name = refl
-startless-held fault.Full ending name = refl
-startless-held fault.NoMemory ending name = refl
+startless-held fault ending name = refl
 
 pub startless-gone : (gone : List Departure) → AreStartless (gone_events gone)
 startless-gone [] = refl
@@ -105,15 +100,9 @@ startless-time early ticks late =
     startless-both (gone_events early ++ map event.Tick ticks) (gone_events late)
     (startless-both (gone_events early) (map event.Tick ticks) (startless-gone early) (startless-ticks ticks)) (startless-gone late)
 
-startless-ends : (b : SeenBook) (turns : Result End BoardFault) → AreStartless (end_events b turns)
-startless-ends b (Ok end) = refl
-startless-ends b (Err fault.Halted) = refl
-startless-ends b (Err fault.Full) = refl
-startless-ends b (Err fault.NoMemory) = refl
-
-pub startless-halts : (halted : Bool) (b : SeenBook) (turns : Result End BoardFault) → AreStartless (if halted then [] else end_events b turns)
-startless-halts true b turns = refl
-startless-halts false b turns = startless-ends b turns
+pub startless-halts : (turns : Result End BoardFault) → AreStartless (halt_events turns)
+startless-halts (Ok end) = refl
+startless-halts (Err fault) = refl
 
 -- ## Histories that go on
 
@@ -153,28 +142,25 @@ asked-silent who es has a b acts none =
     asked-behind who es has a b acts
     (asked-startless (after a.base a.history) acts.entries.0 (ap (flat_map starts_in) (added-events who es has a b acts) ∙ none))
 
-serves-startless : (p : ℕ) (had : _) (weight : ℕ) (e : Event) → p ≢ 0 → may_make p had weight e ≡ true → starts_in e ≡ []
-serves-startless p had weight (event.Accept slot) other may = refl
-serves-startless p had weight (event.Park name kind) other may = refl
-serves-startless p had weight (event.Hold name) other may = refl
-serves-startless p had weight (event.Queue name) other may = refl
-serves-startless p had weight (event.Start name) other may = refl
-serves-startless p had weight (event.Answer name ask) other may = refl
-serves-startless p had weight (event.Linger name cause) other may = refl
-serves-startless p had weight (event.Close name cause tail) other may = refl
-serves-startless p had weight (event.Ready slot) other may = refl
-serves-startless p had weight (event.Tick m) other may = refl
-serves-startless p had weight (event.StartChild k) other may = absurd (other (eqb-true p 0 may))
-serves-startless p had weight (event.Command (Graceful shape)) other may = absurd (other (eqb-true p 0 may))
-serves-startless p had weight (event.Command (Refused reason)) other may = absurd (other (eqb-true p 0 may))
-serves-startless p had weight (event.Command (GracefulStop until)) other may = absurd (other (eqb-true p 0 may))
-serves-startless p had weight (event.Command (Stop why)) other may = refl
-serves-startless p had weight (event.Retire k) other may = refl
+serves-startless : (p : ℕ) (had : _) (e : Event) → p ≢ 0 → may_make p had e ≡ true → starts_in e ≡ []
+serves-startless p had (event.Accept slot) other may = refl
+serves-startless p had (event.Park name kind) other may = refl
+serves-startless p had (event.Hold name) other may = refl
+serves-startless p had (event.Queue name) other may = refl
+serves-startless p had (event.Start name) other may = refl
+serves-startless p had (event.Answer name ask) other may = refl
+serves-startless p had (event.Linger name cause) other may = refl
+serves-startless p had (event.Close name cause tail) other may = refl
+serves-startless p had (event.Ready slot) other may = refl
+serves-startless p had (event.Tick m) other may = refl
+serves-startless p had (event.StartChild k) other may = absurd (other (eqb-true p 0 may))
+serves-startless p had (event.Command c) other may = absurd (other (eqb-true p 0 may))
+serves-startless p had (event.Retire k) other may = refl
 
 served-startless : (p : ℕ) (base : State) (f : Folded) (before added : List Entry) → p ≢ 0 → AreEntriesOf p base f before added → AreStartless (events_in added)
 served-startless p base f before [] other are = refl
 served-startless p base f before (e ∷ added) other are =
-    ap (λ (xs : List ℕ). xs ++ flat_map starts_in (events_in added)) (serves-startless p _ _ e.event other are.0.role)
+    ap (λ (xs : List ℕ). xs ++ flat_map starts_in (events_in added)) (serves-startless p _ e.event other are.0.role)
     ∙ served-startless p base f (before ++ e ∷ []) added other are.1
 
 -- another pass than the listener starts none

@@ -304,7 +304,7 @@ begins-broken steps n fault to slots rest pause a w b waited broken begins =
     (begins-more 0 _ None n w.board.book broken.book broken.acts (begins-waited n rest pause a w waited begins))
 
 -- nor does the end
-pub begins-down : (n : ℕ) (turns : Result End BoardFault) (a b c d : SeenBook) → Acts 0 (halt_events a turns) None a b → LetsGo IsHaltedWay b c
+pub begins-down : (n : ℕ) (turns : Result End BoardFault) (a b c d : SeenBook) → Acts 0 (halt_events turns) None a b → LetsGo IsHaltedWay b c
     → RetiresSome c d → BeginsWithStarts n a.history → BeginsWithStarts n d.history
 begins-down n turns a b c d halts closes retires begins =
     begins-more 0 _ None n c d retires.acts (begins-more 0 _ None n b c closes.acts (begins-more 0 _ None n a b halts begins))

@@ -160,8 +160,7 @@ heeds-as : (turns : Result End BoardFault) (going : Going) (t : FrontTold) → H
 heeds-as (Ok end.Ended) going t halts heeds = subst (λ (g : Going). HeedsLines g t) (sym halts) heeds.none
 heeds-as (Ok end.Asked) going t halts heeds = subst (λ (g : Going). HeedsLines g t) (sym halts) heeds
 heeds-as (Ok end.Failed) going t halts heeds = subst (λ (g : Going). HeedsLines g t) (sym halts) heeds.none
-heeds-as (Err fault) going t (inl full) heeds = subst (λ (g : Going). HeedsLines g t) (sym full) heeds.none
-heeds-as (Err fault) going t (inr lacks) heeds = subst (λ (g : Going). HeedsLines g t) (sym lacks) heeds.none
+heeds-as (Err fault) going t halts heeds = subst (λ (g : Going). HeedsLines g t) (sym halts) heeds.none
 
 -- and stays so once listening was stopped
 pub heeds-hushed : (turns : Result End BoardFault) (told told' : Option FrontTold) (going : Going) → told' ≡ option_map hushed_front told

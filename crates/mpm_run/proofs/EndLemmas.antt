@@ -14,7 +14,7 @@ use Rattle.conn_machine.specs.declared.state.Going.{Going}
 use Rattle.conn_machine.specs.declared.state.Going.TheVariants.{Halted}
 use Rattle.conn_machine.specs.declared.state.State.{State}
 use Rattle.mpm_config.specs.Config.{Configuration}
-use Rattle.board.specs.Book.{SeenBook, StopsByLoad, TellsFullStop}
+use Rattle.board.specs.Book.{SeenBook}
 use Rattle.board.specs.Board.{SeenBoard}
 use Rattle.mpm_run.specs.Calls.{WritesText}
 use Rattle.mpm_run.specs.Configured.{warnings_of}
@@ -22,7 +22,7 @@ use Rattle.mpm_run.specs.ListenInside.{IsEnd}
 use Rattle.mpm_run.specs.Patient.{ArePatient, IsPatientRun}
 use Rattle.mpm_run.specs.Stops.{HasEnded, HasGivenAll, StoppedFor}
 use Rattle.mpm_run.specs.ExitStatuses.{EndsAs, EndsLacking, HasEnd, IsGoodEnd, KeepsTime, MayEndWith, board_report}
-use Rattle.mpm_run.specs.ExitStatusesInside.{EndsReport, IsExitStatusOf, IsFullStop, IsPlayedStatus, IsStoppedStatus, LacksInRun, LacksReport, ReportsAs, WritesAll, status_of_writes}
+use Rattle.mpm_run.specs.ExitStatusesInside.{EndsReport, IsExitStatusOf, IsPlayedStatus, IsStoppedStatus, LacksInRun, LacksReport, ReportsAs, WritesAll, status_of_writes}
 use Rattle.mpm_run.specs.Times.{IsInTime, WasInformed, waits_of}
 use Rattle.mpm_run.proofs.CountLemmas.{never-rises, rises-before, rises-behind}
 
@@ -33,23 +33,21 @@ stopped-ended : (old new : FrontSeen) (s : State) → StoppedFor old new s → s
 stopped-ended old new s (inl ended) going = ended
 stopped-ended old new s (inr (inl asked)) going = absurd (cc (asked.going, going))
 stopped-ended old new s (inr (inr (inl failed))) going = absurd (cc (failed.going, going))
-stopped-ended old new s (inr (inr (inr (inl full)))) going = absurd (cc (full, going))
-stopped-ended old new s (inr (inr (inr (inr no_memory)))) going = absurd (cc (no_memory, going))
+stopped-ended old new s (inr (inr (inr no_memory))) going = absurd (cc (no_memory, going))
 
 -- it stopped for one of these
 pub stopped-end : (old new : FrontSeen) (s : State) → StoppedFor old new s → IsEnd s.going
 stopped-end old new s (inl ended) = inl ended.going
 stopped-end old new s (inr (inl asked)) = inr (inl asked.going)
 stopped-end old new s (inr (inr (inl failed))) = inr (inr (inl failed.going))
-stopped-end old new s (inr (inr (inr rest))) = inr (inr (inr rest))
+stopped-end old new s (inr (inr (inr no_memory))) = inr (inr (inr no_memory))
 
 -- one whose front never failed didn't stop for that
 pub never-failed : (old new : FrontSeen) (s : State) → StoppedFor old new s → new.counts.faults ≡ 0 → s.going ≡ Halted why.FrontFailed → ⊥
 never-failed old new s (inl ended) still going = absurd (cc (ended.going, going))
 never-failed old new s (inr (inl asked)) still going = absurd (cc (asked.going, going))
 never-failed old new s (inr (inr (inl failed))) still going = never-rises old.counts.faults new.counts.faults failed.failed still
-never-failed old new s (inr (inr (inr (inl full)))) still going = absurd (cc (full, going))
-never-failed old new s (inr (inr (inr (inr no_memory)))) still going = absurd (cc (no_memory, going))
+never-failed old new s (inr (inr (inr no_memory))) still going = absurd (cc (no_memory, going))
 
 -- ## With which exit status
 
@@ -61,75 +59,37 @@ pub good-end : (going : Going) (status : ℕ) → IsEnd going → MayEndWith goi
 good-end going status (inl ended) may good = inl ended
 good-end going status (inr (inl asked)) may good = inr asked
 good-end going status (inr (inr (inl failed))) may good = absurd (omega (arith, may-end going _ status failed may, good))
-good-end going status (inr (inr (inr (inl full)))) may good = absurd (omega (arith, may-end going _ status full may, good))
-good-end going status (inr (inr (inr (inr no_memory)))) may good = absurd (omega (arith, may-end going _ status no_memory may, good))
+good-end going status (inr (inr (inr no_memory))) may good = absurd (omega (arith, may-end going _ status no_memory may, good))
 
 -- with this one for a wait that failed
 failed-end : (going : Going) (status : ℕ) → IsEnd going → MayEndWith going status → status ≡ 4 → going ≡ Halted why.FrontFailed
 failed-end going status (inl ended) may four = absurd (omega (arith, may-end going _ status ended may, four))
 failed-end going status (inr (inl asked)) may four = absurd (omega (arith, may-end going _ status asked may, four))
 failed-end going status (inr (inr (inl failed))) may four = failed
-failed-end going status (inr (inr (inr (inl full)))) may four = absurd (omega (arith, may-end going _ status full may, four))
-failed-end going status (inr (inr (inr (inr no_memory)))) may four = absurd (omega (arith, may-end going _ status no_memory may, four))
+failed-end going status (inr (inr (inr no_memory))) may four = absurd (omega (arith, may-end going _ status no_memory may, four))
 
 -- a server whose front never failed ends with none of these
-played-statuses : (status : ℕ) → (status ≡ 0) ⊎ (status ≡ 5) ⊎ (status ≡ 6) → IsPlayedStatus status
-played-statuses status (inl zero) = inl zero
-played-statuses status (inr (inl five)) = inr (inl five)
-played-statuses status (inr (inr six)) = inr (inr (inl six))
-
 pub played-status : (old new : FrontSeen) (s : State) (status : ℕ) → StoppedFor old new s → new.counts.faults ≡ 0 → MayEndWith s.going status
     → IsPlayedStatus status
 played-status old new s status stopped still may = by (stopped-end old new s stopped) where
   by : IsEnd s.going → IsPlayedStatus status
-  by (inl ended) = played-statuses status (may-end s.going _ status ended may)
-  by (inr (inl asked)) = played-statuses status (may-end s.going _ status asked may)
+  by (inl ended) = may-end s.going _ status ended may
+  by (inr (inl asked)) = may-end s.going _ status asked may
   by (inr (inr (inl failed))) = absurd (never-failed old new s stopped still failed)
-  by (inr (inr (inr (inl full)))) =
-      elim (may-end s.going _ status full may) [
-        | inl seven ↦ inr (inr (inr seven))
-        | inr six ↦ inr (inr (inl six))
-      ]
-  by (inr (inr (inr (inr no_memory)))) = inr (inr (inl (may-end s.going _ status no_memory may)))
+  by (inr (inr (inr no_memory))) = inr (inr (may-end s.going _ status no_memory may))
 
--- a report makes no other status 7
-of-seven : (status status' : ℕ) → ReportsAs status status' → status' ≡ 7 → status ≡ 7
-of-seven status status' (inl same) seven = sym same ∙ seven
-of-seven status status' (inr (inl failed)) seven = absurd (omega (arith, failed.1, seven))
-of-seven status status' (inr (inr no_memory)) seven = absurd (omega (arith, no_memory, seven))
-
--- the status is 7 only where the server stopped for a full history
-seven-full : (going : Going) (status : ℕ) → IsEnd going → IsExitStatusOf going status → status ≡ 7 → going ≡ Halted why.Full
-seven-full going status (inl ended) is seven =
-    absurd (omega (arith, subst (λ (g : Going). IsExitStatusOf g status) ended is, seven))
-seven-full going status (inr (inl asked)) is seven =
-    absurd (omega (arith, subst (λ (g : Going). IsExitStatusOf g status) asked is, seven))
-seven-full going status (inr (inr (inl failed))) is seven =
-    absurd (omega (arith, subst (λ (g : Going). IsExitStatusOf g status) failed is, seven))
-seven-full going status (inr (inr (inr (inl full)))) is seven = full
-seven-full going status (inr (inr (inr (inr no_memory)))) is seven =
-    absurd (omega (arith, subst (λ (g : Going). IsExitStatusOf g status) no_memory is, seven))
-
--- and 6 only where it did for want of memory
+-- the status before the report is 6 only where the server stopped for want of memory
 six-lacks : (going : Going) (status : ℕ) → IsEnd going → IsExitStatusOf going status → status ≡ 6 → going ≡ Halted why.NoMemory
 six-lacks going status (inl ended) is six = absurd (omega (arith, subst (λ (g : Going). IsExitStatusOf g status) ended is, six))
 six-lacks going status (inr (inl asked)) is six = absurd (omega (arith, subst (λ (g : Going). IsExitStatusOf g status) asked is, six))
 six-lacks going status (inr (inr (inl failed))) is six = absurd (omega (arith, subst (λ (g : Going). IsExitStatusOf g status) failed is, six))
-six-lacks going status (inr (inr (inr (inl full)))) is six = absurd (omega (arith, subst (λ (g : Going). IsExitStatusOf g status) full is, six))
-six-lacks going status (inr (inr (inr (inr no_memory)))) is six = no_memory
+six-lacks going status (inr (inr (inr no_memory))) is six = no_memory
 
 -- so the report was written behind that, or memory lacked for it
 pub lacks-in-run : (old new : SinkSeen) (b : SeenBoard) (status : ℕ) → IsEnd b.book.state.going → IsExitStatusOf b.book.state.going status
     → LacksReport old new (board_report b) status → LacksInRun old new b
 lacks-in-run old new b status end is (inl wrote) = inl (six-lacks b.book.state.going status end is wrote.0, wrote.1)
 lacks-in-run old new b status end is (inr same) = inr same
-
--- where the history is full it has a stop for that
-pub full-stop : (b : SeenBoard) (status status' : ℕ) → StopsByLoad b.book.history → TellsFullStop b.book.state.going b.book.history
-    → IsEnd b.book.state.going → IsExitStatusOf b.book.state.going status → ReportsAs status status' → status' ≡ 7 → IsFullStop b
-full-stop b status status' stops full end is reports seven =
-    let stop = full.stands (seven-full b.book.state.going status end is (of-seven status status' reports seven)) in
-    record { stop = stop; full = stops.full stop }
 
 -- ## The end of the script
 
@@ -231,7 +191,7 @@ text-behind old mid new first second false warned faults writes = record {
 }
 
 pub report-text : (old mid new : SinkSeen) (first second : List ℕ) (written : Bool) (status : ℕ) → WritesAll old mid first written
-    → NeverFalls old.faults mid.faults → EndsReport mid new second written status → (status ≡ 4) ⊎ (status ≡ 7) → WritesText old new (first ++ second)
+    → NeverFalls old.faults mid.faults → EndsReport mid new second written status → status ≡ 4 → WritesText old new (first ++ second)
 report-text old mid new first second written status warned faults report is =
     text-behind old mid new first second written warned faults (report.writes is)
 
@@ -251,8 +211,8 @@ ends-lacking old mid new c b written warned faults (inr same) =
 -- how a run ends with its exit status, whose warnings were written or not, and then its report
 pub ends-as : (old mid new : SinkSeen) (c : Configuration) (b : SeenBoard) (written : Bool) (status : ℕ) → WritesAll old mid (warnings_of c) written
     → NeverFalls old.faults mid.faults → IsEnd b.book.state.going → MayEndWith b.book.state.going status → EndsReport mid new (board_report b) written status
-    → (status ≡ 6 → LacksInRun mid new b) → (status ≡ 7 → IsFullStop b) → EndsAs old new c b status
-ends-as old mid new c b written status warned faults end may report lacking full = record {
+    → (status ≡ 6 → LacksInRun mid new b) → EndsAs old new c b status
+ends-as old mid new c b written status warned faults end may report lacking = record {
   may = may;
   well = λ zero. record {
     going = good-end b.book.state.going status end may (inl zero);
@@ -260,18 +220,13 @@ ends-as old mid new c b written status warned faults end may report lacking full
   };
   failed = λ four. record {
     going = failed-end b.book.state.going status end may four;
-    text = report-text old mid new (warnings_of c) (board_report b) written status warned faults report (inl four);
+    text = report-text old mid new (warnings_of c) (board_report b) written status warned faults report four;
   };
   unwritten = λ five. record {
     going = good-end b.book.state.going status end may (inr five);
     failed = report-unwritten old mid new (warnings_of c) (board_report b) written status warned faults report five;
   };
   lacking = λ six. ends-lacking old mid new c b written warned faults (lacking six);
-  full = λ seven. record {
-    stop = (full seven).stop;
-    full = (full seven).full;
-    text = report-text old mid new (warnings_of c) (board_report b) written status warned faults report (inr seven);
-  };
 }
 
 -- ## The report
@@ -321,8 +276,7 @@ reports-as : (all : Bool) (status : ℕ) → IsStoppedStatus status → ReportsA
 reports-as true status stopped = inl refl
 reports-as false status (inl zero) = inr (inl (zero, subst (λ (n : ℕ). status_of_writes false n ≡ 5) (sym zero) refl))
 reports-as false status (inr (inl four)) = inl (subst (λ (n : ℕ). status_of_writes false n ≡ n) (sym four) refl)
-reports-as false status (inr (inr (inl six))) = inl (subst (λ (n : ℕ). status_of_writes false n ≡ n) (sym six) refl)
-reports-as false status (inr (inr (inr seven))) = inl (subst (λ (n : ℕ). status_of_writes false n ≡ n) (sym seven) refl)
+reports-as false status (inr (inr six)) = inl (subst (λ (n : ℕ). status_of_writes false n ≡ n) (sym six) refl)
 
 -- and what becomes of the status
 pub reports-status : (all : Bool) (status status' : ℕ) → IsStoppedStatus status → status' ≡ status_of_writes all status → ReportsAs status status'

@@ -1,5 +1,5 @@
 -- What the events of the listener tick and signal.
-use Rattle.std.proofs.Common.{◌≡◌, ℕ, List, [], ◌∷◌, ◌++◌, map, None, refl, ap, ◌∙◌, append-nil, append_assoc}
+use Rattle.std.proofs.Common.{◌≡◌, ℕ, List, [], ◌∷◌, ◌++◌, map, None, Result, Ok, Err, refl, ap, ◌∙◌, append-nil, append_assoc}
 use Rattle.std.proofs.lemmas.Grind.{flat_map-append}
 use Rattle.std.specs.List.{flat_map}
 use Rattle.mpm_base.specs.declared.conn.Cause.{Cause}
@@ -7,14 +7,14 @@ use Rattle.mpm_base.specs.declared.conn.ConnName.{ConnName}
 use Rattle.conn_machine.specs.declared.event.Event.{Event}
 use Rattle.conn_machine.specs.declared.event.Event.TheVariants as event
 use Rattle.board.specs.declared.faults.BoardFault.{BoardFault}
-use Rattle.board.specs.declared.faults.BoardFault.TheVariants as fault
 use Rattle.board.specs.Book.{SeenBook}
 use Rattle.worker_group.specs.declared.service.Exit.{Exit}
 use Rattle.worker_group.specs.declared.service.Exit.TheVariants as exit
 use Rattle.worker_group.specs.Acts.{Acts, events_of}
 use Rattle.worker_group.specs.Service.{left_events}
+use Rattle.mpm_run.specs.declared.listen.End.{End}
 use Rattle.mpm_run.specs.ClosingInside.{Departure, departure_events, lingering_give_up_events}
-use Rattle.mpm_run.specs.RoundInside.{Departures, Round, Intake, gone_events, departures_events, round_events, stop_events, intake_events, time_events}
+use Rattle.mpm_run.specs.RoundInside.{Departures, Round, Intake, gone_events, departures_events, halt_events, round_events, intake_events, time_events}
 use Rattle.mpm_run.specs.Times.{signals_in, signals_of, ticks_in, ticks_of}
 
 -- ## Lists of events
@@ -47,18 +47,15 @@ pub silent-retires : (children : List ℕ) → AreSilent (map event.Retire child
 silent-retires [] = silent-none
 silent-retires (k ∷ children) = record { ticks = (silent-retires children).ticks; signals = (silent-retires children).signals }
 
-pub silent-stops : (b : SeenBook) (fault : BoardFault) → AreSilent (stop_events b fault)
-silent-stops b fault.Halted = silent-none
-silent-stops b fault.Full = record { ticks = refl; signals = refl }
-silent-stops b fault.NoMemory = record { ticks = refl; signals = refl }
+pub silent-halts : (turns : Result End BoardFault) → AreSilent (halt_events turns)
+silent-halts (Ok end) = record { ticks = refl; signals = refl }
+silent-halts (Err fault) = record { ticks = refl; signals = refl }
 
 silent-left : (way : Exit) (name : ConnName) → AreSilent (left_events way name)
 silent-left (exit.Park kind) name = record { ticks = refl; signals = refl }
 silent-left (exit.Linger why) name = record { ticks = refl; signals = refl }
 silent-left (exit.Close why how) name = record { ticks = refl; signals = refl }
-silent-left (exit.GiveUp fault.Halted) name = record { ticks = refl; signals = refl }
-silent-left (exit.GiveUp fault.Full) name = record { ticks = refl; signals = refl }
-silent-left (exit.GiveUp fault.NoMemory) name = record { ticks = refl; signals = refl }
+silent-left (exit.GiveUp fault) name = record { ticks = refl; signals = refl }
 
 silent-letting : (l : Departure) → AreSilent (departure_events l)
 silent-letting l = record { ticks = (silent-left l.way l.name).ticks; signals = (silent-left l.way l.name).signals }
@@ -68,9 +65,7 @@ silent-gone [] = silent-none
 silent-gone (l ∷ gone) = silent-both (departure_events l) (gone_events gone) (silent-letting l) (silent-gone gone)
 
 pub silent-held : (fault : BoardFault) (ending : Cause) (name : ConnName) → AreSilent (event.Hold name ∷ lingering_give_up_events fault ending name)
-silent-held fault.Halted ending name = record { ticks = refl; signals = refl }
-silent-held fault.Full ending name = record { ticks = refl; signals = refl }
-silent-held fault.NoMemory ending name = record { ticks = refl; signals = refl }
+silent-held fault ending name = record { ticks = refl; signals = refl }
 
 silent-lettings : (l : Departures) → AreSilent (departures_events l)
 silent-lettings l =

@@ -30,7 +30,6 @@ use Rattle.conn_state.specs.declared.turn.LingerTurn.TheVariants as left
 use Rattle.conn_state.specs.Conn.{IsConn, IsWaiting, SeenConn, TurnFits, is_half_closed, is_usable, lingers}
 use Rattle.conn_state.specs.Answered.{IsLeft, MayLinger, SentAll, ShowsCause, waits_on}
 use Rattle.conn_state.specs.Turns.{LingersOn, after_linger}
-use Rattle.board.specs.Book.{full_stop}
 use Rattle.board.specs.Fits.{Fits, FoundNoMore, IsOnItsWay, IsSettled, IsSettledFrom, IsTakenUp, LingersFor, NotesEnd, WaitsAs, WaitsForNext}
 use Rattle.board.specs.Finds.{cause_of, kind_of, waits_for}
 use Rattle.worker_group.specs.InHand.{IsClosable, IsInHand}
@@ -381,18 +380,6 @@ found-no_more KeepAlive c lingering late = absurd (cc)
 found-no_more Writing c lingering late = absurd (cc)
 found-no_more Linger c lingering late = late
 found-no_more ShortLinger c lingering late = late
-
--- the stop of a server leaves its row as it is
-pub lingers-stopped : (s s' : State) (why : Cause) (c : SeenConn) → IsLingeringFor why s c → s' ≡ next s full_stop → IsLingeringFor why s' c
-lingers-stopped s s' why c held is = record {
-  row = held.row;
-  found = ap (λ (t : State). live_row t.rows c.name) is ∙ held.found;
-  held = held.held;
-  cause = held.cause;
-  fits = held.fits;
-  shut = held.shut;
-  shows = held.shows;
-}
 
 -- how it is settled, so that it may wait on
 pub settled-on : (s : State) (kind : Kind) (why : Cause) (c : SeenConn) → IsLingeringFor why s c → is_linger_kind kind ≡ true → c.linger ≡ linger.NotReady

@@ -11,7 +11,6 @@ use Rattle.conn_machine.specs.declared.event.Event.{Event}
 use Rattle.conn_machine.specs.declared.state.State.{State}
 use Rattle.conn_machine.specs.Runs.{after}
 use Rattle.conn_machine.specs.Sound.{IsSound}
-use Rattle.conn_machine.specs.States.{is_halted}
 use Rattle.conn_state.specs.Conn.{IsFrontOf}
 use Rattle.board.specs.declared.faults.BoardFault.{BoardFault}
 use Rattle.board.specs.Board.{SeenBoard}
@@ -28,9 +27,8 @@ use Rattle.mpm_run.specs.RoundInside.{AreServed, BreaksOff, GoesRound, RetiresSo
 use Rattle.mpm_run.specs.Times.{moment_for, ticks_in, ticks_to}
 use Rattle.mpm_run.proofs.BrokenLemmas.{ends-silently}
 use Rattle.mpm_run.proofs.ClosingLemmas.{GoesOnFrom, acts-state}
-use Rattle.mpm_run.proofs.EventLemmas.{silent-gone, silent-retires, silent-starts, ticks-round}
+use Rattle.mpm_run.proofs.EventLemmas.{silent-gone, silent-halts, silent-retires, silent-starts, ticks-round}
 use Rattle.mpm_run.proofs.PassLemmas.{serves-acts}
-use Rattle.mpm_run.proofs.StopLemmas.{silent-halts}
 use Rattle.mpm_run.proofs.TurnLemmas.{HasServedRows}
 use Rattle.mpm_run.proofs.UnsignalledLemmas.{none-signalled}
 use Rattle.mpm_run.proofs.PatientLemmas.{MomentOf, echoed-before, none-late-then, patient-round, patient-served, patient-silent, patient-weaker, told-before}
@@ -424,10 +422,10 @@ unhushed (Some t) told' calls b is patient steady =
 
 -- the server was stopped, each connection that waited closed, and each child let go of
 pub patience-down : (turns : Result End BoardFault) (old new : FrontSeen) (calls : Option (List (ℕ × ℕ))) (a b c d : SeenBook)
-    → Acts 0 (halt_events a turns) None a b → LetsGo IsHaltedWay b c → RetiresSome c d → new ≡ after_hush old
+    → Acts 0 (halt_events turns) None a b → LetsGo IsHaltedWay b c → RetiresSome c d → new ≡ after_hush old
     → IsPatientRun old.told calls a → IsPatientRun new.told calls d
 patience-down turns old new calls a b c d halts closes retires is patient =
     unhushed old.told new.told calls d (ap (λ (f : FrontSeen). f.told) is)
     (patience-silent 0 _ None old.told calls c d retires.acts (silent-retires retires.children).ticks
     (patience-silent 0 _ None old.told calls b c closes.acts (silent-gone closes.gone).ticks
-    (patience-silent 0 _ None old.told calls a b halts (silent-halts (is_halted a.state.going) a turns).ticks patient)))
+    (patience-silent 0 _ None old.told calls a b halts (silent-halts turns).ticks patient)))

@@ -1,5 +1,5 @@
 -- What passes leave alone, by the laws of the machine.
-use Rattle.std.proofs.Common.{◌≡◌, ◌≢◌, inl, inr, ℕ, suc, ◌<◌, false, not, List, [], ◌∷◌, ◌++◌, length, Option, None, Some, slice_get, refl, sym, ap, subst, ◌∙◌}
+use Rattle.std.proofs.Common.{◌≡◌, ◌≢◌, ℕ, suc, ◌<◌, false, not, List, [], ◌∷◌, ◌++◌, length, Option, None, Some, slice_get, refl, sym, ap, subst, ◌∙◌}
 use Rattle.std.specs.List.{list_any}
 use Rattle.mpm_base.specs.declared.conn.ConnName.{ConnName}
 use Rattle.conn_machine.specs.declared.event.Entry.{Entry}
@@ -18,7 +18,7 @@ use Rattle.conn_machine.specs.States.{is_halted}
 use Rattle.board.specs.Book.{SeenBook}
 use Rattle.board.specs.Board.{SeenBoard}
 use Rattle.worker_group.specs.Acts.{Acts, ActsInSteps, events_of}
-use Rattle.worker_group.specs.Service.{HasServed, IsUp, LeavesRest, answer_events, left_events}
+use Rattle.worker_group.specs.Service.{HasServed, LeavesRest, answer_events, left_events}
 use Rattle.mpm_run.specs.Listen.{HasNoLive}
 use Rattle.board.specs.Finds.{FindsRow, is_due}
 use Rattle.mpm_run.specs.Patient.{NoneDue}
@@ -40,28 +40,12 @@ only-serves who es has a b other here there acts law =
     subst (λ (s : State). OnlyServes a.state s) late
     (subst (λ (s : State). OnlyServes s (after a.base b.history)) here (law who a.base a.folded a.history b.history other acts.entries))
 
--- the server has not stopped, unless for a full history, where it hadn't before
-still-up : (s s' : State) → OnlyServes s s' → is_halted s.going ≡ false → IsUp s'.going
-still-up s s' leaves going =
-    elim leaves.server [
-      | inl same ↦ inl (ap is_halted same.going ∙ going)
-      | inr full ↦ inr full.going
-    ]
-
-up-served : (s s' : State) → OnlyServes s s' → IsUp s.going → IsUp s'.going
-up-served s s' leaves (inl going) = still-up s s' leaves going
-up-served s s' leaves (inr stopped) =
-    elim leaves.server [
-      | inl same ↦ inr (same.going ∙ stopped)
-      | inr full ↦ inr full.going
-    ]
-
--- so the moment stands, no connection was taken, and the server didn't stop but for a full history
+-- so the moment stands, no connection was taken, and the server didn't stop
 pub serves-rest : (who : ℕ) (es : List Event) (has : Option ConnName) (a b : SeenBook) → who ≢ 0 → after a.base a.history ≡ a.state
     → after b.base b.history ≡ b.state → Acts who es has a b → LeavesAlone → LeavesRest a b
 serves-rest who es has a b other here there acts law =
     let serves = only-serves who es has a b other here there acts law in
-    record { moment = serves.moment; accepted = serves.accepted; up = up-served a.state b.state serves }
+    record { moment = serves.moment; accepted = serves.accepted; up = λ up. ap is_halted serves.going ∙ up }
 
 -- what the service of a connection added
 pub service-acts : ActsInSteps → (who : ℕ) (name : ConnName) (a b : SeenBoard) → (served : HasServed who name a b)

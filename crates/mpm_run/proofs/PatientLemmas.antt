@@ -102,25 +102,25 @@ patient-tickless comings waits s [] none = tt
 patient-tickless comings waits s (e ∷ entries) none =
     tickless-by (comings, waits) e.event entries s none (patient-tickless comings waits (next s e.event) entries)
 
-serves-tickless : (p : ℕ) (had : _) (weight : ℕ) (e : Event) → p ≢ 0 → may_make p had weight e ≡ true → ticks_in e ≡ []
-serves-tickless p had weight (event.Accept slot) other may = refl
-serves-tickless p had weight (event.Park name kind) other may = refl
-serves-tickless p had weight (event.Hold name) other may = refl
-serves-tickless p had weight (event.Queue name) other may = refl
-serves-tickless p had weight (event.Start name) other may = refl
-serves-tickless p had weight (event.Answer name ask) other may = refl
-serves-tickless p had weight (event.Linger name cause) other may = refl
-serves-tickless p had weight (event.Close name cause tail) other may = refl
-serves-tickless p had weight (event.Ready slot) other may = refl
-serves-tickless p had weight (event.Tick m) other may = absurd (other (eqb-true p 0 may))
-serves-tickless p had weight (event.StartChild k) other may = refl
-serves-tickless p had weight (event.Command c) other may = refl
-serves-tickless p had weight (event.Retire k) other may = refl
+serves-tickless : (p : ℕ) (had : _) (e : Event) → p ≢ 0 → may_make p had e ≡ true → ticks_in e ≡ []
+serves-tickless p had (event.Accept slot) other may = refl
+serves-tickless p had (event.Park name kind) other may = refl
+serves-tickless p had (event.Hold name) other may = refl
+serves-tickless p had (event.Queue name) other may = refl
+serves-tickless p had (event.Start name) other may = refl
+serves-tickless p had (event.Answer name ask) other may = refl
+serves-tickless p had (event.Linger name cause) other may = refl
+serves-tickless p had (event.Close name cause tail) other may = refl
+serves-tickless p had (event.Ready slot) other may = refl
+serves-tickless p had (event.Tick m) other may = absurd (other (eqb-true p 0 may))
+serves-tickless p had (event.StartChild k) other may = refl
+serves-tickless p had (event.Command c) other may = refl
+serves-tickless p had (event.Retire k) other may = refl
 
 serves-added : (p : ℕ) (base : State) (f : Folded) (before added : List Entry) → p ≢ 0 → AreEntriesOf p base f before added → flat_map ticks_in (events_in added) ≡ []
 serves-added p base f before [] other are = refl
 serves-added p base f before (e ∷ added) other are =
-    ap (λ (xs : List ℕ). xs ++ flat_map ticks_in (events_in added)) (serves-tickless p _ _ e.event other are.0.role)
+    ap (λ (xs : List ℕ). xs ++ flat_map ticks_in (events_in added)) (serves-tickless p _ e.event other are.0.role)
     ∙ serves-added p base f (before ++ e ∷ []) added other are.1
 
 patient-added : (comings : List ℕ) (waits : List WaitTold) (who : ℕ) (es : List Event) (has : _) (a b : SeenBook) (acts : Acts who es has a b)

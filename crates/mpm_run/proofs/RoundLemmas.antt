@@ -12,14 +12,12 @@ use Rattle.conn_machine.specs.declared.event.Event.TheVariants as event
 use Rattle.conn_machine.specs.declared.folded.Folded.{Folded}
 use Rattle.conn_machine.specs.Runs.{entries_of, first_row, row_after}
 use Rattle.board.specs.declared.faults.BoardFault.{BoardFault}
-use Rattle.board.specs.declared.faults.BoardFault.TheVariants as fault
 use Rattle.board.specs.Book.{SeenBook, book_with_entry, row_in, AddsOnly}
 use Rattle.board.specs.Faults.{IsRefusedFor}
 use Rattle.board.specs.Board.{SeenBoard}
 use Rattle.board.specs.Events.{with_recorded}
 use Rattle.worker_group.specs.Acts.{Acts, ActsInSteps}
-use Rattle.worker_group.specs.Service.{LeavesRest, RefusalLasts, left_events}
-use Rattle.mpm_run.specs.ListenInside.{MustStop}
+use Rattle.worker_group.specs.Service.{LeavesRest, left_events}
 use Rattle.mpm_run.specs.ClosingInside.{DrainsUntil, IsDrainedWay, IsLateWay, IsRetiringWay, LetsGo, NoneEarly}
 use Rattle.mpm_run.specs.RoundInside.{AllLeft, BreaksOff, EndsRound, GoesRound, IsLeftAsWatched, LetsGoOfConns, LetsGoUntil, NoneHas, PassesTime, RetiresSome, Round, SignalsFirst, StartsAsAsked, StartsSome, Intake, TakesSome, gone_events, round_events, signal_events, intake_events, time_events}
 use Rattle.mpm_run.specs.Times.{known_slots, ticks_to}
@@ -337,12 +335,6 @@ on-ok (Err e) P holds = tt
 pub on-err : {T E : Type 0} (r : Result T E) (P : Type 0) → P → OnErr r P
 on-err (Ok x) P holds = tt
 on-err (Err e) P holds = holds
-
--- what lasts of a refusal stops the server
-pub must-stop : (f : BoardFault) (b : SeenBook) → RefusalLasts f b → MustStop f b
-must-stop fault.Halted b lasts = lasts
-must-stop fault.Full b lasts = lasts.1
-must-stop fault.NoMemory b lasts = tt
 
 -- the number is below the other, or isn't
 pub is-below : (m n : ℕ) → m < n → nat_lt m n ≡ true

@@ -24,7 +24,7 @@ use Rattle.conn_machine.specs.Events.{count_events, is_accept, is_close}
 use Rattle.conn_machine.specs.Laws.{StaysSound}
 use Rattle.conn_state.specs.Answered.{SeenEnded, IsAnswered, IsEnded}
 use Rattle.conn_state.specs.Known.{KnownOutside, TellsFrom}
-use Rattle.board.specs.Book.{SeenBook, StopsByLoad, TellsFullStop}
+use Rattle.board.specs.Book.{SeenBook}
 use Rattle.board.specs.Board.{SeenBoard, Agrees, AreClosed, AreEnded, ClosesFirst, EndedOfOutside}
 use Rattle.board.specs.Ranks.{AllTell, has_rank}
 use Rattle.mpm_run.specs.Links.{EndsLinks}
@@ -47,9 +47,8 @@ pub run-from : (n : RunNumbers) (b : SeenBoard) → AreOfPasses n.passes b.book.
     → ((s : State) (history : List Entry) → IsSound s → Run s history → StaysSound s history)
     → Run b.book.base b.book.history → IsInPassOrderFrom b.book.folded b.book.history → AreMade b.book.base b.book.folded b.book.history
     → EachHasItsOwn b.book.base (first_row b.book.folded) → after b.book.base b.book.history ≡ b.book.state → IsSound b.book.base
-    → StopsByLoad b.book.history
-    → TellsFullStop b.book.state.going b.book.history → TellsStop b.book → Agrees b → IsRunFrom n b
-run-from n b few asked law run order made own state sound stops full stop agrees = record {
+    → TellsStop b.book → Agrees b → IsRunFrom n b
+run-from n b few asked law run order made own state sound stop agrees = record {
   run = run;
   order = order;
   made = made;
@@ -58,8 +57,6 @@ run-from n b few asked law run order made own state sound stops full stop agrees
   asked = asked;
   state = state;
   stays_sound = law b.book.base b.book.history sound run;
-  stops = stops;
-  full = full;
   stop = stop;
   agrees = agrees;
 }

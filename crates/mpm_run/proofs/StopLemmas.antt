@@ -1,5 +1,5 @@
 -- How the listener stops: what it adds then neither ticks nor signals.
-use Rattle.std.proofs.Common.{◌≡◌, inl, inr, ℕ, Bool, true, false, if◌then◌else◌, List, [], ◌∷◌, Option, None, Result, Ok, Err, OnOk, OnErr, refl, sym, ap, subst, ◌∙◌}
+use Rattle.std.proofs.Common.{◌≡◌, inl, inr, ℕ, true, List, [], ◌∷◌, Option, None, Result, Ok, Err, OnOk, OnErr, refl, sym, ap, subst, ◌∙◌}
 use Rattle.mpm_base.specs.Count.{Rises}
 use Rattle.mpm_base.specs.Front.{FrontSeen, WaitTold, after_hush}
 use Rattle.conn_machine.specs.declared.event.Commanded.TheVariants.{Stop}
@@ -21,9 +21,9 @@ use Rattle.mpm_run.specs.declared.listen.End.TheVariants as end
 use Rattle.mpm_run.specs.Listen.{IsClosedDown}
 use Rattle.mpm_run.specs.ListenInside.{HaltsAs, HasStopped, MustHalt, TurnsEnd, why_of}
 use Rattle.mpm_run.specs.ClosingInside.{IsHaltedWay, LetsGo}
-use Rattle.mpm_run.specs.RoundInside.{NoneHas, RetiresSome, end_events, halt_events}
+use Rattle.mpm_run.specs.RoundInside.{NoneHas, RetiresSome, halt_events}
 use Rattle.mpm_run.specs.Times.{IsInformed, IsInformedSoFar, WasInformed}
-use Rattle.mpm_run.proofs.EventLemmas.{AreSilent, silent-gone, silent-none, silent-retires, silent-stops}
+use Rattle.mpm_run.proofs.EventLemmas.{AreSilent, silent-gone, silent-halts, silent-retires}
 use Rattle.mpm_run.proofs.FrontLemmas.{failed-hushed, given-hushed}
 use Rattle.mpm_run.proofs.InformLemmas.{TellsAs, informed-as, so_far-as, tells-silent}
 use Rattle.mpm_run.proofs.RoundLemmas.{acts-added, acts-spelled, none-has}
@@ -36,17 +36,9 @@ pub record IsQuietStep (old new : SeenBook) : Type 0 where
 quiet-acts : ActsInSteps → (a b : SeenBook) (es : List _) → NoneHas a → Acts 0 es None a b → AreSilent es → IsQuietStep a b
 quiet-acts steps a b es free acts silent = record { free = none-has steps 0 es a b free acts; alike = tells-silent es a b acts silent }
 
-silent-ends : (b : SeenBook) (turns : Result End BoardFault) → AreSilent (end_events b turns)
-silent-ends b (Ok end) = record { ticks = refl; signals = refl }
-silent-ends b (Err f) = silent-stops b f
-
-pub silent-halts : (halted : Bool) (b : SeenBook) (turns : Result End BoardFault) → AreSilent (if halted then [] else end_events b turns)
-silent-halts true b turns = silent-none
-silent-halts false b turns = silent-ends b turns
-
 -- the server was stopped
-pub quiet-halted : ActsInSteps → (turns : Result End BoardFault) (a b : SeenBook) → NoneHas a → Acts 0 (halt_events a turns) None a b → IsQuietStep a b
-quiet-halted steps turns a b free acts = quiet-acts steps a b _ free acts (silent-halts (is_halted a.state.going) a turns)
+pub quiet-halted : ActsInSteps → (turns : Result End BoardFault) (a b : SeenBook) → NoneHas a → Acts 0 (halt_events turns) None a b → IsQuietStep a b
+quiet-halted steps turns a b free acts = quiet-acts steps a b _ free acts (silent-halts turns)
 
 -- closes
 pub quiet-closed : ActsInSteps → (a b : SeenBook) → NoneHas a → LetsGo IsHaltedWay a b → IsQuietStep a b
@@ -59,7 +51,7 @@ quiet-retired steps a b free retires = quiet-acts steps a b _ free retires.acts 
 -- the server was stopped, each connection that waited closed, and each child let go of
 pub record GoesDown (turns : Result End BoardFault) (a b c d : SeenBook) : Type 0 where
   pub free : NoneHas a
-  pub halts : Acts 0 (halt_events a turns) None a b
+  pub halts : Acts 0 (halt_events turns) None a b
   pub closes : LetsGo IsHaltedWay b c
   pub retires : RetiresSome c d
   pub halt_moment : b.state.moment ≡ a.state.moment
@@ -67,7 +59,7 @@ pub record GoesDown (turns : Result End BoardFault) (a b c d : SeenBook) : Type 
   pub retire_rest : LeavesRest c d
 
 -- then no pass has a connection
-pub free-halted : ActsInSteps → (turns : Result End BoardFault) (a b : SeenBook) → NoneHas a → Acts 0 (halt_events a turns) None a b → NoneHas b
+pub free-halted : ActsInSteps → (turns : Result End BoardFault) (a b : SeenBook) → NoneHas a → Acts 0 (halt_events turns) None a b → NoneHas b
 free-halted steps turns a b free acts = none-has steps 0 _ a b free acts
 
 -- the history is informed still
@@ -145,11 +137,6 @@ may-stop end.Ended b must = rw (must.0, must.1) refl
 may-stop end.Asked b must = rw must refl
 may-stop end.Failed b must = rw must refl
 
-goes-on : (e : End) (b : SeenBook) → MustHalt (Ok e) b → is_halted b.state.going ≡ false
-goes-on end.Ended b must = must.0
-goes-on end.Asked b must = must
-goes-on end.Failed b must = must
-
 -- so the command may be made
 pub may-halt : (turns : Result End BoardFault) (e : End) (reason : Why) (b : SeenBook) → turns ≡ Ok e → reason ≡ why_of e → MustHalt turns b
     → may_command b.state (Stop reason) ≡ true
@@ -158,16 +145,13 @@ may-halt turns e reason b is reason_is must =
     (may-stop e b (subst (λ (t : Result End BoardFault). MustHalt t b) is must))
 
 -- and the server stops by it
-pub acts-stopped : ActsInSteps → (turns : Result End BoardFault) (e : End) (reason : Why) (b b' : SeenBoard) → turns ≡ Ok e → reason ≡ why_of e → MustHalt turns b.book
+pub acts-stopped : ActsInSteps → (turns : Result End BoardFault) (e : End) (reason : Why) (b b' : SeenBoard) → turns ≡ Ok e → reason ≡ why_of e
     → row_in 0 b.book ≡ None → b' ≡ with_recorded 0 (event.Command (Stop reason)) b → AddsOnly 0 b.book b'.book
-    → row_in 0 b'.book ≡ row_in 0 b.book → Acts 0 (halt_events b.book turns) None b.book b'.book
-acts-stopped steps turns e reason b b' is reason_is must free new_is adds row =
-    let going = goes-on e b.book (subst (λ (t : Result End BoardFault). MustHalt t b.book) is must) in
-    let events : event.Command (Stop reason) ∷ [] ≡ halt_events b.book turns =
-    ap (λ (w : Why). event.Command (Stop w) ∷ []) reason_is ∙ ap (end_events b.book) (sym is)
-    ∙ ap (λ (halted : Bool). if halted then [] else end_events b.book turns) (sym going) in
-    acts-spelled (event.Command (Stop reason) ∷ []) (halt_events b.book turns) b.book b'.book
-    (acts-added steps (event.Command (Stop reason)) None b b' new_is adds (row ∙ free)) events
+    → row_in 0 b'.book ≡ row_in 0 b.book → Acts 0 (halt_events turns) None b.book b'.book
+acts-stopped steps turns e reason b b' is reason_is free new_is adds row =
+    acts-spelled (event.Command (Stop reason) ∷ []) (halt_events turns) b.book b'.book
+    (acts-added steps (event.Command (Stop reason)) None b b' new_is adds (row ∙ free))
+    (ap (λ (w : Why). event.Command (Stop w) ∷ []) reason_is ∙ ap halt_events (sym is))
 
 pub halts-as : (turns : Result End BoardFault) (e : End) (reason : Why) (going : Going) → turns ≡ Ok e → reason ≡ why_of e → going ≡ Halted reason
     → HaltsAs turns going
@@ -177,8 +161,4 @@ halts-as turns e reason going is reason_is halted =
 -- a server that stopped so has stopped
 pub has-halted : (turns : Result End BoardFault) (going : Going) → HaltsAs turns going → is_halted going ≡ true
 has-halted (Ok end) going halts = ap is_halted halts
-has-halted (Err fault) going halts =
-    elim halts [
-      | inl full ↦ ap is_halted full
-      | inr lacks ↦ ap is_halted lacks
-    ]
+has-halted (Err fault) going halts = ap is_halted halts

@@ -1,5 +1,5 @@
 -- What holds of a listener between two turns, and how a turn keeps it.
-use Rattle.std.proofs.Common.{◌≡◌, ◌≢◌, ◌<◌, inl, ℕ, false, List, [], Option, None, Ok, IfSome, map, max, ap, sym, subst, refl, ◌∙◌, arith}
+use Rattle.std.proofs.Common.{◌≡◌, ◌≢◌, ◌<◌, ℕ, false, List, [], Option, None, Ok, IfSome, map, max, ap, sym, subst, refl, ◌∙◌, arith}
 use Rattle.mpm_base.specs.Count.{RisesExactlyWhere, RisesWhere}
 use Rattle.mpm_base.specs.Front.{GivesOnlyAwake, GoesForward, TellsOn, WaitTold, is_ended, moments_in, wait_failed}
 use Rattle.mpm_base.specs.declared.front.Woke.{Woke}
@@ -76,7 +76,7 @@ between-started steps l m some free going step informed is starts same rest =
       base = starts.acts.base;
       passes = starts.acts.passes;
       free = none-has steps 0 _ l.board.book m.board.book free starts.acts;
-      up = inl (ap is_halted same ∙ going);
+      up = ap is_halted same ∙ going;
       step = step-kept l.front.told l.board.book.state m.board.book.state rest.accepted step;
       follows = follows-same l.front;
       contacts = refl;

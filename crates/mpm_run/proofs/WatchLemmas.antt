@@ -1,5 +1,5 @@
 -- That each link that the table took is watched under the name of its connection, which is closed where that failed.
-use Rattle.std.proofs.Common.{◌≡◌, ◌≢◌, ◌==◌, ◌≤◌, ℕ, drop, Bool, true, false, if◌then◌else◌, List, [], ◌∷◌, ◌++◌, length, map, Option, None, Some, option_map, is_none, Result, Ok, Err, IfErr, IfSome, OnOk, refl, sym, ap, subst, ◌∙◌, append-nil, append_assoc, length-append, eq-eqb, eqb-true, arith}
+use Rattle.std.proofs.Common.{◌≡◌, ◌≢◌, ◌==◌, ◌≤◌, ℕ, drop, Bool, true, false, List, [], ◌∷◌, ◌++◌, length, map, Option, None, Some, option_map, is_none, Result, Ok, Err, IfErr, IfSome, OnOk, refl, sym, ap, subst, ◌∙◌, append-nil, append_assoc, length-append, eq-eqb, eqb-true, arith}
 use Rattle.std.proofs.lemmas.Bool.{and_parts}
 use Rattle.std.proofs.lemmas.Grind.{flat_map-append}
 use Rattle.std.proofs.lemmas.List.{drop-append-le, map-append}
@@ -21,10 +21,8 @@ use Rattle.conn_machine.specs.declared.event.Event.TheVariants as event
 use Rattle.conn_machine.specs.declared.event.Reply.{Reply}
 use Rattle.conn_machine.specs.declared.folded.Folded.{Folded}
 use Rattle.conn_machine.specs.declared.state.State.{State}
-use Rattle.conn_machine.specs.States.{is_halted}
 use Rattle.conn_machine.specs.Runs.{AreEntriesOf, entries_of, has_after, is_of_pass, may_make, taken_name, row_from}
 use Rattle.board.specs.declared.faults.BoardFault.{BoardFault}
-use Rattle.board.specs.declared.faults.BoardFault.TheVariants as fault
 use Rattle.board.specs.Book.{SeenBook}
 use Rattle.worker_group.specs.declared.service.Exit.{Exit}
 use Rattle.worker_group.specs.declared.service.Exit.TheVariants as exit
@@ -33,7 +31,7 @@ use Rattle.mpm_run.specs.ListenInside.{IsArrival, OnlyReads, TellsAlike, Watches
 use Rattle.mpm_run.specs.declared.listen.End.{End}
 use Rattle.worker_group.specs.Service.{left_events}
 use Rattle.mpm_run.specs.ClosingInside.{IsHaltedWay, LetsGo, Departure, departure_events, lingering_give_up_events}
-use Rattle.mpm_run.specs.RoundInside.{GivesUp, LetsGoOfConns, LetsGoUntil, Departures, PassesTime, RetiresSome, StartsSome, end_events, gone_events, halt_events, departures_events, signal_events, way_of}
+use Rattle.mpm_run.specs.RoundInside.{GivesUp, LetsGoOfConns, LetsGoUntil, Departures, PassesTime, RetiresSome, StartsSome, gone_events, halt_events, departures_events, signal_events, way_of}
 use Rattle.mpm_run.specs.Times.{known_slots, ticks_to}
 use Rattle.mpm_run.specs.Watched.{AreClosedAtOnce, IsClosedAtOnce, accepted_names, link_watched, links_from, names_taken, names_given}
 use Rattle.mpm_run.proofs.AddedLemmas.{added-events, added-own, events_in}
@@ -84,18 +82,14 @@ pub none-left : (way : Exit) (name : ConnName) → TakesNone (left_events way na
 none-left (exit.Park kind) name = refl
 none-left (exit.Linger why) name = refl
 none-left (exit.Close why how) name = refl
-none-left (exit.GiveUp fault.Halted) name = refl
-none-left (exit.GiveUp fault.Full) name = refl
-none-left (exit.GiveUp fault.NoMemory) name = refl
+none-left (exit.GiveUp fault) name = refl
 
 none-gone : (gone : List Departure) → TakesNone (gone_events gone)
 none-gone [] = refl
 none-gone (l ∷ gone) = none-both (departure_events l) (gone_events gone) (none-left l.way l.name) (none-gone gone)
 
 none-given_up : (fault : BoardFault) (ending : Cause) (name : ConnName) → TakesNone (lingering_give_up_events fault ending name)
-none-given_up fault.Halted ending name = refl
-none-given_up fault.Full ending name = refl
-none-given_up fault.NoMemory ending name = refl
+none-given_up fault ending name = refl
 
 none-lettings : (l : Departures) → TakesNone (departures_events l)
 none-lettings l =
@@ -167,25 +161,25 @@ nobody-acts who es has a b acts none = record {
   none = unnamed acts.entries.0 (subst TakesNone (sym (added-events who es has a b acts)) none);
 }
 
-serves-none : (p : ℕ) (had : Option ConnName) (weight : ℕ) (e : Event) → p ≢ 0 → may_make p had weight e ≡ true → accepts_in e ≡ []
-serves-none p had weight (event.Accept slot) other may = absurd (other (eqb-true p 0 (and_parts (p == 0) (is_none had) may).0))
-serves-none p had weight (event.Park name kind) other may = refl
-serves-none p had weight (event.Hold name) other may = refl
-serves-none p had weight (event.Queue name) other may = refl
-serves-none p had weight (event.Start name) other may = refl
-serves-none p had weight (event.Answer name ask) other may = refl
-serves-none p had weight (event.Linger name cause) other may = refl
-serves-none p had weight (event.Close name cause tail) other may = refl
-serves-none p had weight (event.Ready slot) other may = refl
-serves-none p had weight (event.Tick m) other may = refl
-serves-none p had weight (event.StartChild k) other may = refl
-serves-none p had weight (event.Command c) other may = refl
-serves-none p had weight (event.Retire k) other may = refl
+serves-none : (p : ℕ) (had : Option ConnName) (e : Event) → p ≢ 0 → may_make p had e ≡ true → accepts_in e ≡ []
+serves-none p had (event.Accept slot) other may = absurd (other (eqb-true p 0 (and_parts (p == 0) (is_none had) may).0))
+serves-none p had (event.Park name kind) other may = refl
+serves-none p had (event.Hold name) other may = refl
+serves-none p had (event.Queue name) other may = refl
+serves-none p had (event.Start name) other may = refl
+serves-none p had (event.Answer name ask) other may = refl
+serves-none p had (event.Linger name cause) other may = refl
+serves-none p had (event.Close name cause tail) other may = refl
+serves-none p had (event.Ready slot) other may = refl
+serves-none p had (event.Tick m) other may = refl
+serves-none p had (event.StartChild k) other may = refl
+serves-none p had (event.Command c) other may = refl
+serves-none p had (event.Retire k) other may = refl
 
 serves-added : (p : ℕ) (base : State) (f : Folded) (before added : List Entry) → p ≢ 0 → AreEntriesOf p base f before added → TakesNone (events_in added)
 serves-added p base f before [] other are = refl
 serves-added p base f before (e ∷ added) other are =
-    ap (λ (xs : List ℕ). xs ++ flat_map accepts_in (events_in added)) (serves-none p _ _ e.event other are.0.role)
+    ap (λ (xs : List ℕ). xs ++ flat_map accepts_in (events_in added)) (serves-none p _ e.event other are.0.role)
     ∙ serves-added p base f (before ++ e ∷ []) added other are.1
 
 -- and where another pass than the listener added what it did
@@ -528,19 +522,13 @@ nobody-before-takes a b c d e f to slots passes signals lets retires starts =
 
 -- ## The stop
 
-none-ends : (b : SeenBook) (turns : Result End BoardFault) → TakesNone (end_events b turns)
-none-ends b (Ok end) = refl
-none-ends b (Err fault.Halted) = refl
-none-ends b (Err fault.Full) = refl
-none-ends b (Err fault.NoMemory) = refl
-
-none-halts : (halted : Bool) (b : SeenBook) (turns : Result End BoardFault) → TakesNone (if halted then [] else end_events b turns)
-none-halts true b turns = refl
-none-halts false b turns = none-ends b turns
+none-halts : (turns : Result End BoardFault) → TakesNone (halt_events turns)
+none-halts (Ok end) = refl
+none-halts (Err fault) = refl
 
 -- the server was stopped, each connection that waited closed, and each child let go of
-pub nobody-down : (turns : Result End BoardFault) (a b c d : SeenBook) → Acts 0 (halt_events a turns) None a b → LetsGo IsHaltedWay b c
+pub nobody-down : (turns : Result End BoardFault) (a b c d : SeenBook) → Acts 0 (halt_events turns) None a b → LetsGo IsHaltedWay b c
     → RetiresSome c d → TakesNobody a d
 nobody-down turns a b c d halts closes retires =
-    nobody-more a b d (nobody-acts 0 _ None a b halts (none-halts (is_halted a.state.going) a turns))
+    nobody-more a b d (nobody-acts 0 _ None a b halts (none-halts turns))
     (nobody-more b c d (nobody-gone IsHaltedWay b c closes) (nobody-acts 0 _ None c d retires.acts (none-retires retires.children)))

@@ -9,10 +9,8 @@ use Rattle.mpm_base.specs.declared.conn.Kind.TheVariants.{Reading, KeepAlive, Wr
 use Rattle.mpm_base.specs.declared.conn.Tail.{Tail}
 use Rattle.mpm_base.specs.declared.conn.Tail.TheVariants as tail
 use Rattle.conn_machine.specs.Runs.{after}
-use Rattle.conn_machine.specs.declared.event.Commanded.TheVariants.{Stop}
 use Rattle.conn_machine.specs.declared.event.Event.{Event}
 use Rattle.conn_machine.specs.declared.event.Event.TheVariants as event
-use Rattle.conn_machine.specs.declared.event.Why.TheVariants as why
 use Rattle.conn_machine.specs.declared.row.Row.{Row}
 use Rattle.conn_machine.specs.declared.state.State.{State}
 use Rattle.conn_machine.specs.Rows.{is_held, is_linger_kind, is_lingering, is_parked, live_row}
@@ -156,11 +154,14 @@ pub record IsLingeringFor (why : Cause) (s : State) (c : SeenConn) : Type 0 wher
 abbrev pub DrainsSome : SeenBook → SeenBook → Type 0
 DrainsSome old new = LetsGo IsDrainedWay old new
 
--- the events by which a connection that lingers for the cause is given up: it is closed, and a full history stops the server before
+-- how the link of a connection that lingers is left, which is given up for the fault
+abbrev pub given_up_tail : BoardFault → Tail
+given_up_tail fault.Halted = tail.Halted
+given_up_tail fault.NoMemory = tail.NoMemory
+
+-- the events by which a connection that lingers for the cause is given up: it is closed
 abbrev pub lingering_give_up_events : BoardFault → Cause → ConnName → List Event
-lingering_give_up_events fault.Halted ending name = event.Close name ending tail.Halted ∷ []
-lingering_give_up_events fault.Full ending name = event.Command (Stop why.Full) ∷ event.Close name ending tail.Halted ∷ []
-lingering_give_up_events fault.NoMemory ending name = event.Close name ending tail.NoMemory ∷ []
+lingering_give_up_events fault ending name = event.Close name ending (given_up_tail fault) ∷ []
 
 -- a connection that lingers was held, which led to this book; its further wait was refused there for the fault, and it was given up
 pub record GivesUpDrained (fault : BoardFault) (old new : SeenBook) : Type 0 where

@@ -1,5 +1,5 @@
 -- Why a run ends with its exit status, and what it leaves of the output.
-use Rattle.std.specs.Prelude.{◌≡◌, ℕ, ◌≤◌, ◌<◌, ◌⊎◌, Bool, true, false, List, ◌++◌, length, map, Option, Some, None, option_map, IsSome, IsSomeAnd, Err}
+use Rattle.std.specs.Prelude.{◌≡◌, ◌≢◌, ℕ, ◌≤◌, ◌<◌, ◌⊎◌, Bool, true, false, List, ◌++◌, length, map, Option, Some, None, option_map, IsSome, IsSomeAnd, Err}
 use Rattle.mpm_base.specs.CommandWord.{command_word}
 use Rattle.mpm_base.specs.Count.{Rises}
 use Rattle.mpm_base.specs.Front.{Binds, Dials, FrontSeen, moments_of}
@@ -15,8 +15,6 @@ use Rattle.script_front.specs.ScriptFront.{SeenFront, comings_of}
 use Rattle.conn_machine.specs.declared.event.Why.TheVariants as why
 use Rattle.conn_machine.specs.declared.state.Going.{Going}
 use Rattle.conn_machine.specs.declared.state.Going.TheVariants.{Halted}
-use Rattle.conn_machine.specs.Runs.{full_load, load}
-use Rattle.board.specs.Book.{HasEntryOf, full_stop}
 use Rattle.board.specs.Board.{SeenBoard}
 use Rattle.mpm_config.specs.Config.{Configuration}
 use Rattle.file_table.specs.Site.{SeenSite}
@@ -288,7 +286,6 @@ abbrev pub MayEndWith : Going → ℕ → Type 0
 MayEndWith (Halted why.FrontEnded) status = (status ≡ 0) ⊎ (status ≡ 5) ⊎ (status ≡ 6)
 MayEndWith (Halted why.Asked) status = (status ≡ 0) ⊎ (status ≡ 5) ⊎ (status ≡ 6)
 MayEndWith (Halted why.FrontFailed) status = (status ≡ 4) ⊎ (status ≡ 6)
-MayEndWith (Halted why.Full) status = (status ≡ 7) ⊎ (status ≡ 6)
 MayEndWith (Halted why.NoMemory) status = status ≡ 6
 MayEndWith other status = ⊥
 
@@ -305,12 +302,6 @@ pub record EndsWell (sink sink' : SinkSeen) (c : Configuration) (b : SeenBoard) 
 pub record EndsUnwritten (sink sink' : SinkSeen) (b : SeenBoard) : Type 0 where
   pub going : IsGoodEnd b.book.state.going
   pub failed : Rises sink.faults sink'.faults
-
--- with exit status 7: the history has a stop because it is full, at a load that is at its limit
-pub record EndsFull (sink sink' : SinkSeen) (c : Configuration) (b : SeenBoard) : Type 0 where
-  pub stop : HasEntryOf full_stop b.book.history
-  pub full : full_load ≤ load stop.before
-  pub text : WritesText sink sink' (run_text c b)
 
 -- with exit status 4, of a run: a wait of its front failed
 pub record EndsFailed (sink sink' : SinkSeen) (c : Configuration) (b : SeenBoard) : Type 0 where
@@ -330,7 +321,6 @@ pub record EndsAs (sink sink' : SinkSeen) (c : Configuration) (b : SeenBoard) (s
   pub failed : status ≡ 4 → EndsFailed sink sink' c b
   pub unwritten : status ≡ 5 → EndsUnwritten sink sink' b
   pub lacking : status ≡ 6 → EndsLacking sink sink' c b
-  pub full : status ≡ 7 → EndsFull sink sink' c b
 
 -- what is left of a run of this configuration and this site: nothing of its history was folded, it closed each connection that it
 -- took, each child is gone, and each connection was served by the limits of the configuration and the site
@@ -392,7 +382,7 @@ pub record HasRunServer (call : Call) (f f' : FrontSeen) (calls : Option (List (
 
 -- the exit statuses that there are
 abbrev pub IsExitStatus : ℕ → Type 0
-IsExitStatus s = s ≤ 10
+IsExitStatus s = (s ≤ 10) × (s ≢ 7)
 
 -- with exit status 0: the run of a script ended well, or one over the front did, as is said of its board; or a test did, or a command
 -- was sent
@@ -410,7 +400,3 @@ EndsFrontFault call f f' board = IsSome board ⊎ EndsUnbound call f f' ⊎ Ends
 abbrev pub LacksOutput : Call → Option Scripted → Option SeenBoard → Type 0
 LacksOutput call scripted board =
     IsSomeAnd scripted (λ s. EndsUnwritten call.sink call.sink' s.board) ⊎ IsSome board ⊎ EndsTestUnwritten call
-
--- with exit status 7: the history of a script's run is full, or that of one over the front, as is said of its board
-abbrev pub EndsFilled : Call → Option Scripted → Option SeenBoard → Type 0
-EndsFilled call scripted board = IsSomeAnd scripted (λ s. EndsFull call.sink call.sink' s.config s.board) ⊎ IsSome board

@@ -1,5 +1,5 @@
 -- What the parts of the top call say of the exit status and of what was written.
-use Rattle.std.specs.Prelude.{◌≡◌, ◌≢◌, ◌==◌, ℕ, ◌≤◌, Bool, true, false, if◌then◌else◌, ◌⊎◌, List, ◌++◌, Option, None, Some, option_map}
+use Rattle.std.specs.Prelude.{◌≡◌, ◌≢◌, ◌==◌, ℕ, Bool, true, false, if◌then◌else◌, ◌⊎◌, List, ◌++◌, Option, None, Some, option_map}
 use Rattle.mpm_base.specs.Count.{NeverFalls, Rises}
 use Rattle.mpm_base.specs.Front.{Binds, FrontSeen}
 use Rattle.mpm_base.specs.Sink.{SinkSeen}
@@ -9,9 +9,7 @@ use Rattle.mpm_script.specs.Clients.{clients_of}
 use Rattle.mpm_script.specs.declared.script.ScriptFault.{ScriptFault}
 use Rattle.script_front.specs.Editions.{editions_of}
 use Rattle.file_table.specs.Site.{SeenSite}
-use Rattle.conn_machine.specs.Runs.{full_load, load}
 use Rattle.board.specs.Board.{SeenBoard}
-use Rattle.board.specs.Book.{HasEntryOf, full_stop}
 use Rattle.conn_machine.specs.declared.event.Why.TheVariants as why
 use Rattle.conn_machine.specs.declared.state.Going.{Going}
 use Rattle.conn_machine.specs.declared.state.Going.TheVariants.{Halted}
@@ -40,13 +38,12 @@ abbrev pub IsExitStatusOf : Going → ℕ → Type 0
 IsExitStatusOf (Halted why.FrontEnded) status = status ≡ 0
 IsExitStatusOf (Halted why.Asked) status = status ≡ 0
 IsExitStatusOf (Halted why.FrontFailed) status = status ≡ 4
-IsExitStatusOf (Halted why.Full) status = status ≡ 7
 IsExitStatusOf (Halted why.NoMemory) status = status ≡ 6
 IsExitStatusOf other status = ⊥
 
 -- the exit statuses before the report
 abbrev pub IsStoppedStatus : ℕ → Type 0
-IsStoppedStatus s = (s ≡ 0) ⊎ (s ≡ 4) ⊎ (s ≡ 6) ⊎ (s ≡ 7)
+IsStoppedStatus s = (s ≡ 0) ⊎ (s ≡ 4) ⊎ (s ≡ 6)
 
 -- what a report makes of an exit status: a failed write changes 0 alone, and want of memory each
 abbrev pub ReportsAs : ℕ → ℕ → Type 0
@@ -59,11 +56,11 @@ status_of_writes false status = if status == 0 then 5 else status
 
 -- the exit statuses of a script that was read, whose configuration is accepted, and which has a site
 abbrev pub IsPlayedStatus : ℕ → Type 0
-IsPlayedStatus s = (s ≡ 0) ⊎ (s ≡ 5) ⊎ (s ≡ 6) ⊎ (s ≡ 7)
+IsPlayedStatus s = (s ≡ 0) ⊎ (s ≡ 5) ⊎ (s ≡ 6)
 
 -- the exit statuses of a script
 abbrev pub IsScriptStatus : ℕ → Type 0
-IsScriptStatus s = (s ≡ 0) ⊎ (s ≡ 1) ⊎ (s ≡ 3) ⊎ (s ≡ 5) ⊎ (s ≡ 6) ⊎ (s ≡ 7) ⊎ (s ≡ 8) ⊎ (s ≡ 9)
+IsScriptStatus s = (s ≡ 0) ⊎ (s ≡ 1) ⊎ (s ≡ 3) ⊎ (s ≡ 5) ⊎ (s ≡ 6) ⊎ (s ≡ 8) ⊎ (s ≡ 9)
 
 -- the exit statuses of a test
 abbrev pub IsTestStatus : ℕ → Type 0
@@ -71,7 +68,7 @@ IsTestStatus s = (s ≡ 0) ⊎ (s ≡ 1) ⊎ (s ≡ 3) ⊎ (s ≡ 5) ⊎ (s ≡ 
 
 -- the exit statuses of a server that was run, or for which the front could not be bound or memory lacked
 abbrev pub IsOpenedStatus : ℕ → Type 0
-IsOpenedStatus s = (s ≡ 0) ⊎ (s ≡ 4) ⊎ (s ≡ 5) ⊎ (s ≡ 6) ⊎ (s ≡ 7)
+IsOpenedStatus s = (s ≡ 0) ⊎ (s ≡ 4) ⊎ (s ≡ 5) ⊎ (s ≡ 6)
 
 -- the exit statuses of a server
 abbrev pub IsServedStatus : ℕ → Type 0
@@ -106,11 +103,6 @@ pub record IsPlayed (lines : List ScriptLine) (s : Scripted) : Type 0 where
   pub site_is : HasSite lines s.config site
   pub has_run : HasRun s.config site s.board
   pub receive : AllReceive (clients_of lines) s.board.ended
-
--- the history has a stop because it is full, at a load that is at its limit
-pub record IsFullStop (b : SeenBoard) : Type 0 where
-  pub stop : HasEntryOf full_stop b.book.history
-  pub full : full_load ≤ load stop.before
 
 -- ## What is written on the way
 
@@ -160,7 +152,7 @@ pub record EndsReport (sink sink' : SinkSeen) (text : List ℕ) (written : Bool)
   pub faults : NeverFalls sink.faults sink'.faults
   pub well : status ≡ 0 → (written ≡ true) × (sink'.told ≡ option_map (λ before. before ++ text) sink.told)
   pub failed : status ≡ 5 → (written ≡ false) ⊎ Rises sink.faults sink'.faults
-  pub writes : (status ≡ 4) ⊎ (status ≡ 7) → WritesText sink sink' text
+  pub writes : status ≡ 4 → WritesText sink sink' text
 
 -- the report was written behind exit status 6, or memory lacked for it, and the output is as it was
 abbrev pub LacksReport : SinkSeen → SinkSeen → List ℕ → ℕ → Type 0

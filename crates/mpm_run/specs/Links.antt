@@ -20,8 +20,7 @@ pub record TurnsOneAway (s : State) (t : FrontTold) : Type 0 where
   pub accepted : t.accepted ≡ next_count s.accepted
   pub one : t.turned_away ≡ after_close (fresh_link s.accepted (client_at t.clients s.accepted)) ∷ []
 
--- the table took each link that the front handed out; or the server stopped for a full history or for want of memory, and the last
--- one was turned away
+-- the table took each link that the front handed out; or the server stopped for want of memory, and the last one was turned away
 abbrev pub TakesLinks : State → FrontTold → Type 0
 TakesLinks s t = HandsOutTaken s t ⊎ (IsBrokenOff s.going × TurnsOneAway s t)
 

@@ -9,7 +9,7 @@ use Rattle.conn_machine.specs.Runs.{Run, after, first_row, IsInPassOrderFrom}
 use Rattle.conn_machine.specs.Made.{AreMade, AreOfPasses}
 use Rattle.conn_machine.specs.Laws.{StaysSound}
 use Rattle.conn_machine.specs.Passes.{EachHasItsOwn}
-use Rattle.board.specs.Book.{SeenBook, StopsByLoad, TellsFullStop}
+use Rattle.board.specs.Book.{SeenBook}
 use Rattle.board.specs.Board.{SeenBoard, Agrees}
 use Rattle.mpm_run.specs.Commands.{TellsStop}
 use Rattle.mpm_run.specs.FirstNumbers.{folded_by, opened_by}
@@ -35,10 +35,8 @@ pub record IsClosedDown (s : State) : Type 0 where
 
 -- the history that is kept is one of the machine, from the state before it, in the order of its passes behind what was folded; each
 -- entry is one that its pass, one of so many, may make where it stands, each child that was started was asked for, and each command is a
--- stop, which the state tells; before the first
--- entry each pass had a connection of its own, or none, and each one that somebody had was some pass's; each state on its way is sound;
--- a stop because the history is full stands only where it is, and one for want of memory only where it isn't; the first is told by the
--- state; and the connections agree with the history
+-- stop, which the state tells; before the first entry each pass had a connection of its own, or none, and each one that somebody had was
+-- some pass's; each state on its way is sound; and the connections agree with the history
 pub record IsRunFrom (n : RunNumbers) (b : SeenBoard) : Type 0 where
   pub run : Run b.book.base b.book.history
   pub order : IsInPassOrderFrom b.book.folded b.book.history
@@ -48,8 +46,6 @@ pub record IsRunFrom (n : RunNumbers) (b : SeenBoard) : Type 0 where
   pub asked : AreAskedFor b.book.base b.book.history
   pub state : after b.book.base b.book.history ≡ b.book.state
   pub stays_sound : StaysSound b.book.base b.book.history
-  pub stops : StopsByLoad b.book.history
-  pub full : TellsFullStop b.book.state.going b.book.history
   pub stop : TellsStop b.book
   pub agrees : Agrees b
 

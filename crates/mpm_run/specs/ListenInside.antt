@@ -1,5 +1,5 @@
 -- What the listener keeps on its way, of its front, its clock and its table, and how its turns end.
-use Rattle.std.specs.Prelude.{◌≡◌, ◌<◌, ℕ, List, Option, IfSome, option_map, is_some, min, ◌⊎◌, ◌↔◌, ◌≤◌, Bool, true, false, [], ◌∷◌, None, Some, slice_get, length, Result, Ok, Err, ⊤}
+use Rattle.std.specs.Prelude.{◌≡◌, ◌<◌, ℕ, List, Option, IfSome, option_map, is_some, min, ◌⊎◌, ◌↔◌, ◌≤◌, Bool, true, false, [], ◌∷◌, None, Some, slice_get, length, Result, Ok, Err}
 use Rattle.mpm_base.specs.Clock.{Answers}
 use Rattle.mpm_base.specs.Front.{Binds, FrontTold, FrontSeen, BoundTold, DialTold, WaitTold, HasNoneToTake}
 use Rattle.mpm_base.specs.declared.front.Woke.{Woke}
@@ -17,13 +17,12 @@ use Rattle.conn_machine.specs.declared.state.State.{State}
 use Rattle.conn_machine.specs.Rows.{is_held, is_lingering, is_parked, live_row}
 use Rattle.conn_machine.specs.States.{is_halted, is_overdue}
 use Rattle.conn_machine.specs.Made.{IsOpened}
-use Rattle.conn_machine.specs.Runs.{full_load, load}
 use Rattle.conn_state.specs.Conn.{IsFresh}
 use Rattle.conn_state.specs.Known.{KnownOutside}
 use Rattle.board.specs.declared.faults.BoardFault.{BoardFault}
-use Rattle.board.specs.declared.faults.BoardFault.TheVariants as fault
 use Rattle.board.specs.Book.{SeenBook}
 use Rattle.board.specs.Finds.{acceptable}
+use Rattle.worker_group.specs.Service.{RefusalLasts}
 use Rattle.mpm_run.specs.declared.listen.End.{End}
 use Rattle.mpm_run.specs.declared.listen.End.TheVariants as end
 use Rattle.mpm_run.specs.declared.run_numbers.RunNumbers.{RunNumbers}
@@ -165,12 +164,6 @@ pub record IsAtStart (told : Option FrontTold) (b : SeenBook) : Type 0 where
   pub history : b.history ≡ []
   pub read : HasReadAll told
 
--- the server has to be stopped for the fault, or was; whatever the passes do, this stays so
-abbrev pub MustStop : BoardFault → SeenBook → Type 0
-MustStop fault.Halted b = is_halted b.state.going ≡ true
-MustStop fault.Full b = full_load ≤ load b.history
-MustStop fault.NoMemory b = ⊤
-
 -- the link is as the front hands it out, and is the arrival of that number
 pub record Arrives (number : ℕ) (t : LinkTold) : Type 0 where
   pub fresh : IsFresh t
@@ -204,14 +197,14 @@ TurnsEnd (Ok end.Ended) old new b = HasNothingToCome old new b.state
 TurnsEnd (Ok end.Asked) old new b = (is_halted b.state.going ≡ false) × Rises old.counts.commands new.counts.commands
 TurnsEnd (Ok end.Failed) old new b =
     (is_halted b.state.going ≡ false) × Rises old.counts.faults new.counts.faults × IfSome new.told HasFailedLast
-TurnsEnd (Err fault) old new b = MustStop fault b
+TurnsEnd (Err fault) old new b = RefusalLasts fault b
 
 -- the server goes on, and no connection is live where nothing more can come; or it has to stop for the fault, or did
 abbrev pub MustHalt : Result End BoardFault → SeenBook → Type 0
 MustHalt (Ok end.Ended) b = (is_halted b.state.going ≡ false) × HasNoLive b.state
 MustHalt (Ok end.Asked) b = is_halted b.state.going ≡ false
 MustHalt (Ok end.Failed) b = is_halted b.state.going ≡ false
-MustHalt (Err fault) b = MustStop fault b
+MustHalt (Err fault) b = RefusalLasts fault b
 
 -- why the server stops at the end of the turns
 abbrev pub why_of : End → Why
@@ -222,7 +215,7 @@ why_of end.Failed = why.FrontFailed
 -- how the server stops behind them
 abbrev pub HaltsAs : Result End BoardFault → Going → Type 0
 HaltsAs (Ok end) going = going ≡ Halted (why_of end)
-HaltsAs (Err fault) going = (going ≡ Halted why.Full) ⊎ (going ≡ Halted why.NoMemory)
+HaltsAs (Err fault) going = going ≡ Halted why.NoMemory
 
 -- no connection is late
 abbrev pub NoneOverdue : State → Type 0
@@ -243,8 +236,7 @@ IsRestful quiet s = (quiet ≡ true) ↔ IsAtRest s
 -- the server stopped for one of these
 abbrev pub IsEnd : Going → Type 0
 IsEnd going =
-    (going ≡ Halted why.FrontEnded) ⊎ (going ≡ Halted why.Asked) ⊎ (going ≡ Halted why.FrontFailed) ⊎ (going ≡ Halted why.Full)
-    ⊎ (going ≡ Halted why.NoMemory)
+    (going ≡ Halted why.FrontEnded) ⊎ (going ≡ Halted why.Asked) ⊎ (going ≡ Halted why.FrontFailed) ⊎ (going ≡ Halted why.NoMemory)
 
 -- it stopped for one of these, and closed down
 pub record HasStopped (old new : FrontSeen) (s : State) : Type 0 where

@@ -1,5 +1,5 @@
 -- The events that the listener adds, by the parts of its round.
-use Rattle.std.specs.Prelude.{◌≡◌, ◌⊎◌, ℕ, Bool, true, false, List, [], ◌∷◌, ◌++◌, length, map, nat_le, if◌then◌else◌, Option, None, Some, option_map, Result, Ok, Err, ⊤}
+use Rattle.std.specs.Prelude.{◌≡◌, ◌⊎◌, ℕ, Bool, true, false, List, [], ◌∷◌, ◌++◌, length, map, Option, None, Some, option_map, Result, Ok, Err, ⊤}
 use Rattle.std.specs.List.{flat_map}
 use Rattle.mpm_base.specs.Front.{FrontTold, after_turning_away, after_watch}
 use Rattle.mpm_base.specs.Count.{next_count}
@@ -11,13 +11,11 @@ use Rattle.mpm_base.specs.declared.conn.Tail.TheVariants.{Direct}
 use Rattle.conn_machine.specs.declared.event.Commanded.TheVariants.{Stop}
 use Rattle.conn_machine.specs.declared.event.Event.{Event}
 use Rattle.conn_machine.specs.declared.event.Event.TheVariants as event
-use Rattle.conn_machine.specs.declared.event.Why.{Why}
 use Rattle.conn_machine.specs.declared.event.Why.TheVariants as why
 use Rattle.conn_machine.specs.declared.state.State.{State}
-use Rattle.conn_machine.specs.Runs.{after, full_load, load}
+use Rattle.conn_machine.specs.Runs.{after}
 use Rattle.conn_state.specs.Conn.{IsFrontOf}
 use Rattle.board.specs.declared.faults.BoardFault.{BoardFault}
-use Rattle.board.specs.declared.faults.BoardFault.TheVariants as fault
 use Rattle.board.specs.Book.{SeenBook, row_in}
 use Rattle.board.specs.Board.{SeenBoard}
 use Rattle.board.specs.Faults.{IsRefusedFor}
@@ -29,7 +27,6 @@ use Rattle.mpm_run.specs.ClosingInside.{AllLeftBy, GivesUpDrained, IsDrainedWay,
 use Rattle.mpm_run.specs.ListenInside.{IsInStep, why_of}
 use Rattle.mpm_run.specs.Patient.{NoneDue}
 use Rattle.mpm_run.specs.declared.listen.End.{End}
-use Rattle.conn_machine.specs.States.{is_halted}
 use Rattle.mpm_run.specs.Started.{AreAskedFor}
 use Rattle.mpm_run.specs.Times.{known_slots, ticks_to}
 
@@ -268,21 +265,7 @@ pub record BreaksOff (fault : BoardFault) (to : ℕ) (slots : List ℕ) (old new
 
 -- ## The end
 
--- why the server stops where memory lacks: a history that is full comes first
-abbrev pub why_without_memory : SeenBook → Why
-why_without_memory b = if nat_le full_load (load b.history) then why.Full else why.NoMemory
-
--- the event that stops the server for the fault
-abbrev pub stop_events : SeenBook → BoardFault → List Event
-stop_events b fault.Halted = []
-stop_events b fault.Full = event.Command (Stop why.Full) ∷ []
-stop_events b fault.NoMemory = event.Command (Stop (why_without_memory b)) ∷ []
-
--- the events by which the turns' end stops the server
-abbrev pub end_events : SeenBook → Result End BoardFault → List Event
-end_events b (Ok end) = event.Command (Stop (why_of end)) ∷ []
-end_events b (Err fault) = stop_events b fault
-
--- the same, unless it was stopped
-abbrev pub halt_events : SeenBook → Result End BoardFault → List Event
-halt_events b turns = if is_halted b.state.going then [] else end_events b turns
+-- the event by which the turns' end stops the server: where they were broken off it is for want of memory, as nothing else stopped it
+abbrev pub halt_events : Result End BoardFault → List Event
+halt_events (Ok end) = event.Command (Stop (why_of end)) ∷ []
+halt_events (Err fault) = event.Command (Stop why.NoMemory) ∷ []

@@ -42,7 +42,7 @@ pub record HasFrontFailed (old new : FrontSeen) (s : State) : Type 0 where
   pub failed : Rises old.counts.faults new.counts.faults
   pub last : IfSome new.told HasFailedLast
 
--- why it stopped: nothing more could come, it was asked to, a wait failed, the history was full, or memory lacked
+-- why it stopped: nothing more could come, it was asked to, a wait failed, or memory lacked
 abbrev pub StoppedFor : FrontSeen → FrontSeen → State → Type 0
 StoppedFor old new s =
-    HasEnded old new s ⊎ HasBeenAsked old new s ⊎ HasFrontFailed old new s ⊎ (s.going ≡ Halted why.Full) ⊎ (s.going ≡ Halted why.NoMemory)
+    HasEnded old new s ⊎ HasBeenAsked old new s ⊎ HasFrontFailed old new s ⊎ (s.going ≡ Halted why.NoMemory)

@@ -136,9 +136,9 @@ pub record SignalsBegin (waits : List WaitTold) (b : SeenBook) : Type 0 where
 
 -- ## Both
 
--- the server stopped for a full history or for want of memory, so that the listener may not have done all that a wait asked
+-- the server stopped for want of memory, so that the listener may not have done all that a wait asked
 abbrev pub IsBrokenOff : Going → Type 0
-IsBrokenOff going = (going ≡ Halted why.Full) ⊎ (going ≡ Halted why.NoMemory)
+IsBrokenOff going = going ≡ Halted why.NoMemory
 
 -- the ticks of a history are those that the answers of the clock ask for, and its signals those of the slots that the waits of
 -- the front gave, where these tell
@@ -151,6 +151,6 @@ pub record IsInformedSoFar (waits : Option (List WaitTold)) (calls : Option (Lis
   pub ticks : IfSome calls (λ calls. TicksBegin calls b)
   pub signals : IfSome waits (λ waits. SignalsBegin waits b)
 
--- the same, or where the server stopped for a full history or for want of memory, so far
+-- the same, or where the server stopped for want of memory, so far
 abbrev pub WasInformed : Option (List WaitTold) → Option (List (ℕ × ℕ)) → SeenBook → Type 0
 WasInformed waits calls b = IsInformed waits calls b ⊎ (IsBrokenOff b.state.going × IsInformedSoFar waits calls b)

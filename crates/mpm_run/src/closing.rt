@@ -18,16 +18,13 @@ ghost use Rattle.worker_group.specs.Service.{LeavesRest, RefusalLasts};
 ghost use Rattle.mpm_run.specs.ClosingInside.{DrainsSome, DrainsUntil, GivesUpDrained, IsDrainedWay, IsHaltedWay, IsLateWay, IsLingeringFor, IsRetiringWay, LetsGo, LetsGoLate, LetsLinger, LetsOneGo, cause_of_late, late_weight, lingering_give_up_events, parked_count, serving_count, signal_count, tail_of};
 ghost use Rattle.mpm_run.specs.Listen.{HasNoLive};
 ghost use Rattle.mpm_run.specs.Patient.{NoneToDrain, NoneToLetGo};
-ghost use Rattle.mpm_run.specs.ListenInside.{MustStop, NoneOverdue, NoneParked};
+ghost use Rattle.mpm_run.specs.ListenInside.{NoneOverdue, NoneParked};
 ghost use Rattle.mpm_run.specs.RoundInside.{NoneHas};
 
 use crate::listen::LISTENER;
 use crate::round::{show_none_live, show_state};
 use board::{Board, BoardFault};
-use conn_machine::Why;
-use conn_machine::laws_of_runs::{
-    histories_go_on_by_one_entry, histories_join, rows_change_one_at_a_time,
-};
+use conn_machine::laws_of_runs::{histories_join, rows_change_one_at_a_time};
 use conn_state::laws::{lingering_connections_keep_their_cause, untouched_connections_may_be_late};
 use conn_state::{Conn, Known, LingerTurn};
 use mpm_base::{Cause, ConnName, Kind, Link, Tail};
@@ -143,7 +140,7 @@ pub(crate) fn drain_all<L: Link, N: Known>(board: &mut Board<L, N>) -> Result<()
     ensures until { IfErr result (λ fault. DrainsUntil fault board.old.book board.new.book) }
     ensures none { OnOk result (NoneToDrain board.new.book.state) }
     ensures rest { LeavesRest board.old.book board.new.book }
-    ensures err { IfErr result (λ fault. MustStop fault board.new.book) }
+    ensures err { IfErr result (λ fault. RefusalLasts fault board.new.book) }
 {
     passes_act_in_steps();
     while let Some(name) = board.signalled_linger() {
@@ -163,7 +160,7 @@ fn drain<L: Link, N: Known>(board: &mut Board<L, N>, name: ConnName) -> Result<(
     ensures fewer { OnOk result (signal_count board.new.book.state < signal_count board.old.book.state) }
     ensures none_late { OnOk result (NoneOverdue board.new.book.state) }
     ensures rest { LeavesRest board.old.book board.new.book }
-    ensures err { IfErr result (λ fault. MustStop fault board.new.book) }
+    ensures err { IfErr result (λ fault. RefusalLasts fault board.new.book) }
 {
     rows_change_one_at_a_time();
     passes_act_in_steps();
@@ -195,7 +192,7 @@ fn tail_of(turn: LingerTurn) -> Option<Tail>
     }
 }
 
-/// The connection goes on lingering. Where that is refused it is closed, and a full history stops the server.
+/// The connection goes on lingering. Where that is refused it is closed.
 fn linger_on<L: Link, N: Known>(
     board: &mut Board<L, N>,
     conn: Conn<L, N>,
@@ -226,7 +223,7 @@ fn linger_on<L: Link, N: Known>(
     }
 }
 
-/// Closes a connection that lingers, and whose further wait was refused. A full history stops the server. Takes no memory.
+/// Closes a connection that lingers, and whose further wait was refused. Takes no memory.
 fn give_up_lingering<L: Link, N: Known>(
     board: &mut Board<L, N>,
     conn: Conn<L, N>,
@@ -241,14 +238,9 @@ fn give_up_lingering<L: Link, N: Known>(
     ensures lasts { RefusalLasts fault board.new.book }
     ensures rest { LeavesRest board.old.book board.new.book }
 {
-    histories_go_on_by_one_entry();
     passes_act_in_steps();
     match fault {
         BoardFault::Halted => close(board, LISTENER, conn, cause, Tail::Halted),
-        BoardFault::Full => {
-            board.halt(LISTENER, Why::Full);
-            close(board, LISTENER, conn, cause, Tail::Halted);
-        }
         BoardFault::NoMemory => close(board, LISTENER, conn, cause, Tail::NoMemory),
     }
 }

@@ -21,9 +21,6 @@ pub(crate) const UNWRITTEN: u8 = 5;
 /// Memory was wanted and not found.
 pub(crate) const NO_MEMORY: u8 = 6;
 
-/// The history is full.
-pub(crate) const FULL: u8 = 7;
-
 /// The script is refused.
 pub(crate) const REFUSED: u8 = 8;
 

@@ -13,9 +13,9 @@ ghost use Rattle.conn_machine.specs.States.{is_halted};
 ghost use Rattle.conn_state.specs.Known.{IsOfClient, IsOfEdition};
 ghost use Rattle.board.specs.Finds.{acceptable, next_deadline_of};
 ghost use Rattle.board.specs.Book.{row_in};
-ghost use Rattle.worker_group.specs.Service.{IsUp, LeavesRest};
+ghost use Rattle.worker_group.specs.Service.{IsUp, LeavesRest, RefusalLasts};
 ghost use Rattle.mpm_run.specs.Commands.{HeedsLines, stop_line};
-ghost use Rattle.mpm_run.specs.ListenInside.{AsksFor, Follows, HandedOut, HandsOut, HasNoneToHeed, HasOneToHeed, HasReadAll, HasStarted, HasStopped, HeedsUntil, IsArrival, IsAtStart, IsInStep, IsKnownOfFront, IsOpening, IsRestful, IsWatching, MustStop, OnlyReads, OnlyReadsAndTakes, OnlyTakes, TellsAlike, TookAll, TurnsEnd, asked_children, contacts_of, why_of};
+ghost use Rattle.mpm_run.specs.ListenInside.{AsksFor, Follows, HandedOut, HandsOut, HasNoneToHeed, HasOneToHeed, HasReadAll, HasStarted, HasStopped, HeedsUntil, IsArrival, IsAtStart, IsInStep, IsKnownOfFront, IsOpening, IsRestful, IsWatching, OnlyReads, OnlyReadsAndTakes, OnlyTakes, TellsAlike, TookAll, TurnsEnd, asked_children, contacts_of, why_of};
 ghost use Rattle.mpm_run.specs.Patient.{IsPatientRun};
 ghost use Rattle.mpm_run.specs.RoundInside.{BreaksOff, EndsTaking, FailsTaking, GoesRound, IsTaking, NoneHas, ServesSome, StartsAsAsked, StartsSome, TakesSome, TakesUntil};
 ghost use Rattle.mpm_run.specs.Started.{BeginsWithStarts};
@@ -25,8 +25,8 @@ ghost use Rattle.mpm_run.specs.Watched.{IsHushed};
 use crate::closing::close_all;
 use crate::edition::{Edition, NamedEdition};
 use crate::round::{
-    accept, fault_without_memory, find_rest, go_on, halt, has_live, let_go_of_conns, moment_of,
-    pass_time, retire_all, serve_all, settle, show_state, signal_all, start_children,
+    accept, find_rest, halt, has_live, let_go_of_conns, moment_of, pass_time, retire_all,
+    serve_all, settle, show_state, signal_all, start_children,
 };
 use board::{Board, BoardFault};
 use conn_machine::Why;
@@ -104,9 +104,9 @@ pub struct Listener<'a, L: Link + Send, N: Known, B: Bell, G: Gate> {
 
 impl<'a, L: Link + Send, N: Known, B: Bell, G: Gate> Listener<'a, L, N, B, G> {
     /// Starts the children, takes the connections that come, has them served, and stops when nothing more can come or a command line
-    /// asks for it. The server stops before that for a wait that failed, for a full history, and for want of memory where a call that
-    /// the listener must make was refused for that and the history isn't full. However it stops, no further connection is taken then,
-    /// each one that waits is closed, and each child is let go of. How it ended is read off the board.
+    /// asks for it. The server stops before that for a wait that failed, and for want of memory where a call that the listener must make
+    /// was refused for that. However it stops, no further connection is taken then, each one that waits is closed, and each child is let
+    /// go of. How it ended is read off the board.
     pub fn listen<R: Wait, F: Front<L = L>, C: Clock>(
         &mut self,
         rt: &R,
@@ -215,7 +215,7 @@ impl<'a, L: Link + Send, N: Known, B: Bell, G: Gate> Listener<'a, L, N, B, G> {
         ensures others { self.new ≡ record self.old { board = self.new.board } }
         ensures until { IfOk result (λ rest. rest.until ≡ next_deadline_of self.new.board.book.state) }
         ensures quiet { IfOk result (λ rest. IsRestful rest.quiet self.new.board.book.state) }
-        ensures err { IfErr result (λ fault. MustStop fault self.new.board.book) }
+        ensures err { IfErr result (λ fault. RefusalLasts fault self.new.board.book) }
     {
         let board = &mut self.board;
         start_children(board)?;
@@ -239,21 +239,19 @@ impl<'a, L: Link + Send, N: Known, B: Bell, G: Gate> Listener<'a, L, N, B, G> {
 
     /// Serves what is signalled, and finds what the next wait is told. That is found before the service, as a worker's service
     /// goes on by itself; where nothing is left to be done then, nothing is served, and else the bell is rung, so that the next wait
-    /// comes back at once. Err where the server has stopped.
+    /// comes back at once. Err where a call was refused.
     fn serve<R: Wait>(&mut self, rt: &R) -> Result<Rest, BoardFault>
         requires passes { 1 < self.old.board.book.passes }
         requires free { row_in 1 self.old.board.book ≡ None }
         ensures serves { ServesSome self.old.board self.new.board }
         ensures rest { LeavesRest self.old.board.book self.new.board.book }
-        ensures going { OnOk result (is_halted self.new.board.book.state.going ≡ false) }
         ensures until { IfOk result (λ rest. rest.until ≡ next_deadline_of self.old.board.book.state) }
         ensures quiet { IfOk result (λ rest. IsRestful rest.quiet self.old.board.book.state) }
         ensures others { self.new ≡ record self.old { board = self.new.board } }
-        ensures err { IfErr result (λ fault. MustStop fault self.new.board.book) }
+        ensures err { IfErr result (λ fault. RefusalLasts fault self.new.board.book) }
     {
         let rest = find_rest(&self.board);
         serve_all(rt, &self.hands, &mut self.board)?;
-        go_on(&self.board)?;
         if !rest.quiet {
             self.hands.bell.ring();
         }
@@ -288,12 +286,11 @@ impl<'a, L: Link + Send, N: Known, B: Bell, G: Gate> Listener<'a, L, N, B, G> {
         ensures watched { IsWatching (F.seen front.old).told self.old.board.book → IsWatching (F.seen front.new).told self.new.board.book }
         ensures links { OnErr result (HandsOut (F.seen front.new).told self.new.board.book.state) }
         ensures ready { self.new.ready ≡ self.old.ready }
-        ensures err { IfErr result (λ fault. MustStop fault self.new.board.book) }
+        ensures err { IfErr result (λ fault. RefusalLasts fault self.new.board.book) }
     {
         passes_act_in_steps();
         pass_time(&mut self.board, moment)?;
         signal_all(&mut self.board, self.ready.slots())?;
-        go_on(&self.board)?;
         if is_asked_to_stop(rt, front) {
             return Ok(true);
         }
@@ -327,7 +324,7 @@ impl<'a, L: Link + Send, N: Known, B: Bell, G: Gate> Listener<'a, L, N, B, G> {
         ensures watched { IsWatching (F.seen front.old).told self.old.board.book → IsWatching (F.seen front.new).told self.new.board.book }
         ensures links { OnErr result (HandsOut (F.seen front.new).told self.new.board.book.state) }
         ensures ready { self.new.ready ≡ self.old.ready }
-        ensures err { IfErr result (λ fault. MustStop fault self.new.board.book) }
+        ensures err { IfErr result (λ fault. RefusalLasts fault self.new.board.book) }
     {
         passes_act_in_steps();
         for _ in rt.forever() {
@@ -335,7 +332,7 @@ impl<'a, L: Link + Send, N: Known, B: Bell, G: Gate> Listener<'a, L, N, B, G> {
                 return Ok(());
             }
             let Ok(edition) = self.edition.share() else {
-                return Err(fault_without_memory(&self.board));
+                return Err(BoardFault::NoMemory);
             };
             match front.accept() {
                 Arrival::Some(link) => self.take(front, link, edition)?,
@@ -373,7 +370,7 @@ impl<'a, L: Link + Send, N: Known, B: Bell, G: Gate> Listener<'a, L, N, B, G> {
         ensures watched { IsWatching (F.seen front.old).told self.old.board.book → IsWatching (F.seen front.new).told self.new.board.book }
         ensures links { OnErr result (EndsTaking (L.seen link).told (F.seen front.old).told (F.seen front.new).told self.old.board.book.state self.new.board.book.state) }
         ensures ready { self.new.ready ≡ self.old.ready }
-        ensures err { IfErr result (λ fault. MustStop fault self.new.board.book) }
+        ensures err { IfErr result (λ fault. RefusalLasts fault self.new.board.book) }
     {
         histories_go_on_by_one_entry();
         passes_act_in_steps();

@@ -1,7 +1,7 @@
 //! The end of a run that opened: its report is written.
 ghost use Rattle.std.specs.Prelude.{◌≡◌, ◌&&◌, IfOk};
 ghost use Rattle.mpm_run.specs.ExitStatuses.{MayEndWith, board_report};
-ghost use Rattle.mpm_run.specs.ExitStatusesInside.{EndsReport, IsExitStatusOf, IsFullStop, IsStoppedStatus, LacksInRun, LacksReport, ReportsAs, status_of_writes};
+ghost use Rattle.mpm_run.specs.ExitStatusesInside.{EndsReport, IsExitStatusOf, IsStoppedStatus, LacksInRun, LacksReport, ReportsAs, status_of_writes};
 ghost use Rattle.mpm_run.specs.ListenInside.{IsEnd};
 
 use crate::counting::tally;
@@ -25,9 +25,7 @@ pub fn report_run<L: Link, N: Known, K: Sink>(
     ensures stopped { MayEndWith board.now.book.state.going result }
     ensures report { EndsReport (K.seen out.old) (K.seen out.new) (board_report board.now) written result }
     ensures lacking { result ≡ 6 → LacksInRun (K.seen out.old) (K.seen out.new) board.now }
-    ensures full { result ≡ 7 → IsFullStop board.now }
 {
-    board.show();
     report(alloc, board, written, out, status_of(board.going()))
 }
 
@@ -39,7 +37,6 @@ fn status_of(going: Going) -> u8
     match going {
         Going::Halted(Why::FrontEnded | Why::Asked) => exit_status::PLAYED,
         Going::Halted(Why::FrontFailed) => exit_status::FRONT_FAILED,
-        Going::Halted(Why::Full) => exit_status::FULL,
         Going::Halted(Why::NoMemory) => exit_status::NO_MEMORY,
         _ => unreachable!(),
     }

@@ -11,19 +11,21 @@ ghost use Rattle.conn_machine.specs.Runs.{after};
 ghost use Rattle.conn_machine.specs.Sound.{IsSound};
 ghost use Rattle.conn_machine.specs.States.{is_halted};
 ghost use Rattle.conn_machine.specs.Table.{is_allowed};
+ghost use Rattle.conn_machine.specs.declared.event.Commanded.TheVariants.{Stop};
 ghost use Rattle.conn_machine.specs.declared.event.Event.TheVariants as event;
+ghost use Rattle.conn_machine.specs.declared.event.Why.TheVariants as why;
 ghost use Rattle.board.specs.Faults.{IsRefusedFor};
 ghost use Rattle.board.specs.Fits.{IsSettled};
 ghost use Rattle.board.specs.Finds.{acceptable, next_deadline_of, startable};
 ghost use Rattle.board.specs.Book.{row_in};
 ghost use Rattle.worker_group.specs.Acts.{Acts};
 ghost use Rattle.worker_group.specs.InHand.{IsClosable, IsInHand};
-ghost use Rattle.worker_group.specs.Service.{IsUp, LeavesRest, left_events};
+ghost use Rattle.worker_group.specs.Service.{IsUp, LeavesRest, RefusalLasts, left_events};
 ghost use Rattle.mpm_run.specs.ClosingInside.{IsLateWay, LetsGo};
 ghost use Rattle.mpm_run.specs.Listen.{HasNoLive, IsClosedDown};
-ghost use Rattle.mpm_run.specs.ListenInside.{AsksFor, HaltsAs, HasTaken, IsOpening, IsRestful, MustHalt, MustStop, NoneOverdue, NoneParked, asked_children};
+ghost use Rattle.mpm_run.specs.ListenInside.{AsksFor, HaltsAs, HasTaken, IsOpening, IsRestful, MustHalt, NoneOverdue, NoneParked, asked_children};
 ghost use Rattle.mpm_run.specs.Patient.{NoneDue};
-ghost use Rattle.mpm_run.specs.RoundInside.{GivesUp, LetsGoOfConns, LetsGoUntil, NoneHas, PassesTime, RetiresSome, ServesSome, SignalsFirst, StartsSome, halt_events, signal_events, stop_events, way_of, why_without_memory};
+ghost use Rattle.mpm_run.specs.RoundInside.{GivesUp, LetsGoOfConns, LetsGoUntil, NoneHas, PassesTime, RetiresSome, ServesSome, SignalsFirst, StartsSome, halt_events, signal_events, way_of};
 ghost use Rattle.mpm_run.specs.Started.{BeginsWithStarts};
 ghost use Rattle.mpm_run.specs.Times.{IsBrokenOff, moment_for};
 
@@ -58,7 +60,7 @@ pub fn settle<L: Link, N: Known>(
     ensures given_up { IfErr result (λ fault. GivesUp fault conn.name board.old.book board.new.book) }
     ensures why { IfErr result (λ fault. IsRefusedFor fault board.old.book) }
     ensures rest { LeavesRest board.old.book board.new.book }
-    ensures err { IfErr result (λ fault. MustStop fault board.new.book) }
+    ensures err { IfErr result (λ fault. RefusalLasts fault board.new.book) }
 {
     if watched {
         park(board, LISTENER, conn, Kind::Reading)
@@ -80,7 +82,7 @@ pub fn accept<L: Link, N: Known>(board: &mut Board<L, N>) -> Result<Taken, Board
     ensures taken { OnOk result (board.new.book.state.accepted ≡ next_count board.old.book.state.accepted) }
     ensures held { IfOk result (λ taken. HasTaken board.new.book.state taken.name taken.child taken.generation board.old.book.state.accepted) }
     ensures moment { board.new.book.state.moment ≡ board.old.book.state.moment }
-    ensures err { IfErr result (λ fault. MustStop fault board.new.book) }
+    ensures err { IfErr result (λ fault. RefusalLasts fault board.new.book) }
 {
     rows_change_one_at_a_time();
     passes_act_in_steps();
@@ -91,7 +93,6 @@ pub fn accept<L: Link, N: Known>(board: &mut Board<L, N>) -> Result<Taken, Board
             Ok(taken)
         }
         Err(AcceptFault::Halted) => Err(BoardFault::Halted),
-        Err(AcceptFault::Full) => Err(BoardFault::Full),
         Err(AcceptFault::NoMemory) => Err(BoardFault::NoMemory),
         Err(AcceptFault::NoChild) => unreachable!(),
         Err(AcceptFault::NoSlot) => unreachable!(),
@@ -124,32 +125,6 @@ pub fn find_rest<L: Link, N: Known>(board: &Board<L, N>) -> Rest
     }
 }
 
-/// Whether the server goes on. Err where it has stopped.
-pub fn go_on<L: Link, N: Known>(board: &Board<L, N>) -> Result<(), BoardFault>
-    ensures going { OnOk result (is_halted board.now.book.state.going ≡ false) }
-    ensures why { IfErr result (λ fault. IsRefusedFor fault board.now.book) }
-    ensures err { IfErr result (λ fault. MustStop fault board.now.book) }
-{
-    if board.going().is_halted() {
-        Err(BoardFault::Halted)
-    } else {
-        Ok(())
-    }
-}
-
-/// For what a round is broken off where memory lacks: a history that is full comes first.
-pub fn fault_without_memory<L: Link, N: Known>(board: &Board<L, N>) -> BoardFault
-    requires { is_halted board.now.book.state.going ≡ false }
-    ensures why { IsRefusedFor result board.now.book }
-    ensures must { MustStop result board.now.book }
-{
-    if board.is_full() {
-        BoardFault::Full
-    } else {
-        BoardFault::NoMemory
-    }
-}
-
 /// Whether a connection is live: one in hand, or one that waits.
 pub fn has_live<L: Link, N: Known>(board: &Board<L, N>) -> bool
     ensures { result ≡ list_any is_live board.now.book.state.rows }
@@ -172,7 +147,7 @@ pub fn pass_time<L: Link, N: Known>(
     ensures up { IsUp board.new.book.state.going }
     ensures moment { OnOk result (board.new.book.state.moment ≡ max board.old.book.state.moment (moment_for moment)) }
     ensures taken { board.new.book.state.accepted ≡ board.old.book.state.accepted }
-    ensures err { IfErr result (λ fault. MustStop fault board.new.book) }
+    ensures err { IfErr result (λ fault. RefusalLasts fault board.new.book) }
 {
     passes_act_in_steps();
     let_go_late(board);
@@ -196,7 +171,7 @@ pub fn signal_all<L: Link, N: Known>(
     ensures first { OnErr result (SignalsFirst slots.now board.old.book board.new.book) }
     ensures why { IfErr result (λ fault. IsRefusedFor fault board.new.book) }
     ensures rest { LeavesRest board.old.book board.new.book }
-    ensures err { IfErr result (λ fault. MustStop fault board.new.book) }
+    ensures err { IfErr result (λ fault. RefusalLasts fault board.new.book) }
 {
     passes_act_in_steps();
     for slot in slots {
@@ -213,7 +188,7 @@ fn signal<L: Link, N: Known>(board: &mut Board<L, N>, slot: u32) -> Result<(), B
     ensures rest { LeavesRest board.old.book board.new.book }
     ensures refused { OnErr result (board.new ≡ board.old) }
     ensures why { IfErr result (λ fault. IsRefusedFor fault board.old.book) }
-    ensures err { IfErr result (λ fault. MustStop fault board.new.book) }
+    ensures err { IfErr result (λ fault. RefusalLasts fault board.new.book) }
 {
     histories_keep_sizes();
     passes_act_in_steps();
@@ -232,7 +207,7 @@ pub fn let_go_of_conns<L: Link, N: Known>(board: &mut Board<L, N>) -> Result<(),
     ensures gone { OnOk result (LetsGoOfConns board.old.book board.new.book) }
     ensures until { IfErr result (λ fault. LetsGoUntil fault board.old.book board.new.book) }
     ensures rest { LeavesRest board.old.book board.new.book }
-    ensures err { IfErr result (λ fault. MustStop fault board.new.book) }
+    ensures err { IfErr result (λ fault. RefusalLasts fault board.new.book) }
 {
     passes_act_in_steps();
     let_go_retiring(board);
@@ -250,7 +225,7 @@ pub fn start_children<L: Link, N: Known>(board: &mut Board<L, N>) -> Result<(), 
     ensures first { OnOk result (IsOpening board.old.book → BeginsWithStarts (asked_children board.old.book.base) board.new.book.history) }
     ensures going { board.new.book.state.going ≡ board.old.book.state.going }
     ensures rest { LeavesRest board.old.book board.new.book }
-    ensures err { IfErr result (λ fault. MustStop fault board.new.book) }
+    ensures err { IfErr result (λ fault. RefusalLasts fault board.new.book) }
 {
     children_change_one_at_a_time();
     passes_act_in_steps();
@@ -274,7 +249,7 @@ pub fn serve_all<R: Wait, L: Link, N: Known, B: Bell, G: Gate>(
     ensures why { IfErr result (λ fault. IsRefusedFor fault board.new.book) }
     ensures served { OnOk result (NoneDue board.new.book.state) }
     ensures rest { LeavesRest board.old.book board.new.book }
-    ensures err { IfErr result (λ fault. MustStop fault board.new.book) }
+    ensures err { IfErr result (λ fault. RefusalLasts fault board.new.book) }
 {
     passes_act_in_steps();
     passes_leave_the_rest_to_the_listener();
@@ -286,13 +261,13 @@ pub fn serve_all<R: Wait, L: Link, N: Known, B: Bell, G: Gate>(
     Ok(())
 }
 
-/// Stops the server for what ended the listener's turns, unless it was stopped. Takes no memory.
+/// Stops the server for what ended the listener's turns. Takes no memory.
 pub fn halt<L: Link, N: Known>(board: &mut Board<L, N>, turns: Result<End, BoardFault>)
     requires passes { 0 < board.old.book.passes }
     requires free { row_in 0 board.old.book ≡ None }
     requires must { MustHalt turns board.old.book }
     requires up { IsUp board.old.book.state.going }
-    ensures acts { Acts 0 (halt_events board.old.book turns) None board.old.book board.new.book }
+    ensures acts { Acts 0 (halt_events turns) None board.old.book board.new.book }
     ensures stopped { HaltsAs turns board.new.book.state.going }
     ensures moment { board.new.book.state.moment ≡ board.old.book.state.moment }
     ensures taken { board.new.book.state.accepted ≡ board.old.book.state.accepted }
@@ -304,36 +279,20 @@ pub fn halt<L: Link, N: Known>(board: &mut Board<L, N>, turns: Result<End, Board
     }
 }
 
-/// Stops the server for the fault, unless it was stopped: where memory lacks and the history is full, for that. Takes no memory.
+/// Stops the server for the fault: for want of memory, as it has not stopped before. Takes no memory.
 fn stop<L: Link, N: Known>(board: &mut Board<L, N>, fault: BoardFault)
     requires passes { 0 < board.old.book.passes }
     requires free { row_in 0 board.old.book ≡ None }
-    requires must { MustStop fault board.old.book }
+    requires must { RefusalLasts fault board.old.book }
     requires up { IsUp board.old.book.state.going }
-    ensures stops { is_halted board.old.book.state.going ≡ false → Acts 0 (stop_events board.old.book fault) None board.old.book board.new.book }
-    ensures stays { is_halted board.old.book.state.going ≡ true → board.new ≡ board.old }
+    ensures acts { Acts 0 (event.Command (Stop why.NoMemory) ∷ []) None board.old.book board.new.book }
     ensures stopped { IsBrokenOff board.new.book.state.going }
     ensures moment { board.new.book.state.moment ≡ board.old.book.state.moment }
     ensures taken { board.new.book.state.accepted ≡ board.old.book.state.accepted }
 {
-    if board.going().is_halted() {
-        return;
-    }
     match fault {
         BoardFault::Halted => unreachable!(),
-        BoardFault::Full => board.halt(LISTENER, Why::Full),
-        BoardFault::NoMemory => board.halt(LISTENER, why_without_memory(board)),
-    }
-}
-
-/// Why the server stops where memory lacks: a history that is full comes first.
-fn why_without_memory<L: Link, N: Known>(board: &Board<L, N>) -> Why
-    ensures { result ≡ why_without_memory board.now.book }
-{
-    if board.is_full() {
-        Why::Full
-    } else {
-        Why::NoMemory
+        BoardFault::NoMemory => board.halt(LISTENER, Why::NoMemory),
     }
 }
 

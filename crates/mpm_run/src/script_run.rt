@@ -52,7 +52,7 @@ pub fn run_script<R: Wait, D: Store, G: Gate, K: Sink>(
     ensures kept { (words : List (List ℕ)) → IsScriptWords words name.now → IfSome result.left (λ s. HasPlayed (seen_call words (D.seen store.old) (D.seen store.new) (K.seen out.old) (K.seen out.new) result.shown) s.config s.board s.front) }
     ensures left { IfSome result.left IsLeftOfRun }
     ensures ends { IfSome result.left (λ s. EndsAs (K.seen out.old) (K.seen out.new) s.config s.board result.status) }
-    ensures opened { (result.status ≡ 0) ⊎ (result.status ≡ 5) ⊎ (result.status ≡ 7) → IsSome result.left }
+    ensures opened { (result.status ≡ 0) ⊎ (result.status ≡ 5) → IsSome result.left }
     ensures known { IsScriptStatus result.status }
     ensures misconfigured { (words : List (List ℕ)) → IsScriptWords words name.now → result.status ≡ 1 → EndsConfigRefused (seen_call words (D.seen store.old) (D.seen store.new) (K.seen out.old) (K.seen out.new) result.shown) }
     ensures unread { (words : List (List ℕ)) → IsScriptWords words name.now → result.status ≡ 3 → EndsUnread (seen_call words (D.seen store.old) (D.seen store.new) (K.seen out.old) (K.seen out.new) result.shown) }
@@ -86,7 +86,7 @@ pub fn run_load<R: Wait, G: Gate, K: Sink>(
     ensures kept { IfSome result.left (IsPlayed (load_lines count)) }
     ensures left { IfSome result.left IsLeftOfRun }
     ensures ends { IfSome result.left (λ s. EndsAs (K.seen out.old) (K.seen out.new) s.config s.board result.status) }
-    ensures opened { (result.status ≡ 0) ⊎ (result.status ≡ 5) ⊎ (result.status ≡ 7) → IsSome result.left }
+    ensures opened { (result.status ≡ 0) ⊎ (result.status ≡ 5) → IsSome result.left }
     ensures shown { IsSome result.left → result.shown ≡ None }
     ensures known { IsPlayedStatus result.status ⊎ (result.status ≡ 1) ⊎ (result.status ≡ 9) }
     ensures misconfigured { result.status ≡ 1 → IsConfigRefusalOf (K.seen out.old) (K.seen out.new) (load_lines count) result.shown }
@@ -137,7 +137,7 @@ fn play_script<R: Wait, G: Gate, K: Sink>(
     ensures kept { IfSome result.left (λ s. IsPlayed script s) }
     ensures left { IfSome result.left IsLeftOfRun }
     ensures ends { IfSome result.left (λ s. EndsAs (K.seen out.old) (K.seen out.new) s.config s.board result.status) }
-    ensures opened { (result.status ≡ 0) ⊎ (result.status ≡ 5) ⊎ (result.status ≡ 7) → IsSome result.left }
+    ensures opened { (result.status ≡ 0) ⊎ (result.status ≡ 5) → IsSome result.left }
     ensures shown { IsSome result.left → result.shown ≡ None }
     ensures known { IsPlayedStatus result.status ⊎ (result.status ≡ 1) ⊎ (result.status ≡ 9) }
     ensures misconfigured { result.status ≡ 1 → IsConfigRefusalOf (K.seen out.old) (K.seen out.new) script result.shown }
@@ -169,7 +169,7 @@ fn play_site<R: Wait, G: Gate, K: Sink>(
     ensures kept { IfSome result.left (λ s. IsServedRun script config s) }
     ensures left { IfSome result.left IsLeftOfRun }
     ensures ends { IfSome result.left (λ s. EndsAs (K.seen out.old) (K.seen out.new) s.config s.board result.status) }
-    ensures opened { (result.status ≡ 0) ⊎ (result.status ≡ 5) ⊎ (result.status ≡ 7) → IsSome result.left }
+    ensures opened { (result.status ≡ 0) ⊎ (result.status ≡ 5) → IsSome result.left }
     ensures shown { IsSome result.left → result.shown ≡ None }
     ensures known { IsPlayedStatus result.status ⊎ (result.status ≡ 9) }
     ensures site_refused { result.status ≡ 9 → RefusesSite (K.seen out.old) (K.seen out.new) script config result.shown }
@@ -262,7 +262,7 @@ fn serve_script<R: Wait, G: Gate, K: Sink>(
     ensures config { IfSome result.left (λ s. s.config ≡ config) }
     ensures left { IfSome result.left IsLeftOfRun }
     ensures ends { IfSome result.left (λ s. EndsAs (K.seen out.old) (K.seen out.new) s.config s.board result.status) }
-    ensures opened { (result.status ≡ 0) ⊎ (result.status ≡ 5) ⊎ (result.status ≡ 7) → IsSome result.left }
+    ensures opened { (result.status ≡ 0) ⊎ (result.status ≡ 5) → IsSome result.left }
     ensures shown { result.shown ≡ None }
     ensures known { IsPlayedStatus result.status }
     ensures silent { IsNone result.left → EndsSilently (K.seen out.old) (K.seen out.new) result.shown }

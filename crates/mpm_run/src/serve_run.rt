@@ -47,7 +47,7 @@ pub fn serve_file<R: Wait, D: Store, F: Front, C: Clock, G: Gate, K: Sink>(
     ensures server { (words : List (List ℕ)) → IsServeWords words name.now → IfSome result.left (λ b. HasRunServer (seen_call words (D.seen store.old) (D.seen store.new) (K.seen out.old) (K.seen out.new) result.shown) (F.seen front.old) (F.seen front.new) (C.told clock.new) result.status b) }
     ensures telling { TellsStill (F.seen front.old) (F.seen front.new) (C.told clock.old) (C.told clock.new) }
     ensures known { IsServedStatus result.status }
-    ensures opened { (result.status ≡ 0) ⊎ (result.status ≡ 5) ⊎ (result.status ≡ 7) → IsSome result.left }
+    ensures opened { (result.status ≡ 0) ⊎ (result.status ≡ 5) → IsSome result.left }
     ensures misconfigured { (words : List (List ℕ)) → IsServeWords words name.now → result.status ≡ 1 → EndsConfigRefused (seen_call words (D.seen store.old) (D.seen store.new) (K.seen out.old) (K.seen out.new) result.shown) }
     ensures unread { (words : List (List ℕ)) → IsServeWords words name.now → result.status ≡ 3 → EndsUnread (seen_call words (D.seen store.old) (D.seen store.new) (K.seen out.old) (K.seen out.new) result.shown) }
     ensures front_failed { (words : List (List ℕ)) → IsServeWords words name.now → result.status ≡ 4 → IsSome result.left ⊎ EndsUnbound (seen_call words (D.seen store.old) (D.seen store.new) (K.seen out.old) (K.seen out.new) result.shown) (F.seen front.old) (F.seen front.new) }
@@ -115,7 +115,7 @@ fn serve_edition<R: Wait, F: Front, C: Clock, G: Gate, K: Sink>(
     ensures telling { TellsStill (F.seen front.old) (F.seen front.new) (C.told clock.old) (C.told clock.new) }
     ensures shown { IsSome result.left → result.shown ≡ None }
     ensures known { IsOpenedStatus result.status }
-    ensures opened { (result.status ≡ 0) ⊎ (result.status ≡ 5) ⊎ (result.status ≡ 7) → IsSome result.left }
+    ensures opened { (result.status ≡ 0) ⊎ (result.status ≡ 5) → IsSome result.left }
     ensures unbound { result.status ≡ 4 → IsNone result.left → Binds (F.seen front.old) (F.seen front.new) config.entry.now.listen config.entry.now.control false × RefusesRun (K.seen out.old) (K.seen out.new) None front_fault result.shown }
     ensures front { IsNone result.left → LeavesUnbound (F.seen front.old) (F.seen front.new) config.entry.now result.status }
     ensures clock { IsNone result.left → C.told clock.new ≡ C.told clock.old }

@@ -5,7 +5,7 @@ ghost use Rattle.conn_machine.specs.declared.state.Going.TheVariants.{Halted};
 ghost use Rattle.script_front.specs.Editions.{editions_of};
 ghost use Rattle.mpm_run.specs.Calls.{seen_call};
 ghost use Rattle.mpm_run.specs.Commands.{HeedsLines};
-ghost use Rattle.mpm_run.specs.ExitStatuses.{EndsConfigRefused, EndsFilled, EndsFrontFault, EndsLacking, EndsRefused, EndsSilently, EndsSiteRefused, EndsUncontrolled, EndsUnknown, EndsUnread, HasEnd, HasPlayed, HasRunServer, IsExitStatus, KeepsPatience, KeepsTime, LacksOutput, LeavesOutside, MayEndWith, Succeeds};
+ghost use Rattle.mpm_run.specs.ExitStatuses.{EndsConfigRefused, EndsFrontFault, EndsLacking, EndsRefused, EndsSilently, EndsSiteRefused, EndsUncontrolled, EndsUnknown, EndsUnread, HasEnd, HasPlayed, HasRunServer, IsExitStatus, KeepsPatience, KeepsTime, LacksOutput, LeavesOutside, MayEndWith, Succeeds};
 ghost use Rattle.mpm_run.specs.FirstNumbers as opening;
 ghost use Rattle.command_words.specs.Invocations.{CallsFront};
 ghost use Rattle.mpm_run.specs.Links.{KeepsLinks};
@@ -107,7 +107,6 @@ pub fn run<R: Threads + Wait + Sync, D: Store, F: Front, C: Clock, G: Gate + Syn
     ensures unread { result.status ≡ 3 → EndsUnread (seen_call words.now (D.seen store.old) (D.seen store.new) (K.seen out.old) (K.seen out.new) result.shown) }
     ensures front_failed { result.status ≡ 4 → EndsFrontFault (seen_call words.now (D.seen store.old) (D.seen store.new) (K.seen out.old) (K.seen out.new) result.shown) (F.seen front.old) (F.seen front.new) result.board }
     ensures unwritten { result.status ≡ 5 → LacksOutput (seen_call words.now (D.seen store.old) (D.seen store.new) (K.seen out.old) (K.seen out.new) result.shown) result.scripted result.board }
-    ensures full { result.status ≡ 7 → EndsFilled (seen_call words.now (D.seen store.old) (D.seen store.new) (K.seen out.old) (K.seen out.new) result.shown) result.scripted result.board }
     ensures refused { result.status ≡ 8 → EndsRefused (seen_call words.now (D.seen store.old) (D.seen store.new) (K.seen out.old) (K.seen out.new) result.shown) }
     ensures site_refused { result.status ≡ 9 → EndsSiteRefused (seen_call words.now (D.seen store.old) (D.seen store.new) (K.seen out.old) (K.seen out.new) result.shown) }
     ensures uncontrolled { result.status ≡ 10 → EndsUncontrolled (seen_call words.now (D.seen store.old) (D.seen store.new) (K.seen out.old) (K.seen out.new) result.shown) }

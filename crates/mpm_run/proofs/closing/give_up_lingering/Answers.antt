@@ -1,28 +1,19 @@
-use Rattle.std.proofs.Common.{◌≡◌, true, ◌∷◌, [], None, Some, inr, ap, sym, subst, ◌∙◌, refl, arith}
-use Rattle.std.proofs.lemmas.Bool.{le-leb}
+use Rattle.std.proofs.Common.{◌≡◌, true, None, ap, sym, subst, ◌∙◌, refl}
 use Rattle.mpm_base.specs.declared.conn.ConnName.{ConnName}
 use Rattle.mpm_base.specs.declared.conn.Cause.{Cause}
 use Rattle.mpm_base.specs.declared.conn.Tail.{Tail}
 use Rattle.mpm_base.specs.declared.conn.Tail.TheVariants as tail
-use Rattle.conn_machine.specs.Runs.{full_load, load}
 use Rattle.conn_machine.specs.declared.event.Event.TheVariants as event
 use Rattle.conn_machine.specs.States.{is_halted}
 use Rattle.board.specs.declared.faults.BoardFault.{BoardFault}
 use Rattle.board.specs.declared.faults.BoardFault.TheVariants as fault
-use Rattle.board.specs.Faults.{IsFull, IsRefusedFor}
-use Rattle.board.specs.Book.{SeenBook, book_with_entry, full_stop}
-use Rattle.board.specs.Board.{SeenBoard}
+use Rattle.board.specs.Faults.{IsRefusedFor}
+use Rattle.board.specs.Book.{SeenBook, book_with_entry}
 use Rattle.worker_group.specs.Acts.{Acts}
 use Rattle.worker_group.specs.Service.{LeavesRest, RefusalLasts}
 use Rattle.mpm_run.specs.ClosingInside.{lingering_give_up_events}
 use Rattle.mpm_run.proofs.HeldLemmas.{closes-lingering}
-use Rattle.mpm_run.proofs.RoundLemmas.{acts-added}
 use Rattle.mpm_run.proofs.closing.give_up_lingering.Goals as goal
-
-pub halt-requires-clause-role : goal.halt-requires-clause-role
-halt-requires-clause-role g c =
-    let why : IsFull c.args.board.now.book = subst (λ (f : BoardFault). IsRefusedFor f c.args.board.now.book) c.in-Full.is c.requires.why in
-    le-leb full_load (load c.args.board.now.book.history) why.heavy
 
 pub close-requires-clause-may : goal.close-requires-clause-may
 close-requires-clause-may g c =
@@ -58,34 +49,6 @@ returns-in-Halted-clause-lasts g c =
 pub returns-in-Halted-clause-rest : goal.returns-in-Halted-clause-rest
 returns-in-Halted-clause-rest g c =
     rest-after c.args.conn.name c.args.cause tail.Halted c.args.board.now.book c.close.new.board.book c.close.ensures.closed
-
-pub returns-in-Full-clause-acts : goal.returns-in-Full-clause-acts
-returns-in-Full-clause-acts g c =
-    let halted : Acts 0 (full_stop ∷ []) (Some c.args.conn.name) c.args.board.now.book c.halt.new.self.book =
-    acts-added c.passes_act_in_steps.ensures.acts full_stop (Some c.args.conn.name) c.args.board.now c.halt.new.self c.halt.ensures.is c.halt.ensures.entries
-    (c.halt.ensures.row ∙ c.requires.row) in
-    acts-for c.args.cause c.args.conn.name c.args.fault fault.Full c.args.board.now.book c.close-in-Full.new.board.book c.in-Full.is
-    (c.passes_act_in_steps.ensures.acts.more 0 (full_stop ∷ []) (event.Close c.args.conn.name c.args.cause tail.Halted ∷ []) (Some c.args.conn.name) None
-    c.args.board.now.book c.halt.new.self.book c.close-in-Full.new.board.book halted c.close-in-Full.ensures.acts)
-
-pub returns-in-Full-clause-lasts : goal.returns-in-Full-clause-lasts
-returns-in-Full-clause-lasts g c =
-    let why : IsFull c.args.board.now.book = subst (λ (f : BoardFault). IsRefusedFor f c.args.board.now.book) c.in-Full.is c.requires.why in
-    let load_more = c.histories_go_on_by_one_entry.ensures.load in
-    let stopped = ap (λ (b : SeenBoard). b.book) c.halt.ensures.is in
-    let stop_load = ap (λ (b : SeenBook). load b.history) stopped ∙ load_more c.args.board.now.book.history _ in
-    let close_load = ap (λ (b : SeenBook). load b.history) c.close-in-Full.ensures.closed ∙ load_more c.halt.new.self.book.history _ in
-    lasts-for c.args.fault fault.Full c.close-in-Full.new.board.book c.in-Full.is (
-      ap (λ (b : SeenBook). is_halted b.state.going) c.close-in-Full.ensures.closed ∙ ap (λ (b : SeenBook). is_halted b.state.going) stopped,
-      omega (arith, why.heavy, stop_load, close_load),
-    )
-
-pub returns-in-Full-clause-rest : goal.returns-in-Full-clause-rest
-returns-in-Full-clause-rest g c =
-    c.passes_act_in_steps.ensures.rest c.args.board.now.book c.halt.new.self.book c.close-in-Full.new.board.book
-    (subst (LeavesRest c.args.board.now.book) (ap (λ (b : SeenBoard). b.book) (sym c.halt.ensures.is))
-    (record { moment = refl; accepted = refl; up = λ up. inr refl }))
-    (rest-after c.args.conn.name c.args.cause tail.Halted c.halt.new.self.book c.close-in-Full.new.board.book c.close-in-Full.ensures.closed)
 
 pub returns-in-NoMemory-clause-acts : goal.returns-in-NoMemory-clause-acts
 returns-in-NoMemory-clause-acts g c =

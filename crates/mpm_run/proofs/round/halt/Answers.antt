@@ -9,7 +9,7 @@ halt-requires-clause-allowed g c =
 
 pub returns-in-Ok-clause-acts : goal.returns-in-Ok-clause-acts
 returns-in-Ok-clause-acts g c =
-    acts-stopped c.passes_act_in_steps.ensures.acts c.args.turns c.in-Ok.end c.why.result c.args.board.now c.halt.new.self c.in-Ok.is c.why.ensures c.requires.must c.requires.free
+    acts-stopped c.passes_act_in_steps.ensures.acts c.args.turns c.in-Ok.end c.why.result c.args.board.now c.halt.new.self c.in-Ok.is c.why.ensures c.requires.free
     c.halt.ensures.is c.halt.ensures.entries c.halt.ensures.row
 
 pub returns-in-Ok-clause-stopped : goal.returns-in-Ok-clause-stopped

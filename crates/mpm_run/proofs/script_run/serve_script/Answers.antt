@@ -50,4 +50,4 @@ returns-in-Ok-answer-clause-ends g c =
     ends-as old mid (g.K.Sink.seen c.report_run-status.new.out) c.args.config served.board served.written c.report_run-status.result
     (subst (λ (text : List ℕ). WritesAll old mid text served.written) (c.as_slice.ensures ∙ c.requires.told) kept.written) kept.faults
     (stopped-end (front_seen c.in-Ok.front) (front_seen c.run_server-answer.new.front) served.board.book.state kept.outside.stopped)
-    c.report_run-status.ensures.stopped c.report_run-status.ensures.report c.report_run-status.ensures.lacking c.report_run-status.ensures.full
+    c.report_run-status.ensures.stopped c.report_run-status.ensures.report c.report_run-status.ensures.lacking

@@ -9,7 +9,7 @@ returns-clause-unfolded g c =
 pub returns-clause-run : goal.returns-clause-run
 returns-clause-run g c =
     run-from c.args.numbers c.args.board.now c.requires.few c.requires.asked c.events_keep_states_sound.ensures.run c.show.ensures.run c.show.ensures.order
-    c.show.ensures.made c.show.ensures.own c.show.ensures.state c.show.ensures.opened c.show.ensures.stops c.show.ensures.full (tells-stop c.args.board.now.book c.show.ensures.run c.show.ensures.state) c.show.ensures.agrees
+    c.show.ensures.made c.show.ensures.own c.show.ensures.state c.show.ensures.opened (tells-stop c.args.board.now.book c.show.ensures.run c.show.ensures.state) c.show.ensures.agrees
 
 pub returns-clause-closed : goal.returns-clause-closed
 returns-clause-closed g c down =
@@ -18,7 +18,7 @@ returns-clause-closed g c down =
     let never = never-folded n b.book c.requires.base c.show.ensures.unfolded c.requires.passes in
     let run =
     run-from n b c.requires.few c.requires.asked c.events_keep_states_sound.ensures.run c.show.ensures.run c.show.ensures.order c.show.ensures.made c.show.ensures.own c.show.ensures.state
-    c.show.ensures.opened c.show.ensures.stops c.show.ensures.full (tells-stop c.args.board.now.book c.show.ensures.run c.show.ensures.state) c.show.ensures.agrees in
+    c.show.ensures.opened (tells-stop c.args.board.now.book c.show.ensures.run c.show.ensures.state) c.show.ensures.agrees in
     closed-all n b run never
     (c.accepted_connections_are_closed_or_live.ensures.closed_or_live n.slots n.children n.shape b.book.history (run-opened n b run never))
     down
@@ -30,7 +30,7 @@ returns-clause-links g c clients knows down =
     let never = never-folded n b.book c.requires.base c.show.ensures.unfolded c.requires.passes in
     let run =
     run-from n b c.requires.few c.requires.asked c.events_keep_states_sound.ensures.run c.show.ensures.run c.show.ensures.order c.show.ensures.made c.show.ensures.own c.show.ensures.state
-    c.show.ensures.opened c.show.ensures.stops c.show.ensures.full (tells-stop c.args.board.now.book c.show.ensures.run c.show.ensures.state) c.show.ensures.agrees in
+    c.show.ensures.opened (tells-stop c.args.board.now.book c.show.ensures.run c.show.ensures.state) c.show.ensures.agrees in
     let closed =
     closed-all n b run never
     (c.accepted_connections_are_closed_or_live.ensures.closed_or_live n.slots n.children n.shape b.book.history (run-opened n b run never))

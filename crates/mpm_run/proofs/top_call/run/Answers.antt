@@ -7,7 +7,7 @@ use Rattle.command_words.specs.Invocations.{IsLoadWords}
 use Rattle.command_words.specs.Invocations.{IsInvocation}
 use Rattle.command_words.specs.declared.invocation.Invocation.{Invocation}
 use Rattle.mpm_run.specs.Calls.{seen_call}
-use Rattle.mpm_run.specs.ExitStatuses.{EndsConfigRefused, EndsFilled, EndsLacking, EndsSiteRefused, HasEnd, HasPlayed, KeepsTime, LacksOutput, Succeeds}
+use Rattle.mpm_run.specs.ExitStatuses.{EndsConfigRefused, EndsLacking, EndsSiteRefused, HasEnd, HasPlayed, KeepsTime, LacksOutput, Succeeds}
 use Rattle.mpm_run.specs.FirstNumbers as opening
 use Rattle.mpm_run.specs.Started.{IsStartedFirst}
 use Rattle.mpm_run.specs.declared.outcome.Outcome.{Outcome}
@@ -49,7 +49,7 @@ pub returns-in-Ok-Script-clause-unwritten : goal.returns-in-Ok-Script-clause-unw
 returns-in-Ok-Script-clause-unwritten g c =
     subst (λ (o : Outcome _). o.status ≡ 5 → LacksOutput (seen_call c.args.words.now (g.D.Store.seen c.args.store.now) (g.D.Store.seen c.run_script.new.store) (g.K.Sink.seen c.args.out.now) (g.K.Sink.seen c.run_script.new.out) o.shown) o.scripted o.board)
     (sym c.scripted_outcome.ensures)
-    (λ five. inl (left-some c.run_script.result.left (c.run_script.ensures.opened (inr (inl five))) c.run_script.ensures.ends (λ s ends. ends.unwritten five)))
+    (λ five. inl (left-some c.run_script.result.left (c.run_script.ensures.opened (inr five)) c.run_script.ensures.ends (λ s ends. ends.unwritten five)))
 
 pub returns-in-Ok-Script-clause-lacking : goal.returns-in-Ok-Script-clause-lacking
 returns-in-Ok-Script-clause-lacking g c =
@@ -98,19 +98,13 @@ pub returns-in-Ok-Load-clause-unwritten : goal.returns-in-Ok-Load-clause-unwritt
 returns-in-Ok-Load-clause-unwritten g c =
     subst (λ (o : Outcome _). o.status ≡ 5 → LacksOutput (seen_call c.args.words.now (g.D.Store.seen c.args.store.now) (g.D.Store.seen c.args.store.now) (g.K.Sink.seen c.args.out.now) (g.K.Sink.seen c.run_load.new.out) o.shown) o.scripted o.board)
     (sym c.scripted_outcome-in-Ok-Load.ensures)
-    (λ five. inl (left-some c.run_load.result.left (c.run_load.ensures.opened (inr (inl five))) c.run_load.ensures.ends (λ s ends. ends.unwritten five)))
+    (λ five. inl (left-some c.run_load.result.left (c.run_load.ensures.opened (inr five)) c.run_load.ensures.ends (λ s ends. ends.unwritten five)))
 
 pub returns-in-Ok-Load-clause-lacking : goal.returns-in-Ok-Load-clause-lacking
 returns-in-Ok-Load-clause-lacking g c =
     subst (λ (o : Outcome _). o.status ≡ 6 → IfSome o.scripted (λ s. EndsLacking (g.K.Sink.seen c.args.out.now) (g.K.Sink.seen c.run_load.new.out) s.config s.board))
     (sym c.scripted_outcome-in-Ok-Load.ensures)
     (λ six. IfSome_then c.run_load.result.left c.run_load.ensures.ends (λ s ends. ends.lacking six))
-
-pub returns-in-Ok-Load-clause-full : goal.returns-in-Ok-Load-clause-full
-returns-in-Ok-Load-clause-full g c =
-    subst (λ (o : Outcome _). o.status ≡ 7 → EndsFilled (seen_call c.args.words.now (g.D.Store.seen c.args.store.now) (g.D.Store.seen c.args.store.now) (g.K.Sink.seen c.args.out.now) (g.K.Sink.seen c.run_load.new.out) o.shown) o.scripted o.board)
-    (sym c.scripted_outcome-in-Ok-Load.ensures)
-    (λ seven. inl (left-some c.run_load.result.left (c.run_load.ensures.opened (inr (inr seven))) c.run_load.ensures.ends (λ s ends. ends.full seven)))
 
 pub returns-in-Ok-Load-clause-misconfigured : goal.returns-in-Ok-Load-clause-misconfigured
 returns-in-Ok-Load-clause-misconfigured g c =

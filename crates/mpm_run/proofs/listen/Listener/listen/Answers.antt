@@ -1,6 +1,5 @@
 use Rattle.std.proofs.Common.{◌<◌, inl, inr, None, Option, List, ap, sym, subst, ◌∙◌, arith}
 use Rattle.mpm_base.specs.Front.{FrontSeen, WaitTold}
-use Rattle.conn_machine.specs.States.{is_halted}
 use Rattle.mpm_run.specs.ListenInside.{HaltsAs}
 use Rattle.mpm_run.specs.Times.{WasInformed}
 use Rattle.mpm_run.proofs.AskedLemmas.{asked-silent, startless-gone, startless-halts, startless-retires}
@@ -87,7 +86,7 @@ returns-clause-asked g c began =
     (startless-retires c.retire_all.ensures.retires.children)
     (asked-silent 0 _ None c.halt.new.board.book c.close_all.new.board.book c.close_all.ensures.gone.acts (startless-gone c.close_all.ensures.gone.gone)
     (asked-silent 0 _ None c.take_turns-turns.new.self.board.book c.halt.new.board.book c.halt.ensures.acts
-    (startless-halts (is_halted c.take_turns-turns.new.self.board.book.state.going) c.take_turns-turns.new.self.board.book c.take_turns-turns.result) (asked began)))
+    (startless-halts c.take_turns-turns.result) (asked began)))
 
 pub returns-clause-started : goal.returns-clause-started
 returns-clause-started g c opening =

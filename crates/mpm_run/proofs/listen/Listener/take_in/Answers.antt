@@ -127,22 +127,6 @@ returns-in_err-take_all-clause-broken g c =
     (inr until.last) in
     search (rules, broken)
 
-pub returns-in_err-go_on-clause-broken : goal.returns-in_err-go_on-clause-broken
-returns-in_err-go_on-clause-broken g c =
-    let b = c.signal_all.new.board.book in
-    let signals =
-    subst (λ (xs : List ℕ). Acts 0 (signal_events c.pass_time.new.board.book xs) None c.pass_time.new.board.book c.signal_all.new.board.book) c.slots.ensures.is c.in_ok-signal_all.ensures.signals in
-    let row = signals.row in
-    let broken : BreaksOff c.in_err-go_on.field-0.0 (moment_for c.args.moment) c.args.self.now.ready c.args.self.now.board.book c.signal_all.new.board.book =
-    breaks-behind c.passes_act_in_steps.ensures.acts c.in_err-go_on.field-0.0 (moment_for c.args.moment) c.args.self.now.ready c.args.self.now.board.book c.pass_time.new.board.book b b b b b b
-    c.in_ok-pass_time.ensures.passes (signals-all c.args.self.now.ready c.pass_time.new.board.book c.signal_all.new.board.book signals) (lets-go-none c.passes_act_in_steps.ensures.acts b row) (retires-none c.passes_act_in_steps.ensures.acts b row) (starts-none c.passes_act_in_steps.ensures.acts b row)
-    (takes-none c.passes_act_in_steps.ensures.acts b row) (ends-idle c.in_err-go_on.field-0.0 b c.in_err-go_on.ensures.why) in
-    search (rules, broken)
-
-pub returns-in_err-go_on-clause-up : goal.returns-in_err-go_on-clause-up
-returns-in_err-go_on-clause-up g c =
-    c.signal_all.ensures.rest.up c.pass_time.ensures.up
-
 pub returns-then-is_asked_to_stop-clause-round : goal.returns-then-is_asked_to_stop-clause-round
 returns-then-is_asked_to_stop-clause-round g c =
     let b = c.signal_all.new.board.book in
@@ -178,7 +162,7 @@ returns-then-is_asked_to_stop-clause-step g c =
 
 pub returns-then-is_asked_to_stop-clause-asked : goal.returns-then-is_asked_to_stop-clause-asked
 returns-then-is_asked_to_stop-clause-asked g c is =
-    (c.in_ok-go_on.ensures.going, (c.is_asked_to_stop.ensures.asked c.if-is_asked_to_stop.true).0, (c.is_asked_to_stop.ensures.asked c.if-is_asked_to_stop.true).1)
+    (c.signal_all.ensures.rest.up c.pass_time.ensures.up, (c.is_asked_to_stop.ensures.asked c.if-is_asked_to_stop.true).0, (c.is_asked_to_stop.ensures.asked c.if-is_asked_to_stop.true).1)
 
 pub returns-clause-taken : goal.returns-clause-taken
 returns-clause-taken g c is = (
@@ -215,11 +199,6 @@ returns-in_err-signal_all-clause-unheeded g c =
     on-err c.from_residual-in_err-signal_all.result _
     (c.requires.heeded)
 
-pub returns-in_err-go_on-clause-unheeded : goal.returns-in_err-go_on-clause-unheeded
-returns-in_err-go_on-clause-unheeded g c =
-    on-err c.from_residual-in_err-go_on.result _
-    (c.requires.heeded)
-
 pub returns-in_err-pass_time-clause-follows : goal.returns-in_err-pass_time-clause-follows
 returns-in_err-pass_time-clause-follows g c =
     follows-same (g.F.Front.seen c.args.front.now)
@@ -234,14 +213,6 @@ returns-in_err-signal_all-clause-follows g c =
 
 pub returns-in_err-signal_all-clause-front : goal.returns-in_err-signal_all-clause-front
 returns-in_err-signal_all-clause-front g c =
-    only-takes (g.F.Front.seen c.args.front.now).told (g.F.Front.seen c.args.front.now).told (takes-same (g.F.Front.seen c.args.front.now).told)
-
-pub returns-in_err-go_on-clause-follows : goal.returns-in_err-go_on-clause-follows
-returns-in_err-go_on-clause-follows g c =
-    follows-same (g.F.Front.seen c.args.front.now)
-
-pub returns-in_err-go_on-clause-front : goal.returns-in_err-go_on-clause-front
-returns-in_err-go_on-clause-front g c =
     only-takes (g.F.Front.seen c.args.front.now).told (g.F.Front.seen c.args.front.now).told (takes-same (g.F.Front.seen c.args.front.now).told)
 
 pub returns-then-is_asked_to_stop-clause-follows : goal.returns-then-is_asked_to_stop-clause-follows
@@ -295,12 +266,6 @@ returns-in_err-signal_all-clause-watched g c before =
     (nobody-acts 0 _ None c.pass_time.new.board.book c.signal_all.new.board.book c.in_err-signal_all.ensures.first.acts (none-signals c.in_err-signal_all.ensures.first.first)))
     (c.signal_all.ensures.rest.accepted ∙ c.pass_time.ensures.taken) before
 
-pub returns-in_err-go_on-clause-watched : goal.returns-in_err-go_on-clause-watched
-returns-in_err-go_on-clause-watched g c before =
-    watched-as (g.F.Front.seen c.args.front.now).told c.args.self.now.board.book c.signal_all.new.board.book
-    (nobody-more c.args.self.now.board.book c.pass_time.new.board.book c.signal_all.new.board.book (nobody-passed _ c.args.self.now.board.book c.pass_time.new.board.book c.in_ok-pass_time.ensures.passes)
-    (nobody-signalled c.slots.result.now c.pass_time.new.board.book c.signal_all.new.board.book c.in_ok-signal_all.ensures.signals)) (c.signal_all.ensures.rest.accepted ∙ c.pass_time.ensures.taken) before
-
 pub returns-then-is_asked_to_stop-clause-watched : goal.returns-then-is_asked_to_stop-clause-watched
 returns-then-is_asked_to_stop-clause-watched g c before =
     watched-reads (g.F.Front.seen c.args.front.now).told (g.F.Front.seen c.is_asked_to_stop.new.front).told c.signal_all.new.board.book c.is_asked_to_stop.ensures.front
@@ -347,10 +312,6 @@ returns-in_err-pass_time-clause-links g c =
 pub returns-in_err-signal_all-clause-links : goal.returns-in_err-signal_all-clause-links
 returns-in_err-signal_all-clause-links g c =
     on-err c.from_residual-in_err-signal_all.result _ (hands-step (g.F.Front.seen c.args.front.now).told c.signal_all.new.board.book.state (step-kept (g.F.Front.seen c.args.front.now).told c.args.self.now.board.book.state c.signal_all.new.board.book.state (c.signal_all.ensures.rest.accepted ∙ c.pass_time.ensures.taken) c.requires.step))
-
-pub returns-in_err-go_on-clause-links : goal.returns-in_err-go_on-clause-links
-returns-in_err-go_on-clause-links g c =
-    on-err c.from_residual-in_err-go_on.result _ (hands-step (g.F.Front.seen c.args.front.now).told c.signal_all.new.board.book.state (step-kept (g.F.Front.seen c.args.front.now).told c.args.self.now.board.book.state c.signal_all.new.board.book.state (c.signal_all.ensures.rest.accepted ∙ c.pass_time.ensures.taken) c.requires.step))
 
 pub returns-in_err-let_go_of_conns-clause-links : goal.returns-in_err-let_go_of_conns-clause-links
 returns-in_err-let_go_of_conns-clause-links g c =

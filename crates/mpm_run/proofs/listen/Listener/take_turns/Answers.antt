@@ -1,5 +1,4 @@
 use Rattle.std.proofs.Common.{ℕ, List, None, inl, inr, refl, sym, ap, ◌∙◌, rules}
-use Rattle.conn_machine.specs.States.{is_halted}
 use Rattle.mpm_run.specs.ListenInside.{asked_children}
 use Rattle.mpm_run.proofs.ChildrenLemmas.{begins-broken, begins-more, begins-round, begins-waited}
 use Rattle.mpm_run.proofs.CommandLemmas.{heeded-wait, heeds-asked, heeds-ended, heeds-failed, heeds-none}
@@ -20,7 +19,6 @@ loop-init g c =
           between-started c.passes_act_in_steps.ensures.acts (listener_of c.args.self.now.board (g.F.Front.seen c.args.front.now) (g.C.Clock.told c.args.clock.now) c.args.self.now.ready) (listener_of c.start.new.self.board (g.F.Front.seen c.args.front.now) (g.C.Clock.told c.args.clock.now) c.start.new.self.ready) c.requires.passes c.requires.free c.requires.going c.requires.step c.requires.informed
           (ap (λ (ready : List ℕ). listener_of c.start.new.self.board (g.F.Front.seen c.args.front.now) (g.C.Clock.told c.args.clock.now) ready) (ap (λ (l : _). l.ready) c.start.ensures.others)) c.start.ensures.starts c.start.ensures.going c.start.ensures.rest;
       clock = refl;
-      going = ap is_halted c.start.ensures.going ∙ c.requires.going;
       heeded = c.requires.heeded;
       started = c.in_ok-first.ensures.first;
       paced =
@@ -324,7 +322,7 @@ returns-in-Ended-clause-ends g c =
     let waited =
     has-waited c.loop.rest c.take_pause-pause.result (listener_of c.loop.self.board (g.F.Front.seen c.loop.front) (g.C.Clock.told c.loop.clock) c.loop.self.ready) (listener_of c.loop.self.board (g.F.Front.seen c.loop.front) (g.C.Clock.told c.loop.clock) c.loop.self.ready) (g.F.Front.seen c.take_pause-pause.new.front) (g.C.Clock.told c.take_pause-pause.new.clock) c.take_pause-pause.new.ready c.moment-present.result refl
     c.show.ensures.after c.show.ensures.sound c.moment-present.ensures c.take_pause-pause.ensures.waits c.take_pause-pause.ensures.asks in
-    ends-ended c.loop.rest c.take_pause-pause.result (listener_of c.args.self.now.board (g.F.Front.seen c.args.front.now) (g.C.Clock.told c.args.clock.now) c.args.self.now.ready) (listener_of c.loop.self.board (g.F.Front.seen c.loop.front) (g.C.Clock.told c.loop.clock) c.loop.self.ready) (listener_of c.loop.self.board (g.F.Front.seen c.take_pause-pause.new.front) (g.C.Clock.told c.take_pause-pause.new.clock) c.take_pause-pause.new.ready) c.loop.invariant.between waited c.in-Ended.is c.loop.invariant.going
+    ends-ended c.loop.rest c.take_pause-pause.result (listener_of c.args.self.now.board (g.F.Front.seen c.args.front.now) (g.C.Clock.told c.args.clock.now) c.args.self.now.ready) (listener_of c.loop.self.board (g.F.Front.seen c.loop.front) (g.C.Clock.told c.loop.clock) c.loop.self.ready) (listener_of c.loop.self.board (g.F.Front.seen c.take_pause-pause.new.front) (g.C.Clock.told c.take_pause-pause.new.clock) c.take_pause-pause.new.ready) c.loop.invariant.between waited c.in-Ended.is c.loop.invariant.between.up
     (sym c.has_live.ensures ∙ c.if-not-has_live.true)
 
 pub returns-in-Failed-clause-ends : goal.returns-in-Failed-clause-ends
@@ -332,7 +330,7 @@ returns-in-Failed-clause-ends g c =
     let waited =
     has-waited c.loop.rest c.take_pause-pause.result (listener_of c.loop.self.board (g.F.Front.seen c.loop.front) (g.C.Clock.told c.loop.clock) c.loop.self.ready) (listener_of c.loop.self.board (g.F.Front.seen c.loop.front) (g.C.Clock.told c.loop.clock) c.loop.self.ready) (g.F.Front.seen c.take_pause-pause.new.front) (g.C.Clock.told c.take_pause-pause.new.clock) c.take_pause-pause.new.ready c.moment-present.result refl
     c.show.ensures.after c.show.ensures.sound c.moment-present.ensures c.take_pause-pause.ensures.waits c.take_pause-pause.ensures.asks in
-    ends-failed c.loop.rest c.take_pause-pause.result (listener_of c.args.self.now.board (g.F.Front.seen c.args.front.now) (g.C.Clock.told c.args.clock.now) c.args.self.now.ready) (listener_of c.loop.self.board (g.F.Front.seen c.loop.front) (g.C.Clock.told c.loop.clock) c.loop.self.ready) (listener_of c.loop.self.board (g.F.Front.seen c.take_pause-pause.new.front) (g.C.Clock.told c.take_pause-pause.new.clock) c.take_pause-pause.new.ready) c.loop.invariant.between waited c.in-Failed.is c.loop.invariant.going
+    ends-failed c.loop.rest c.take_pause-pause.result (listener_of c.args.self.now.board (g.F.Front.seen c.args.front.now) (g.C.Clock.told c.args.clock.now) c.args.self.now.ready) (listener_of c.loop.self.board (g.F.Front.seen c.loop.front) (g.C.Clock.told c.loop.clock) c.loop.self.ready) (listener_of c.loop.self.board (g.F.Front.seen c.take_pause-pause.new.front) (g.C.Clock.told c.take_pause-pause.new.clock) c.take_pause-pause.new.ready) c.loop.invariant.between waited c.in-Failed.is c.loop.invariant.between.up
 
 pub returns-in_err-asked-clause-base : goal.returns-in_err-asked-clause-base
 returns-in_err-asked-clause-base g c =
@@ -865,7 +863,6 @@ loop-preserved g c =
     record {
       between = between-served c.passes_act_in_steps.ensures.acts (listener_of c.args.self.now.board (g.F.Front.seen c.args.front.now) (g.C.Clock.told c.args.clock.now) c.args.self.now.ready) (listener_of c.take_in.new.self.board (g.F.Front.seen c.take_in.new.front) (g.C.Clock.told c.take_pause-pause.new.clock) c.take_in.new.self.ready) (listener_of c.serve.new.self.board (g.F.Front.seen c.take_in.new.front) (g.C.Clock.told c.take_pause-pause.new.clock) c.serve.new.self.ready) between served;
       clock = c.take_pause-pause.ensures.clock ∙ c.loop.invariant.clock;
-      going = c.in_ok-rest.ensures.going;
       heeded = c.in_ok-asked.ensures.heeded c.if-asked.false;
       started =
           λ opening. begins-more 1 serves.events None (asked_children c.args.self.now.board.book.base) c.take_in.new.self.board.book c.serve.new.self.board.book
