@@ -19,6 +19,7 @@ pub mod LeavingLemmas
 pub mod LinkLemmas
 pub mod ListenLemmas
 pub mod MeasureLemmas
+pub mod OverLemmas
 pub mod PaceLemmas
 pub mod PassLemmas
 pub mod PatientLemmas

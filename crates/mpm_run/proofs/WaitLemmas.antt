@@ -1,6 +1,8 @@
 -- A wait of the listener.
-use Rattle.std.proofs.Common.{◌≡◌, ℕ, List, Option, ap, subst}
-use Rattle.mpm_base.specs.Front.{FrontSeen, Waits}
+use Rattle.std.proofs.Common.{◌≡◌, ℕ, List, [], Option, is_some, subst}
+use Rattle.mpm_base.specs.Front.{FrontSeen, GivesOnlyAwake, Waits, moments_in}
+use Rattle.mpm_base.specs.declared.front.Woke.{Woke}
+use Rattle.mpm_base.specs.declared.front.Woke.TheVariants as woke
 use Rattle.conn_machine.specs.Runs.{after}
 use Rattle.conn_machine.specs.Sound.{IsSound}
 use Rattle.board.specs.Board.{SeenBoard}
@@ -20,26 +22,33 @@ pub record SeenListener : Type 0 where
 abbrev pub listener_of : SeenBoard → FrontSeen → Option (List (ℕ × ℕ)) → List ℕ → SeenListener
 listener_of board front calls ready = record { board = board; front = front; calls = calls; ready = ready }
 
--- the wait was told this and answered that, the moment is the clock's behind the answer, and the board is the one that it was; its state
--- is that after the history, and sound
+-- the wait was told this and answered that, the moment is the clock's behind the answer, which tells where it did, and the board is the
+-- one that it was; its state is that after the history, and sound
 pub record HasWaited (rest : Rest) (pause : Pause) (old new : SeenListener) : Type 0 where
   pub board : new.board ≡ old.board
   pub state : after old.board.book.base old.board.book.history ≡ old.board.book.state
   pub sound : IsSound old.board.book.state
   pub waits : Waits old.front new.front rest.until rest.quiet pause.woke new.ready
   pub asks : AsksFor pause.woke old.board.book.state.moment old.calls new.calls pause.moment
+  pub clock : is_some new.calls ≡ is_some old.calls
 
--- so it was where the front waited, and the clock was asked, while the board lay there
-pub has-waited : (rest : Rest) (pause : Pause) (a v : SeenListener) (front : FrontSeen) (calls : Option (List (ℕ × ℕ))) (ready : List ℕ) (present : ℕ) → v ≡ a
+-- so it was where the present moment is that of the board
+pub has-waited : (rest : Rest) (pause : Pause) (a w : SeenListener) (present : ℕ) → w.board ≡ a.board
     → after a.board.book.base a.board.book.history ≡ a.board.book.state → IsSound a.board.book.state → present ≡ a.board.book.state.moment
-    → Waits v.front front rest.until rest.quiet pause.woke ready → AsksFor pause.woke present v.calls calls pause.moment
-    → HasWaited rest pause a (record v { front = front; calls = calls; ready = ready })
-has-waited rest pause a v front calls ready present is state sound now waits asks = record {
-  board = ap (λ (l : SeenListener). l.board) is;
+    → Waits a.front w.front rest.until rest.quiet pause.woke w.ready → AsksFor pause.woke present a.calls w.calls pause.moment
+    → is_some w.calls ≡ is_some a.calls → HasWaited rest pause a w
+has-waited rest pause a w present board state sound now waits asks clock = record {
+  board = board;
   state = state;
   sound = sound;
-  waits = subst (λ (l : SeenListener). Waits l.front front rest.until rest.quiet pause.woke ready) is waits;
-  asks =
-      subst (λ (m : ℕ). AsksFor pause.woke m a.calls calls pause.moment) now
-      (subst (λ (l : SeenListener). AsksFor pause.woke present l.calls calls pause.moment) is asks);
+  waits = waits;
+  asks = subst (λ (m : ℕ). AsksFor pause.woke m a.calls w.calls pause.moment) now asks;
+  clock = clock;
 }
+
+-- one whose answer gives no moment gave no slot, and the clock wasn't asked
+pub idle-wait : (answer : Woke) (present moment : ℕ) (calls calls' : Option (List (ℕ × ℕ))) (ready : List ℕ) → moments_in answer ≡ []
+    → AsksFor answer present calls calls' moment → GivesOnlyAwake answer ready → (calls' ≡ calls) × (ready ≡ [])
+idle-wait (woke.Woke m) present moment calls calls' ready none asks awake = absurd (cc none)
+idle-wait woke.Ended present moment calls calls' ready none asks awake = (asks.0, awake)
+idle-wait woke.Failed present moment calls calls' ready none asks awake = (asks.0, awake)
