@@ -9,6 +9,7 @@ pub mod ChangeLaw
 pub mod ChildLemmas
 pub mod ChildSound
 pub mod CountLemmas
+pub mod EditionLemmas
 pub mod FairLemmas
 pub mod FoldLemmas
 pub mod FreshLaw
@@ -22,6 +23,7 @@ pub mod ListLemmas
 pub mod NameLaw
 pub mod NamedLaw
 pub mod NoteLaw
+pub mod OneFoldLemmas
 pub mod OwnRows
 pub mod OwnerLaw
 pub mod PassLaw

@@ -1,5 +1,5 @@
 -- Folds: what a value that keeps a history still knows of the entries that it folded.
-use Rattle.std.specs.Prelude.{◌≡◌, ◌==◌, ℕ, ◌+◌, ◌-◌, Bool, ◌&&◌, ◌||◌, not, List, [], ◌∷◌, ◌++◌, length, map, filter, take, replicate, slice_index, Option, None}
+use Rattle.std.specs.Prelude.{◌≡◌, ◌==◌, ◌≤◌, ℕ, ◌+◌, ◌-◌, nat_le, nat_lt, Bool, ◌&&◌, ◌||◌, not, List, [], ◌∷◌, ◌++◌, length, map, filter, take, replicate, slice_get, slice_index, Option, None, Some}
 use Rattle.std.specs.List.{enumerate_from, flat_map, list_any}
 use Rattle.conn_machine.specs.declared.child.Child.{Child}
 use Rattle.conn_machine.specs.declared.event.Entry.{Entry}
@@ -8,8 +8,9 @@ use Rattle.conn_machine.specs.declared.folded.Folded.{Folded}
 use Rattle.conn_machine.specs.declared.state.State.{State}
 use Rattle.conn_machine.specs.Children.{is_empty}
 use Rattle.conn_machine.specs.Events.{causes, count_events, is_accept, is_answer, is_close, is_close_for, begins_generation, is_order, is_ready, is_start_child, is_tick}
-use Rattle.conn_machine.specs.Runs.{after, entries_of, first_row, row_after, row_from}
+use Rattle.conn_machine.specs.Runs.{after, entries_of, first_row, load, row_after, row_from}
 use Rattle.mpm_base.specs.Cause.{cause_number}
+use Rattle.mpm_base.specs.declared.conn.Cause.{Cause}
 use Rattle.mpm_base.specs.declared.conn.ConnName.{ConnName}
 
 -- ## The record
@@ -47,6 +48,32 @@ pub record GoesOnFrom (p : ℕ) (f : Folded) (history : List Entry) (later : Fol
   pub ordinal : slice_index later.ordinals p ≡ slice_index f.ordinals p + length (entries_of p history)
   pub row : first_row later p ≡ row_from f p history
 
+-- no number that the record counts is above that of its entries
+pub record CountsWithin (f : Folded) : Type 0 where
+  pub accepted : f.accepted ≤ f.entries
+  pub closed : f.closed ≤ f.entries
+  pub responses : f.responses ≤ f.entries
+  pub causes : (why : Cause) → slice_index f.causes (cause_number why) ≤ f.entries
+  pub children : f.children ≤ f.entries
+  pub ticks : f.ticks ≤ f.entries
+  pub readies : f.readies ≤ f.entries
+  pub orders : f.orders ≤ f.entries
+  pub ordinals : (p : ℕ) → slice_index f.ordinals p ≤ f.entries
+
+-- ## When a history may be folded
+
+-- the load that is worth a fold
+abbrev pub fold_load : ℕ
+fold_load = 65536
+
+-- fewer entries than these may have been folded, so that no number grows out of its range
+abbrev pub most_folded : ℕ
+most_folded = 4611686018427387904
+
+-- a history of this load behind the record may be folded
+abbrev pub may_fold : Folded → List Entry → Bool
+may_fold f history = nat_le fold_load (load history) && nat_lt f.entries most_folded
+
 -- ## Editions
 
 -- the orders of the history with their numbers, where the first of them has this one
@@ -66,6 +93,10 @@ is_child_of generation c = not (is_empty c.phase) && c.generation == generation
 -- the generation is the newest one, or that of a child which is there
 abbrev pub is_in_use : State → ℕ → Bool
 is_in_use s generation = generation == s.newest || list_any (is_child_of generation) s.children
+
+-- each edition of the record is that of a generation that has begun in the state
+abbrev pub HaveBegun : State → Folded → Type 0
+HaveBegun s f = (place : ℕ) (e : Edition) → slice_get f.editions place ≡ Some e → e.generation ≤ s.newest
 
 -- ## What a fold makes
 

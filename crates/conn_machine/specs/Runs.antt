@@ -119,8 +119,8 @@ is_name a b = a.slot == b.slot && a.life == b.life
 abbrev pub has_row : Option ConnName → ConnName → Bool
 has_row had name = option_map_or (is_name name) had false
 
--- a pass that has this connection may make the event: pass 0 is the listener, which alone accepts, signals, lets time pass, starts and
--- retires children, and commands
+-- a pass that has this connection may make the event: pass 0 is the listener, which alone accepts, holds what waits, signals, lets time
+-- pass, starts and retires children, and commands
 abbrev pub may_make : ℕ → Option ConnName → Event → Bool
 may_make p had (event.Accept slot) = p == 0 && is_none had
 may_make p had (event.Park name kind) = has_row had name

@@ -157,5 +157,5 @@ pub struct Entry {
     pub event: Event,
 }
 
-// A history of four million entries is kept in memory.
+// A history is kept in memory, so an entry is small.
 const _: () = prove!(size_of::<Entry>() <= 64);

@@ -1,5 +1,5 @@
 //! What a value that keeps a history still knows of the entries that it folded.
-ghost use Rattle.std.specs.Prelude.{◌≡◌, [], ◌∷◌, replicate, None, IfOk};
+ghost use Rattle.std.specs.Prelude.{◌≡◌, [], ◌∷◌, length, replicate, None, IfOk};
 ghost use Rattle.conn_machine.specs.Folds.{first_edition, opening_record};
 
 use mpm_base::{ConnName, NoMemory, Octets};
@@ -84,6 +84,14 @@ impl Ordinals {
     {
         self.items.as_slice()
     }
+
+    /// Takes these numbers, as many as there are, in place of those that it had. Wants no memory.
+    pub fn copy_from(&mut self, numbers: &[u64])
+        requires { length numbers.now ≡ length self.old }
+        ensures { self.new ≡ numbers.now }
+    {
+        self.items.copy_from_slice(numbers);
+    }
 }
 
 /// The connection of each pass, where it has one, as contracts see it.
@@ -117,6 +125,14 @@ impl PassRows {
         ensures { result.now ≡ self.now }
     {
         self.items.as_slice()
+    }
+
+    /// Takes these connections, as many as there are places, in place of those that it had. Wants no memory.
+    pub fn copy_from(&mut self, rows: &[Option<ConnName>])
+        requires { length rows.now ≡ length self.old }
+        ensures { self.new ≡ rows.now }
+    {
+        self.items.copy_from_slice(rows);
     }
 }
 

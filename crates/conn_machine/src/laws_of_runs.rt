@@ -3,6 +3,7 @@
 //! these are for the crates that keep a history.
 ghost use Rattle.std.specs.Prelude.{◌≡◌, ◌≢◌, ◌↔◌, ◌<◌, ◌≤◌, ◌+◌, ◌*◌, ℕ, Bool, true, false, List, [], ◌∷◌, ◌++◌, count_by, length, None, Some, slice_get, slice_index, if◌then◌else◌};
 ghost use Rattle.std.specs.List.{list_any};
+ghost use Rattle.mpm_base.specs.declared.shape.Shape.{Shape};
 ghost use Rattle.conn_machine.specs.declared.child.Child.{Child};
 ghost use Rattle.conn_machine.specs.declared.event.Entry.{Entry};
 ghost use Rattle.conn_machine.specs.declared.folded.Folded.{Folded};
@@ -10,9 +11,11 @@ ghost use Rattle.conn_machine.specs.declared.row.Row.{Row};
 ghost use Rattle.conn_machine.specs.declared.state.State.{State};
 ghost use Rattle.conn_machine.specs.Lists.{update};
 ghost use Rattle.conn_machine.specs.Sizes.{HasSizesOf};
+ghost use Rattle.conn_machine.specs.States.{opening_state};
 ghost use Rattle.conn_machine.specs.Table.{is_allowed, next, reply};
 ghost use Rattle.conn_machine.specs.Runs.{Adds, IsHistory, IsNextOf, Run, after, asks_page, entries_of, first_row, has_after, is_of_pass, load, row_from, row_of};
-ghost use Rattle.conn_machine.specs.Folds.{GoesOnFrom, HasPlacesFor, fold_of, opening_record};
+ghost use Rattle.conn_machine.specs.Folds.{CountsWithin, GoesOnFrom, HasPlacesFor, HaveBegun, fold_of, opening_record};
+ghost use Rattle.conn_machine.specs.Events.{count_events, is_close};
 ghost use Rattle.conn_machine.specs.Made.{AreMade, AreOfPasses, HasSeen};
 
 /// A history that goes on by one entry has the state that the machine makes of the event. It stays a history of the machine,
@@ -60,6 +63,20 @@ pub fn records_go_on_by_folds()
     ensures more { (p : ℕ) (f later last : Folded) (a b : List Entry) → GoesOnFrom p f a later → GoesOnFrom p later b last → GoesOnFrom p f (a ++ b) last }
     ensures row { (p : ℕ) (f later : Folded) (history rest : List Entry) → GoesOnFrom p f history later → row_from f p (history ++ rest) ≡ row_from later p rest }
     ensures next { (p : ℕ) (base : State) (f later : Folded) (history rest : List Entry) (e : Entry) → GoesOnFrom p f history later → IsNextOf p base f (history ++ rest) e ↔ IsNextOf p (after base history) later rest e }
+{}
+
+/// Two folds, one behind the other, are one fold of both histories, where as many connections ended as the first one closed: so
+/// whatever was folded, the record is what one fold makes of all the entries. What passes made behind a fold is made behind all
+/// entries too. What a record counts stays within the number of its entries. And where a server opens a fold of nothing is the opening
+/// record.
+pub fn folds_are_one_fold()
+    ensures twice { (base : State) (f : Folded) (a b : List Entry) (ended ended' : List (List ℕ)) → HaveBegun base f → length ended ≡ count_events is_close a → fold_of (after base a) b ended' (fold_of base a ended f) ≡ fold_of base (a ++ b) (ended ++ ended') f }
+    ensures made { (passes : ℕ) (base : State) (f : Folded) (a b : List Entry) (ended : List (List ℕ)) → HasPlacesFor passes f → AreOfPasses passes a → AreMade base f a → AreMade (after base a) (fold_of base a ended f) b → AreMade base f (a ++ b) }
+    ensures within { (base : State) (f : Folded) (history : List Entry) (ended : List (List ℕ)) → CountsWithin f → CountsWithin (fold_of base history ended f) }
+    ensures opened { (passes : ℕ) → CountsWithin (opening_record passes) }
+    ensures begun { (base : State) (f : Folded) (history : List Entry) (ended : List (List ℕ)) → HaveBegun base f → HaveBegun (after base history) (fold_of base history ended f) }
+    ensures opening { (s : State) (passes : ℕ) → HaveBegun s (opening_record passes) }
+    ensures nothing { (slots children passes : ℕ) (shape : Shape) → fold_of (opening_state slots children shape) [] [] (opening_record passes) ≡ opening_record passes }
 {}
 
 /// The state after two histories, one behind the other, and the entries of a pass in both.
