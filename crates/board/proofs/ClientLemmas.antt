@@ -38,11 +38,11 @@ clients_taken known conns slot clients at c is =
       | inr old ↦ clients at c old
     ]
 
--- one more ended
-pub ended_clients : (known : Option KnownOutside) (ended : List SeenEnded) (x : SeenEnded) → EndedOfOutside known ended → IsOfOutside known x.told x.limits x.site
-    → EndedOfOutside known (ended ++ x ∷ [])
-ended_clients known [] x clients client = (client, tt)
-ended_clients known (e ∷ ended) x clients client = (clients.0, ended_clients known ended x clients.1 client)
+-- those of two lists that ended are of the outside
+pub ended_clients : (known : Option KnownOutside) (ended others : List SeenEnded) → EndedOfOutside known ended → EndedOfOutside known others
+    → EndedOfOutside known (ended ++ others)
+ended_clients known [] others clients more = more
+ended_clients known (e ∷ ended) others clients more = (clients.0, ended_clients known ended others clients.1 more)
 
 -- a type that knows nothing says nothing of those that ended
 pub ended_unknown : (ended : List SeenEnded) → EndedOfOutside None ended

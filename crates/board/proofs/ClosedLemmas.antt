@@ -1,11 +1,13 @@
--- The connections that ended, where a history goes on by one entry, and the board that goes on with it.
-use Rattle.std.proofs.Common.{◌≡◌, ℕ, ◌+◌, ◌≤◌, List, [], ◌∷◌, ◌++◌, length, replicate, Option, None, refl, sym, ap, subst, ◌∙◌, length-append, arith}
+-- The connections that ended in two histories, one behind the other, and the board whose history goes on by one entry, or is folded.
+use Rattle.std.proofs.Common.{◌≡◌, ℕ, ◌+◌, ◌≤◌, cond, List, [], ◌∷◌, ◌++◌, length, replicate, Option, None, refl, sym, ap, subst, ◌∙◌, length-append, arith}
 use Rattle.std.proofs.lemmas.List.{append-nil}
+use Rattle.std.proofs.lemmas.List.Sums.{sum_by-cons}
 use Rattle.conn_machine.specs.declared.event.Event.{Event}
 use Rattle.conn_machine.specs.declared.event.Event.TheVariants as event
 use Rattle.conn_machine.specs.declared.event.Entry.{Entry}
 use Rattle.conn_machine.specs.declared.row.Row.{Row}
 use Rattle.conn_machine.specs.declared.state.State.{State}
+use Rattle.conn_machine.specs.Events.{count_events, is_close}
 use Rattle.conn_machine.specs.States.{unused_row}
 use Rattle.conn_machine.specs.Table.{next}
 use Rattle.conn_machine.specs.Runs.{after}
@@ -16,7 +18,7 @@ use Rattle.conn_state.specs.Answered.{SeenEnded, IsEnded}
 use Rattle.conn_state.specs.Known.{KnownOutside, IsOfOutside}
 use Rattle.board.specs.Book.{SeenBook, entry_of, book_with_entry}
 use Rattle.board.specs.Fits.{IsClosing}
-use Rattle.board.specs.Board.{SeenBoard, AreClosed, AreEnded, ClosesFirst, WaitOfOutside}
+use Rattle.board.specs.Board.{SeenBoard, AreClosed, AreEnded, ClosesFirst, WaitOfOutside, folded_board}
 use Rattle.board.specs.BoardInside.{IsBoard}
 use Rattle.board.specs.Layout.{conns_in}
 use Rattle.board.specs.SlotsInside.{AreUsedAlike}
@@ -25,7 +27,7 @@ use Rattle.board.proofs.EventLemmas.{opening-there}
 use Rattle.board.proofs.ClientLemmas.{clients_first, ended_clients, ended_unknown}
 use Rattle.board.proofs.UseLemmas.{conns-first, first-used}
 
--- ## One entry more
+-- ## Two histories
 
 -- what an event closes, where others come behind those that came later
 closes_more : (s : State) (e : Event) (P Q : List SeenEnded → Type 0) (last : List SeenEnded)
@@ -34,19 +36,47 @@ closes_more s (event.Close name why how) P Q last more [] closes = absurd closes
 closes_more s (event.Close name why how) P Q last more (x ∷ ended) closes = (closes.0, more ended closes.1)
 closes_more s e P Q last more ended closes = more ended closes
 
--- what the last event closes comes last
-pub closed_more : (s : State) (history : List Entry) (e : Entry) (ended last : List SeenEnded) → AreClosed s history ended
-    → ClosesFirst (after s history) e.event (λ others. others ≡ []) last → AreClosed s (history ++ e ∷ []) (ended ++ last)
-closed_more s [] e ended last closed closes =
-    subst (λ (xs : List SeenEnded). AreClosed s (e ∷ []) (xs ++ last)) (sym closed) closes
-closed_more s (x ∷ history) e ended last closed closes =
-    closes_more s x.event (AreClosed (next s x.event) history) (AreClosed (next s x.event) (history ++ e ∷ [])) last
-    (λ others closed'. closed_more (next s x.event) history e others last closed' closes) ended closed
+-- what two histories close, one behind the other, both together close
+pub closed_joined : (s : State) (history more : List Entry) (ended others : List SeenEnded) → AreClosed s history ended
+    → AreClosed (after s history) more others → AreClosed s (history ++ more) (ended ++ others)
+closed_joined s [] more ended others closed closes = subst (λ (xs : List SeenEnded). AreClosed s more (xs ++ others)) (sym closed) closes
+closed_joined s (x ∷ history) more ended others closed closes =
+    closes_more s x.event (AreClosed (next s x.event) history) (AreClosed (next s x.event) (history ++ more)) others
+    (λ first closed'. closed_joined (next s x.event) history more first others closed' closes) ended closed
 
--- each ended connection shows what one shows, where one more does
-ended_more : (ended : List SeenEnded) (x : SeenEnded) → AreEnded ended → IsEnded x → AreEnded (ended ++ x ∷ [])
-ended_more [] x are is = (is, tt)
-ended_more (y ∷ ended) x are is = (are.0, ended_more ended x are.1 is)
+-- each ended connection shows what one shows, where those of both lists do
+pub ended_joined : (ended others : List SeenEnded) → AreEnded ended → AreEnded others → AreEnded (ended ++ others)
+ended_joined [] others are more = more
+ended_joined (x ∷ ended) others are more = (are.0, ended_joined ended others are.1 more)
+
+-- ## How many there are
+
+-- an event that closes a connection counts one
+closes_count : (s : State) (e : Event) (Others : List SeenEnded → Type 0) (ended : List SeenEnded) (n : ℕ) → ClosesFirst s e Others ended
+    → ((more : List SeenEnded) → Others more → length more ≡ n) → length ended ≡ cond (is_close e) 1 0 + n
+closes_count s (event.Close name why how) Others [] n closes rest = absurd closes
+closes_count s (event.Close name why how) Others (e ∷ ended) n closes rest = omega (arith, rest ended closes.1)
+closes_count s (event.Accept slot) Others ended n closes rest = omega (arith, rest ended closes)
+closes_count s (event.Park name kind) Others ended n closes rest = omega (arith, rest ended closes)
+closes_count s (event.Hold name) Others ended n closes rest = omega (arith, rest ended closes)
+closes_count s (event.Queue name) Others ended n closes rest = omega (arith, rest ended closes)
+closes_count s (event.Start name) Others ended n closes rest = omega (arith, rest ended closes)
+closes_count s (event.Answer name ask) Others ended n closes rest = omega (arith, rest ended closes)
+closes_count s (event.Linger name cause) Others ended n closes rest = omega (arith, rest ended closes)
+closes_count s (event.Ready slot) Others ended n closes rest = omega (arith, rest ended closes)
+closes_count s (event.Tick m) Others ended n closes rest = omega (arith, rest ended closes)
+closes_count s (event.StartChild k) Others ended n closes rest = omega (arith, rest ended closes)
+closes_count s (event.Command c) Others ended n closes rest = omega (arith, rest ended closes)
+closes_count s (event.Retire k) Others ended n closes rest = omega (arith, rest ended closes)
+
+-- as many connections ended as were closed
+pub closed_count : (s : State) (history : List Entry) (ended : List SeenEnded) → AreClosed s history ended
+    → length ended ≡ count_events is_close history
+closed_count s [] ended closed = ap length closed
+closed_count s (x ∷ history) ended closed =
+    closes_count s x.event (AreClosed (next s x.event) history) ended (count_events is_close history) closed
+    (λ more closes. closed_count (next s x.event) history more closes)
+    ∙ sym (sum_by-cons (λ (e : Entry). cond (is_close e.event) 1 0) x history)
 
 -- ## The board
 
@@ -62,7 +92,7 @@ board_on known book slots slots' conns' ended queues queues' room room' who e is
       agrees = record {
         waiting = there.waiting;
         closed = subst (AreClosed book.base (book.history ++ entry_of who e book ∷ [])) (append-nil ended)
-            (closed_more book.base book.history (entry_of who e book) ended [] is.agrees.closed (closes (after book.base book.history)));
+            (closed_joined book.base book.history (entry_of who e book ∷ []) ended [] is.agrees.closed (closes (after book.base book.history)));
         answered = is.agrees.answered;
       };
       outside = record { conns = clients; ended = is.outside.ended };
@@ -85,11 +115,11 @@ board_closed known book slots slots' ended x queues room room' who is state_is c
     (record {
       agrees = record {
         waiting = there.waiting;
-        closed = closed_more book.base book.history (entry_of who e book) ended (x ∷ []) is.agrees.closed
+        closed = closed_joined book.base book.history (entry_of who e book ∷ []) ended (x ∷ []) is.agrees.closed
             (subst (λ (s : State). IsClosing s x.name x.cause x.tail x) (sym state_is) closing, refl);
-        answered = ended_more ended x is.agrees.answered shown;
+        answered = ended_joined ended (x ∷ []) is.agrees.answered (shown, tt);
       };
-      outside = record { conns = is.outside.conns; ended = ended_clients known ended x is.outside.ended client };
+      outside = record { conns = is.outside.conns; ended = ended_clients known ended (x ∷ []) is.outside.ended (client, tt) };
       used = used;
       queued = there.queued;
       has_room = omega (arith, len, there.has_room);
@@ -133,6 +163,17 @@ board_forgotten known b slots queues room is = record {
   used = is.used;
   queued = is.queued;
   has_room = is.has_room;
+}
+
+-- a board is one too after a fold, which keeps the connections, and of those that ended none
+pub board_folded : (known : Option KnownOutside) (b : SeenBoard) (slots : List (Slot (Option SeenConn))) (queues : List (Option ParkedName)) (room room' : ℕ)
+    → room ≤ room' → IsBoard known b slots queues room → IsBoard known (folded_board b) slots queues room'
+board_folded known b slots queues room room' more is = record {
+  agrees = record { waiting = is.agrees.waiting; closed = refl; answered = tt };
+  outside = record { conns = is.outside.conns; ended = tt };
+  used = is.used;
+  queued = is.queued;
+  has_room = omega (arith, more, is.has_room);
 }
 
 -- more room was taken for those that end

@@ -1,3 +1,4 @@
+pub mod AheadLemmas
 pub mod AnsweredLemmas
 pub mod BoardLemmas
 pub mod BookLemmas
@@ -6,6 +7,7 @@ pub mod ClosedLemmas
 pub mod EventLemmas
 pub mod FiledLemmas
 pub mod FindLemmas
+pub mod FoldedLemmas
 pub mod HandLemmas
 pub mod PassLemmas
 pub mod QueueLemmas

@@ -22,6 +22,10 @@ pub adds_recorded : (who : ℕ) (e : Event) (b b' : SeenBook) → b' ≡ book_wi
     → AddsOnly who b (book_with_entry who e b) → AddsOnly who b b'
 adds_recorded who e b b' is one = subst (λ (v : SeenBook). AddsOnly who b v) (sym is) one
 
+-- where the book is as before, nothing was
+pub adds_nothing : (who : ℕ) (b b' : SeenBook) → b' ≡ b → AddsOnly who b b → AddsOnly who b b'
+adds_nothing who b b' is none = subst (λ (v : SeenBook). AddsOnly who b v) (sym is) none
+
 -- ## The connection of a pass
 
 -- it is what the event and its reply leave it

@@ -1,5 +1,5 @@
 -- What is seen of a board, and how its connections agree with its rows and its history.
-use Rattle.std.specs.Prelude.{◌≡◌, ℕ, Bool, true, false, List, [], ◌∷◌, length, Option, None, Some, slice_get, slice_index_or, ⊤}
+use Rattle.std.specs.Prelude.{◌≡◌, ℕ, Bool, true, false, List, [], ◌∷◌, length, map, Option, None, Some, slice_get, slice_index_or, ⊤}
 use Rattle.conn_machine.specs.declared.row.Place.{Place}
 use Rattle.conn_machine.specs.declared.row.Place.TheVariants.{Vacant, Spent, Held, Parked, Queued, Working}
 use Rattle.conn_machine.specs.declared.row.Row.{Row}
@@ -11,7 +11,8 @@ use Rattle.conn_machine.specs.Table.{next}
 use Rattle.conn_state.specs.Conn.{SeenConn}
 use Rattle.conn_state.specs.Answered.{SeenEnded, IsEnded}
 use Rattle.conn_state.specs.Known.{KnownOutside, IsOfOutside}
-use Rattle.board.specs.Book.{SeenBook}
+use Rattle.board.specs.Book.{SeenBook, folded_book}
+use Rattle.board.specs.ReportLine.{line_of}
 use Rattle.board.specs.Fits.{Fits, IsSettled, IsClosing}
 
 -- a board: its history and state, the connections that it has by their slots, and those that ended
@@ -85,6 +86,12 @@ pub record Agrees (b : SeenBoard) : Type 0 where
   pub waiting : AreHome b.book.state.rows b.conns
   pub closed : AreClosed b.book.base b.book.history b.ended
   pub answered : AreEnded b.ended
+
+-- ## Folds
+
+-- the board that a fold leaves: nothing of the history and of the connections that ended is kept but by the record; all else stays
+abbrev pub folded_board : SeenBoard → SeenBoard
+folded_board b = record b { book = folded_book (map line_of b.ended) b.book; ended = [] }
 
 -- ## The outside
 

@@ -7,7 +7,8 @@ use Rattle.conn_machine.specs.declared.event.Entry.{Entry}
 use Rattle.conn_machine.specs.declared.folded.Folded.{Folded}
 use Rattle.conn_machine.specs.declared.state.State.{State}
 use Rattle.conn_machine.specs.Table.{next, reply}
-use Rattle.conn_machine.specs.Runs.{Adds, entries_of, row_from}
+use Rattle.conn_machine.specs.Runs.{Adds, after, entries_of, row_from}
+use Rattle.conn_machine.specs.Folds.{fold_of}
 
 -- a history, the state before it, what is known of the entries before that state, the state after it, and how many passes may add to
 -- it
@@ -47,3 +48,9 @@ pub record HasEntryOf (e : Event) (history : List Entry) : Type 0 where
   pub behind : List Entry
   pub history_is : history ≡ before ++ entry ∷ behind
   pub event_is : entry.event ≡ e
+
+-- the book that a fold leaves, where these are the lines of the connections that ended: the history is empty, and the state before it is
+-- the present one; the record counts what the history did
+abbrev pub folded_book : List (List ℕ) → SeenBook → SeenBook
+folded_book ended b =
+    record b { base = after b.base b.history; folded = fold_of b.base b.history ended b.folded; history = [] }

@@ -1,35 +1,46 @@
 -- What helps to prove, and no public contract reaches, of: What a board keeps of its history.
-use Rattle.std.specs.Prelude.{◌≡◌, ℕ, ◌+◌, ◌<◌, ◌≤◌, List, length, count_by, slice_index}
+use Rattle.std.specs.Prelude.{◌≡◌, ℕ, ◌+◌, ◌<◌, ◌≤◌, ◌^◌, List, [], ◌∷◌, length, Option, None, Some}
 use Rattle.conn_machine.specs.declared.event.Entry.{Entry}
 use Rattle.conn_machine.specs.declared.folded.Folded.{Folded}
 use Rattle.conn_machine.specs.declared.state.State.{State}
-use Rattle.conn_machine.specs.Runs.{after, entries_of, asks_page, first_row, IsHistory}
-use Rattle.conn_machine.specs.Made.{AreMade}
+use Rattle.conn_machine.specs.Events.{count_events, is_order}
+use Rattle.conn_machine.specs.Folds.{CountsWithin, HasPlacesFor, first_edition}
+use Rattle.conn_machine.specs.Runs.{after, first_row, IsHistory}
+use Rattle.conn_machine.specs.Made.{AreMade, AreOfPasses}
 use Rattle.conn_machine.specs.Passes.{EachHasItsOwn}
 use Rattle.conn_machine.specs.Sizes.{IsSized}
 use Rattle.conn_machine.specs.Sound.{IsSound}
+use Rattle.board.specs.declared.ahead.Ahead.{Ahead}
+use Rattle.board.specs.AheadInside.{IsAhead}
 use Rattle.board.specs.RoomInside.{owed_entries}
 
--- the numbers that the entries of the passes have next, behind what was folded and the history
-abbrev pub AreNext : Folded → List ℕ → List Entry → Type 0
-AreNext f ordinals history =
-    (p : ℕ) → p < length ordinals → slice_index ordinals p ≡ slice_index f.ordinals p + length (entries_of p history)
+-- the lines of a record where it takes on further ones, or none
+abbrev pub lines_then : Option (List ℕ) → List ℕ → List ℕ
+lines_then None lines = lines
+lines_then (Some more) lines = more
 
--- how many responses of the history keep a page
-abbrev pub pages_of : List Entry → ℕ
-pages_of history = count_by (λ e. asks_page e.event) history
+-- the record is one that folds made for so many passes: it has a place for each, counts within its entries, and its only generation is
+-- the first
+pub record IsFoldedFor (passes : ℕ) (f : Folded) : Type 0 where
+  pub places : HasPlacesFor passes f
+  pub within : CountsWithin f
+  pub editions : f.editions ≡ first_edition ∷ []
 
 -- the history is one of the machine, from its base to its state, behind what was folded, and the states are sound; each entry is
--- one that its pass may make, and before it each pass had a connection of its own, or none; each pass's next number and the number
--- of pages are known; and there is room for what must follow
-pub record IsKept (base : State) (f : Folded) (history : List Entry) (state : State) (ordinals : List ℕ) (pages room : ℕ) : Type 0 where
+-- one that its pass may make, of so many, and before it each pass had a connection of its own, or none; the record that a fold would make
+-- is known but for its lines; no generation was ordered; and there is room for what must follow, which can be counted
+pub record IsKept (passes : ℕ) (base : State) (f : Folded) (history : List Entry) (state : State) (ahead : Ahead) (room : ℕ) : Type 0 where
+  pub folded : IsFoldedFor passes f
   pub is_history : IsHistory base f history
   pub made : AreMade base f history
+  pub few : AreOfPasses passes history
   pub own : EachHasItsOwn base (first_row f)
   pub state_is : after base history ≡ state
   pub opened : IsSound base
   pub sound : IsSound state
-  pub numbers : AreNext f ordinals history
-  pub pages_is : pages ≡ pages_of history
+  pub ahead_is : IsAhead f history ahead
+  pub first : base.newest ≡ 0
+  pub unordered : count_events is_order history ≡ 0
   pub sized : IsSized state
   pub has_room : length history + owed_entries state ≤ room
+  pub countable : f.entries + length history + owed_entries state < 2 ^ 63

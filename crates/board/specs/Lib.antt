@@ -1,3 +1,4 @@
+pub mod AheadInside
 pub mod Board
 pub mod BoardInside
 pub mod BoardParts

@@ -1,11 +1,11 @@
 //! The board's events.
-ghost use Rattle.std.specs.Prelude.{◌≡◌, ◌<◌, ◌≤◌, true, false, Some, None, [], ◌∷◌, ◌++◌, length, slice_set, IfOk, IfErr, OnOk, OnErr};
+ghost use Rattle.std.specs.Prelude.{◌≡◌, ◌+◌, ◌<◌, ◌≤◌, ◌^◌, true, false, Some, None, [], ◌∷◌, ◌++◌, length, slice_set, IfOk, IfErr, OnOk, OnErr};
 ghost use Rattle.mpm_base.specs.Shape.{is_in_bounds};
 ghost use Rattle.conn_machine.specs.States.{is_halted, opening_state};
 ghost use Rattle.conn_machine.specs.Table.{is_allowed, cell_at, reply, taken_reply};
 ghost use Rattle.conn_machine.specs.Runs.{IsInPassOrderFrom, Run, after, first_row};
-ghost use Rattle.conn_machine.specs.Folds.{opening_record};
-ghost use Rattle.conn_machine.specs.Made.{AreMade};
+ghost use Rattle.conn_machine.specs.Folds.{CountsWithin, HasPlacesFor, may_fold, opening_record};
+ghost use Rattle.conn_machine.specs.Made.{AreMade, AreOfPasses};
 ghost use Rattle.conn_machine.specs.Passes.{EachHasItsOwn};
 ghost use Rattle.conn_machine.specs.Sizes.{IsSized};
 ghost use Rattle.conn_machine.specs.Sound.{IsSound};
@@ -19,7 +19,7 @@ ghost use Rattle.conn_state.specs.Answered.{IsEnded, MayLinger};
 ghost use Rattle.conn_state.specs.Conn.{SeenConn};
 ghost use Rattle.conn_state.specs.Known.{IsOfOutside};
 ghost use Rattle.board.specs.Book.{AddsOnly, book_with_entry, row_in};
-ghost use Rattle.board.specs.Board.{Agrees, AreOfOutside, conn_at};
+ghost use Rattle.board.specs.Board.{Agrees, AreOfOutside, conn_at, folded_board};
 ghost use Rattle.board.specs.Events.{IsAdded, IsDecided, IsTaken, with_recorded};
 ghost use Rattle.board.specs.EventsInside.{decided_note};
 ghost use Rattle.board.specs.Faults.{IsNotTakenFor, IsRefusedFor};
@@ -31,8 +31,9 @@ use crate::book::Book;
 use crate::conns::{put_back, take_out};
 use crate::faults::{AcceptFault, BoardFault};
 use crate::laws::one_row_changes;
+use crate::report_line::further_lines;
 use crate::waits::wait_in_queue;
-use conn_machine::{Commanded, Entry, Event, Kept, Reply, State, Why};
+use conn_machine::{Commanded, Entry, Event, Folded, Kept, Reply, State, Why};
 use conn_slots::Slots;
 use conn_state::{Conn, Ended, Known, Nothing};
 use mpm_base::{Ask, Cause, ConnName, Kind, Link, Moment, NoMemory, Note, Shape};
@@ -64,6 +65,7 @@ pub struct Board<L: Link, N: Known> {
 /// What a board consists of.
 #[derive(Drop)]
 pub(crate) struct Parts<L: Link> {
+    alloc: Global,
     pub(crate) book: Book,
     // The slot of each live row is taken; its item is None while the connection is in hand.
     conns: Slots<Option<Conn<L, Nothing>>>,
@@ -97,8 +99,9 @@ impl<L: Link, N: Known> Kept for Board<L, N> {
     ghost ledger = { ledger_of };
 
     fn length(&self) -> u64 {
-        self.parts.book.show();
-        self.parts.book.history().len() as u64
+        let book = &self.parts.book;
+        book.show();
+        book.folded().entries + book.history().len() as u64
     }
 }
 
@@ -125,6 +128,7 @@ impl<L: Link, N: Known> Board<L, N> {
     {
         let book = Book::open(alloc, slots, children, passes, shape)?;
         let parts = Parts {
+            alloc,
             book,
             conns: Slots::make(alloc, slots)?,
             ended: Vec::new(alloc),
@@ -158,6 +162,13 @@ impl<L: Link, N: Known> Board<L, N> {
         self.parts.book.history()
     }
 
+    /// What is known of the entries that were folded.
+    pub fn folded(&self) -> &Folded
+        ensures { result.now ≡ self.now.book.folded }
+    {
+        self.parts.book.folded()
+    }
+
     /// The state after the history.
     pub fn state(&self) -> &State
         ensures { result.now ≡ self.now.book.state }
@@ -173,15 +184,18 @@ impl<L: Link, N: Known> Board<L, N> {
     }
 
     /// What holds of every board: its history is one of the machine, from its base to its state, which are sound, in the order of
-    /// its passes behind what was folded; each entry is one that its pass may make where it stands, and before the first of them each
-    /// pass had a connection of its own, or none, and each one that somebody had was some pass's; and the connections agree with the
-    /// history.
-    /// Where `N` knows the outside, the connections are of it. Nothing is folded yet.
+    /// its passes behind what was folded; each entry is one that its pass, one of so many, may make where it stands, and before the first
+    /// of them each pass had a connection of its own, or none, and each one that somebody had was some pass's; the record of what was
+    /// folded has a place for each pass, counts within its entries, and can count those of the history too; and the connections agree with
+    /// the history. Where `N` knows the outside, the connections are of it.
     pub fn show(&self)
-        ensures unfolded { self.now.book.folded ≡ opening_record self.now.book.passes }
+        ensures places { HasPlacesFor self.now.book.passes self.now.book.folded }
+        ensures within { CountsWithin self.now.book.folded }
+        ensures countable { self.now.book.folded.entries + length self.now.book.history < 2 ^ 63 }
         ensures run { Run self.now.book.base self.now.book.history }
         ensures order { IsInPassOrderFrom self.now.book.folded self.now.book.history }
         ensures made { AreMade self.now.book.base self.now.book.folded self.now.book.history }
+        ensures few { AreOfPasses self.now.book.passes self.now.book.history }
         ensures own { EachHasItsOwn self.now.book.base (first_row self.now.book.folded) }
         ensures state { after self.now.book.base self.now.book.history ≡ self.now.book.state }
         ensures opened { IsSound self.now.book.base }
@@ -191,6 +205,35 @@ impl<L: Link, N: Known> Board<L, N> {
         ensures outside { AreOfOutside N.known self.now }
     {
         self.parts.book.show();
+    }
+
+    /// Whether the history may be folded: it weighs 65,536 or more, and fewer than 2 to the 62nd entries were folded before. An entry weighs
+    /// 1, and one that keeps a page 64 more.
+    pub fn can_fold(&self) -> bool
+        ensures { result ≡ may_fold self.now.book.folded self.now.book.history }
+    {
+        self.parts.book.can_fold()
+    }
+
+    /// Folds the history: its entries and the connections that ended go, and the record counts them; the lines of the first 64
+    /// connections that ended are kept. Nothing else changes, and all room that was taken stays. Takes memory for those lines
+    /// alone, and none where 64 are there.
+    pub fn fold(&mut self) -> Result<(), NoMemory>
+        requires { may_fold self.old.book.folded self.old.book.history ≡ true }
+        ensures ok { OnOk result (self.new ≡ folded_board self.old) }
+        ensures err { OnErr result (self.new ≡ self.old) }
+    {
+        let parts = &mut *self.parts;
+        let folded = parts.book.folded();
+        let lines = further_lines(
+            parts.alloc,
+            &folded.lines,
+            folded.closed,
+            parts.ended.as_slice(),
+        )?;
+        parts.book.fold(lines);
+        parts.ended.clear();
+        Ok(())
     }
 
     /// Takes a connection for the child that the rule of admission names, into a vacant slot. Takes the room that closing it

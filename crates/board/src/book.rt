@@ -1,57 +1,66 @@
 //! The history that a board keeps, and the state after it.
-ghost use Rattle.std.specs.Prelude.{◌≡◌, ◌<◌, ◌≤◌, ◌^◌, true, false, [], ◌∷◌, ◌++◌, length, vec_len, vec_capacity, if◌then◌else◌, IfOk, IfErr, OnOk, OnErr};
+ghost use Rattle.std.specs.Prelude.{◌≡◌, ◌+◌, ◌<◌, ◌≤◌, ◌^◌, ℕ, List, true, false, [], ◌∷◌, ◌++◌, length, vec_len, vec_capacity, IfOk, IfErr, OnOk, OnErr};
 ghost use Rattle.mpm_base.specs.Shape.{is_in_bounds};
+ghost use Rattle.conn_machine.specs.Events.{is_order};
 ghost use Rattle.conn_machine.specs.States.{is_halted, opening_state};
 ghost use Rattle.conn_machine.specs.Table.{is_allowed, reply};
-ghost use Rattle.conn_machine.specs.Runs.{IsInPassOrderFrom, Run, after, asks_page, first_row, has_after, may_make};
-ghost use Rattle.conn_machine.specs.Folds.{opening_record};
-ghost use Rattle.conn_machine.specs.Made.{AreMade};
+ghost use Rattle.conn_machine.specs.Runs.{IsInPassOrderFrom, Run, after, first_row, has_after, may_make};
+ghost use Rattle.conn_machine.specs.Folds.{CountsWithin, HasPlacesFor, lines_after, may_fold, opening_record};
+ghost use Rattle.conn_machine.specs.Made.{AreMade, AreOfPasses};
 ghost use Rattle.conn_machine.specs.Passes.{EachHasItsOwn};
 ghost use Rattle.conn_machine.specs.Sizes.{IsSized};
 ghost use Rattle.conn_machine.specs.Sound.{IsSound};
-ghost use Rattle.board.specs.Book.{AddsOnly, book_with_entry, numbered_entry, row_in};
-ghost use Rattle.board.specs.BookInside.{AreNext};
+ghost use Rattle.board.specs.AheadInside.{IsAhead};
+ghost use Rattle.board.specs.BookInside.{lines_then};
+ghost use Rattle.board.specs.Book.{AddsOnly, book_with_entry, folded_book, numbered_entry, row_in};
 ghost use Rattle.board.specs.Faults.{IsRefusedFor};
 ghost use Rattle.board.specs.FaultsInside.{IsRecorded};
 ghost use Rattle.board.specs.RoomInside as spec;
 ghost use Rattle.board.specs.RoomInside.{is_sure};
 
+use crate::ahead::Ahead;
 use crate::faults::BoardFault;
 use crate::filed::{FiledState, step};
 use crate::laws::one_row_changes;
 use conn_machine::laws::{each_pass_has_its_own_connection, events_keep_states_sound};
 use conn_machine::laws_of_runs::{
-    histories_go_on_by_one_entry, passes_add_entries, records_open_with_nothing,
+    folds_are_one_fold, histories_go_on_by_one_entry, passes_add_entries, records_go_on_by_folds,
+    records_open_with_nothing,
 };
-use conn_machine::{Entry, Event, Reply, State};
-use mpm_base::{NoMemory, Shape};
+use conn_machine::{Entry, Event, Folded, Reply, State};
+use mpm_base::{NoMemory, Octets, Shape};
 use std::alloc::Global;
 use std::marker::Model;
 use std::snapshot::Snapshot;
 
-/// A history of the machine, the state before it, which only contracts see, and the state after it.
+/// Fewer entries than these may have been folded before a fold: 2 to the 62nd.
+const MOST_FOLDED: u64 = 4_611_686_018_427_387_904;
+
+/// So many entries at most are counted, folded and kept ones together: 2 to the 63rd, less 1.
+const MOST_ENTRIES: u64 = 9_223_372_036_854_775_807;
+
+/// A history of the machine, the state before it, which only contracts see, and the state after it; and what is known of the entries before
+/// that.
 #[derive(Drop)]
 pub struct Book {
     alloc: Global,
     base: Snapshot<State>,
+    folded: Folded,
     history: Vec<Entry>,
     state: FiledState,
-    ordinals: Vec<u64>,
-    pages: u64,
+    ahead: Ahead,
 }
 
 impl Model for Book {
     ghost use Rattle.std.specs.Prelude.{length, vec_capacity};
-    ghost use Rattle.conn_machine.specs.Folds.{opening_record};
     ghost use Rattle.board.specs.Book.{SeenBook};
     ghost use Rattle.board.specs.BookInside.{IsKept};
 
     ghost Value = { SeenBook };
 
-    // Nothing is folded yet.
-    ghost view = { λ b. record { base = b.base.value; folded = opening_record (length b.ordinals.items); history = b.history.items; state = b.state; passes = length b.ordinals.items } };
+    ghost view = { λ b. record { base = b.base.value; folded = b.folded; history = b.history.items; state = b.state; passes = length b.folded.ordinals } };
 
-    ghost invariant = { λ b. IsKept b.base.value (opening_record (length b.ordinals.items)) b.history.items b.state b.ordinals.items b.pages (vec_capacity b.history) };
+    ghost invariant = { λ b. IsKept (length b.folded.ordinals) b.base.value b.folded b.history.items b.state b.ahead (vec_capacity b.history) };
 }
 
 impl Book {
@@ -74,20 +83,21 @@ impl Book {
     {
         events_keep_states_sound();
         each_pass_has_its_own_connection();
+        folds_are_one_fold();
+        records_open_with_nothing();
         let state = FiledState::opening(alloc, slots, children, shape)?;
-        let Ok(ordinals) = vec![in alloc; 0u64; passes as usize] else {
-            return Err(NoMemory);
-        };
+        let folded = Folded::opening(alloc, passes)?;
+        let ahead = Ahead::first(alloc, passes)?;
         let Ok(history) = Vec::with_capacity(alloc, 1) else {
             return Err(NoMemory);
         };
         Ok(Book {
             alloc,
             base: Snapshot::of(state.state()),
+            folded,
             history,
             state,
-            ordinals,
-            pages: 0,
+            ahead,
         })
     }
 
@@ -112,14 +122,24 @@ impl Book {
         self.history.as_slice()
     }
 
-    /// The history is one of the machine, from its base to its state, in the order of its passes behind what was folded, which is
-    /// nothing yet; each entry is one that its pass may make, and before the first of them each pass had a connection of its own, or
-    /// none.
+    /// What is known of the entries that were folded.
+    pub fn folded(&self) -> &Folded
+        ensures { result.now ≡ self.now.folded }
+    {
+        &self.folded
+    }
+
+    /// The history is one of the machine, from its base to its state, in the order of its passes behind what was folded; each entry is
+    /// one that its pass, one of so many, may make, and before the first of them each pass had a connection of its own, or none. The
+    /// record of what was folded has a place for each pass, counts within its entries, and can count those of the history too.
     pub fn show(&self)
-        ensures unfolded { self.now.folded ≡ opening_record self.now.passes }
+        ensures places { HasPlacesFor self.now.passes self.now.folded }
+        ensures within { CountsWithin self.now.folded }
+        ensures countable { self.now.folded.entries + length self.now.history < 2 ^ 63 }
         ensures run { Run self.now.base self.now.history }
         ensures order { IsInPassOrderFrom self.now.folded self.now.history }
         ensures made { AreMade self.now.base self.now.folded self.now.history }
+        ensures few { AreOfPasses self.now.passes self.now.history }
         ensures own { EachHasItsOwn self.now.base (first_row self.now.folded) }
         ensures state { after self.now.base self.now.history ≡ self.now.state }
         ensures opened { IsSound self.now.base }
@@ -129,10 +149,34 @@ impl Book {
         let _ = &self.history;
     }
 
+    /// Whether the history may be folded.
+    pub fn can_fold(&self) -> bool
+        ensures { result ≡ may_fold self.now.folded self.now.history }
+    {
+        self.folded.entries < MOST_FOLDED
+            && self.ahead.is_heavy(&self.folded, self.history.as_slice())
+    }
+
+    /// Folds the history, where the record takes on these lines, or none. Wants no memory, and keeps the room that was taken.
+    pub fn fold(&mut self, lines: Option<Octets>)
+        requires { may_fold self.old.folded self.old.history ≡ true }
+        ensures { (ended : List (List ℕ)) → lines_then lines self.old.folded.lines ≡ lines_after ended self.old.folded.closed self.old.folded.lines → self.new ≡ folded_book ended self.old }
+    {
+        each_pass_has_its_own_connection();
+        records_go_on_by_folds();
+        folds_are_one_fold();
+        self.ahead
+            .fold_into(&mut self.folded, self.history.as_slice());
+        take_on(&mut self.folded.lines, lines);
+        self.base = Snapshot::of(self.state.state());
+        self.history.clear();
+    }
+
     /// Records an event that the pass may make, and takes the room for what must follow it. Where it is refused nothing
     /// changes.
     pub fn record(&mut self, who: u32, event: Event) -> Result<Reply, BoardFault>
         requires who { who < self.old.passes }
+        requires unordered { is_order event ≡ false }
         requires allowed { is_halted self.old.state.going ≡ false → is_allowed self.old.state event ≡ true }
         requires role { may_make who (row_in who self.old) event ≡ true }
         ensures ok { OnOk result (IsRecorded who event self.old self.new) }
@@ -149,15 +193,21 @@ impl Book {
             return Err(BoardFault::Halted);
         }
         let room = room_with_event(self.state());
-        if self.history.reserve(room).is_err() {
+        let most = (MOST_ENTRIES - self.folded.entries) as usize;
+        if self.history.len().saturating_add(room) > most || self.history.reserve(room).is_err() {
             return Err(BoardFault::NoMemory);
         }
         let Ok(reply) = step(self.alloc, &mut self.state, &event) else {
             return Err(BoardFault::NoMemory);
         };
-        let pages = pages_in(&event);
-        append(&mut self.history, &mut self.ordinals, who, event, reply);
-        self.pages += pages;
+        append(
+            &self.folded,
+            &mut self.history,
+            &mut self.ahead,
+            who,
+            event,
+            reply,
+        );
         Ok(reply)
     }
 
@@ -177,31 +227,53 @@ impl Book {
         let Ok(reply) = step(self.alloc, &mut self.state, &event) else {
             unreachable!()
         };
-        append(&mut self.history, &mut self.ordinals, who, event, reply);
+        append(
+            &self.folded,
+            &mut self.history,
+            &mut self.ahead,
+            who,
+            event,
+            reply,
+        );
         reply
     }
 }
 
-/// Puts the pass's entry at the end, with its next number. Nothing is folded yet.
-fn append(history: &mut Vec<Entry>, ordinals: &mut Vec<u64>, who: u32, event: Event, reply: Reply)
+/// Takes these lines in place of those that there are, where there are such.
+fn take_on(lines: &mut Octets, more: Option<Octets>)
+    ensures { lines.new ≡ lines_then more lines.old }
+{
+    if let Some(more) = more {
+        *lines = more;
+    }
+}
+
+/// Puts the pass's entry at the end, with its next number, and counts it.
+fn append(
+    folded: &Folded,
+    history: &mut Vec<Entry>,
+    ahead: &mut Ahead,
+    who: u32,
+    event: Event,
+    reply: Reply,
+)
     requires room { vec_len history.old < vec_capacity history.old }
-    requires who { who < length ordinals.old.items }
-    requires numbers { AreNext (opening_record (length ordinals.old.items)) ordinals.old.items history.old.items }
-    ensures history { history.new.items ≡ history.old.items ++ numbered_entry who event reply (opening_record (length ordinals.old.items)) history.old.items ∷ [] }
-    ensures numbers { AreNext (opening_record (length ordinals.old.items)) ordinals.new.items history.new.items }
-    ensures passes { length ordinals.new.items ≡ length ordinals.old.items }
+    requires who { who < length folded.now.ordinals }
+    requires places { HasPlacesFor (length folded.now.ordinals) folded.now }
+    requires within { CountsWithin folded.now }
+    requires countable { folded.now.entries + length history.old.items < 2 ^ 63 }
+    requires ahead { IsAhead folded.now history.old.items ahead.old }
+    ensures history { history.new.items ≡ history.old.items ++ numbered_entry who event reply folded.now history.old.items ∷ [] }
+    ensures ahead { IsAhead folded.now history.new.items ahead.new }
     ensures room { vec_capacity history.old ≤ vec_capacity history.new }
 {
-    histories_go_on_by_one_entry();
-    records_open_with_nothing();
-    let ordinal = ordinals[who as usize];
-    ordinals[who as usize] = ordinal + 1;
     let entry = Entry {
         pass: who,
-        ordinal,
+        ordinal: ahead.next_number(folded, history.as_slice(), who),
         event,
         reply,
     };
+    ahead.add(folded, history.as_slice(), &entry);
     match history.push(entry) {
         Ok(()) => (),
         Err(_) => unreachable!(),
@@ -216,14 +288,4 @@ fn room_with_event(state: &State) -> usize
 {
     let live = state.rows.live_count();
     4 * (live + 1) + state.children.len() + 2
-}
-
-/// How many pages the event's entry keeps: 1 for a response that is the status page, else 0.
-fn pages_in(event: &Event) -> u64
-    ensures { result ≡ (if asks_page event.now then 1 else 0) }
-{
-    match event {
-        Event::Answer(_, ask) if ask.page => 1,
-        _ => 0,
-    }
 }

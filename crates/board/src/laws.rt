@@ -1,6 +1,6 @@
 //! Laws of a board's connections, and what its proofs take of the machine's law of rows. Each is the contract of a function that
 //! does nothing.
-ghost use Rattle.std.specs.Prelude.{◌≡◌, ◌<◌, ◌≤◌, ℕ, false, List, count_by};
+ghost use Rattle.std.specs.Prelude.{◌≡◌, ◌<◌, ◌≤◌, ℕ, false, List, ◌++◌, length, count_by, Option};
 ghost use Rattle.std.specs.List.{list_any};
 ghost use Rattle.mpm_base.specs.Count.{greatest_count};
 ghost use Rattle.mpm_base.specs.declared.conn.Ask.{Ask};
@@ -10,14 +10,16 @@ ghost use Rattle.conn_machine.specs.declared.event.Entry.{Entry};
 ghost use Rattle.conn_machine.specs.declared.event.Event.TheVariants as event;
 ghost use Rattle.conn_machine.specs.declared.state.State.{State};
 ghost use Rattle.conn_machine.specs.Arrivals.{closed_arrivals};
+ghost use Rattle.conn_machine.specs.Events.{count_events, is_close};
 ghost use Rattle.conn_machine.specs.Rows.{is_live};
 ghost use Rattle.conn_machine.specs.States.{opening_state};
 ghost use Rattle.conn_machine.specs.Runs.{Run, after};
 ghost use Rattle.conn_machine.specs.Table.{next};
 ghost use Rattle.conn_state.specs.Answered.{SeenEnded};
 ghost use Rattle.conn_state.specs.Conn.{SeenConn};
+ghost use Rattle.conn_state.specs.Known.{KnownOutside};
 ghost use Rattle.conn_state.specs.Turns.{TakesNote};
-ghost use Rattle.board.specs.Board.{AreClosed};
+ghost use Rattle.board.specs.Board.{AreClosed, AreEnded, EndedOfOutside};
 ghost use Rattle.board.specs.Events.{IsDecided};
 ghost use Rattle.board.specs.Fits.{IsOf};
 ghost use Rattle.board.specs.Ranks.{AllTell, has_rank, ranks_of};
@@ -37,6 +39,16 @@ pub fn ended_links_are_of_closed_connections()
 {
     arrivals_are_taken_once();
 }
+
+/// The connections that ended in one history, and behind them those that ended in the next, are those that ended in both as one history.
+/// Where each connection of two lists shows what an ended connection shows, so does each of both lists together; and where each is of the
+/// outside, so is each of both. As many connections ended as the history closed.
+pub fn ended_connections_join()
+    ensures closed { (base : State) (a b : List Entry) (ended ended' : List SeenEnded) → AreClosed base a ended → AreClosed (after base a) b ended' → AreClosed base (a ++ b) (ended ++ ended') }
+    ensures answered { (ended ended' : List SeenEnded) → AreEnded ended → AreEnded ended' → AreEnded (ended ++ ended') }
+    ensures outside { (known : Option KnownOutside) (ended ended' : List SeenEnded) → EndedOfOutside known ended → EndedOfOutside known ended' → EndedOfOutside known (ended ++ ended') }
+    ensures many { (base : State) (history : List Entry) (ended : List SeenEnded) → AreClosed base history ended → length ended ≡ count_events is_close history }
+{}
 
 /// A connection that took the note of the response that was decided for it still fits its row.
 pub fn answered_connections_fit_their_rows()

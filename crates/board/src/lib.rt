@@ -14,6 +14,7 @@
 #![tactic(auto)]
 
 mod accept;
+mod ahead;
 mod board;
 mod book;
 mod conns;
@@ -21,6 +22,7 @@ mod faults;
 mod filed;
 mod finds;
 pub mod laws;
+pub mod report_line;
 mod waits;
 
 pub use board::{Board, Taken};

@@ -7,14 +7,15 @@ use Rattle.atomic_table.specs.Table.{Me}
 use Rattle.mpm_base.specs.declared.shape.Shape.{Shape}
 use Rattle.conn_machine.specs.declared.event.Entry.{Entry}
 use Rattle.conn_machine.specs.declared.event.Event.TheVariants.{StartChild}
-use Rattle.conn_machine.specs.declared.folded.Folded.{Folded}
+use Rattle.conn_machine.specs.declared.kept.Ledger.{Ledger}
 use Rattle.mpm_base.specs.Shape.{is_in_bounds}
 use Rattle.conn_machine.specs.Folds.{opening_record}
-use Rattle.conn_machine.specs.Runs.{after, AreEntriesOf}
+use Rattle.conn_machine.specs.Runs.{AreEntriesOf}
 use Rattle.conn_machine.specs.States.{opening_state}
+use Rattle.table_rule.specs.declared.view.Left.{Left}
 use Rattle.table_rule.specs.declared.view.Origin.{Origin}
 use Rattle.table_rule.specs.declared.view.View.{View}
-use Rattle.table_rule.specs.Ledgers.{MayGiveBack}
+use Rattle.table_rule.specs.Ledgers.{IsSplit, MayGiveBack}
 use Rattle.table_rule.specs.Tie.{IsNew}
 use Rattle.board_lock.specs.Passes.{HasNoTurn, TookTurn, fresh_view}
 use Rattle.board.specs.declared.faults.BoardFault.{BoardFault}
@@ -54,32 +55,6 @@ has_passes v w b took =
     more : (p n : ℕ) → p < n → 0 < n
     more p n lt = omega arith
 
-empty : (l : List Entry) → 0 ≡ length l → l ≡ []
-empty [] e = refl
-empty (x ∷ l) e = absurd (omega arith)
-
--- nothing of a board is folded, so no entry is left out of its history
-none_left : {K : Type 0} (v w : Me (Option K) View) (b : SeenBoard) (took : TookTurn v w (ledger_of b)) → b.book.folded ≡ opening_record b.book.passes
-    → took.is_found.left.entries ≡ []
-none_left v w b took unfolded = empty took.is_found.left.entries (sym (ap (λ (f : Folded). f.entries) unfolded) ∙ took.is_found.parts.counted)
-
--- so its history is all that the pass has seen
-seen_is : {K : Type 0} (v w : Me (Option K) View) (b : SeenBoard) → TookTurn v w (ledger_of b) → b.book.folded ≡ opening_record b.book.passes
-    → w.0.seen ≡ b.book.history
-seen_is v w b took unfolded = took.is_found.parts.whole_is ∙ ap (λ l. l ++ b.book.history) (none_left v w b took unfolded)
-
--- it begins where the board's history does
-base_is : {K : Type 0} (v w : Me (Option K) View) (b : SeenBoard) → TookTurn v w (ledger_of b) → b.book.folded ≡ opening_record b.book.passes
-    → w.0.origin.state ≡ b.book.base
-base_is v w b took unfolded =
-    ap (λ (u : View). u.origin.state) took.view ∙ sym (took.is_found.parts.base ∙ ap (after v.0.origin.state) (none_left v w b took unfolded))
-
--- its record is the opening one of the passes
-record_is : {K : Type 0} (v w : Me (Option K) View) (b : SeenBoard) → TookTurn v w (ledger_of b) → b.book.folded ≡ opening_record b.book.passes
-    → b.book.folded ≡ opening_record w.0.origin.passes
-record_is v w b took unfolded =
-    unfolded ∙ ap opening_record (took.is_found.parts.passes ∙ sym (ap (λ (u : View). u.origin.passes) took.view))
-
 -- ## What a turn may leave
 
 -- the board as it was found
@@ -96,43 +71,47 @@ may_stay v w b took = (
   },
 )
 
+-- what a pass may add behind a value it may add behind the whole history that the value stands for
+abbrev pub StandsForWhole : Type 0
+StandsForWhole =
+    (origin : Origin) (left : Left) (l : Ledger) (whole added : List Entry) (p : ℕ) → IsSplit origin left l whole → p < origin.passes
+    → AreEntriesOf p l.base l.folded l.history added → AreEntriesOf p origin.state (opening_record origin.passes) whole added
+
 -- an entry of pass 0 is one that it may make behind what it has seen
-own_entry : {K : Type 0} (v w : Me (Option K) View) (b : SeenBoard) (e : Entry) → TookTurn v w (ledger_of b) → b.book.folded ≡ opening_record b.book.passes
+own_entry : {K : Type 0} (v w : Me (Option K) View) (b : SeenBoard) (e : Entry) → StandsForWhole → TookTurn v w (ledger_of b)
     → v.0.who.number ≡ 0 → AddsOnly 0 b.book (record b.book { history = b.book.history ++ e ∷ [] })
     → AreEntriesOf w.0.who.number w.0.origin.state (opening_record w.0.origin.passes) w.0.seen (e ∷ [])
-own_entry v w b e took unfolded number adds =
-    let who : w.0.who.number ≡ 0 = ap (λ (u : View). u.who.number) took.view ∙ number in
+own_entry v w b e stands took number adds =
     let is : adds.0 ≡ e ∷ [] = append_cancel_left b.book.history adds.0 (e ∷ []) (sym adds.1) in
     let own = subst (AreEntriesOf 0 b.book.base b.book.folded b.book.history) is adds.2 in
-    let first = opening_record w.0.origin.passes in
-    subst (λ q. AreEntriesOf q w.0.origin.state first w.0.seen (e ∷ [])) (sym who)
-    (subst (λ s. AreEntriesOf 0 s first w.0.seen (e ∷ [])) (sym (base_is v w b took unfolded))
-    (subst (λ h. AreEntriesOf 0 b.book.base first h (e ∷ [])) (sym (seen_is v w b took unfolded))
-    (subst (λ (f : Folded). AreEntriesOf 0 b.book.base f b.book.history (e ∷ [])) (record_is v w b took unfolded) own)))
+    let f = took.is_found in
+    let whole = stands v.0.origin f.left (ledger_of b) w.0.seen (e ∷ []) 0 f.parts (subst (λ n. n < v.0.origin.passes) number f.number) own in
+    subst (λ (u : View). AreEntriesOf u.who.number u.origin.state (opening_record u.origin.passes) w.0.seen (e ∷ [])) (sym took.view)
+    (subst (λ p. AreEntriesOf p v.0.origin.state (opening_record v.0.origin.passes) w.0.seen (e ∷ [])) (sym number) whole)
 
 -- the board with the entry that starts the child
-may_start : {K : Type 0} (v w : Me (Option K) View) (b : SeenBoard) (k : ℕ) → TookTurn v w (ledger_of b) → b.book.folded ≡ opening_record b.book.passes
+may_start : {K : Type 0} (v w : Me (Option K) View) (b : SeenBoard) (k : ℕ) → StandsForWhole → TookTurn v w (ledger_of b)
     → v.0.who.number ≡ 0 → AddsOnly 0 b.book (with_recorded 0 (StartChild k) b).book → MayGiveBack w.0 (ledger_of (with_recorded 0 (StartChild k) b))
-may_start v w b k took unfolded number adds = (
+may_start v w b k stands took number adds = (
   ledger_of b,
   ap (λ (u : View). u.turn) took.view,
   record {
     added = entry_of 0 (StartChild k) b.book ∷ [];
     change = inl record { base = refl; record_is = refl; history = refl; texts = ([], sym (append-nil (map line_of b.ended))) };
     passes = refl;
-    entries = own_entry v w b (entry_of 0 (StartChild k) b.book) took unfolded number adds;
+    entries = own_entry v w b (entry_of 0 (StartChild k) b.book) stands took number adds;
     permitted = (tt, tt);
   },
 )
 
 -- the board after the call that starts a child, whatever it answers
-pub may_end : {K T : Type 0} (v w : Me (Option K) View) (old new : SeenBoard) (k : ℕ) (result : Result T BoardFault) → TookTurn v w (ledger_of old)
-    → old.book.folded ≡ opening_record old.book.passes → v.0.who.number ≡ 0 → OnOk result (IsAdded 0 (StartChild k) old new) → OnErr result (new ≡ old)
+pub may_end : {K T : Type 0} (v w : Me (Option K) View) (old new : SeenBoard) (k : ℕ) (result : Result T BoardFault) → StandsForWhole
+    → TookTurn v w (ledger_of old) → v.0.who.number ≡ 0 → OnOk result (IsAdded 0 (StartChild k) old new) → OnErr result (new ≡ old)
     → AddsOnly 0 old.book new.book → MayGiveBack w.0 (ledger_of new)
-may_end v w old new k (Ok x) took unfolded number ok err adds =
+may_end v w old new k (Ok x) stands took number ok err adds =
     subst (λ b. MayGiveBack w.0 (ledger_of b)) (sym ok.new_is)
-    (may_start v w old k took unfolded number (subst (λ b. AddsOnly 0 old.book b.book) ok.new_is adds))
-may_end v w old new k (Err e) took unfolded number ok err adds =
+    (may_start v w old k stands took number (subst (λ b. AddsOnly 0 old.book b.book) ok.new_is adds))
+may_end v w old new k (Err e) stands took number ok err adds =
     subst (λ b. MayGiveBack w.0 (ledger_of b)) (sym err) (may_stay v w old took)
 
 -- ## Lists

@@ -15,6 +15,7 @@ use crate::clients::link_of;
 use crate::seen::{ScriptBoard, Seen};
 use board::Board;
 use board::laws::answered_connections_fit_their_rows;
+use conn_machine::laws_of_runs::records_go_on_by_folds;
 use conn_machine::{Commanded, Event, Why, may};
 use conn_state::laws::lingering_connections_keep_their_cause;
 use conn_state::{Conn, LingerTurn, Nothing, ReadTurn, WriteTurn};
@@ -134,6 +135,26 @@ fn has_cause(board: &ScriptBoard, name: ConnName, cause: Cause) -> bool
     }
 }
 
+/// Folds the history of the board, where boards are folded and that may be. None where memory lacks. The pass keeps its connection,
+/// and the state stays.
+fn fold(seen: &mut Seen, board: &mut ScriptBoard) -> Option<()>
+    ensures passes { board.new.book.passes ≡ board.old.book.passes }
+    ensures row { row_in 0 board.new.book ≡ row_in 0 board.old.book }
+    ensures state { board.new.book.state ≡ board.old.book.state }
+{
+    records_go_on_by_folds();
+    board.show();
+    if !seen.is_folding() || !board.can_fold() {
+        return Some(());
+    }
+    match board.fold() {
+        Ok(()) => (),
+        Err(NoMemory) => return None,
+    }
+    seen.note_fold(board);
+    Some(())
+}
+
 impl Driven {
     /// A board of so many slots.
     pub fn make(alloc: Global, slots: u32) -> Result<Driven, NoMemory> {
@@ -147,8 +168,8 @@ impl Driven {
         &self.board
     }
 
-    /// Makes the calls that begin with the event, where the board allows it. A connection that is taken is one of the client of that
-    /// number.
+    /// Makes the calls that begin with the event, where the board allows it, and folds the board where it may be. A connection that is
+    /// taken is one of the client of that number.
     pub fn make_move(
         self,
         alloc: Global,
@@ -160,7 +181,7 @@ impl Driven {
         if allow(&self.board, event).is_none() {
             return Some(self);
         }
-        match *event {
+        let next = match *event {
             Event::Accept(_) => self.accept(alloc, seen, site, client),
             Event::Hold(name) if self.board.cause(name).is_some() => self.drain(seen, name),
             Event::Hold(name) => self.let_go(seen, name),
@@ -171,7 +192,15 @@ impl Driven {
             Event::Retire(child) => self.retire(seen, child),
             Event::Command(_) => self.halt(seen),
             _ => None,
-        }
+        };
+        next?.fold(seen)
+    }
+
+    /// The board is folded where it may be.
+    fn fold(self, seen: &mut Seen) -> Option<Driven> {
+        let Driven { mut board } = self;
+        fold(seen, &mut board)?;
+        Some(Driven { board })
     }
 
     /// The child starts.
@@ -370,11 +399,18 @@ impl InHand {
         }
     }
 
-    /// Turns of service, until the connection waits, lingers or ends.
+    /// The board is folded where it may be.
+    fn fold(self, seen: &mut Seen) -> Option<InHand> {
+        let InHand { mut board, conn } = self;
+        fold(seen, &mut board)?;
+        Some(InHand { board, conn })
+    }
+
+    /// Turns of service, until the connection waits, lingers or ends. The board is folded where it may be before each of them.
     fn converse(self, seen: &mut Seen) -> Option<Driven> {
         let mut hand = self;
         for _ in 0..TURNS {
-            match hand.write(seen)? {
+            match hand.fold(seen)?.write(seen)? {
                 Service::Goes(next) => hand = next,
                 Service::Left(driven) => return Some(driven),
             }

@@ -7,11 +7,15 @@
 //! - `finds SLOTS`: a seed, and a number of calls that numbers from it ask for, of boards of so many slots and three children. Behind
 //!   each call that makes an event each find is compared with a walk over all rows. What is shown is the first find that answers
 //!   otherwise, how often each event was made, and how often each find found something.
+//! - `folds SLOTS`: a seed, and a number of calls as above, none of which stops the board. They are made of two boards, of which one folds
+//!   its history wherever it may, also while its pass has a connection, and the other one never does. What is shown is in what the boards
+//!   differ then, and what was seen of the first one.
 //! - `passes`: no rows. Pass 0 makes an entry, and each of two passes looks.
 #![tactic(auto)]
 
 mod clients;
 mod driven;
+mod folds;
 mod moves;
 mod numbers;
 mod passes;
@@ -47,6 +51,7 @@ fn show_section<R: Print + Wait>(
 ) -> io::Result<()> {
     match word {
         "finds" => moves::show_finds(rt, alloc, rest, rows),
+        "folds" => folds::show_folds(rt, alloc, rest, rows),
         _ => passes::show_passes(rt, alloc),
     }
 }

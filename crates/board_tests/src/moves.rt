@@ -14,6 +14,16 @@ use std::sync::Arc;
 /// The most moves of a board.
 const MOVES: u32 = 4_000;
 
+/// The most moves of a board that isn't stopped.
+const MORE_MOVES: u32 = 1_000_000;
+
+/// A board behind calls that weren't to stop it, and what was seen of it.
+#[derive(Drop)]
+pub struct LastBoard {
+    pub driven: Driven,
+    pub seen: Seen,
+}
+
 /// Shows what is seen of boards of so many slots, for the seed and the number of calls of each row.
 pub fn show_finds(rt: &impl Print, alloc: Global, slots: &str, rows: &str) -> io::Result<()> {
     let site = site_of(alloc)?;
@@ -25,7 +35,7 @@ pub fn show_finds(rt: &impl Print, alloc: Global, slots: &str, rows: &str) -> io
 }
 
 /// Shows what was seen for the row.
-fn show_seen(rt: &impl Print, row: &str, seen: &Seen) -> io::Result<()> {
+pub fn show_seen(rt: &impl Print, row: &str, seen: &Seen) -> io::Result<()> {
     match seen.wrong() {
         Some(find) => println!(rt; "{row} => {find} answers otherwise")?,
         None => println!(rt; "{row} => equal behind {} calls", seen.made())?,
@@ -34,7 +44,7 @@ fn show_seen(rt: &impl Print, row: &str, seen: &Seen) -> io::Result<()> {
 }
 
 /// The site of each connection.
-fn site_of(alloc: Global) -> io::Result<Arc<Site>> {
+pub fn site_of(alloc: Global) -> io::Result<Arc<Site>> {
     match empty_site(alloc) {
         Ok(site) => Ok(Arc::new(alloc, site)?),
         Err(_) => Err(io::Error::from(ErrorKind::OutOfMemory)),
@@ -45,7 +55,7 @@ fn site_of(alloc: Global) -> io::Result<Arc<Site>> {
 fn drive(alloc: Global, site: &Arc<Site>, slots: u32, row: &str) -> Result<Seen, NoMemory> {
     let (seed, calls) = words(row);
     let mut numbers = NumberStream::from(number_of(seed));
-    let mut seen = Seen::nothing(number_of(calls));
+    let mut seen = Seen::nothing(number_of(calls), true);
     for _ in 0..number_of(calls) {
         if seen.is_over() {
             break;
@@ -75,6 +85,35 @@ fn live(
             None => return,
         }
     }
+}
+
+/// The board of so many slots behind as many calls as the row says, none of which stops it; none where it can't go on.
+pub fn last_board(
+    alloc: Global,
+    site: &Arc<Site>,
+    slots: u32,
+    row: &str,
+    folding: bool,
+) -> Result<Option<LastBoard>, NoMemory> {
+    let (seed, calls) = words(row);
+    let mut numbers = NumberStream::from(number_of(seed));
+    let mut seen = Seen::nothing(number_of(calls), folding);
+    let mut driven = Driven::make(alloc, slots)?;
+    for _ in 0..MORE_MOVES {
+        if seen.is_over() {
+            return Ok(Some(LastBoard { driven, seen }));
+        }
+        let event = event_from(driven.board(), numbers.next(), numbers.next());
+        let client = numbers.next();
+        if matches!(event, Event::Command(_)) {
+            continue;
+        }
+        match driven.make_move(alloc, &mut seen, site, &event, client) {
+            Some(next) => driven = next,
+            None => return Ok(None),
+        }
+    }
+    Ok(None)
 }
 
 /// Whether the server has stopped, and nothing is left in it.

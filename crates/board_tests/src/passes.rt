@@ -13,6 +13,7 @@ use mpm_base::{NoMemory, Shape};
 use std::alloc::Global;
 use std::io;
 use std::sync::Wait;
+use table_rule::laws::values_stand_for_whole_histories;
 
 const SHAPE: Shape = Shape {
     threads: 2,
@@ -68,8 +69,8 @@ fn starts<R: Wait>(rt: &R, shared: &Shared<ScriptBoard>, pass: &mut Pass<ScriptB
     ensures own { pass.new.seat.table_id ≡ pass.old.seat.table_id }
     ensures free { HasNoTurn pass.new.seat.me }
 {
+    values_stand_for_whole_histories();
     let mut turn = shared.turn(rt, pass);
-    turn.kept.show();
     if !may_start(&turn.kept) {
         shared.done(pass, turn);
         return false;

@@ -47,16 +47,22 @@ const FINDS: [&str; 10] = [
 #[derive(Drop)]
 pub struct Seen {
     most: u64,
+    folding: bool,
+    folds: u64,
+    folds_in_hand: u64,
     events: [u64; 13],
     found: [u64; 10],
     wrong: Option<&'static str>,
 }
 
 impl Seen {
-    /// Nothing yet of so many calls.
-    pub fn nothing(most: u64) -> Seen {
+    /// Nothing yet of so many calls, of boards that are folded wherever they may be, or never.
+    pub fn nothing(most: u64, folding: bool) -> Seen {
         Seen {
             most,
+            folding,
+            folds: 0,
+            folds_in_hand: 0,
             events: [0; 13],
             found: [0; 10],
             wrong: None,
@@ -73,6 +79,24 @@ impl Seen {
     /// Whether so many calls were made, or a find answered otherwise than a walk.
     pub fn is_over(&self) -> bool {
         self.made() >= self.most || self.wrong.is_some()
+    }
+
+    /// Whether boards are folded wherever they may be.
+    pub fn is_folding(&self) -> bool {
+        self.folding
+    }
+
+    /// Notes that the board was folded.
+    pub fn note_fold(&mut self, board: &ScriptBoard) {
+        self.folds = self.folds.saturating_add(1);
+        if let Some(Some(_)) = board.folded().rows.as_slice().first() {
+            self.folds_in_hand = self.folds_in_hand.saturating_add(1);
+        }
+    }
+
+    /// How often a board was folded, and how often of these while its pass had a connection.
+    pub fn folds(&self) -> (u64, u64) {
+        (self.folds, self.folds_in_hand)
     }
 
     /// The first find that answered otherwise than a walk.
@@ -125,6 +149,11 @@ impl Seen {
         }
     }
 
+    /// Whether each find found something as often as the other ones did.
+    pub fn found_as(&self, other: &Seen) -> bool {
+        self.found == other.found
+    }
+
     /// Shows the counts.
     pub fn show(&self, rt: &impl Print) -> io::Result<()> {
         print!(rt; "made:")?;
@@ -152,7 +181,7 @@ fn show_counts(rt: &impl Print, names: &[&str], counts: &[u64]) -> io::Result<()
 }
 
 /// Adds one to the count of that place.
-fn add_one(counts: &mut [u64], place: usize) {
+pub fn add_one(counts: &mut [u64], place: usize) {
     if let Some(count) = counts.get_mut(place) {
         *count = count.saturating_add(1);
     }

@@ -117,8 +117,9 @@ played (Some s) call lines plays shows run =
       accepted = run.accepted;
       site_is = subst (λ (script : List ScriptLine). HasSite script s.config run.site) same run.site_is;
       shows = shows refl;
-      has_run = run.has_run;
-      receive = subst (λ (script : List ScriptLine). AllReceive (clients_of script) s.board.ended) same run.receive;
+      has_run = run.run.has_run;
+      receive = subst (λ (script : List ScriptLine). AllReceive (clients_of script) s.board.ended) same run.run.receive;
+      receive_before = subst (λ (script : List ScriptLine). AllReceive (clients_of script) run.run.has_run.folded.ended) same run.run.receive_before;
     }
 
 -- their configuration is refused

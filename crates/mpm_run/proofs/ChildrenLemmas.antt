@@ -34,7 +34,7 @@ use Rattle.mpm_run.specs.FirstNumbers.{opened_by}
 use Rattle.mpm_run.specs.ListenInside.{IsOpening, asked_children}
 use Rattle.mpm_run.specs.Times.{waits_of}
 use Rattle.mpm_run.specs.RoundInside.{BreaksOff, RetiresSome, halt_events}
-use Rattle.mpm_run.specs.Started.{BeginsWithStarts, IsStartedFirst, starts_of}
+use Rattle.mpm_run.specs.Started.{BeginsWithStarts, IsStartedFirst, first_children, starts_of}
 use Rattle.mpm_run.proofs.BrokenLemmas.{ends-silently}
 use Rattle.mpm_run.proofs.ListenLemmas.{child-by, count-cons, is-startable}
 use Rattle.mpm_run.proofs.WaitLemmas.{HasWaited, SeenListener}
@@ -313,15 +313,17 @@ begins-down n turns a b c d halts closes retires begins =
 
 -- where the front waited the children of the run were started before all else
 started-by : (n : RunNumbers) (told : Option FrontTold) (t' : FrontTold) (b : SeenBook) → IfSome told (λ t. t.waits ≡ [])
-    → (waits_of (Some t') ≡ waits_of told) ⊎ BeginsWithStarts (asked_children (opened_by n)) b.history → IsStartedFirst n b t'
-started-by n told t' b unused (inr begins) none waited =
+    → (waits_of (Some t') ≡ waits_of told) ⊎ BeginsWithStarts (asked_children (opened_by n)) b.history → t'.waits ≢ []
+    → BeginsWithStarts (first_children n) b.history
+started-by n told t' b unused (inr begins) waited =
     subst (λ (m : ℕ). BeginsWithStarts (min n.shape.target m) b.history) (length-replicate n.children no_child) begins
-started-by n None t' b unused (inl same) none waited = absurd (cc same)
-started-by n (Some t) t' b unused (inl same) none waited =
+started-by n None t' b unused (inl same) waited = absurd (cc same)
+started-by n (Some t) t' b unused (inl same) waited =
     let waits : t'.waits ≡ t.waits = cc same in
     absurd (waited (waits ∙ unused))
 
 pub started-first : (n : RunNumbers) (told told' : Option FrontTold) (b : SeenBook) → IfSome told (λ t. t.waits ≡ [])
-    → (waits_of told' ≡ waits_of told) ⊎ BeginsWithStarts (asked_children (opened_by n)) b.history → IfSome told' (IsStartedFirst n b)
+    → (b.folded.entries ≡ 0 → (waits_of told' ≡ waits_of told) ⊎ BeginsWithStarts (asked_children (opened_by n)) b.history)
+    → IfSome told' (IsStartedFirst n b)
 started-first n told None b unused started = tt
-started-first n told (Some t') b unused started = started-by n told t' b unused started
+started-first n told (Some t') b unused started = λ none waited. started-by n told t' b unused (started none) waited

@@ -21,8 +21,8 @@ use Rattle.script_front.specs.Editions.{editions_of}
 use Rattle.mpm_run.specs.Calls.{Call, HasAccepted}
 use Rattle.mpm_run.specs.Configured.{Configures, HasConfig, config_fault, most_config, warnings_of}
 use Rattle.mpm_run.specs.ConfiguredInside.{IsAccepted, HasReadConfig, IsConfigFrom, IsConfigOf, IsOfText, IsRefusalFor, IsScriptConfig}
-use Rattle.mpm_run.specs.ExitStatuses.{EndsConfigRefused, EndsTested, EndsTestUnwritten, EndsUncontrolled, EndsUnread, HasDialled, HasRun, Sends}
-use Rattle.mpm_run.specs.ExitStatusesInside.{IsConfigRefusalOf, IsPlayed, RefusesConfig, RefusesConfigOf, RefusesRun}
+use Rattle.mpm_run.specs.ExitStatuses.{EndsConfigRefused, EndsTested, EndsTestUnwritten, EndsUncontrolled, EndsUnread, HasDialled, Sends}
+use Rattle.mpm_run.specs.ExitStatusesInside.{HasRunScript, IsConfigRefusalOf, IsPlayed, RefusesConfig, RefusesConfigOf, RefusesRun}
 use Rattle.command_words.specs.Invocations.{IsSendWords, IsTestWords, NamesConfig}
 use Rattle.mpm_run.specs.Sites.{HasSite}
 use Rattle.mpm_run.specs.SitesInside.{IsServedRun}
@@ -334,6 +334,5 @@ is-played (Some s) lines c told has run = record {
   text_is = has.text_is;
   accepted = subst (Configures has.text) (sym run.config) has.accepted;
   site_is = subst (λ (x : Configuration). HasSite lines x run.site) (sym run.config) run.site_is;
-  has_run = subst (λ (x : Configuration). HasRun x run.site s.board) (sym run.config) run.has_run;
-  receive = run.receive;
+  run = subst (λ (x : Configuration). HasRunScript lines x run.site s.board) (sym run.config) run.run;
 }

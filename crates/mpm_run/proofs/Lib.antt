@@ -10,6 +10,9 @@ pub mod CountLemmas
 pub mod EndLemmas
 pub mod EventLemmas
 pub mod ExitStatusLemmas
+pub mod FoldLemmas
+pub mod FoldedRunLemmas
+pub mod FoldedTurnLemmas
 pub mod FoundLemmas
 pub mod FrontLemmas
 pub mod HeldLemmas

@@ -1,9 +1,11 @@
 -- When the turns of the listener are over, and how one goes on to the next.
-use Rattle.std.proofs.Common.{◌≡◌, inl, inr, IfSome, IsErrAnd, OnErr, OnOk, None, Result, Ok, Err, [], is_some, ap, sym, subst, ◌∙◌}
+use Rattle.std.proofs.Common.{◌≡◌, inl, inr, IfSome, IsErrAnd, OnErr, OnOk, Option, None, Result, Ok, Err, [], is_some, ap, sym, subst, ◌∙◌}
 use Rattle.mpm_base.specs.Count.{Rises, RisesExactlyWhere, RisesWhere}
 use Rattle.mpm_base.specs.Front.{GoesForward, TellsOn, is_ended, moments_in, wait_failed}
 use Rattle.mpm_base.specs.declared.front.Woke.{Woke}
 use Rattle.mpm_base.specs.declared.front.Woke.TheVariants as woke
+use Rattle.conn_machine.specs.declared.folded.Folded.{Folded}
+use Rattle.conn_state.specs.Known.{KnownOutside}
 use Rattle.board.specs.declared.faults.BoardFault.{BoardFault}
 use Rattle.board.specs.Board.{SeenBoard}
 use Rattle.board.specs.Finds.{next_deadline_of}
@@ -13,12 +15,14 @@ use Rattle.mpm_run.specs.declared.listen.End.{End}
 use Rattle.mpm_run.specs.declared.listen.End.TheVariants as end
 use Rattle.mpm_run.specs.declared.listen.Pause.{Pause}
 use Rattle.mpm_run.specs.declared.listen.Rest.{Rest}
+use Rattle.mpm_run.specs.FoldsInside.{FoldsOn}
 use Rattle.mpm_run.specs.Listen.{HasNoLive}
 use Rattle.mpm_run.specs.ListenInside.{Follows, HandsOut, HasNoneToHeed, HasOneToHeed, HasReadAll, HasStarted, HeedsUntil, IsAtStart, IsInStep, IsOpening, IsRestful, TookAll, TurnsEnd, asked_children, contacts_of}
 use Rattle.mpm_run.specs.RoundInside.{NoneHas, StartsAsAsked, StartsSome}
 use Rattle.mpm_run.specs.Started.{BeginsWithStarts}
 use Rattle.mpm_run.specs.Stops.{HasGivenAll}
 use Rattle.mpm_run.specs.Times.{IsInformed, IsInformedSoFar, waits_of}
+use Rattle.mpm_run.proofs.BrokenLemmas.{ends-silently}
 use Rattle.mpm_run.proofs.ChildrenLemmas.{begins-broken, begins-more, begins-round, begins-waited}
 use Rattle.mpm_run.proofs.ClosingLemmas.{GoesOnFrom}
 use Rattle.mpm_run.proofs.CommandLemmas.{heeded-wait, heeds-asked, heeds-ended, heeds-failed, heeds-none}
@@ -27,26 +31,25 @@ use Rattle.mpm_run.proofs.FrontLemmas.{all-taken, failed-last, only-takes, takes
 use Rattle.mpm_run.proofs.LinkLemmas.{hands-step}
 use Rattle.mpm_run.proofs.PaceLemmas.{HasPatience, IsAfter, KeepsPace, abreast-round, pace-broken, pace-round, pace-served, pace-started, patience-started, patience-waited, served-patience}
 use Rattle.mpm_run.proofs.PassLemmas.{serves-acts}
-use Rattle.mpm_run.proofs.TurnLemmas.{HasBroken, HasBrokenOff, HasGoneRound, HasServedRows, InTime, IsBetween, OfPasses, Watching, between-idle, between-round, between-served, broken-between, broken-round, kept-waited}
+use Rattle.mpm_run.proofs.TurnLemmas.{HasBroken, HasBrokenOff, HasGoneRound, HasServedRows, InTime, IsBetween, Watching, between-idle, between-round, between-served, broken-between, broken-round, kept-waited}
 use Rattle.mpm_run.proofs.WaitLemmas.{HasWaited, SeenListener}
 
 -- ## What is said of them
 
 -- what holds before a turn, whose wait is told this: the listener is between two turns, the clock tells exactly where it did, no command
--- line that was read stops the server, the children were started before all else, and the listener keeps pace with a patient front
-pub record IsBeforeTurn (first : SeenListener) (rest : Rest) (now : SeenListener) : Type 0 where
-  pub between : IsBetween first now
+-- line that was read stops the server, where nothing was folded the children were started before all else, and the listener keeps pace with a patient front
+pub record IsBeforeTurn (known : Option KnownOutside) (first : SeenListener) (rest : Rest) (now : SeenListener) : Type 0 where
+  pub between : IsBetween known first now
   pub clock : is_some now.calls ≡ is_some first.calls
   pub heeded : IfSome now.front.told HasNoneToHeed
-  pub started : IsOpening first.board.book → BeginsWithStarts (asked_children first.board.book.base) now.board.book.history
+  pub started : IsOpening first.board.book → now.board.book.folded.entries ≡ 0 → BeginsWithStarts (asked_children first.board.book.base) now.board.book.history
   pub paced : IsAtStart first.front.told first.board.book → KeepsPace rest now
 
 -- what is said of turns that are over
-abbrev pub AreOver : Result End BoardFault → SeenListener → SeenListener → Type 0
-AreOver turns first now =
+abbrev pub AreOver : Option KnownOutside → Result End BoardFault → SeenListener → SeenListener → Type 0
+AreOver known turns first now =
     record {
-      base : now.board.book.base ≡ first.board.book.base;
-      few : OfPasses first first → OfPasses first now;
+      folded : FoldsOn known first.board.book now.board.book;
       asked : StartsAsAsked first.board.book now.board.book;
       passes : now.board.book.passes ≡ first.board.book.passes;
       free : NoneHas now.board.book;
@@ -67,12 +70,11 @@ AreOver turns first now =
     }
 
 -- those that came to an end
-over-ok : (e : End) (first now : SeenListener) → IsBetween first now → is_some now.calls ≡ is_some first.calls → IfSome now.front.told (HeedsUntil (Ok e))
-    → (IsOpening first.board.book → BeginsWithStarts (asked_children first.board.book.base) now.board.book.history)
-    → (IsAtStart first.front.told first.board.book → HasPatience now) → TurnsEnd (Ok e) first.front now.front now.board.book → AreOver (Ok e) first now
-over-ok e first now between clock heeded started patient ends = record {
-  base = between.kept.base;
-  few = between.kept.few;
+over-ok : (known : Option KnownOutside) (e : End) (first now : SeenListener) → IsBetween known first now → is_some now.calls ≡ is_some first.calls → IfSome now.front.told (HeedsUntil (Ok e))
+    → (IsOpening first.board.book → now.board.book.folded.entries ≡ 0 → BeginsWithStarts (asked_children first.board.book.base) now.board.book.history)
+    → (IsAtStart first.front.told first.board.book → HasPatience now) → TurnsEnd (Ok e) first.front now.front now.board.book → AreOver known (Ok e) first now
+over-ok known e first now between clock heeded started patient ends = record {
+  folded = between.kept.folded;
   asked = between.kept.asked;
   passes = between.kept.passes;
   free = between.kept.free;
@@ -80,7 +82,7 @@ over-ok e first now between clock heeded started patient ends = record {
   follows = between.kept.follows;
   contacts = between.kept.contacts;
   heeded = heeded;
-  started = λ opening. inr (started opening);
+  started = λ opening none. inr (started opening none);
   watched = between.kept.watched;
   step = between.step;
   links = tt;
@@ -93,15 +95,15 @@ over-ok e first now between clock heeded started patient ends = record {
 }
 
 -- those that were broken off for the fault
-over-err : (turns : Result End BoardFault) (fault : BoardFault) (first now : SeenListener) → IsErrAnd turns (λ f. f ≡ fault) → HasBroken first now
+over-err : (known : Option KnownOutside) (turns : Result End BoardFault) (fault : BoardFault) (first now : SeenListener) → IsErrAnd turns (λ f. f ≡ fault)
+    → HasBroken known first now
     → is_some now.calls ≡ is_some first.calls → IfSome now.front.told HasNoneToHeed
     → (IsOpening first.board.book → HasStarted (waits_of first.front.told) (waits_of now.front.told) first.board.book now.board.book)
     → (IsAtStart first.front.told first.board.book → HasPatience now) → HandsOut now.front.told now.board.book.state → RefusalLasts fault now.board.book
-    → AreOver turns first now
-over-err (Ok e) fault first now is broken clock heeded started patient links lasts = absurd is
-over-err (Err f) fault first now is broken clock heeded started patient links lasts = record {
-  base = broken.kept.base;
-  few = broken.kept.few;
+    → AreOver known turns first now
+over-err known (Ok e) fault first now is broken clock heeded started patient links lasts = absurd is
+over-err known (Err f) fault first now is broken clock heeded started patient links lasts = record {
+  folded = broken.kept.folded;
   asked = broken.kept.asked;
   passes = broken.kept.passes;
   free = broken.kept.free;
@@ -124,47 +126,52 @@ over-err (Err f) fault first now is broken clock heeded started patient links la
 -- ## The start
 
 -- before the first turn, once children were started
-pub turn-started : (rest : Rest) (l m : SeenListener) → IsBetween l m → IfSome l.front.told HasNoneToHeed
+pub turn-started : (known : Option KnownOutside) (rest : Rest) (l m : SeenListener) → IsBetween known l m → IfSome l.front.told HasNoneToHeed
     → (IsOpening l.board.book → BeginsWithStarts (asked_children l.board.book.base) m.board.book.history) → m ≡ record l { board = m.board }
     → StartsSome l.board.book m.board.book → m.board.book.state.moment ≡ l.board.book.state.moment → rest.until ≡ next_deadline_of m.board.book.state
-    → IsRestful rest.quiet m.board.book.state → IsBeforeTurn l rest m
-turn-started rest l m between heeded started is starts moment until quiet = record {
+    → IsRestful rest.quiet m.board.book.state → IsBeforeTurn known l rest m
+turn-started known rest l m between heeded started is starts moment until quiet = record {
   between = between;
   clock = ap (λ (x : SeenListener). is_some x.calls) is;
   heeded = subst (λ (x : SeenListener). IfSome x.front.told HasNoneToHeed) (sym is) heeded;
-  started = started;
+  started = λ opening none. started opening;
   paced = λ start. pace-started rest l m start is starts moment until quiet;
 }
 
 -- where a child could not be started
-pub over-started : (turns : Result End BoardFault) (fault : BoardFault) (l m : SeenListener) → IsErrAnd turns (λ f. f ≡ fault) → IsBetween l m
+pub over-started : (known : Option KnownOutside) (turns : Result End BoardFault) (fault : BoardFault) (l m : SeenListener) → IsErrAnd turns (λ f. f ≡ fault)
+    → IsBetween known l m
     → IfSome l.front.told HasNoneToHeed → m ≡ record l { board = m.board } → StartsSome l.board.book m.board.book → RefusalLasts fault m.board.book
-    → AreOver turns l m
-over-started turns fault l m is between heeded same starts lasts =
-    over-err turns fault l m is (broken-between l m between) (ap (λ (x : SeenListener). is_some x.calls) same)
+    → AreOver known turns l m
+over-started known turns fault l m is between heeded same starts lasts =
+    over-err known turns fault l m is (broken-between known l m between) (ap (λ (x : SeenListener). is_some x.calls) same)
     (subst (λ (x : SeenListener). IfSome x.front.told HasNoneToHeed) (sym same) heeded)
-    (λ opening. inl (ap (λ (x : SeenListener). waits_of x.front.told) same)) (λ start. patience-started l m start same starts)
+    (λ opening none. inl (ap (λ (x : SeenListener). waits_of x.front.told) same)) (λ start. patience-started l m start same starts)
     (hands-step m.front.told m.board.book.state between.step) lasts
 
 -- ## A turn
 
-module _ (steps : ActsInSteps) (rest : Rest) (pause : Pause) (first a w : SeenListener) (before : IsBeforeTurn first rest a) (waited : HasWaited rest pause a w) where
+module _ (steps : ActsInSteps) (known : Option KnownOutside) (rest : Rest) (pause : Pause) (first a w : SeenListener) (before : IsBeforeTurn known first rest a) (waited : HasWaited rest pause a w) where
   -- no command line was read by the wait
   heeded-then : IfSome w.front.told HasNoneToHeed
   heeded-then = heeded-wait _ _ _ _ a.front.told w.front.told waited.waits.tells before.heeded
 
+  -- and nothing was folded by it
+  waited-entries : w.board.book.folded.entries ≡ 0 → a.board.book.folded.entries ≡ 0
+  waited-entries none = subst (λ (b : SeenBoard). b.book.folded.entries ≡ 0) waited.board none
+
   idle-over : (e : End) → moments_in pause.woke ≡ [] → IfSome w.front.told (HeedsUntil (Ok e)) → TurnsEnd (Ok e) first.front w.front w.board.book
-      → AreOver (Ok e) first w
+      → AreOver known (Ok e) first w
   idle-over e none heeded ends =
-      over-ok e first w (between-idle rest pause a w steps first before.between waited none) (waited.clock ∙ before.clock) heeded
-      (λ opening. begins-waited _ rest pause a w waited (before.started opening))
+      over-ok known e first w (between-idle rest pause a w steps known first before.between waited none) (waited.clock ∙ before.clock) heeded
+      (λ opening none. begins-waited _ rest pause a w waited (before.started opening (waited-entries none)))
       (λ start. patience-waited rest pause a w (before.paced start).patient waited (only-takes _ _ (takes-same _))) ends
 
   going-then : IsUp w.board.book.state.going
   going-then = subst (λ (b : SeenBoard). IsUp b.book.state.going) (sym waited.board) before.between.kept.up
 
   -- a wait answered Ended, and no connection is live
-  pub over-ended : pause.woke ≡ woke.Ended → HasNoLive w.board.book.state → AreOver (Ok end.Ended) first w
+  pub over-ended : pause.woke ≡ woke.Ended → HasNoLive w.board.book.state → AreOver known (Ok end.Ended) first w
   over-ended is live =
       let forward = subst (λ (x : Woke). TellsOn (GoesForward rest.until rest.quiet x w.ready) a.front.told w.front.told) is waited.waits.tells in
       idle-over end.Ended (ap moments_in is) (heeds-ended w.front.told heeded-then)
@@ -183,7 +190,7 @@ module _ (steps : ActsInSteps) (rest : Rest) (pause : Pause) (first a w : SeenLi
       })
 
   -- one failed
-  pub over-failed : pause.woke ≡ woke.Failed → AreOver (Ok end.Failed) first w
+  pub over-failed : pause.woke ≡ woke.Failed → AreOver known (Ok end.Failed) first w
   over-failed is =
       let forward = subst (λ (x : Woke). TellsOn (GoesForward rest.until rest.quiet x w.ready) a.front.told w.front.told) is waited.waits.tells in
       idle-over end.Failed (ap moments_in is) (heeds-failed w.front.told heeded-then) (
@@ -195,58 +202,64 @@ module _ (steps : ActsInSteps) (rest : Rest) (pause : Pause) (first a w : SeenLi
 
   -- a round was broken off for the fault
   pub over-broken : (turns : Result End BoardFault) (fault : BoardFault) (b : SeenListener) → IsErrAnd turns (λ f. f ≡ fault) → HasBrokenOff fault pause w b
-      → IfSome b.front.told HasNoneToHeed → HandsOut b.front.told b.board.book.state → RefusalLasts fault b.board.book → AreOver turns first b
+      → IfSome b.front.told HasNoneToHeed → HandsOut b.front.told b.board.book.state → RefusalLasts fault b.board.book → AreOver known turns first b
   over-broken turns fault b is broken heeded links lasts =
-      over-err turns fault first b is (broken-round steps fault rest pause first a w b before.between waited broken)
+      let ends = ends-silently steps fault broken.round.book b.board.book broken.round.acts.row broken.round.last in
+      over-err known turns fault first b is (broken-round steps known fault rest pause first a w b before.between waited broken)
       (ap is_some broken.took.calls ∙ waited.clock ∙ before.clock) heeded
-      (λ opening. inr (begins-broken steps _ fault _ _ rest pause a w b waited broken.round (before.started opening)))
+      (λ opening none. inr (begins-broken steps _ fault _ _ rest pause a w b waited broken.round
+      (before.started opening (waited-entries (ap (λ (f : Folded). f.entries) (sym (ends.acts.folded ∙ broken.round.acts.folded)) ∙ none)))))
       (λ start. pace-broken steps fault rest pause a w b (before.paced start) waited before.between.step broken.round broken.took.front broken.took.calls)
       links lasts
 
   module _ (b : SeenListener) (gone : HasGoneRound pause w b) where
     -- what holds behind a round that came to its end
-    between-then : IsBetween first b
-    between-then = between-round steps rest pause first a w b before.between waited gone
+    between-then : IsBetween known first b
+    between-then = between-round steps known rest pause first a w b before.between waited gone
 
     clock-then : is_some b.calls ≡ is_some first.calls
     clock-then = ap is_some gone.took.calls ∙ waited.clock ∙ before.clock
 
-    started-then : IsOpening first.board.book → BeginsWithStarts (asked_children first.board.book.base) b.board.book.history
-    started-then opening = begins-round _ rest pause a w b _ waited gone.round.acts (before.started opening)
+    started-then : IsOpening first.board.book → b.board.book.folded.entries ≡ 0 → BeginsWithStarts (asked_children first.board.book.base) b.board.book.history
+    started-then opening none =
+        begins-round _ rest pause a w b _ waited gone.round.acts
+        (before.started opening (waited-entries (ap (λ (f : Folded). f.entries) (sym gone.round.acts.folded) ∙ none)))
 
     patient-then : IsAtStart first.front.told first.board.book → HasPatience b
     patient-then start = pace-round rest pause a w b (before.paced start) waited before.between.step gone.round gone.took.front gone.took.calls
 
     -- a command line asked to stop
-    pub over-asked : Rises w.front.counts.commands b.front.counts.commands → IfSome b.front.told HasOneToHeed → AreOver (Ok end.Asked) first b
+    pub over-asked : Rises w.front.counts.commands b.front.counts.commands → IfSome b.front.told HasOneToHeed → AreOver known (Ok end.Asked) first b
     over-asked rose heeded =
-        over-ok end.Asked first b between-then clock-then (heeds-asked b.front.told heeded) started-then patient-then (
+        over-ok known end.Asked first b between-then clock-then (heeds-asked b.front.told heeded) started-then patient-then (
           gone.took.up,
           rises-behind first.front.counts.commands w.front.counts.commands b.front.counts.commands
-              (kept-waited rest pause a w steps first before.between.kept waited).follows.commands rose,
+              (kept-waited rest pause a w steps known first before.between.kept waited).follows.commands rose,
         )
 
-    started-served : (d : SeenListener) → HasServedRows b d → IsOpening first.board.book → BeginsWithStarts (asked_children first.board.book.base) d.board.book.history
-    started-served d served opening =
+    started-served : (d : SeenListener) → HasServedRows b d → IsOpening first.board.book → d.board.book.folded.entries ≡ 0
+        → BeginsWithStarts (asked_children first.board.book.base) d.board.book.history
+    started-served d served opening none =
         let did = serves-acts steps b.board d.board served.serves in
-        begins-more 1 did.events None _ b.board.book d.board.book did.acts (started-then opening)
+        begins-more 1 did.events None _ b.board.book d.board.book did.acts
+        (started-then opening (ap (λ (f : Folded). f.entries) (sym did.acts.folded) ∙ none))
 
     -- a call was refused in the service for the fault
     pub over-served : (turns : Result End BoardFault) (fault : BoardFault) (d : SeenListener) → IsErrAnd turns (λ f. f ≡ fault) → HasServedRows b d
-        → IfSome b.front.told HasNoneToHeed → RefusalLasts fault d.board.book → AreOver turns first d
+        → IfSome b.front.told HasNoneToHeed → RefusalLasts fault d.board.book → AreOver known turns first d
     over-served turns fault d is served heeded lasts =
-        let between = between-served steps first b d between-then served in
-        over-err turns fault first d is (broken-between first d between) (ap (λ (x : SeenListener). is_some x.calls) served.others ∙ clock-then)
+        let between = between-served steps known first b d between-then served in
+        over-err known turns fault first d is (broken-between known first d between) (ap (λ (x : SeenListener). is_some x.calls) served.others ∙ clock-then)
         (subst (λ (x : SeenListener). IfSome x.front.told HasNoneToHeed) (sym served.others) heeded)
-        (λ opening. inr (started-served d served opening)) (λ start. served-patience steps b d (patient-then start) served)
+        (λ opening none. inr (started-served d served opening none)) (λ start. served-patience steps b d (patient-then start) served)
         (hands-step d.front.told d.board.book.state between.step) lasts
 
     -- before the next turn
     pub turn-served : GoesOnFrom → (rest' : Rest) (d : SeenListener) → IsAfter b → IsAfter d → HasServedRows b d → IfSome b.front.told HasNoneToHeed
         → TookAll b.front.told b.board.book.state → HasReadAll b.front.told → rest'.until ≡ next_deadline_of b.board.book.state
-        → IsRestful rest'.quiet b.board.book.state → IsBeforeTurn first rest' d
+        → IsRestful rest'.quiet b.board.book.state → IsBeforeTurn known first rest' d
     turn-served law rest' d here there served heeded took read until quiet = record {
-      between = between-served steps first b d between-then served;
+      between = between-served steps known first b d between-then served;
       clock = ap (λ (x : SeenListener). is_some x.calls) served.others ∙ clock-then;
       heeded = subst (λ (x : SeenListener). IfSome x.front.told HasNoneToHeed) (sym served.others) heeded;
       started = started-served d served;

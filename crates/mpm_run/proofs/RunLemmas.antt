@@ -1,21 +1,17 @@
 -- What a board shows of its run.
-use Rattle.std.proofs.Common.{◌≡◌, ℕ, ◌≤◌, ◌+◌, ◌<◌, min, Bool, true, false, ◌||◌, cond, List, [], ◌∷◌, ◌++◌, length, count_by, Option, None, Some, IfSome, refl, sym, ap, subst, ◌∙◌, arith, ◌⊎◌, inl, inr}
+use Rattle.std.proofs.Common.{◌≡◌, ℕ, ◌≤◌, ◌+◌, ◌<◌, min, Bool, true, false, ◌||◌, cond, List, [], ◌∷◌, ◌++◌, length, map, count_by, Option, None, Some, IfSome, refl, sym, ap, subst, ◌∙◌, arith, ◌⊎◌, inl, inr}
 use Rattle.std.proofs.lemmas.Bool.{cases_order}
 use Rattle.std.proofs.lemmas.List.{append-nil}
-use Rattle.std.proofs.lemmas.List.Sums.{sum_by-cons}
+use Rattle.std.proofs.lemmas.List.Sums.{sum_by-append, sum_by-cons}
 use Rattle.std.specs.List.{list_any}
 use Rattle.mpm_base.specs.Count.{greatest_count}
 use Rattle.mpm_base.specs.Front.{client_at}
 use Rattle.mpm_base.specs.Link.{LinkTold}
 use Rattle.conn_machine.specs.declared.row.Row.{Row}
-use Rattle.conn_machine.specs.declared.event.Event.{Event}
-use Rattle.conn_machine.specs.declared.event.Event.TheVariants as event
 use Rattle.conn_machine.specs.declared.event.Entry.{Entry}
 use Rattle.conn_machine.specs.declared.folded.Folded.{Folded}
 use Rattle.conn_machine.specs.declared.state.State.{State}
 use Rattle.conn_machine.specs.Rows.{is_live}
-use Rattle.conn_machine.specs.Table.{next}
-use Rattle.conn_machine.specs.Folds.{opening_record}
 use Rattle.conn_machine.specs.Runs.{Run, after, first_row, IsInPassOrderFrom}
 use Rattle.conn_machine.specs.Made.{AreMade, AreOfPasses}
 use Rattle.conn_machine.specs.Passes.{EachHasItsOwn}
@@ -24,25 +20,23 @@ use Rattle.conn_machine.specs.Events.{count_events, is_accept, is_close}
 use Rattle.conn_machine.specs.Laws.{StaysSound}
 use Rattle.conn_state.specs.Answered.{SeenEnded, IsAnswered, IsEnded}
 use Rattle.conn_state.specs.Known.{KnownOutside, TellsFrom}
-use Rattle.board.specs.Book.{SeenBook}
-use Rattle.board.specs.Board.{SeenBoard, Agrees, AreClosed, AreEnded, ClosesFirst, EndedOfOutside}
+use Rattle.board.specs.Book.{folded_book}
+use Rattle.board.specs.Board.{SeenBoard, Agrees, AreEnded, EndedOfOutside}
 use Rattle.board.specs.Ranks.{AllTell, has_rank}
+use Rattle.board.specs.ReportLine.{line_of}
 use Rattle.mpm_run.specs.Links.{EndsLinks}
 use Rattle.mpm_run.specs.Tells.{Receives, AllReceive}
 use Rattle.mpm_run.specs.Commands.{TellsStop}
-use Rattle.mpm_run.specs.FirstNumbers.{folded_by, opened_by}
+use Rattle.mpm_run.specs.FirstNumbers.{opened_by}
 use Rattle.mpm_run.specs.declared.run_numbers.RunNumbers.{RunNumbers}
-use Rattle.mpm_run.specs.Listen.{HasClosedAll, HasNoLive, IsClosedDown, IsRunFrom, NeverFolded}
+use Rattle.mpm_run.specs.Listen.{HasClosedAll, HasFolded, HasNoLive, IsClosedDown, IsRunFrom}
 use Rattle.mpm_run.specs.ListenInside.{clients_known}
 use Rattle.mpm_run.specs.Started.{AreAskedFor}
+use Rattle.mpm_run.proofs.FoldedRunLemmas.{WholeRun}
 
 -- ## The history
 
--- nothing was folded, where nothing was for as many passes
-pub never-folded : (n : RunNumbers) (b : SeenBook) → b.base ≡ opened_by n → b.folded ≡ opening_record b.passes → b.passes ≡ n.passes → NeverFolded n b
-never-folded n b opened unfolded passes = record { opened = opened; folded = unfolded ∙ ap opening_record passes }
-
--- the history of a board that opened so is a run from there, each state of which is sound
+-- the history of a board is a run from the state before it, each state of which is sound
 pub run-from : (n : RunNumbers) (b : SeenBoard) → AreOfPasses n.passes b.book.history → AreAskedFor b.book.base b.book.history
     → ((s : State) (history : List Entry) → IsSound s → Run s history → StaysSound s history)
     → Run b.book.base b.book.history → IsInPassOrderFrom b.book.folded b.book.history → AreMade b.book.base b.book.folded b.book.history
@@ -61,40 +55,7 @@ run-from n b few asked law run order made own state sound stop agrees = record {
   agrees = agrees;
 }
 
--- it is a run from the opening state
-pub run-opened : (n : RunNumbers) (b : SeenBoard) → IsRunFrom n b → NeverFolded n b.book → Run (opened_by n) b.book.history
-run-opened n b run never = subst (λ (s : State). Run s b.book.history) never.opened run.run
-
-state-opened : (n : RunNumbers) (b : SeenBoard) → IsRunFrom n b → NeverFolded n b.book → after (opened_by n) b.book.history ≡ b.book.state
-state-opened n b run never = subst (λ (s : State). after s b.book.history ≡ b.book.state) never.opened run.state
-
 -- ## The connections that were taken
-
--- an event that closes a connection counts one
-closes-count : (s : State) (e : Event) (Others : List SeenEnded → Type 0) (ended : List SeenEnded) (n : ℕ) → ClosesFirst s e Others ended
-    → ((more : List SeenEnded) → Others more → length more ≡ n) → length ended ≡ cond (is_close e) 1 0 + n
-closes-count s (event.Close name why how) Others [] n closes rest = absurd closes
-closes-count s (event.Close name why how) Others (e ∷ ended) n closes rest = omega (arith, rest ended closes.1)
-closes-count s (event.Accept slot) Others ended n closes rest = omega (arith, rest ended closes)
-closes-count s (event.Park name kind) Others ended n closes rest = omega (arith, rest ended closes)
-closes-count s (event.Hold name) Others ended n closes rest = omega (arith, rest ended closes)
-closes-count s (event.Queue name) Others ended n closes rest = omega (arith, rest ended closes)
-closes-count s (event.Start name) Others ended n closes rest = omega (arith, rest ended closes)
-closes-count s (event.Answer name ask) Others ended n closes rest = omega (arith, rest ended closes)
-closes-count s (event.Linger name cause) Others ended n closes rest = omega (arith, rest ended closes)
-closes-count s (event.Ready slot) Others ended n closes rest = omega (arith, rest ended closes)
-closes-count s (event.Tick m) Others ended n closes rest = omega (arith, rest ended closes)
-closes-count s (event.StartChild k) Others ended n closes rest = omega (arith, rest ended closes)
-closes-count s (event.Command c) Others ended n closes rest = omega (arith, rest ended closes)
-closes-count s (event.Retire k) Others ended n closes rest = omega (arith, rest ended closes)
-
--- as many connections ended as were closed
-closed-count : (s : State) (history : List Entry) (ended : List SeenEnded) → AreClosed s history ended → length ended ≡ count_events is_close history
-closed-count s [] ended closed = ap length closed
-closed-count s (x ∷ history) ended closed =
-    closes-count s x.event (AreClosed (next s x.event) history) ended (count_events is_close history) closed
-    (λ more closes. closed-count (next s x.event) history more closes)
-    ∙ sym (sum_by-cons (λ (e : Entry). cond (is_close e.event) 1 0) x history)
 
 none-cons : (r : Row) (rows : List Row) (live : Bool) → is_live r ≡ live → (live || list_any is_live rows) ≡ false
     → (list_any is_live rows ≡ false → count_by is_live rows ≡ 0) → count_by is_live (r ∷ rows) ≡ 0
@@ -107,22 +68,18 @@ none-counted : (rows : List Row) → list_any is_live rows ≡ false → count_b
 none-counted [] none = refl
 none-counted (r ∷ rows) none = none-cons r rows (is_live r) refl none (none-counted rows)
 
--- where no connection is live each that was taken ended
-pub closed-all : (n : RunNumbers) (b : SeenBoard) → IsRunFrom n b → NeverFolded n b.book
-    → count_events is_accept b.book.history ≡ count_events is_close b.book.history + count_by is_live (after (opened_by n) b.book.history).rows
+-- where no connection is live each that was taken ended, those that were folded among both
+pub closed-all : (n : RunNumbers) (b : SeenBoard) (whole : HasFolded n (folded_book (map line_of b.ended) b.book))
+    → count_events is_accept whole.entries ≡ count_events is_close whole.entries + count_by is_live (after (opened_by n) whole.entries).rows
+    → length b.ended ≡ count_events is_close b.book.history → after b.book.base b.book.history ≡ b.book.state
     → IsClosedDown b.book.state → HasClosedAll b
-closed-all n b run never closed_or_live down = record {
-  down = down;
-  ended =
-      let all : length b.ended ≡ count_events is_accept b.book.history =
-      omega (
-        arith,
-        closed_or_live,
-        none-counted (after (opened_by n) b.book.history).rows (subst HasNoLive (sym (state-opened n b run never)) down.live),
-        closed-count b.book.base b.book.history b.ended run.agrees.closed,
-      ) in
-      subst (λ (f : Folded). f.closed + length b.ended ≡ f.accepted + count_events is_accept b.book.history) (sym never.folded) (ap (λ (m : ℕ). 0 + m) all);
-}
+closed-all n b whole closed_or_live many state down =
+    let accepted : b.book.folded.accepted + count_events is_accept b.book.history ≡ 0 + count_events is_accept whole.entries =
+    ap (λ (f : Folded). f.accepted) whole.record_is in
+    let closed : b.book.folded.closed + count_events is_close b.book.history ≡ 0 + count_events is_close whole.entries =
+    ap (λ (f : Folded). f.closed) whole.record_is in
+    let none = none-counted (after (opened_by n) whole.entries).rows (subst HasNoLive (sym state ∙ whole.base_is) down.live) in
+    record { down = down; ended = omega (arith, closed_or_live, accepted, closed, none, many) }
 
 -- ## What ended connections received
 
@@ -173,13 +130,6 @@ pub known-receive : (known : Option KnownOutside) (clients : List (List ℕ)) (e
 known-receive None clients ended is are ends = absurd (cc is)
 known-receive (Some k) clients ended is are ends = all-receive k clients ended is are ends
 
--- as many ended as the history took
-closed-plain : (n : RunNumbers) (b : SeenBoard) → b.book.folded ≡ folded_by n → HasClosedAll b → length b.ended ≡ count_events is_accept b.book.history
-closed-plain n b folded closed =
-    let all : 0 + length b.ended ≡ 0 + count_events is_accept b.book.history =
-    subst (λ (f : Folded). f.closed + length b.ended ≡ f.accepted + count_events is_accept b.book.history) folded closed.ended in
-    omega (arith, all)
-
 -- what is 1 below a bound and 0 from there on is 1 at most
 at-most-one : (number bound count : ℕ) → (number < bound → count ≡ 1) → (bound ≤ number → count ≡ 0) → count ≤ 1
 at-most-one number bound count below above = by (cases_order number bound) where
@@ -188,31 +138,42 @@ at-most-one number bound count below above = by (cases_order number bound) where
   by (inr (inl lower)) = omega (arith, below lower)
   by (inr (inr higher)) = omega (arith, above (omega (arith, higher)))
 
--- where no connection is live their links are, each once, those that the table took
-pub ends-links : (n : RunNumbers) (b : SeenBoard) → IsRunFrom n b → NeverFolded n b.book
-    → ((number : ℕ) → Run (opened_by n) b.book.history → AreClosed (opened_by n) b.book.history b.ended → AllTell b.ended
-    → list_any is_live (after (opened_by n) b.book.history).rows ≡ false → (after (opened_by n) b.book.history).accepted < greatest_count
-    → number < (after (opened_by n) b.book.history).accepted → count_by (has_rank number) b.ended ≡ 1)
-    → ((number : ℕ) → Run (opened_by n) b.book.history → AreClosed (opened_by n) b.book.history b.ended → AllTell b.ended
-    → (after (opened_by n) b.book.history).accepted < greatest_count → (after (opened_by n) b.book.history).accepted ≤ number
-    → count_by (has_rank number) b.ended ≡ 0)
-    → (after (opened_by n) b.book.history).accepted ≡ min (count_events is_accept b.book.history) greatest_count
-    → HasClosedAll b → AllTell b.ended → EndsLinks b
-ends-links n b run never once no_other counted closed tell few =
-    let opened = run-opened n b run never in
-    let state = state-opened n b run never in
-    let few' = subst (λ (s : State). s.accepted < greatest_count) (sym state) few in
-    let of_entries = subst (λ (s : State). AreClosed s b.book.history b.ended) never.opened run.agrees.closed in
-    let none : (number : ℕ) → b.book.state.accepted ≤ number → count_by (has_rank number) b.ended ≡ 0 =
-    λ number above. no_other number opened of_entries tell few' (subst (λ (s : State). s.accepted ≤ number) (sym state) above) in
-    let one : (number : ℕ) → number < b.book.state.accepted → count_by (has_rank number) b.ended ≡ 1 =
-    λ number below. once number opened of_entries tell (subst HasNoLive (sym state) closed.down.live) few'
-    (subst (λ (s : State). number < s.accepted) (sym state) below) in
-    let all : length b.ended ≡ count_events is_accept b.book.history = closed-plain n b never.folded closed in
-    let as_many : length b.ended ≡ b.book.state.accepted = omega (arith, all, counted, few', ap (λ (s : State). s.accepted) state) in
+-- no more of the last ones pass a test than of all
+fewer-last : (test : SeenEnded → Bool) (all before ended : List SeenEnded) → all ≡ before ++ ended → count_by test ended ≤ count_by test all
+fewer-last test all before ended is =
+    let both = sum_by-append (λ (e : SeenEnded). cond (test e) 1 0) before ended in
+    omega (arith, ap (count_by test) is, both)
+
+-- where no connection is live their links are, each once, links that the table took, and with those that were folded as many
+pub ends-links : (known : Option KnownOutside) (clients : List (List ℕ)) (n : RunNumbers) (b : SeenBoard) → clients_known known ≡ Some clients
+    → (run : WholeRun known n b)
+    → ((number : ℕ) → AllTell run.whole.ended → list_any is_live (after (opened_by n) run.whole.entries).rows ≡ false
+    → (after (opened_by n) run.whole.entries).accepted < greatest_count → number < (after (opened_by n) run.whole.entries).accepted
+    → count_by (has_rank number) run.whole.ended ≡ 1)
+    → ((number : ℕ) → AllTell run.whole.ended → (after (opened_by n) run.whole.entries).accepted < greatest_count
+    → (after (opened_by n) run.whole.entries).accepted ≤ number → count_by (has_rank number) run.whole.ended ≡ 0)
+    → (after (opened_by n) run.whole.entries).accepted ≡ min (count_events is_accept run.whole.entries) greatest_count
+    → after b.book.base b.book.history ≡ b.book.state → EndedOfOutside known b.ended → HasClosedAll b → EndsLinks b
+ends-links known clients n b knows run once no_other counted state outside closed few =
+    let whole = run.whole in
+    let all_tell = known-tell known clients whole.ended knows run.outside in
+    let same : b.book.state ≡ after (opened_by n) whole.entries = sym state ∙ whole.base_is in
+    let accepted : b.book.state.accepted ≡ (after (opened_by n) whole.entries).accepted = ap (λ (s : State). s.accepted) same in
+    let few' : (after (opened_by n) whole.entries).accepted < greatest_count = omega (arith, few, accepted) in
+    let live = subst HasNoLive same closed.down.live in
+    let fewer : (number : ℕ) → count_by (has_rank number) b.ended ≤ count_by (has_rank number) whole.ended =
+    λ number. fewer-last (has_rank number) whole.ended run.before b.ended run.ended_is in
+    let none : (number : ℕ) → b.book.state.accepted ≤ number → count_by (has_rank number) whole.ended ≡ 0 =
+    λ number above. no_other number all_tell few' (omega (arith, above, accepted)) in
+    let one : (number : ℕ) → number < b.book.state.accepted → count_by (has_rank number) whole.ended ≡ 1 =
+    λ number below. once number all_tell live few' (omega (arith, below, accepted)) in
+    let taken : b.book.folded.accepted + count_events is_accept b.book.history ≡ 0 + count_events is_accept whole.entries =
+    ap (λ (f : Folded). f.accepted) whole.record_is in
     record {
-      tell = tell;
-      once = λ number. at-most-one number b.book.state.accepted (count_by (has_rank number) b.ended) (one number) (none number);
-      taken = none;
-      as_many = subst (λ (f : Folded). f.closed + length b.ended ≡ b.book.state.accepted) (sym never.folded) (omega (arith, as_many));
+      tell = known-tell known clients b.ended knows outside;
+      once =
+          λ number. let at_most = at-most-one number b.book.state.accepted (count_by (has_rank number) whole.ended) (one number) (none number) in
+          omega (arith, at_most, fewer number);
+      taken = λ number above. omega (arith, none number above, fewer number);
+      as_many = omega (arith, closed.ended, taken, counted, few', accepted);
     }

@@ -4,7 +4,9 @@ use Rattle.mpm_base.specs.Front.{Binds, FrontSeen}
 use Rattle.mpm_base.specs.Store.{ReadsFile, StoreSeen, StoreTold, answers_with, is_failure, is_refusal}
 use Rattle.mpm_base.specs.declared.store.File.{File}
 use Rattle.mpm_base.specs.declared.store.StoreFault.{StoreFault}
+use Rattle.mpm_base.specs.declared.script_line.ScriptLine.{ScriptLine}
 use Rattle.mpm_config.specs.Config.{Configuration}
+use Rattle.mpm_script.specs.Clients.{clients_of}
 use Rattle.http_read.specs.declared.request.Limits.{Limits}
 use Rattle.file_table.specs.declared.load_fault.LoadFault.{LoadFault}
 use Rattle.file_table.specs.declared.load_fault.LoadFault.TheVariants as fault
@@ -14,30 +16,60 @@ use Rattle.board.specs.Board.{AreOfOutside, SeenBoard}
 use Rattle.mpm_run.specs.Calls.{Call, HasAccepted, LoadsSite}
 use Rattle.mpm_run.specs.Configured.{most_config}
 use Rattle.mpm_run.specs.ExitStatuses.{EndsAs, EndsSiteRefused, EndsUnbound, EndsUnread, HasRun, HasRunServer, IsUnbound, LeavesFront}
-use Rattle.mpm_run.specs.ExitStatusesInside.{LeavesUnbound, RefusesRun}
+use Rattle.mpm_run.specs.ExitStatusesInside.{HasRunScript, LeavesUnbound, RefusesRun}
 use Rattle.mpm_run.specs.FirstNumbers.{numbers_of}
 use Rattle.command_words.specs.Invocations.{IsServeWords}
-use Rattle.mpm_run.specs.Listen.{HasClosedAll, IsRunFrom, NeverFolded}
+use Rattle.mpm_run.specs.FoldsInside.{IsFoldedOf}
+use Rattle.mpm_run.specs.Listen.{HasClosedAll, IsRunFrom}
 use Rattle.mpm_run.specs.Outside.{KeepsOutside}
 use Rattle.mpm_run.specs.Sites.{AllServedBy, IsSiteRefusedOf, head_limits_of, order_of}
 use Rattle.mpm_run.specs.SitesInside.{RefusesFolder}
+use Rattle.mpm_run.specs.Tells.{AllReceive}
 use Rattle.mpm_run.specs.Texts.{front_fault}
 use Rattle.mpm_run.specs.declared.run_numbers.RunNumbers.{RunNumbers}
 use Rattle.mpm_run.proofs.CountLemmas.{rises-behind, where-stays}
+use Rattle.mpm_run.proofs.RunLemmas.{known-receive}
 use Rattle.mpm_run.proofs.SiteLemmas.{all-served}
 
 -- ## A run
 
 -- by the numbers and the limits of the configuration, and by one edition
 pub has-run : (c : Configuration) (n : RunNumbers) (limits : Limits) (site : SeenSite) (clients : Option (List (List ℕ))) (b : SeenBoard)
-    → n ≡ numbers_of c → limits ≡ head_limits_of c → IsRunFrom n b → NeverFolded n b.book → HasClosedAll b
+    → n ≡ numbers_of c → limits ≡ head_limits_of c → IsRunFrom n b
+    → IsFoldedOf (Some (record { clients = clients; editions = Some (record { limits = limits; site = site }) ∷ [] })) n b.book → HasClosedAll b
     → AreOfOutside (Some (record { clients = clients; editions = Some (record { limits = limits; site = site }) ∷ [] })) b → HasRun c site b
-has-run c n limits site clients b numbers_are limits_are run unfolded closed outside = record {
-  run = subst (λ (n' : RunNumbers). IsRunFrom n' b) numbers_are run;
-  unfolded = subst (λ (n' : RunNumbers). NeverFolded n' b.book) numbers_are unfolded;
-  closed = closed;
-  served = subst (λ (limits' : Limits). AllServedBy limits' site b.ended) limits_are (all-served clients limits site b.ended outside.ended);
-}
+has-run c n limits site clients b numbers_are limits_are run folds closed outside =
+    let known = Some (record { clients = clients; editions = Some (record { limits = limits; site = site }) ∷ [] }) in
+    let of_numbers = subst (λ (n' : RunNumbers). IsFoldedOf known n' b.book) numbers_are folds in
+    record {
+      run = subst (λ (n' : RunNumbers). IsRunFrom n' b) numbers_are run;
+      folded = of_numbers.folded;
+      closed = closed;
+      served = subst (λ (limits' : Limits). AllServedBy limits' site b.ended) limits_are (all-served clients limits site b.ended outside.ended);
+      served_before =
+          subst (λ (limits' : Limits). AllServedBy limits' site of_numbers.folded.ended) limits_are
+          (all-served clients limits site of_numbers.folded.ended of_numbers.outside);
+    }
+
+-- by a script, whose clients the type knows
+pub has-run_script : (lines : List ScriptLine) (c : Configuration) (n : RunNumbers) (limits : Limits) (site : SeenSite) (clients : List (List ℕ)) (b : SeenBoard)
+    → clients ≡ clients_of lines → n ≡ numbers_of c → limits ≡ head_limits_of c → IsRunFrom n b
+    → IsFoldedOf (Some (record { clients = Some clients; editions = Some (record { limits = limits; site = site }) ∷ [] })) n b.book → HasClosedAll b
+    → AreOfOutside (Some (record { clients = Some clients; editions = Some (record { limits = limits; site = site }) ∷ [] })) b
+    → HasRunScript lines c site b
+unfolding has-run
+has-run_script lines c n limits site clients b told numbers_are limits_are run folds closed outside =
+    let known = Some (record { clients = Some clients; editions = Some (record { limits = limits; site = site }) ∷ [] }) in
+    let of_numbers = subst (λ (n' : RunNumbers). IsFoldedOf known n' b.book) numbers_are folds in
+    record {
+      has_run = has-run c n limits site (Some clients) b numbers_are limits_are run folds closed outside;
+      receive =
+          subst (λ (sent : List (List ℕ)). AllReceive sent b.ended) told
+          (known-receive known clients b.ended refl run.agrees.answered outside.ended);
+      receive_before =
+          subst (λ (sent : List (List ℕ)). AllReceive sent of_numbers.folded.ended) told
+          (known-receive known clients of_numbers.folded.ended refl of_numbers.folded.answered of_numbers.outside);
+    }
 
 -- ## A server
 

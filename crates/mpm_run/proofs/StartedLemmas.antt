@@ -1,10 +1,10 @@
 -- A server that has just opened.
 use Rattle.std.proofs.Common.{◌≡◌, inl, inr, ℕ, Bool, true, List, [], ◌∷◌, ◌++◌, length, map, take, Option, None, Some, option_map, IfSome, refl, sym, ap, subst, ◌∙◌, arith}
 use Rattle.mpm_base.specs.Clock.{asked_at}
-use Rattle.mpm_base.specs.Front.{Binds, BoundTold, DialTold, FrontSeen, FrontTold, WaitTold, after_bind, moments_of}
+use Rattle.mpm_base.specs.Front.{Binds, BoundTold, DialTold, FrontSeen, FrontTold, WaitTold, WatchTold, after_bind, moments_of}
 use Rattle.mpm_run.specs.Unused.{IsUnused}
 use Rattle.mpm_base.specs.declared.addr.Addr.{Addr}
-use Rattle.conn_machine.specs.Made.{AreOfPasses, IsOpened}
+use Rattle.conn_machine.specs.Made.{IsOpened}
 use Rattle.conn_machine.specs.declared.state.State.{State}
 use Rattle.board.specs.Board.{SeenBoard}
 use Rattle.board.specs.Book.{SeenBook}
@@ -170,7 +170,7 @@ watching-opened n (Some t) calls b opened idle =
     subst (λ (x : SeenBook). WatchesAll x t) (sym opened) (record {
       watches =
           record {
-            before = omega arith;
+            first = ap (λ (ws : List WatchTold). map (λ (w : WatchTold). w.rank) (take 0 ws)) idle.front.watches;
             watches = ap (map link_watched) idle.front.watches;
             failed = subst (AreClosedAtOnce []) (sym idle.front.watches) tt;
           };
@@ -227,10 +227,6 @@ heeded-opened (Some t) calls idle =
       none = subst NoneStops (sym (ap (λ (n : ℕ). take n t.lines) read)) (none-first t.lines);
       came = omega (arith, read);
     }
-
--- no pass made an entry
-pub few-opened : (n : RunNumbers) (passes : ℕ) (b : SeenBook) → b ≡ opened_book n → AreOfPasses passes b.history
-few-opened n passes b opened = subst (λ (x : SeenBook). AreOfPasses passes x.history) (sym opened) (λ p above. refl)
 
 -- no child was started
 pub asked-opened : (n : RunNumbers) (b : SeenBook) → b ≡ opened_book n → AreAskedFor b.base b.history

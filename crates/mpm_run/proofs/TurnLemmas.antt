@@ -1,9 +1,9 @@
 -- What holds of a listener between two turns, and how a turn keeps it.
-use Rattle.std.proofs.Common.{◌≡◌, ◌≢◌, ◌<◌, ℕ, List, [], Option, None, IfSome, map, max, ap, sym, subst, refl, ◌∙◌, arith}
+use Rattle.std.proofs.Common.{◌≡◌, ◌≢◌, ℕ, List, [], Option, None, IfSome, map, max, ap, sym, subst, refl, ◌∙◌}
 use Rattle.mpm_base.specs.Front.{TellsOn, WaitTold, moments_in}
 use Rattle.conn_machine.specs.declared.event.Entry.{Entry}
 use Rattle.conn_machine.specs.declared.event.Event.{Event}
-use Rattle.conn_machine.specs.Made.{AreOfPasses}
+use Rattle.conn_state.specs.Known.{KnownOutside}
 use Rattle.board.specs.declared.faults.BoardFault.{BoardFault}
 use Rattle.board.specs.Board.{SeenBoard}
 use Rattle.board.specs.Book.{SeenBook}
@@ -11,6 +11,7 @@ use Rattle.worker_group.specs.Acts.{Acts, ActsInSteps}
 use Rattle.worker_group.specs.Service.{IsUp, LeavesRest}
 use Rattle.mpm_run.specs.declared.listen.Pause.{Pause}
 use Rattle.mpm_run.specs.declared.listen.Rest.{Rest}
+use Rattle.mpm_run.specs.FoldsInside.{FoldsOn}
 use Rattle.mpm_run.specs.ListenInside.{Follows, IsInStep, OnlyReadsAndTakes, WatchesAll, contacts_of}
 use Rattle.mpm_run.specs.RoundInside.{BreaksOff, GoesRound, NoneHas, ServesSome, StartsAsAsked, StartsSome}
 use Rattle.mpm_run.specs.Started.{AreAskedFor}
@@ -18,6 +19,7 @@ use Rattle.mpm_run.specs.Times.{IsInTime, IsInformed, IsInformedSoFar, moment_fo
 use Rattle.mpm_run.proofs.AskedLemmas.{asked-served, asked-silent}
 use Rattle.mpm_run.proofs.BrokenLemmas.{ends-silently}
 use Rattle.mpm_run.proofs.EventLemmas.{silent-starts}
+use Rattle.mpm_run.proofs.FoldedRunLemmas.{folds-acts}
 use Rattle.mpm_run.proofs.FrontLemmas.{WaitsMore, contacts-kept, contacts-wait, follows-same, follows-trans, follows-wait, step-kept, step-wait, time-kept, time-wait, waits-after, waits-kept}
 use Rattle.mpm_run.proofs.InformLemmas.{informed-as, informed-broken, informed-idle, informed-round, informed-so_far, tells-same, tells-silent}
 use Rattle.mpm_run.proofs.PassLemmas.{serves-acts}
@@ -31,26 +33,14 @@ use Rattle.mpm_run.proofs.WaitLemmas.{HasWaited, SeenListener, idle-wait}
 abbrev pub Watching : SeenListener → Type 0
 Watching l = IfSome l.front.told (WatchesAll l.board.book)
 
--- no pass but those of the first listener made an entry
-abbrev pub OfPasses : SeenListener → SeenListener → Type 0
-OfPasses first now = AreOfPasses first.board.book.passes now.board.book.history
-
 -- the clock was told what the waits gave
 abbrev pub InTime : SeenListener → Type 0
 InTime l = IsInTime (waits_of l.front.told) l.calls
 
--- so it is after what one of them did
-pub few-acts : ActsInSteps → (passes who : ℕ) (es : List Event) (has : _) (a b : SeenBook) → who < passes → Acts who es has a b → AreOfPasses passes a.history
-    → AreOfPasses passes b.history
-few-acts steps passes who es has a b less acts few p beyond =
-    steps.others who p es has a b acts (λ (same : p ≡ who). omega (arith, less, beyond, same)) ∙ few p beyond
-
 -- what holds of a listener that began as the first, also where its turns were broken off
-pub record HasKept (first now : SeenListener) : Type 0 where
-  pub some : 1 < first.board.book.passes
-  pub few : OfPasses first first → OfPasses first now
+pub record HasKept (known : Option KnownOutside) (first now : SeenListener) : Type 0 where
   pub asked : StartsAsAsked first.board.book now.board.book
-  pub base : now.board.book.base ≡ first.board.book.base
+  pub folded : FoldsOn known first.board.book now.board.book
   pub passes : now.board.book.passes ≡ first.board.book.passes
   pub free : NoneHas now.board.book
   pub up : IsUp now.board.book.state.going
@@ -60,12 +50,10 @@ pub record HasKept (first now : SeenListener) : Type 0 where
   pub time : InTime first → InTime now
 
 -- it holds at first
-kept-first : (l : SeenListener) → 1 < l.board.book.passes → NoneHas l.board.book → IsUp l.board.book.state.going → HasKept l l
-kept-first l some free up = record {
-  some = some;
-  few = λ few. few;
+kept-first : (known : Option KnownOutside) (l : SeenListener) → NoneHas l.board.book → IsUp l.board.book.state.going → HasKept known l l
+kept-first known l free up = record {
   asked = λ asked. asked;
-  base = refl;
+  folded = λ n asked folded. folded;
   passes = refl;
   free = free;
   up = up;
@@ -79,7 +67,6 @@ kept-first l some free up = record {
 pub record TakesStep (a b : SeenListener) : Type 0 where
   pub who : ℕ
   pub events : List Event
-  pub own : who < 2
   pub acts : Acts who events None a.board.book b.board.book
   pub asked : StartsAsAsked a.board.book b.board.book
   pub up : IsUp a.board.book.state.going → IsUp b.board.book.state.going
@@ -89,14 +76,10 @@ pub record TakesStep (a b : SeenListener) : Type 0 where
   pub time : InTime a → InTime b
 
 -- that keeps it
-kept-on : ActsInSteps → (first a b : SeenListener) → HasKept first a → TakesStep a b → HasKept first b
-kept-on steps first a b kept step = record {
-  some = kept.some;
-  few =
-      λ began. few-acts steps first.board.book.passes step.who step.events None a.board.book b.board.book (omega (arith, kept.some, step.own)) step.acts
-      (kept.few began);
+kept-on : ActsInSteps → (known : Option KnownOutside) (first a b : SeenListener) → HasKept known first a → TakesStep a b → HasKept known first b
+kept-on steps known first a b kept step = record {
   asked = λ began. step.asked (kept.asked began);
-  base = step.acts.base ∙ kept.base;
+  folded = λ n asked before. folds-acts known step.who step.events None a.board.book b.board.book step.acts n (kept.folded n asked before);
   passes = step.acts.passes ∙ kept.passes;
   free = none-has steps step.who step.events a.board.book b.board.book kept.free step.acts;
   up = step.up kept.up;
@@ -109,19 +92,19 @@ kept-on steps first a b kept step = record {
 -- ## Between two turns
 
 -- what holds of a listener between two turns
-pub record IsBetween (first now : SeenListener) : Type 0 where
-  pub kept : HasKept first now
+pub record IsBetween (known : Option KnownOutside) (first now : SeenListener) : Type 0 where
+  pub kept : HasKept known first now
   pub step : IsInStep now.front.told now.board.book.state
   pub informed : IsInformed (waits_of now.front.told) now.calls now.board.book
 
 -- what holds of one whose turns were broken off
-pub record HasBroken (first now : SeenListener) : Type 0 where
-  pub kept : HasKept first now
+pub record HasBroken (known : Option KnownOutside) (first now : SeenListener) : Type 0 where
+  pub kept : HasKept known first now
   pub so_far : IsInformedSoFar (waits_of now.front.told) now.calls now.board.book
 
 -- between two turns
-pub broken-between : (first now : SeenListener) → IsBetween first now → HasBroken first now
-broken-between first now between = record { kept = between.kept; so_far = informed-so_far _ _ _ between.informed }
+pub broken-between : (known : Option KnownOutside) (first now : SeenListener) → IsBetween known first now → HasBroken known first now
+broken-between known first now between = record { kept = between.kept; so_far = informed-so_far _ _ _ between.informed }
 
 -- ## The start
 
@@ -129,7 +112,6 @@ started-step : (l : SeenListener) (b : SeenBoard) → StartsSome l.board.book b.
 started-step l b starts rest = record {
   who = 0;
   events = _;
-  own = omega arith;
   acts = starts.acts;
   asked = starts.asked;
   up = rest.up;
@@ -140,13 +122,13 @@ started-step l b starts rest = record {
 }
 
 -- at the start, once children were started
-pub between-started : ActsInSteps → (l m : SeenListener) → 1 < l.board.book.passes → NoneHas l.board.book → IsUp l.board.book.state.going
+pub between-started : ActsInSteps → (known : Option KnownOutside) (l m : SeenListener) → NoneHas l.board.book → IsUp l.board.book.state.going
     → IsInStep l.front.told l.board.book.state → IsInformed (waits_of l.front.told) l.calls l.board.book → m ≡ record l { board = m.board }
-    → StartsSome l.board.book m.board.book → LeavesRest l.board.book m.board.book → IsBetween l m
-between-started steps l m some free up step informed is starts rest =
-    subst (IsBetween l) (sym is)
+    → StartsSome l.board.book m.board.book → LeavesRest l.board.book m.board.book → IsBetween known l m
+between-started steps known l m free up step informed is starts rest =
+    subst (IsBetween known l) (sym is)
     (record {
-      kept = kept-on steps l l (record l { board = m.board }) (kept-first l some free up) (started-step l m.board starts rest);
+      kept = kept-on steps known l l (record l { board = m.board }) (kept-first known l free up) (started-step l m.board starts rest);
       step = step-kept l.front.told l.board.book.state m.board.book.state rest.accepted step;
       informed =
           informed-as (waits_of l.front.told) l.calls l.board.book m.board.book
@@ -169,7 +151,6 @@ module _ (rest : Rest) (pause : Pause) (a w : SeenListener) where
       record {
         who = 0;
         events = [];
-        own = omega arith;
         acts = subst (Acts 0 [] None a.board.book) (sym book) (steps.none 0 None a.board.book (free 0));
         asked = λ asked. subst (λ (b : SeenBook). AreAskedFor b.base b.history) (sym book) asked;
         up = λ up. subst (λ (b : SeenBook). IsUp b.state.going) (sym book) up;
@@ -183,16 +164,17 @@ module _ (rest : Rest) (pause : Pause) (a w : SeenListener) where
             (waited-more waited) waited.asks time;
       }
 
-  pub kept-waited : ActsInSteps → (first : SeenListener) → HasKept first a → HasWaited rest pause a w → HasKept first w
-  kept-waited steps first kept waited = kept-on steps first a w kept (waited-step steps kept.free waited)
+  pub kept-waited : ActsInSteps → (known : Option KnownOutside) (first : SeenListener) → HasKept known first a → HasWaited rest pause a w → HasKept known first w
+  kept-waited steps known first kept waited = kept-on steps known first a w kept (waited-step steps kept.free waited)
 
   -- after one that gave no moment
-  pub between-idle : ActsInSteps → (first : SeenListener) → IsBetween first a → HasWaited rest pause a w → moments_in pause.woke ≡ [] → IsBetween first w
-  between-idle steps first before waited none =
+  pub between-idle : ActsInSteps → (known : Option KnownOutside) (first : SeenListener) → IsBetween known first a → HasWaited rest pause a w
+      → moments_in pause.woke ≡ [] → IsBetween known first w
+  between-idle steps known first before waited none =
       let book = waited-book waited in
       let idle = idle-wait pause.woke _ pause.moment a.calls w.calls w.ready none waited.asks waited.waits.awake in
       record {
-        kept = kept-waited steps first before.kept waited;
+        kept = kept-waited steps known first before.kept waited;
         step =
             subst (λ (b : SeenBook). IsInStep w.front.told b.state) (sym book)
             (step-wait _ _ _ _ a.front.told w.front.told a.board.book.state waited.waits.tells before.step);
@@ -229,7 +211,6 @@ taken-step : (es : List Event) (w b : SeenListener) → Acts 0 es None w.board.b
 taken-step es w b acts asked took = record {
   who = 0;
   events = es;
-  own = omega arith;
   acts = acts;
   asked = asked;
   up = λ up. took.up;
@@ -249,13 +230,13 @@ still P w b took holds =
     (subst (P (waits_of w.front.told)) (sym took.calls) holds)
 
 -- after it
-pub between-round : ActsInSteps → (rest : Rest) (pause : Pause) (first a w b : SeenListener) → IsBetween first a → HasWaited rest pause a w → HasGoneRound pause w b
-    → IsBetween first b
-between-round steps rest pause first a w b before waited gone =
+pub between-round : ActsInSteps → (known : Option KnownOutside) (rest : Rest) (pause : Pause) (first a w b : SeenListener) → IsBetween known first a
+    → HasWaited rest pause a w → HasGoneRound pause w b → IsBetween known first b
+between-round steps known rest pause first a w b before waited gone =
     let here : GoesRound (moment_for pause.moment) w.ready a.board.book b.board.book =
     subst (λ (v : SeenBook). GoesRound (moment_for pause.moment) w.ready v b.board.book) (waited-book rest pause a w waited) gone.round in
     record {
-      kept = kept-on steps first w b (kept-waited rest pause a w steps first before.kept waited) (taken-step _ w b gone.round.acts gone.round.asked gone.took);
+      kept = kept-on steps known first w b (kept-waited rest pause a w steps known first before.kept waited) (taken-step _ w b gone.round.acts gone.round.asked gone.took);
       step = gone.step;
       informed =
           still (λ waits calls. IsInformed waits calls b.board.book) w b gone.took
@@ -265,16 +246,16 @@ between-round steps rest pause first a w b before waited gone =
     }
 
 -- where it was broken off
-pub broken-round : ActsInSteps → (fault : BoardFault) (rest : Rest) (pause : Pause) (first a w b : SeenListener) → IsBetween first a → HasWaited rest pause a w
-    → HasBrokenOff fault pause w b → HasBroken first b
-broken-round steps fault rest pause first a w b before waited broken =
+pub broken-round : ActsInSteps → (known : Option KnownOutside) (fault : BoardFault) (rest : Rest) (pause : Pause) (first a w b : SeenListener) → IsBetween known first a
+    → HasWaited rest pause a w → HasBrokenOff fault pause w b → HasBroken known first b
+broken-round steps known fault rest pause first a w b before waited broken =
     let round = broken.round in
     let here : BreaksOff fault (moment_for pause.moment) w.ready a.board.book b.board.book =
     subst (λ (v : SeenBook). BreaksOff fault (moment_for pause.moment) w.ready v b.board.book) (waited-book rest pause a w waited) round in
     let ends = ends-silently steps fault round.book b.board.book round.acts.row round.last in
     record {
       kept =
-          kept-on steps first w b (kept-waited rest pause a w steps first before.kept waited)
+          kept-on steps known first w b (kept-waited rest pause a w steps known first before.kept waited)
           (taken-step _ w b (steps.more 0 _ ends.events None None w.board.book round.book b.board.book round.acts ends.acts)
           (λ asked. asked-silent 0 ends.events None round.book b.board.book ends.acts ends.startless (round.asked asked)) broken.took);
       so_far =
@@ -301,7 +282,6 @@ served-step steps a b serves rest =
     record {
       who = 1;
       events = did.events;
-      own = omega arith;
       acts = did.acts;
       asked = λ asked. asked-served 1 did.events None a.board.book b.book (λ (same : 1 ≡ 0). cc) did.acts asked;
       up = rest.up;
@@ -314,12 +294,12 @@ served-step steps a b serves rest =
     }
 
 -- after it
-pub between-served : ActsInSteps → (first a b : SeenListener) → IsBetween first a → HasServedRows a b → IsBetween first b
-between-served steps first a b before served =
+pub between-served : ActsInSteps → (known : Option KnownOutside) (first a b : SeenListener) → IsBetween known first a → HasServedRows a b → IsBetween known first b
+between-served steps known first a b before served =
     let did = serves-acts steps a.board b.board served.serves in
-    subst (IsBetween first) (sym served.others)
+    subst (IsBetween known first) (sym served.others)
     (record {
-      kept = kept-on steps first a (record a { board = b.board }) before.kept (served-step steps a b.board served.serves served.rest);
+      kept = kept-on steps known first a (record a { board = b.board }) before.kept (served-step steps a b.board served.serves served.rest);
       step = step-kept a.front.told a.board.book.state b.board.book.state served.rest.accepted before.step;
       informed =
           informed-as (waits_of a.front.told) a.calls a.board.book b.board.book

@@ -1,9 +1,10 @@
 -- That each link that the table took is watched under the name of its connection, which is closed where that failed.
-use Rattle.std.proofs.Common.{◌≡◌, ◌≢◌, ◌==◌, ◌≤◌, ℕ, drop, Bool, true, false, List, [], ◌∷◌, ◌++◌, length, map, Option, None, Some, option_map, is_none, Result, Ok, Err, IfErr, IfSome, OnOk, refl, sym, ap, subst, ◌∙◌, append-nil, append_assoc, length-append, eq-eqb, eqb-true, arith}
+use Rattle.std.proofs.Common.{◌≡◌, ◌≢◌, ◌==◌, ◌≤◌, ℕ, take, drop, Bool, true, false, List, [], ◌∷◌, ◌++◌, length, map, Option, None, Some, option_map, is_none, Result, Ok, Err, IfErr, IfSome, OnOk, refl, sym, ap, subst, ◌∙◌, append-nil, append_assoc, eq-eqb, eqb-true, arith}
 use Rattle.std.proofs.lemmas.Bool.{and_parts}
 use Rattle.std.proofs.lemmas.Grind.{flat_map-append}
-use Rattle.std.proofs.lemmas.List.{drop-append-le, map-append}
+use Rattle.std.proofs.lemmas.List.{drop-append-le, length-map, length-take, map-append, take-append-le}
 use Rattle.std.proofs.lemmas.List.Elements.{filter-append}
+use Rattle.std.proofs.lemmas.List.FromFn.{length-range_with_len}
 use Rattle.std.specs.List.{flat_map}
 use Rattle.mpm_base.specs.Count.{next_count}
 use Rattle.mpm_base.specs.Front.{FrontTold, GoesForward, TellsOn, WatchTold, after_accept, after_turning_away, after_watch, hushed_front}
@@ -33,7 +34,7 @@ use Rattle.worker_group.specs.Service.{left_events}
 use Rattle.mpm_run.specs.ClosingInside.{IsHaltedWay, LetsGo, Departure, departure_events, lingering_give_up_events}
 use Rattle.mpm_run.specs.RoundInside.{GivesUp, LetsGoOfConns, LetsGoUntil, Departures, PassesTime, RetiresSome, StartsSome, gone_events, halt_events, departures_events, signal_events, way_of}
 use Rattle.mpm_run.specs.Times.{known_slots, ticks_to}
-use Rattle.mpm_run.specs.Watched.{AreClosedAtOnce, IsClosedAtOnce, accepted_names, link_watched, links_from, names_taken, names_given}
+use Rattle.mpm_run.specs.Watched.{AreClosedAtOnce, AreOfFirstLinks, IsClosedAtOnce, accepted_names, link_watched, links_from, names_taken, names_given}
 use Rattle.mpm_run.proofs.AddedLemmas.{added-events, added-own, events_in}
 
 -- ## Events that take no connection
@@ -341,19 +342,31 @@ number-more : (number : ℕ) (names : List ConnName) (name : ConnName) → numbe
 number-more number [] name = refl
 number-more number (n ∷ names) name = number-more (next_count number) names name
 
--- the front watches each link that was taken behind the first so many, and the table counted them
-record WatchesBehind (first : ℕ) (b : SeenBook) (t : FrontTold) : Type 0 where
-  pub before : first ≤ length t.watches
-  pub watches : map link_watched (drop first t.watches) ≡ links_from first (accepted_names b.history)
-  pub failed : AreClosedAtOnce b.history (drop first t.watches)
-  pub count : b.state.accepted ≡ number_after first (accepted_names b.history)
+-- there are as many as are the first ones
+pub first-within : (count : ℕ) (watches : List WatchTold) → AreOfFirstLinks count watches → count ≤ length watches
+first-within count watches first =
+    let many : length (take count watches) ≡ count =
+    sym (length-map (take count watches) (λ (w : WatchTold). w.rank)) ∙ ap length first ∙ length-range_with_len 0 count in
+    omega (arith, many, length-take count watches)
+
+-- with one watch more the first ones stay
+first-more : (count : ℕ) (watches more : List WatchTold) → AreOfFirstLinks count watches → AreOfFirstLinks count (watches ++ more)
+first-more count watches more first =
+    ap (map (λ (w : WatchTold). w.rank)) (take-append-le count watches more (first-within count watches first)) ∙ first
+
+-- the front watches each link that was taken behind the first so many, and these too, and the table counted them
+record WatchesBehind (many : ℕ) (b : SeenBook) (t : FrontTold) : Type 0 where
+  pub first : AreOfFirstLinks many t.watches
+  pub watches : map link_watched (drop many t.watches) ≡ links_from many (accepted_names b.history)
+  pub failed : AreClosedAtOnce b.history (drop many t.watches)
+  pub count : b.state.accepted ≡ number_after many (accepted_names b.history)
 
 -- which are those that were folded
-all-behind : (first : ℕ) (b : SeenBook) (t : FrontTold) → first ≡ b.folded.accepted → WatchesBehind first b t → WatchesAll b t
-all-behind first b t is behind =
+all-behind : (many : ℕ) (b : SeenBook) (t : FrontTold) → many ≡ b.folded.accepted → WatchesBehind many b t → WatchesAll b t
+all-behind many b t is behind =
     let here : WatchesBehind b.folded.accepted b t = subst (λ (n : ℕ). WatchesBehind n b t) is behind in
     record {
-      watches = record { before = here.before; watches = here.watches; failed = here.failed };
+      watches = record { first = here.first; watches = here.watches; failed = here.failed };
       count = here.count;
     }
 
@@ -361,12 +374,12 @@ all-behind first b t is behind =
 watches-as : (a b : SeenBook) (t : FrontTold) → TakesNobody a b → b.state.accepted ≡ a.state.accepted → WatchesAll a t → WatchesAll b t
 watches-as a b t nobody accepted all =
     let names = nobody-named a b nobody in
-    let first = a.folded.accepted in
-    all-behind first b t (ap (λ (f : Folded). f.accepted) (sym nobody.folded)) (record {
-      before = all.watches.before;
-      watches = all.watches.watches ∙ ap (links_from first) (sym names);
-      failed = all-closed-on a.history nobody.more b.history (drop first t.watches) nobody.history all.watches.failed;
-      count = accepted ∙ all.count ∙ ap (number_after first) (sym names);
+    let many = a.folded.accepted in
+    all-behind many b t (ap (λ (f : Folded). f.accepted) (sym nobody.folded)) (record {
+      first = all.watches.first;
+      watches = all.watches.watches ∙ ap (links_from many) (sym names);
+      failed = all-closed-on a.history nobody.more b.history (drop many t.watches) nobody.history all.watches.failed;
+      count = accepted ∙ all.count ∙ ap (number_after many) (sym names);
     })
 
 pub watched-as : (told : Option FrontTold) (a b : SeenBook) → TakesNobody a b → b.state.accepted ≡ a.state.accepted → IfSome told (WatchesAll a)
@@ -377,13 +390,13 @@ watched-as (Some t) a b nobody accepted all = watches-as a b t nobody accepted a
 -- a change of the front that leaves its watches
 watches-still : (t t' : FrontTold) (b : SeenBook) → t'.watches ≡ t.watches → WatchesAll b t → WatchesAll b t'
 watches-still t t' b same all =
-    let first = b.folded.accepted in
+    let many = b.folded.accepted in
     record {
       watches =
           record {
-            before = subst (λ (ws : List WatchTold). first ≤ length ws) (sym same) all.watches.before;
-            watches = ap (λ (ws : List WatchTold). map link_watched (drop first ws)) same ∙ all.watches.watches;
-            failed = subst (λ (ws : List WatchTold). AreClosedAtOnce b.history (drop first ws)) (sym same) all.watches.failed;
+            first = subst (AreOfFirstLinks many) (sym same) all.watches.first;
+            watches = ap (λ (ws : List WatchTold). map link_watched (drop many ws)) same ∙ all.watches.watches;
+            failed = subst (λ (ws : List WatchTold). AreClosedAtOnce b.history (drop many ws)) (sym same) all.watches.failed;
           };
       count = all.count;
     }
@@ -427,23 +440,23 @@ watches-took : (w : WatchTold) (t : FrontTold) (a b : SeenBook) → w.rank ≡ a
     → b.state.accepted ≡ next_count a.state.accepted → WatchesAll a t → WatchesAll b (record t { watches = t.watches ++ w ∷ [] })
 watches-took w t a b rank one accepted all =
     let names = one.names in
-    let first = a.folded.accepted in
-    let behind = drop first t.watches in
-    let more : drop first (t.watches ++ w ∷ []) ≡ behind ++ w ∷ [] = drop-append-le first t.watches (w ∷ []) all.watches.before in
-    all-behind first b (record t { watches = t.watches ++ w ∷ [] }) (ap (λ (f : Folded). f.accepted) (sym one.folded)) (record {
-      before = omega (arith, length-append t.watches (w ∷ []), all.watches.before);
+    let many = a.folded.accepted in
+    let behind = drop many t.watches in
+    let more : drop many (t.watches ++ w ∷ []) ≡ behind ++ w ∷ [] = drop-append-le many t.watches (w ∷ []) (first-within many t.watches all.watches.first) in
+    all-behind many b (record t { watches = t.watches ++ w ∷ [] }) (ap (λ (f : Folded). f.accepted) (sym one.folded)) (record {
+      first = first-more many t.watches (w ∷ []) all.watches.first;
       watches =
           ap (map link_watched) more
           ∙ map-append link_watched behind (w ∷ [])
           ∙ ap (λ (n : ℕ). map link_watched behind ++ (n, w.name) ∷ []) (rank ∙ all.count)
-          ∙ ap (λ (xs : List (ℕ × ConnName)). xs ++ (number_after first (accepted_names a.history), w.name) ∷ []) all.watches.watches
-          ∙ sym (links-more first (accepted_names a.history) w.name)
-          ∙ ap (links_from first) (sym names);
+          ∙ ap (λ (xs : List (ℕ × ConnName)). xs ++ (number_after many (accepted_names a.history), w.name) ∷ []) all.watches.watches
+          ∙ sym (links-more many (accepted_names a.history) w.name)
+          ∙ ap (links_from many) (sym names);
       failed =
           subst (AreClosedAtOnce b.history) (sym more)
           (all-closed-more b.history behind w (all-closed-on a.history one.more b.history behind one.history all.watches.failed) one.failed);
       count =
-          accepted ∙ ap next_count all.count ∙ sym (number-more first (accepted_names a.history) w.name) ∙ ap (number_after first) (sym names);
+          accepted ∙ ap next_count all.count ∙ sym (number-more many (accepted_names a.history) w.name) ∙ ap (number_after many) (sym names);
     })
 
 -- a connection was taken, and its link watched under its name

@@ -22,7 +22,7 @@ use Rattle.mpm_run.specs.Calls.{Call, HasAccepted, HasFile, HasScript, IsRefused
 use Rattle.mpm_run.specs.Configured.{Configures, HasConfig, IsNoConfig, IsRefused, most_config, warnings_of}
 use Rattle.mpm_run.specs.FirstNumbers.{numbers_of}
 use Rattle.command_words.specs.Invocations.{IsNoInvocation, IsScriptWords, IsSendWords, IsServeWords, IsTestWords, NamesConfig, NamesFile}
-use Rattle.mpm_run.specs.Listen.{HasClosedAll, IsRunFrom, NeverFolded}
+use Rattle.mpm_run.specs.Listen.{HasClosedAll, HasFolded, IsRunFrom}
 use Rattle.mpm_run.specs.Outside.{KeepsOutside}
 use Rattle.mpm_run.specs.Patient.{ArePatient}
 use Rattle.mpm_run.specs.Report.{report_of}
@@ -322,18 +322,19 @@ pub record EndsAs (sink sink' : SinkSeen) (c : Configuration) (b : SeenBoard) (s
   pub unwritten : status ≡ 5 → EndsUnwritten sink sink' b
   pub lacking : status ≡ 6 → EndsLacking sink sink' c b
 
--- what is left of a run of this configuration and this site: nothing of its history was folded, it closed each connection that it
--- took, each child is gone, and each connection was served by the limits of the configuration and the site
+-- what is left of a run of this configuration and this site: its history, and what was folded before; it closed each connection that it
+-- took, each child is gone, and each connection was served by the limits of the configuration and the site, also those that were folded
 pub record HasRun (c : Configuration) (site : SeenSite) (b : SeenBoard) : Type 0 where
   pub run : IsRunFrom (numbers_of c) b
-  pub unfolded : NeverFolded (numbers_of c) b.book
+  pub folded : HasFolded (numbers_of c) b.book
   pub closed : HasClosedAll b
   pub served : AllServedBy (head_limits_of c) site b.ended
+  pub served_before : AllServedBy (head_limits_of c) site folded.ended
 
 -- ## Of a script
 
 -- a script was played, and what is left is of a run of it by its configuration and its site: a board, and the front that played the
--- script; each connection received a front of what its client sends, and all of it where the client had done
+-- script; each connection, also one that was folded, received a front of what its client sends, and all of it where the client had done
 pub record HasPlayed (call : Call) (c : Configuration) (b : SeenBoard) (f : SeenFront) : Type 0 where
   pub config : List ℕ
   pub site : SeenSite
@@ -344,15 +345,16 @@ pub record HasPlayed (call : Call) (c : Configuration) (b : SeenBoard) (f : Seen
   pub shows : call.shown ≡ None
   pub has_run : HasRun c site b
   pub receive : AllReceive (clients_of f.script) b.ended
+  pub receive_before : AllReceive (clients_of f.script) has_run.folded.ended
 
 -- the clock was told exactly the moments that the waits of the front gave, in order, and answered each; and the history's ticks
--- and signals come from them
+-- and signals come from them, behind those that were folded
 pub record KeepsTime (b : SeenBoard) (f : SeenFront) (calls : List (ℕ × ℕ)) : Type 0 where
   pub asked : calls ≡ map echo (moments_of f.told.waits)
   pub informed : WasInformed (Some f.told.waits) (Some calls) b.book
 
--- time passed only where nothing was left to be done, as a wait of the front let it: to the moment of an `at` line, or to the
--- least deadline
+-- in the history time passed only where nothing was left to be done, as a wait of the front let it: to the moment of an `at` line, or to
+-- the least deadline
 abbrev pub KeepsPatience : SeenBoard → SeenFront → Type 0
 KeepsPatience b f = ArePatient (comings_of f.script) f.told.waits b.book.base b.book.history
 

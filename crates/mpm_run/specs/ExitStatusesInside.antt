@@ -93,6 +93,13 @@ pub record IsLeftOfRun (s : Scripted) : Type 0 where
   pub ended : s.board.book.state.going ≡ Halted why.FrontEnded → HasEnd s.board s.front
   pub unfailed : s.board.book.state.going ≢ Halted why.FrontFailed
 
+-- what is left is of a run by this configuration and this site, in which each connection, also one that was folded, received a front of
+-- what its client of the script sends, and all of it where the client had done
+pub record HasRunScript (lines : List ScriptLine) (c : Configuration) (site : SeenSite) (b : SeenBoard) : Type 0 where
+  pub has_run : HasRun c site b
+  pub receive : AllReceive (clients_of lines) b.ended
+  pub receive_before : AllReceive (clients_of lines) has_run.folded.ended
+
 -- what is left is of a run of the script, by the configuration that its lines write, and the site that they have by it
 pub record IsPlayed (lines : List ScriptLine) (s : Scripted) : Type 0 where
   pub script : s.front.script ≡ lines
@@ -101,8 +108,7 @@ pub record IsPlayed (lines : List ScriptLine) (s : Scripted) : Type 0 where
   pub text_is : HasConfig lines text
   pub accepted : Configures text s.config
   pub site_is : HasSite lines s.config site
-  pub has_run : HasRun s.config site s.board
-  pub receive : AllReceive (clients_of lines) s.board.ended
+  pub run : HasRunScript lines s.config site s.board
 
 -- ## What is written on the way
 

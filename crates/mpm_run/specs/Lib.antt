@@ -7,6 +7,7 @@ pub mod ExitStatuses
 pub mod ExitStatusesInside
 pub mod FirstNumbers
 pub mod FirstNumbersInside
+pub mod FoldsInside
 pub mod Links
 pub mod Listen
 pub mod ListenInside

@@ -40,8 +40,8 @@ EndsLinks b = b.book.state.accepted < greatest_count → EndsEachOnce b
 
 -- ## Both
 
--- what became of the links that the front handed out: the table took each but for one at most, which was turned away, and each that
--- it took is the link of one connection that ended
+-- what became of the links that the front handed out: the table took each but for one at most, which was turned away, and as many as it
+-- took are those of connections that ended, of which the kept ones have each one of its own
 pub record KeepsLinks (b : SeenBoard) (t : FrontTold) : Type 0 where
   pub taken : TakesLinks b.book.state t
   pub ended : EndsLinks b

@@ -1,16 +1,20 @@
 -- How a run ends, and what its history and its connections are.
-use Rattle.std.specs.Prelude.{◌≡◌, ℕ, ◌+◌, true, false, length}
+use Rattle.std.specs.Prelude.{◌≡◌, ℕ, ◌+◌, true, false, List, length, map}
 use Rattle.std.specs.List.{list_any}
 use Rattle.conn_machine.specs.declared.state.State.{State}
 use Rattle.conn_machine.specs.Rows.{is_live}
 use Rattle.conn_machine.specs.Children.{child_at, is_empty}
 use Rattle.conn_machine.specs.Events.{count_events, is_accept}
 use Rattle.conn_machine.specs.Runs.{Run, after, first_row, IsInPassOrderFrom}
+use Rattle.conn_machine.specs.Folds.{fold_of}
 use Rattle.conn_machine.specs.Made.{AreMade, AreOfPasses}
+use Rattle.conn_machine.specs.declared.event.Entry.{Entry}
+use Rattle.conn_state.specs.Answered.{SeenEnded}
 use Rattle.conn_machine.specs.Laws.{StaysSound}
 use Rattle.conn_machine.specs.Passes.{EachHasItsOwn}
 use Rattle.board.specs.Book.{SeenBook}
-use Rattle.board.specs.Board.{SeenBoard, Agrees}
+use Rattle.board.specs.Board.{SeenBoard, Agrees, AreClosed, AreEnded}
+use Rattle.board.specs.ReportLine.{line_of}
 use Rattle.mpm_run.specs.Commands.{TellsStop}
 use Rattle.mpm_run.specs.FirstNumbers.{folded_by, opened_by}
 use Rattle.mpm_run.specs.Started.{AreAskedFor}
@@ -49,11 +53,20 @@ pub record IsRunFrom (n : RunNumbers) (b : SeenBoard) : Type 0 where
   pub stop : TellsStop b.book
   pub agrees : Agrees b
 
--- nothing of what a run by these numbers did was folded: the state before the history is the one in which it opens, and the record is
--- the opening one
-pub record NeverFolded (n : RunNumbers) (b : SeenBook) : Type 0 where
-  pub opened : b.base ≡ opened_by n
-  pub folded : b.folded ≡ folded_by n
+-- what was folded of a run by these numbers: entries from the state in which it opens, each of which is one that its pass, one of so many,
+-- may make where it stands, each child that was started was asked for, and each command is a stop; the connections that ended in them are
+-- those that they close, in order, each of which shows what an ended connection shows; the state before the history that is kept is the one
+-- behind them; and the record is what one fold makes of them
+pub record HasFolded (n : RunNumbers) (b : SeenBook) : Type 0 where
+  pub entries : List Entry
+  pub ended : List SeenEnded
+  pub made : AreMade (opened_by n) (folded_by n) entries
+  pub few : AreOfPasses n.passes entries
+  pub asked : AreAskedFor (opened_by n) entries
+  pub base_is : b.base ≡ after (opened_by n) entries
+  pub record_is : b.folded ≡ fold_of (opened_by n) entries (map line_of ended) (folded_by n)
+  pub closed : AreClosed (opened_by n) entries ended
+  pub answered : AreEnded ended
 
 -- it closed each connection: none is live, each child is gone, and as many connections ended as were taken, those that were folded
 -- among both

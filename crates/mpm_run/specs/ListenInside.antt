@@ -130,9 +130,10 @@ pub record IsOpening (b : SeenBook) : Type 0 where
   pub opened : IsOpened b.base
   pub none : b.history ≡ []
 
--- the front didn't wait, or the children were started before all else
+-- where nothing was folded, the front didn't wait, or the children were started before all else
 abbrev pub HasStarted : Option (List WaitTold) → Option (List WaitTold) → SeenBook → SeenBook → Type 0
-HasStarted waits waits' old new = (waits' ≡ waits) ⊎ BeginsWithStarts (asked_children old.base) new.history
+HasStarted waits waits' old new =
+    new.folded.entries ≡ 0 → (waits' ≡ waits) ⊎ BeginsWithStarts (asked_children old.base) new.history
 
 -- the table took each link that a front that tells handed out, or it turned the last one away
 abbrev pub HandsOut : Option FrontTold → State → Type 0

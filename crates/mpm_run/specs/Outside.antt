@@ -13,9 +13,9 @@ use Rattle.mpm_run.specs.Watched.{AreWatched, IsOpenedAndHushed}
 use Rattle.mpm_run.specs.declared.run_numbers.RunNumbers.{RunNumbers}
 
 -- what a run by these numbers did with a front that tells: it was bound once, to what the numbers say, dialled nothing, and listens no
--- more; where it waited at all, the children were started before all else; each link that the table took was watched under the name of its
--- connection; what became of each link that it handed out; each ended connection received a front of what its client sends; and its
--- command lines were heeded
+-- more; where it waited at all and nothing was folded, the children were started before all else; behind the watches of what was folded each
+-- link that the table took was watched under the name of its connection; what became of each link that it handed out; each ended connection
+-- that is kept received a front of what its client sends; and its command lines were heeded
 pub record KeepsFront (n : RunNumbers) (b : SeenBoard) (t : FrontTold) : Type 0 where
   pub opened : IsOpenedAndHushed n t
   pub started : IsStartedFirst n b.book t
@@ -25,8 +25,8 @@ pub record KeepsFront (n : RunNumbers) (b : SeenBoard) (t : FrontTold) : Type 0 
   pub heeded : HeedsLines b.book.state.going t
 
 -- the same, and of any front and clock: the clock was told what the waits gave; the ticks and signals of the history come from both;
--- over a patient front, of which nothing had come at first, and a clock that answers what it is told, time passed only where nothing was
--- left to be done; and the server stopped for what the front shows
+-- over a patient front, of which nothing had come at first, and a clock that answers what it is told, time passed in the history only where
+-- nothing was left to be done; and the server stopped for what the front shows
 pub record KeepsOutside (n : RunNumbers) (f f' : FrontSeen) (calls : Option (List (ℕ × ℕ))) (b : SeenBoard) : Type 0 where
   pub front : IfSome f'.told (KeepsFront n b)
   pub time : IsInTime (waits_of f'.told) calls

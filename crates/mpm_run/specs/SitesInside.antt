@@ -3,16 +3,13 @@ use Rattle.std.specs.Prelude.{◌≡◌, ℕ, List, Option, None}
 use Rattle.mpm_base.specs.Sink.{SinkSeen}
 use Rattle.mpm_base.specs.declared.script_line.ScriptLine.{ScriptLine}
 use Rattle.mpm_config.specs.Config.{Configuration}
-use Rattle.mpm_script.specs.Clients.{clients_of}
 use Rattle.file_table.specs.declared.load_fault.LoadFault.{LoadFault}
 use Rattle.file_table.specs.declared.load_fault.LoadFault.TheVariants as fault
 use Rattle.file_table.specs.Site.{SeenSite}
 use Rattle.mpm_run.specs.Configured.{Configures, HasConfig}
 use Rattle.mpm_run.specs.Calls.{WritesText}
-use Rattle.mpm_run.specs.ExitStatuses.{HasRun}
-use Rattle.mpm_run.specs.ExitStatusesInside.{RefusesRun}
+use Rattle.mpm_run.specs.ExitStatusesInside.{HasRunScript, RefusesRun}
 use Rattle.mpm_run.specs.Sites.{HasSite, IsSiteRefused}
-use Rattle.mpm_run.specs.Tells.{AllReceive}
 use Rattle.mpm_run.specs.Texts.{site_refused, store_fault}
 use Rattle.mpm_run.specs.declared.outcome.Scripted.{Scripted}
 
@@ -51,5 +48,4 @@ pub record IsServedRun (lines : List ScriptLine) (c : Configuration) (s : Script
   pub config : s.config ≡ c
   pub site : SeenSite
   pub site_is : HasSite lines c site
-  pub has_run : HasRun c site s.board
-  pub receive : AllReceive (clients_of lines) s.board.ended
+  pub run : HasRunScript lines c site s.board

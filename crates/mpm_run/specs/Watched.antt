@@ -1,6 +1,6 @@
 -- What a run did with its front.
-use Rattle.std.specs.Prelude.{◌≡◌, ℕ, true, false, List, [], ◌∷◌, ◌++◌, map, Option, None, Some, ⊤, ◌≤◌, drop, length}
-use Rattle.std.specs.List.{flat_map}
+use Rattle.std.specs.Prelude.{◌≡◌, ℕ, true, false, List, [], ◌∷◌, ◌++◌, map, Option, None, Some, ⊤, take, drop}
+use Rattle.std.specs.List.{flat_map, range_with_len}
 use Rattle.mpm_base.specs.Count.{next_count}
 use Rattle.mpm_base.specs.Front.{FrontTold, WatchTold}
 use Rattle.mpm_base.specs.declared.conn.Cause.TheVariants.{LinkFailed}
@@ -81,9 +81,14 @@ abbrev pub AreClosedAtOnce : List Entry → List WatchTold → Type 0
 AreClosedAtOnce history [] = ⊤
 AreClosedAtOnce history (w ∷ watches) = (w.answer ≡ false → IsClosedAtOnce history w.name) × AreClosedAtOnce history watches
 
--- behind the watches of the connections whose entries were folded, each link that the table took was watched once, in order, under
--- the name of its connection, and no other link was; and where the watch failed the connection was closed at once
+-- the first so many watches were of the links 0, 1, .. in order, one of each
+abbrev pub AreOfFirstLinks : ℕ → List WatchTold → Type 0
+AreOfFirstLinks count watches = map (λ (w : WatchTold). w.rank) (take count watches) ≡ range_with_len 0 count
+
+-- the watches of the connections whose entries were folded were of the links 0, 1, .. in order, one of each; behind them each link that
+-- the table took was watched once, in order, under the name of its connection, and no other link was; and where such a watch failed the
+-- connection was closed at once
 pub record AreWatched (b : SeenBook) (t : FrontTold) : Type 0 where
-  pub before : b.folded.accepted ≤ length t.watches
+  pub first : AreOfFirstLinks b.folded.accepted t.watches
   pub watches : map link_watched (drop b.folded.accepted t.watches) ≡ links_from b.folded.accepted (accepted_names b.history)
   pub failed : AreClosedAtOnce b.history (drop b.folded.accepted t.watches)

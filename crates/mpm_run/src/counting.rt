@@ -1,11 +1,14 @@
-//! What the report of a board says: counts of its history's entries.
-ghost use Rattle.std.specs.Prelude.{◌≡◌, map, IfOk};
+//! What the report of a board says: counts of its history's entries, with those of the entries that were folded before.
+ghost use Rattle.std.specs.Prelude.{◌≡◌, ◌+◌, ◌<◌, ◌^◌, length, slice_index, IfOk};
+ghost use Rattle.mpm_base.specs.Cause.{cause_number};
 ghost use Rattle.conn_machine.specs.Events as events;
+ghost use Rattle.conn_machine.specs.Folds.{CountsWithin, causes_after};
 ghost use Rattle.mpm_run.specs.Report as spec;
 
-use crate::report::{Tally, ended_lines};
+use crate::report::Tally;
 use board::Board;
-use conn_machine::{Entry, Event};
+use board::report_line::lines_after;
+use conn_machine::{Entry, Event, Folded};
 use conn_state::Known;
 use mpm_base::{Cause, Link, NoMemory};
 use std::alloc::Global;
@@ -15,15 +18,16 @@ pub fn tally<L: Link, N: Known>(alloc: Global, board: &Board<L, N>) -> Result<Ta
     ensures { IfOk result (λ view. view ≡ spec.tally_of board.now.book.folded board.now.book.history board.now.book.state.newest board.now.ended) }
 {
     board.show();
+    let folded = board.folded();
     let history = board.history();
     Ok(Tally {
         generation: board.state().newest,
-        accepted: count_accepts(history),
-        closed: count_closes(history),
-        responses: count_answers(history),
-        causes: count_causes(history),
-        children: count_starts(history),
-        lines: ended_lines(alloc, board.ended())?,
+        accepted: folded.accepted + count_accepts(history),
+        closed: folded.closed + count_closes(history),
+        responses: folded.responses + count_answers(history),
+        causes: count_causes(folded, history),
+        children: folded.children + count_starts(history),
+        lines: lines_after(alloc, &folded.lines, folded.closed, board.ended())?,
     })
 }
 
@@ -67,21 +71,32 @@ fn count_closes(history: &[Entry]) -> u64
         .count() as u64
 }
 
-/// How many connections were closed for each cause, in order.
-fn count_causes(history: &[Entry]) -> [u64; 9]
-    ensures { result ≡ map (λ why. events.count_events (events.is_close_for why) history.now) events.causes }
+/// How many connections were closed for each cause, in order, with those that the record counts.
+fn count_causes(folded: &Folded, history: &[Entry]) -> [u64; 9]
+    requires within { CountsWithin folded.now }
+    requires countable { folded.now.entries + length history.now < 2 ^ 63 }
+    ensures { result ≡ causes_after history.now folded.now.causes }
 {
     [
-        count_closes_for(history, Cause::ClientDone),
-        count_closes_for(history, Cause::LastSent),
-        count_closes_for(history, Cause::KeepAliveLate),
-        count_closes_for(history, Cause::ReadLate),
-        count_closes_for(history, Cause::WriteLate),
-        count_closes_for(history, Cause::Retiring),
-        count_closes_for(history, Cause::LinkFailed),
-        count_closes_for(history, Cause::Stopped),
-        count_closes_for(history, Cause::NoMemory),
+        count_cause(folded, history, Cause::ClientDone),
+        count_cause(folded, history, Cause::LastSent),
+        count_cause(folded, history, Cause::KeepAliveLate),
+        count_cause(folded, history, Cause::ReadLate),
+        count_cause(folded, history, Cause::WriteLate),
+        count_cause(folded, history, Cause::Retiring),
+        count_cause(folded, history, Cause::LinkFailed),
+        count_cause(folded, history, Cause::Stopped),
+        count_cause(folded, history, Cause::NoMemory),
     ]
+}
+
+/// How many connections were closed for the cause, with those that the record counts.
+fn count_cause(folded: &Folded, history: &[Entry], cause: Cause) -> u64
+    requires within { CountsWithin folded.now }
+    requires countable { folded.now.entries + length history.now < 2 ^ 63 }
+    ensures { result ≡ slice_index folded.now.causes (cause_number cause) + events.count_events (events.is_close_for cause) history.now }
+{
+    folded.causes[cause.number() as usize] + count_closes_for(history, cause)
 }
 
 /// How many connections were closed for the cause.

@@ -4,13 +4,14 @@
 //! configuration, or sends a command. What it promises stands in `specs/ExitStatuses.antt`, `Calls.antt`, `Invocations.antt`,
 //! `Listen.antt`, `Configured.antt`, `FirstNumbers.antt`, `Sites.antt`, `Started.antt`, `Commands.antt`, `Stops.antt`, `Outside.antt`,
 //! `Times.antt`, `Watched.antt`, `Links.antt`, `Patient.antt` and `Tells.antt`. Of a run: it works by the configuration and the site
-//! that the script's lines write, or the store has; the history that the board
-//! keeps is a run of the connection machine from its opening state, in the order of its passes, and each state on its way is
-//! sound; the connections agree with it; each connection that was taken ended, and each child is gone; the children were
-//! started before all else, and each one where it was asked for; the front was bound once, watched each connection under its name, and listens no more in the end;
-//! each link that it handed out is that of one connection, but for one where the server was broken off; time passed to the
-//! clock's answers, and only where nothing was left to be done; each slot that the front gave was signalled once, in order; and
-//! where nothing more could come the whole script was played.
+//! that the script's lines write, or the store has; the history that the board keeps is a run of the connection machine, in the order of
+//! its passes, and each state on its way is sound; it begins where the entries that were folded end, which passes made from the opening
+//! state on, and of which the record is what one fold makes; the connections that ended in both agree with them; each connection that was
+//! taken ended, and each child is gone; where nothing was folded the children were started before all else, and each one where it was
+//! asked for; the front was bound once, watched each connection under its name, and listens no more in the end; each link that it handed
+//! out is that of one connection, but for one where the server was broken off; time passed to the clock's answers, and in the history that
+//! is kept only where nothing was left to be done; each slot that the front gave was signalled once, in order; and where nothing more
+//! could come the whole script was played.
 #![tactic(auto)]
 
 mod closing;
@@ -20,6 +21,7 @@ mod config_test;
 mod counting;
 mod edition;
 mod exit_status;
+mod folding;
 mod listen;
 mod outcome;
 mod refusal;

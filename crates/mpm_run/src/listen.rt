@@ -6,7 +6,6 @@
 ghost use Rattle.std.specs.Prelude.{◌≡◌, ◌≢◌, ◌<◌, None, true, false, is_some, max, IfOk, IfErr, IfSome, OnErr, OnOk};
 ghost use Rattle.mpm_base.specs.Count.{Rises, next_count};
 ghost use Rattle.mpm_base.specs.Front.{TellsOn, Waits};
-ghost use Rattle.conn_machine.specs.Made.{AreOfPasses};
 ghost use Rattle.conn_machine.specs.Runs.{after};
 ghost use Rattle.conn_machine.specs.Sound.{IsSound};
 ghost use Rattle.conn_machine.specs.States.{is_halted};
@@ -18,12 +17,14 @@ ghost use Rattle.mpm_run.specs.Commands.{HeedsLines, stop_line};
 ghost use Rattle.mpm_run.specs.ListenInside.{AsksFor, Follows, HandedOut, HandsOut, HasNoneToHeed, HasOneToHeed, HasReadAll, HasStarted, HasStopped, HeedsUntil, IsArrival, IsAtStart, IsInStep, IsKnownOfFront, IsOpening, IsRestful, IsWatching, OnlyReads, OnlyReadsAndTakes, OnlyTakes, TellsAlike, TookAll, TurnsEnd, asked_children, contacts_of, why_of};
 ghost use Rattle.mpm_run.specs.Patient.{IsPatientRun};
 ghost use Rattle.mpm_run.specs.RoundInside.{BreaksOff, EndsTaking, FailsTaking, GoesRound, IsTaking, NoneHas, ServesSome, StartsAsAsked, StartsSome, TakesSome, TakesUntil};
+ghost use Rattle.mpm_run.specs.FoldsInside.{FoldsOn};
 ghost use Rattle.mpm_run.specs.Started.{BeginsWithStarts};
 ghost use Rattle.mpm_run.specs.Times.{IsInTime, IsInformed, IsInformedSoFar, WasInformed, moment_for, waits_of};
 ghost use Rattle.mpm_run.specs.Watched.{IsHushed};
 
 use crate::closing::close_all;
 use crate::edition::{Edition, NamedEdition};
+use crate::folding::fold_history;
 use crate::round::{
     accept, find_rest, halt, has_live, let_go_of_conns, moment_of, pass_time, retire_all,
     serve_all, settle, show_state, signal_all, start_children,
@@ -120,9 +121,8 @@ impl<'a, L: Link + Send, N: Known, B: Bell, G: Gate> Listener<'a, L, N, B, G> {
         requires step { IsInStep (F.seen front.old).told self.old.board.book.state }
         requires heeded { IfSome (F.seen front.old).told HasNoneToHeed }
         requires informed { IsInformed (waits_of (F.seen front.old).told) (C.told clock.old) self.old.board.book }
-        ensures base { self.new.board.book.base ≡ self.old.board.book.base }
+        ensures folded { FoldsOn N.known self.old.board.book self.new.board.book }
         ensures passes { self.new.board.book.passes ≡ self.old.board.book.passes }
-        ensures few { AreOfPasses self.old.board.book.passes self.old.board.book.history → AreOfPasses self.old.board.book.passes self.new.board.book.history }
         ensures asked { StartsAsAsked self.old.board.book self.new.board.book }
         ensures stopped { HasStopped (F.seen front.old) (F.seen front.new) self.new.board.book.state }
         ensures follows { Follows (F.seen front.old) (F.seen front.new) }
@@ -145,8 +145,9 @@ impl<'a, L: Link + Send, N: Known, B: Bell, G: Gate> Listener<'a, L, N, B, G> {
         retire_all(&mut self.board);
     }
 
-    /// Starts the children, and takes turns with the front until nothing more can come, a wait fails or a command line asks to stop, each followed by
-    /// the service of what is signalled. Err where the server has to stop before.
+    /// Starts the children, and takes turns with the front until nothing more can come, a wait fails or a command line asks to stop, each
+    /// followed by the service of what is signalled, and by a fold of the history where it may be folded. Err where the server has to stop
+    /// before.
     fn take_turns<R: Wait, F: Front<L = L>, C: Clock>(
         &mut self,
         rt: &R,
@@ -160,8 +161,7 @@ impl<'a, L: Link + Send, N: Known, B: Bell, G: Gate> Listener<'a, L, N, B, G> {
         requires step { IsInStep (F.seen front.old).told self.old.board.book.state }
         requires heeded { IfSome (F.seen front.old).told HasNoneToHeed }
         requires informed { IsInformed (waits_of (F.seen front.old).told) (C.told clock.old) self.old.board.book }
-        ensures base { self.new.board.book.base ≡ self.old.board.book.base }
-        ensures few { AreOfPasses self.old.board.book.passes self.old.board.book.history → AreOfPasses self.old.board.book.passes self.new.board.book.history }
+        ensures folded { FoldsOn N.known self.old.board.book self.new.board.book }
         ensures asked { StartsAsAsked self.old.board.book self.new.board.book }
         ensures passes { self.new.board.book.passes ≡ self.old.board.book.passes }
         ensures free { NoneHas self.new.board.book }
@@ -200,6 +200,7 @@ impl<'a, L: Link + Send, N: Known, B: Bell, G: Gate> Listener<'a, L, N, B, G> {
             self.show();
             rest = self.serve(rt)?;
             self.show();
+            fold_history(&mut self.board);
         }
         unreachable!()
     }

@@ -1,16 +1,12 @@
 //! The report of a run: its numbers, and a line for each of the first connections that ended.
-ghost use Rattle.std.specs.Prelude.{◌≡◌, ◌++◌, take, codes, IfOk, OnOk};
+ghost use Rattle.std.specs.Prelude.{◌≡◌, ◌++◌, IfOk, OnOk};
 ghost use Rattle.std.specs.List.{flat_map};
 ghost use Rattle.conn_machine.specs.Events.{causes};
-ghost use Rattle.board.specs.ReportLine as line;
 ghost use Rattle.mpm_run.specs.Report as spec;
 
-use conn_state::Ended;
-use mpm_base::{Cause, Link, NoMemory, Note, Octets, Tail};
+use board::report_line::cause_word;
+use mpm_base::{Cause, NoMemory, Octets};
 use std::alloc::Global;
-
-/// How many of the connections that ended have a line of their own.
-const MOST_LINES: usize = 64;
 
 /// The causes, in order.
 const CAUSES: [Cause; 9] = [
@@ -57,86 +53,6 @@ pub fn report_text(alloc: Global, view: &Tally) -> Result<Octets, NoMemory>
     add_count(&mut text, b"ChildrenStarted", view.children)?;
     text.add(view.lines.as_slice())?;
     Ok(text)
-}
-
-/// The name of a cause.
-fn cause_word(cause: Cause) -> &'static [u8]
-    ensures { result.now ≡ line.cause_word cause }
-{
-    match cause {
-        Cause::ClientDone => b"ClientDone",
-        Cause::LastSent => b"LastSent",
-        Cause::KeepAliveLate => b"KeepAliveLate",
-        Cause::ReadLate => b"ReadLate",
-        Cause::WriteLate => b"WriteLate",
-        Cause::Retiring => b"Retiring",
-        Cause::LinkFailed => b"LinkFailed",
-        Cause::Stopped => b"Stopped",
-        Cause::NoMemory => b"NoMemory",
-    }
-}
-
-/// The name of a tail.
-fn tail_word(tail: Tail) -> &'static [u8]
-    ensures { result.now ≡ line.tail_word tail }
-{
-    match tail {
-        Tail::Direct => b"Direct",
-        Tail::Drained => b"Drained",
-        Tail::Sated => b"Sated",
-        Tail::Late => b"Late",
-        Tail::Failed => b"Failed",
-        Tail::Halted => b"Halted",
-        Tail::NoMemory => b"NoMemory",
-    }
-}
-
-/// A line for each of the first connections that ended.
-pub fn ended_lines<L: Link>(alloc: Global, ended: &[Ended<L>]) -> Result<Octets, NoMemory>
-    ensures { IfOk result (λ text. text ≡ flat_map line.line_of (take 64 ended.now)) }
-{
-    let mut text = Octets::make(alloc);
-    for i in 0..ended.len().min(MOST_LINES) {
-        let end = &ended[i];
-        add_line(&mut text, end)?;
-    }
-    Ok(text)
-}
-
-/// Adds the line of a connection that ended.
-fn add_line<L: Link>(text: &mut Octets, ended: &Ended<L>) -> Result<(), NoMemory>
-    ensures { OnOk result (text.new ≡ text.old ++ line.line_of ended.now) }
-{
-    text.add_number(ended.generation as u64)?;
-    text.add(b" ")?;
-    text.add(cause_word(ended.cause))?;
-    text.add(b" ")?;
-    text.add(tail_word(ended.tail))?;
-    text.add(b" ")?;
-    add_codes(text, ended.notes.as_slice())?;
-    text.add(b"\n")
-}
-
-/// Adds the codes of the responses, with commas between them.
-fn add_codes(text: &mut Octets, notes: &[Note]) -> Result<(), NoMemory>
-    ensures { OnOk result (text.new ≡ text.old ++ line.codes_of notes.now) }
-{
-    let Some((first, rest)) = notes.split_first() else {
-        return text.add(b"-");
-    };
-    text.add_number(first.code as u64)?;
-    for note in rest {
-        add_code(text, note)?;
-    }
-    Ok(())
-}
-
-/// Adds a comma and the code of the response.
-fn add_code(text: &mut Octets, note: &Note) -> Result<(), NoMemory>
-    ensures { OnOk result (text.new ≡ text.old ++ line.further_code note.now) }
-{
-    text.add(b",")?;
-    text.add_number(note.code as u64)
 }
 
 /// Adds the lines of the causes.

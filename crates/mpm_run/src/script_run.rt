@@ -1,6 +1,5 @@
 //! The run of a script: `--script FILE`, and `--load N`.
 ghost use Rattle.std.specs.Prelude.{◌≡◌, ◌≤◌, ◌⊎◌, ℕ, List, false, None, IfSome, IsSome, IsNone};
-ghost use Rattle.mpm_script.specs.Clients.{clients_of};
 ghost use Rattle.mpm_script.specs.FileNames.{HaveTextNames};
 ghost use Rattle.mpm_script.specs.Load.{load_lines};
 ghost use Rattle.file_table.specs.Load.{is_store_fault};
@@ -8,12 +7,11 @@ ghost use Rattle.script_front.specs.Editions.{editions_of, store_of};
 ghost use Rattle.mpm_run.specs.Configured.{warnings_of};
 ghost use Rattle.mpm_run.specs.ConfiguredInside.{IsOfText, IsScriptConfig};
 ghost use Rattle.mpm_run.specs.Calls.{seen_call};
-ghost use Rattle.mpm_run.specs.ExitStatuses.{EndsAs, EndsConfigRefused, EndsRefused, EndsSilently, EndsSiteRefused, EndsUnread, HasPlayed, HasRun, fault_at};
-ghost use Rattle.mpm_run.specs.ExitStatusesInside.{IsConfigRefusalOf, IsLeftOfRun, IsPlayed, IsPlayedStatus, IsRefusalOf, IsScriptStatus, RefusesConfig};
+ghost use Rattle.mpm_run.specs.ExitStatuses.{EndsAs, EndsConfigRefused, EndsRefused, EndsSilently, EndsSiteRefused, EndsUnread, HasPlayed, fault_at};
+ghost use Rattle.mpm_run.specs.ExitStatusesInside.{HasRunScript, IsConfigRefusalOf, IsLeftOfRun, IsPlayed, IsPlayedStatus, IsRefusalOf, IsScriptStatus, RefusesConfig};
 ghost use Rattle.command_words.specs.Invocations.{IsScriptWords};
 ghost use Rattle.mpm_run.specs.Sites.{head_limits_of};
 ghost use Rattle.mpm_run.specs.SitesInside.{IsServedRun, IsSiteRefusalOf, RefusesLoad, RefusesSite};
-ghost use Rattle.mpm_run.specs.Tells.{AllReceive};
 
 use crate::config_reading::{MOST_CONFIG, NoConfig, config_from};
 use crate::edition::Edition;
@@ -256,8 +254,7 @@ fn serve_script<R: Wait, G: Gate, K: Sink>(
     requires told { told.now ≡ warnings_of config }
     requires store { store.told ≡ editions_of script }
     requires limits { edition.limits ≡ head_limits_of config }
-    ensures kept { IfSome result.left (λ s. HasRun config edition.site.value s.board) }
-    ensures receive { IfSome result.left (λ s. AllReceive (clients_of script) s.board.ended) }
+    ensures kept { IfSome result.left (λ s. HasRunScript script config edition.site.value s.board) }
     ensures script { IfSome result.left (λ s. s.front.script ≡ script) }
     ensures config { IfSome result.left (λ s. s.config ≡ config) }
     ensures left { IfSome result.left IsLeftOfRun }

@@ -2,26 +2,27 @@
 ghost use Rattle.std.specs.Prelude.{◌≡◌, ℕ, List, [], Some, is_some, IfErr, IfOk, IfSome, OnErr};
 ghost use Rattle.mpm_base.specs.Count.{NeverFalls};
 ghost use Rattle.mpm_run.specs.Unused.{IsUnused};
-ghost use Rattle.conn_machine.specs.Made.{AreOfPasses};
 ghost use Rattle.conn_state.specs.Known.{IsOfEdition};
 ghost use Rattle.board.specs.Board.{AreOfOutside};
 ghost use Rattle.mpm_run.specs.ExitStatusesInside.{WritesAll};
-ghost use Rattle.mpm_run.specs.FirstNumbers.{opened_by};
 ghost use Rattle.mpm_run.specs.FirstNumbersInside.{AreNumbers, opened_book};
+ghost use Rattle.mpm_run.specs.FoldsInside.{IsFoldedOf};
 ghost use Rattle.mpm_run.specs.Links.{EndsLinks};
-ghost use Rattle.mpm_run.specs.Listen.{HasClosedAll, IsClosedDown, IsRunFrom, NeverFolded};
+ghost use Rattle.mpm_run.specs.Listen.{HasClosedAll, IsClosedDown, IsRunFrom};
 ghost use Rattle.mpm_run.specs.ListenInside.{Follows, IsKnownOfFront, IsUnopened, clients_known};
 ghost use Rattle.mpm_run.specs.Outside.{KeepsOutside};
 ghost use Rattle.mpm_run.specs.Started.{AreAskedFor};
 ghost use Rattle.mpm_run.specs.Tells.{AllReceive};
 
 use crate::edition::{Edition, NamedEdition};
+use crate::folding::{folds_join, show_for_folds};
 use crate::listen::Listener;
 use crate::run_numbers::RunNumbers;
 use crate::writing::write_all;
 use board::Board;
 use board::laws::ended_links_are_of_closed_connections;
 use conn_machine::laws::{accepted_connections_are_closed_or_live, events_keep_states_sound};
+use conn_machine::laws_of_runs::made_histories_are_runs;
 use conn_state::{Known, Nothing};
 use mpm_base::{Clock, Front, Gate, Link, NoMemory, Ready, Sink};
 use std::alloc::Global;
@@ -68,7 +69,7 @@ pub fn run_server<R: Wait, L: Link + Send, F: Front<L = L>, C: Clock, G: Gate, K
     requires unused { IfSome (F.seen front.old).told IsUnused }
     requires unasked { IfSome (C.told clock.old) (λ calls. calls ≡ []) }
     ensures run { IfOk result (λ s. IsRunFrom numbers s.board) }
-    ensures unfolded { IfOk result (λ s. NeverFolded numbers s.board.book) }
+    ensures folded { IfOk result (λ s. IsFoldedOf N.known numbers s.board.book) }
     ensures closed { IfOk result (λ s. HasClosedAll s.board) }
     ensures edition { IfOk result (λ s. AreOfOutside N.known s.board) }
     ensures outside { IfOk result (λ s. KeepsOutside numbers (F.seen front.old) (F.seen front.new) (C.told clock.new) s.board) }
@@ -93,6 +94,7 @@ pub fn run_server<R: Wait, L: Link + Send, F: Front<L = L>, C: Clock, G: Gate, K
         return Err(OpenFault::Bind);
     }
     board.show();
+    folds_join();
     let written = write_all(out, text);
     let mut listener = Listener {
         alloc,
@@ -133,14 +135,11 @@ fn open_board<L: Link, N: Known>(
     )
 }
 
-/// What a board shows of its run: each state on the way was sound, and where no connection is live each one that was taken
-/// ended, and the links that tell are, each once, those that were taken. Does nothing.
+/// What a board shows of its run, behind what was folded of it: each state on the way was sound, and where no connection is live each one
+/// that was taken ended, and the links that tell are, each once, ones that were taken. Does nothing.
 fn show_run<L: Link, N: Known>(board: &Board<L, N>, numbers: RunNumbers)
-    requires base { board.now.book.base ≡ opened_by numbers }
-    requires passes { board.now.book.passes ≡ numbers.passes }
-    requires few { AreOfPasses numbers.passes board.now.book.history }
+    requires folded { IsFoldedOf N.known numbers board.now.book }
     requires asked { AreAskedFor board.now.book.base board.now.book.history }
-    ensures unfolded { NeverFolded numbers board.now.book }
     ensures run { IsRunFrom numbers board.now }
     ensures closed { IsClosedDown board.now.book.state → HasClosedAll board.now }
     ensures links { (clients : List (List ℕ)) → clients_known N.known ≡ Some clients → IsClosedDown board.now.book.state → EndsLinks board.now }
@@ -150,5 +149,8 @@ fn show_run<L: Link, N: Known>(board: &Board<L, N>, numbers: RunNumbers)
     events_keep_states_sound();
     accepted_connections_are_closed_or_live();
     ended_links_are_of_closed_connections();
+    made_histories_are_runs();
+    folds_join();
+    show_for_folds(board);
     board.show();
 }

@@ -46,9 +46,13 @@ pub fn run<R: Threads + Wait + Sync, D: Store, F: Front, C: Clock, G: Gate + Syn
     requires unused { IfSome (F.seen front.old).told IsUnused }
     requires unasked { IfSome (C.told clock.old) (λ calls. calls ≡ []) }
 
+    // A history is folded as it grows, and a record counts what was folded. What is said here of a history, of connections that ended, and
+    // of watches, links, ticks, signals and time is said of those that are kept, behind as many as the record counts.
+
     // Whatever the exit status, what is left of a script's run is of one of the script that was read or made, by the configuration that
     // it writes and the site that it has by that: it closed each connection that it took, each child is gone, and each connection was
-    // served by the site, and by the configuration's limits of heads.
+    // served by the site, and by the configuration's limits of heads. The record is what one fold makes of entries that lead to the kept
+    // history, and of connections that they close, of which the same holds.
     ensures kept { IfSome result.scripted (λ s. HasPlayed (seen_call words.now (D.seen store.old) (D.seen store.new) (K.seen out.old) (K.seen out.new) result.shown) s.config s.board s.front) }
 
     // Its store tells what the lines of the script make of the site.
@@ -57,7 +61,8 @@ pub fn run<R: Threads + Wait + Sync, D: Store, F: Front, C: Clock, G: Gate + Syn
     // Its front was bound once, to what the configuration says, dialled nothing, and has stopped listening in the end.
     ensures front { IfSome result.scripted (λ s. IsOpenedAndHushed (opening.numbers_of s.config) s.front.told) }
 
-    // Where its front waited at all, the children that its shape asks for were started before all else, in order of number.
+    // Where its front waited at all and nothing was folded, the children that its shape asks for were started before all else, in order of
+    // number.
     ensures started { IfSome result.scripted (λ s. IsStartedFirst (opening.numbers_of s.config) s.board.book s.front.told) }
 
     // It watched each link that the table took, once and in order, under the name of its connection, which was closed at once where

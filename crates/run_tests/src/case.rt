@@ -12,6 +12,8 @@ pub struct View {
     pub moments: bool,
     /// Nothing but the report.
     pub report: bool,
+    /// How many entries were folded, and how many are kept.
+    pub entries: bool,
 }
 
 /// What a run is to be over.
@@ -102,6 +104,7 @@ fn take_word(case: &mut Case, word: &str) {
         "history" => case.view.history = true,
         "moments" => case.view.moments = true,
         "report" => case.view.report = true,
+        "entries" => case.view.entries = true,
         _ => case.strange = true,
     }
 }

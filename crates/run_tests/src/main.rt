@@ -14,7 +14,8 @@
 //! - `store N`, `output N`: the store's, the output's call of that number fails.
 //! - `slow`: the output takes single bytes.
 //! - `history`: the history is shown. `moments`: in place of each connection, how many children were started, and connections taken
-//!   and closed, at each moment. `report`: nothing of the connections is shown but the report.
+//!   and closed, at each moment. `report`: nothing of the connections is shown but the report. `entries`: how many entries were folded, and
+//!   how many are kept, is shown. Behind a fold a history has what came after it, and connections are shown that ended after it.
 //!
 //! With `rt try --fail-alloc N` the Nth allocation fails, for each N. The program then ends with an error where the run of that
 //! moment stopped as it must. Where the output itself found no memory for its bytes, it has failed: that run has status 5 then, and

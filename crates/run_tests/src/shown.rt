@@ -19,7 +19,8 @@ fn board_of(outcome: &Outcome<ScriptLink>) -> Option<&Board<ScriptLink, Nothing>
 }
 
 /// Prints what was written, and where a run opened how far the script came, of the run or of the front that was handed in, how its
-/// connections ended, how many were taken and closed at each moment, or nothing of them, and its history where it is asked for.
+/// connections ended, how many were taken and closed at each moment, or nothing of them, and, where it is asked for, how many entries there
+/// were and its history.
 pub fn show_outcome(
     rt: &impl Print,
     alloc: Global,
@@ -43,10 +44,19 @@ pub fn show_outcome(
     } else if !view.report {
         show_connections(rt, alloc, board.ended())?;
     }
+    if view.entries {
+        show_entries(rt, board)?;
+    }
     if view.history {
         show_history(rt, board.history())?;
     }
     Ok(())
+}
+
+/// Prints how many entries were folded, and how many are kept.
+fn show_entries(rt: &impl Print, board: &Board<ScriptLink, Nothing>) -> io::Result<()> {
+    let folded = board.folded().entries;
+    println!(rt; "folded {folded} entries, kept {}", board.history().len())
 }
 
 /// Prints how far the script of the front came.

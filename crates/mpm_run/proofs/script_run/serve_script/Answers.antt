@@ -7,14 +7,15 @@ use Rattle.mpm_run.specs.Started.{IsStartedFirst}
 use Rattle.mpm_run.specs.Watched.{IsOpenedAndHushed}
 use Rattle.mpm_run.specs.declared.run_numbers.RunNumbers.{RunNumbers}
 use Rattle.mpm_run.proofs.EndLemmas.{ends-as, has-end, keeps-time, never-failed, patience-of, stopped-end}
-use Rattle.mpm_run.proofs.ServeLemmas.{has-run}
+use Rattle.mpm_run.proofs.ServeLemmas.{has-run_script}
 use Rattle.mpm_run.proofs.script_run.serve_script.Goals as goal
 
 pub returns-in-Ok-answer-clause-kept : goal.returns-in-Ok-answer-clause-kept
 returns-in-Ok-answer-clause-kept g c =
     let kept = c.in-Ok-answer.ensures in
-    has-run c.args.config _ c.args.edition.limits c.args.edition.site.value (Some c.in-Ok.front.told.clients) c.in-Ok-answer.served.board
-    c.numbers_of-numbers.ensures.value c.requires.limits kept.run kept.unfolded kept.closed kept.edition
+    has-run_script c.args.script c.args.config _ c.args.edition.limits c.args.edition.site.value c.in-Ok.front.told.clients c.in-Ok-answer.served.board
+    (ap (λ (x : SeenFront). x.told.clients) c.in-Ok.ensures) c.numbers_of-numbers.ensures.value c.requires.limits kept.run kept.folded kept.closed
+    kept.edition
 
 pub returns-in-Ok-answer-clause-left : goal.returns-in-Ok-answer-clause-left
 returns-in-Ok-answer-clause-left g c =

@@ -9,7 +9,7 @@ pub returns-in-Ok-clause-run : goal.returns-in-Ok-clause-run
 returns-in-Ok-clause-run g c =
     let kept = c.in-Ok.ensures in
     has-run c.args.config.now _ c.args.edition.limits c.args.edition.site.value (clients_told (g.F.Front.seen c.args.front.now).told)
-    c.in-Ok.served.board c.numbers_of-numbers.ensures.value c.requires.limits kept.run kept.unfolded kept.closed kept.edition
+    c.in-Ok.served.board c.numbers_of-numbers.ensures.value c.requires.limits kept.run kept.folded kept.closed kept.edition
 
 pub returns-in-Ok-clause-ends : goal.returns-in-Ok-clause-ends
 returns-in-Ok-clause-ends g c =

@@ -1,16 +1,18 @@
-use Rattle.std.proofs.Common.{◌≡◌, ◌⊎◌, ℕ, ap, sym, subst, ◌∙◌}
-use Rattle.conn_machine.specs.Made.{AreOfPasses}
+use Rattle.std.proofs.Common.{◌≡◌, ◌⊎◌, ap, sym, subst}
 use Rattle.conn_machine.specs.declared.state.State.{State}
+use Rattle.board.specs.Board.{SeenBoard}
 use Rattle.board.specs.Book.{SeenBook}
 use Rattle.mpm_run.specs.FirstNumbers.{opened_by}
+use Rattle.mpm_run.specs.FoldsInside.{IsFoldedOf}
 use Rattle.mpm_run.specs.Listen.{HasClosedAll}
 use Rattle.mpm_run.specs.ListenInside.{IsOpening, asked_children, clients_known}
 use Rattle.mpm_run.specs.Outside.{KeepsOutside}
 use Rattle.mpm_run.specs.Started.{BeginsWithStarts}
 use Rattle.mpm_run.specs.Times.{waits_of}
 use Rattle.mpm_run.proofs.ChildrenLemmas.{started-first}
+use Rattle.mpm_run.proofs.FoldedRunLemmas.{opened-folded}
 use Rattle.mpm_run.proofs.FrontLemmas.{follows-bind, follows-trans, named-follows}
-use Rattle.mpm_run.proofs.StartedLemmas.{are-watched, asked-opened, binds-true, few-opened, heeded-opened, idle-bound, informed-opened, keeps-front, nothing-bound, opened-hushed, opens, starts-opened, step-opened, stopped-before, time-opened, unwaited, watching-opened}
+use Rattle.mpm_run.proofs.StartedLemmas.{are-watched, asked-opened, binds-true, heeded-opened, idle-bound, informed-opened, keeps-front, nothing-bound, opened-hushed, opens, starts-opened, step-opened, stopped-before, time-opened, unwaited, watching-opened}
 use Rattle.mpm_run.proofs.server.run_server.Goals as goal
 
 pub listen-requires-clause-named : goal.listen-requires-clause-named
@@ -36,18 +38,20 @@ listen-requires-clause-informed g c κs within =
     let idle = idle-bound c.args.numbers (g.F.Front.seen c.args.front.now) (g.F.Front.seen c.bind.new.self) (g.C.Clock.told c.args.clock.now) binds c.requires.unused c.requires.unasked in
     informed-opened c.args.numbers (g.F.Front.seen c.bind.new.self).told (g.C.Clock.told c.args.clock.now) c.in-Ok-open_board.board.book c.in-Ok-open_board.ensures.book idle
 
-pub show_run-requires-clause-passes : goal.show_run-requires-clause-passes
-show_run-requires-clause-passes g c =
-    c.listen.ensures.passes ∙ ap (λ (b : SeenBook). b.passes) c.in-Ok-open_board.ensures.book
-
-pub show_run-requires-clause-few : goal.show_run-requires-clause-few
-show_run-requires-clause-few g c =
-    let passes : c.in-Ok-open_board.board.book.passes ≡ c.args.numbers.passes = ap (λ (b : SeenBook). b.passes) c.in-Ok-open_board.ensures.book in
-    subst (λ (n : ℕ). AreOfPasses n c.listen.new.self.board.book.history) passes (c.listen.ensures.few (few-opened c.args.numbers c.in-Ok-open_board.board.book.passes c.in-Ok-open_board.board.book c.in-Ok-open_board.ensures.book))
+pub show_run-requires-clause-folded : goal.show_run-requires-clause-folded
+show_run-requires-clause-folded g c =
+    c.listen.ensures.folded c.args.numbers (asked-opened c.args.numbers c.in-Ok-open_board.board.book c.in-Ok-open_board.ensures.book)
+    (opened-folded c.folds_join.ensures g.N.Known.known c.args.numbers c.in-Ok-open_board.board.book c.in-Ok-open_board.ensures.book)
 
 pub show_run-requires-clause-asked : goal.show_run-requires-clause-asked
 show_run-requires-clause-asked g c =
     c.listen.ensures.asked (asked-opened c.args.numbers c.in-Ok-open_board.board.book c.in-Ok-open_board.ensures.book)
+
+pub returns-clause-folded : goal.returns-clause-folded
+returns-clause-folded g c =
+    subst (λ (b : SeenBoard). IsFoldedOf g.N.Known.known c.args.numbers b.book) (sym c.forget.ensures.same)
+    (c.listen.ensures.folded c.args.numbers (asked-opened c.args.numbers c.in-Ok-open_board.board.book c.in-Ok-open_board.ensures.book)
+    (opened-folded c.folds_join.ensures g.N.Known.known c.args.numbers c.in-Ok-open_board.board.book c.in-Ok-open_board.ensures.book))
 
 pub returns-clause-outside : goal.returns-clause-outside
 returns-clause-outside g c =
@@ -59,7 +63,7 @@ returns-clause-outside g c =
       none = ap (λ (b : SeenBook). b.history) c.in-Ok-open_board.ensures.book;
     } in
     let base : c.in-Ok-open_board.board.book.base ≡ opened_by c.args.numbers = ap (λ (b : SeenBook). b.base) c.in-Ok-open_board.ensures.book in
-    let started = subst (λ (s : State). (waits_of (g.F.Front.seen c.listen.new.front).told ≡ waits_of (g.F.Front.seen c.bind.new.self).told) ⊎ BeginsWithStarts (asked_children s) c.listen.new.self.board.book.history) base
+    let started = subst (λ (s : State). c.listen.new.self.board.book.folded.entries ≡ 0 → (waits_of (g.F.Front.seen c.listen.new.front).told ≡ waits_of (g.F.Front.seen c.bind.new.self).told) ⊎ BeginsWithStarts (asked_children s) c.listen.new.self.board.book.history) base
     (c.listen.ensures.started opening) in
     let stopped = stopped-before (g.F.Front.seen c.args.front.now) (g.F.Front.seen c.bind.new.self) (g.F.Front.seen c.listen.new.front) c.listen.new.self.board.book.state (follows-bind _ _ _ _ _ binds) c.listen.ensures.stopped in
     let named = named-follows g.N.Known.known (g.F.Front.seen c.args.front.now) (g.F.Front.seen c.listen.new.front) (follows-trans _ _ _ (follows-bind _ _ _ _ _ binds) c.listen.ensures.follows) c.requires.named in

@@ -1,6 +1,5 @@
 use Rattle.std.proofs.Common.{◌≡◌, ◌+◌, ◌≤◌, ◌<◌, true, length, vec_capacity, subst, sym, refl, ap, ◌∙◌, rules, arith}
 use Rattle.conn_machine.specs.Table.{is_allowed, next, reply}
-use Rattle.conn_machine.specs.Folds.{opening_record}
 use Rattle.conn_machine.specs.Runs.{after}
 use Rattle.board.specs.Book.{SeenBook, entry_of, numbered_entry}
 use Rattle.board.specs.RoomInside.{owed_entries}
@@ -24,18 +23,19 @@ invariant_of-self c =
     let may = subst (λ (v : SeenBook). is_allowed v.state c.args.event ≡ true) (sym c.self.view_is) c.requires.allowed in
     let base = inside.base.value in
     let history = inside.history.items in
-    let folded = opening_record (length inside.ordinals.items) in
+    let folded = inside.folded in
+    let passes = length folded.ordinals in
     let e = numbered_entry c.args.who c.args.event c.in-Ok.reply folded history in
     let role = role_inside c.args.who _ c.args.self.now c.args.event c.self.view_is c.requires.role in
+    let below : c.args.who < passes = search rules in
     let goes_on = c.histories_go_on_by_one_entry.ensures in
-    rw c.append.ensures.passes
-    (kept_sure base folded history c.append.new.history.items inside.state c.step.new.state inside.ordinals.items
-    c.append.new.ordinals.items inside.pages (vec_capacity inside.history) (vec_capacity c.append.new.history)
-    e c.self.invariant may c.append.ensures.numbers
+    kept_sure passes base folded history c.append.new.history.items inside.state c.step.new.state inside.ahead
+    c.append.new.ahead (vec_capacity inside.history) (vec_capacity c.append.new.history)
+    e c.self.invariant may c.append.ensures.ahead
     (record { sound = c.step.ensures.sound; sizes = c.step.ensures.sizes; sized = c.step.ensures.sized })
     c.append.ensures.history c.in-Ok.ensures.state c.requires.sure c.append.ensures.room
-    (goes_by base folded history inside.state inside.ordinals.items inside.pages (vec_capacity inside.history) e c.self.invariant may c.in-Ok.ensures.reply
-    refl role goes_on.state goes_on.history goes_on.made))
+    (goes_by passes base folded history inside.state inside.ahead (vec_capacity inside.history) e c.self.invariant below may c.in-Ok.ensures.reply
+    refl role goes_on.state goes_on.history goes_on.made goes_on.other)
 
 pub returns-clause-entries : goal.returns-clause-entries
 returns-clause-entries c =
@@ -43,8 +43,8 @@ returns-clause-entries c =
     let b = c.args.self.now in
     let state_is = subst (λ (v : SeenBook). after v.base v.history ≡ v.state) c.self.view_is c.self.invariant.state_is in
     adds_recorded c.args.who c.args.event b _
-    (recorded_is b inside.base.value inside.history.items c.append.new.history.items inside.state c.step.new.state _ _ c.args.who
-    c.args.event c.in-Ok.reply c.self.view_is c.append.ensures.history c.in-Ok.ensures.state c.in-Ok.ensures.reply c.append.ensures.passes)
+    (recorded_is b inside.base.value inside.folded inside.history.items c.append.new.history.items inside.state c.step.new.state c.args.who
+    c.args.event c.in-Ok.reply c.self.view_is c.append.ensures.history c.in-Ok.ensures.state c.in-Ok.ensures.reply)
     (c.passes_add_entries.ensures.one c.args.who b.base b.folded b.history (entry_of c.args.who c.args.event b)
     (may_be_next c.args.who b c.args.event state_is c.requires.allowed c.requires.role))
 
@@ -53,7 +53,7 @@ returns-clause-row c =
     let inside = c.self.inside in
     let b = c.args.self.now in
     row-recorded c.args.who c.args.event c.in-Ok.reply b _
-    (recorded_is b inside.base.value inside.history.items c.append.new.history.items inside.state c.step.new.state _ _ c.args.who
-    c.args.event c.in-Ok.reply c.self.view_is c.append.ensures.history c.in-Ok.ensures.state c.in-Ok.ensures.reply c.append.ensures.passes)
+    (recorded_is b inside.base.value inside.folded inside.history.items c.append.new.history.items inside.state c.step.new.state c.args.who
+    c.args.event c.in-Ok.reply c.self.view_is c.append.ensures.history c.in-Ok.ensures.state c.in-Ok.ensures.reply)
     (c.in-Ok.ensures.reply ∙ ap (λ (v : SeenBook). reply v.state c.args.event) c.self.view_is)
     (c.histories_go_on_by_one_entry.ensures.row b.folded c.args.who b.history (entry_of c.args.who c.args.event b) (is_own c.args.who c.args.event b))

@@ -1,14 +1,15 @@
-use Rattle.std.proofs.Common.{◌<◌, inl, inr, None, Option, List, ap, sym, subst, ◌∙◌, arith}
+use Rattle.std.proofs.Common.{inl, inr, None, Option, List, ap, sym, subst, ◌∙◌}
 use Rattle.mpm_base.specs.Front.{FrontSeen, WaitTold}
+use Rattle.conn_machine.specs.declared.folded.Folded.{Folded}
 use Rattle.mpm_run.specs.ListenInside.{HaltsAs}
 use Rattle.mpm_run.specs.Times.{WasInformed}
 use Rattle.mpm_run.proofs.AskedLemmas.{asked-silent, startless-gone, startless-halts, startless-retires}
 use Rattle.mpm_run.proofs.ChildrenLemmas.{begins-down}
 use Rattle.mpm_run.proofs.CommandLemmas.{heeds-hushed}
+use Rattle.mpm_run.proofs.FoldedRunLemmas.{folds-acts}
 use Rattle.mpm_run.proofs.FrontLemmas.{contacts-hushed, follows-hushed, follows-trans, is-hushed, waits-hushed}
 use Rattle.mpm_run.proofs.PaceLemmas.{patience-down}
 use Rattle.mpm_run.proofs.StopLemmas.{free-halted, has-halted, has-stopped, must-halt, was-informed}
-use Rattle.mpm_run.proofs.TurnLemmas.{few-acts}
 use Rattle.mpm_run.proofs.LinkLemmas.{handed-out}
 use Rattle.mpm_run.proofs.WatchLemmas.{nobody-down, watched-as, watched-hushed}
 use Rattle.mpm_run.proofs.listen.Listener.listen.Goals as goal
@@ -70,14 +71,12 @@ returns-clause-patient g c start =
     c.take_turns-turns.new.self.board.book c.halt.new.board.book c.close_all.new.board.book c.retire_all.new.board.book c.halt.ensures.acts c.close_all.ensures.gone
     c.retire_all.ensures.retires c.hush.ensures (patient start)
 
-pub returns-clause-few : goal.returns-clause-few
-returns-clause-few g c began =
-    let passes = c.args.self.now.board.book.passes in
-    let some : 0 < passes = omega (arith, c.requires.passes) in
-    let few = c.take_turns-turns.ensures.few in
-    few-acts c.passes_act_in_steps.ensures.acts passes 0 _ None c.close_all.new.board.book c.retire_all.new.board.book some c.retire_all.ensures.retires.acts
-    (few-acts c.passes_act_in_steps.ensures.acts passes 0 _ None c.halt.new.board.book c.close_all.new.board.book some c.close_all.ensures.gone.acts
-    (few-acts c.passes_act_in_steps.ensures.acts passes 0 _ None c.take_turns-turns.new.self.board.book c.halt.new.board.book some c.halt.ensures.acts (few began)))
+pub returns-clause-folded : goal.returns-clause-folded
+returns-clause-folded g c n asked before =
+    folds-acts g.N.Known.known 0 _ None c.close_all.new.board.book c.retire_all.new.board.book c.retire_all.ensures.retires.acts n
+    (folds-acts g.N.Known.known 0 _ None c.halt.new.board.book c.close_all.new.board.book c.close_all.ensures.gone.acts n
+    (folds-acts g.N.Known.known 0 _ None c.take_turns-turns.new.self.board.book c.halt.new.board.book c.halt.ensures.acts n
+    (c.take_turns-turns.ensures.folded n asked before)))
 
 pub returns-clause-asked : goal.returns-clause-asked
 returns-clause-asked g c began =
@@ -89,9 +88,10 @@ returns-clause-asked g c began =
     (startless-halts c.take_turns-turns.result) (asked began)))
 
 pub returns-clause-started : goal.returns-clause-started
-returns-clause-started g c opening =
+returns-clause-started g c opening none =
     let started = c.take_turns-turns.ensures.started in
-    elim (started opening) [
+    let acts = c.retire_all.ensures.retires.acts.folded ∙ c.close_all.ensures.gone.acts.folded ∙ c.halt.ensures.acts.folded in
+    elim (started opening (ap (λ (f : Folded). f.entries) (sym acts) ∙ none)) [
       | inl same ↦ inl (waits-hushed _ _ c.hush.ensures ∙ same)
       | inr begins ↦
           inr (begins-down _ c.take_turns-turns.result c.take_turns-turns.new.self.board.book c.halt.new.board.book c.close_all.new.board.book c.retire_all.new.board.book

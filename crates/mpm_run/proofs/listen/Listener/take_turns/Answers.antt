@@ -1,5 +1,6 @@
 use Rattle.std.proofs.Common.{◌≡◌, ℕ, List, refl, sym, ap, ◌∙◌}
 use Rattle.mpm_run.proofs.CommandLemmas.{heeded-wait}
+use Rattle.mpm_run.proofs.FoldedTurnLemmas.{turn-folded}
 use Rattle.mpm_run.proofs.FrontLemmas.{follows-trans, follows-wait, named-follows, step-wait}
 use Rattle.mpm_run.proofs.OverLemmas.{over-asked, over-broken, over-ended, over-failed, over-served, over-started, turn-served, turn-started}
 use Rattle.mpm_run.proofs.RoundLemmas.{none-has}
@@ -13,9 +14,9 @@ loop-init g c =
     let m = listener_of c.start.new.self.board (g.F.Front.seen c.args.front.now) (g.C.Clock.told c.args.clock.now) c.start.new.self.ready in
     let same : m ≡ record first { board = m.board } = ap (λ (ready : List ℕ). record m { ready = ready }) (ap (λ (l : _). l.ready) c.start.ensures.others) in
     let between =
-    between-started c.passes_act_in_steps.ensures.acts first m c.requires.passes c.requires.free c.requires.going c.requires.step c.requires.informed same
+    between-started c.passes_act_in_steps.ensures.acts g.N.Known.known first m c.requires.free c.requires.going c.requires.step c.requires.informed same
     c.start.ensures.starts c.start.ensures.rest in
-    turn-started c.in_ok-first.first first m between c.requires.heeded c.in_ok-first.ensures.first same c.start.ensures.starts c.start.ensures.rest.moment
+    turn-started g.N.Known.known c.in_ok-first.first first m between c.requires.heeded c.in_ok-first.ensures.first same c.start.ensures.starts c.start.ensures.rest.moment
     c.in_ok-first.ensures.until c.in_ok-first.ensures.quiet
 
 pub returns-in_err-first : goal.returns-in_err-first
@@ -24,9 +25,9 @@ returns-in_err-first g c =
     let m = listener_of c.start.new.self.board (g.F.Front.seen c.args.front.now) (g.C.Clock.told c.args.clock.now) c.start.new.self.ready in
     let same : m ≡ record first { board = m.board } = ap (λ (ready : List ℕ). record m { ready = ready }) (ap (λ (l : _). l.ready) c.start.ensures.others) in
     let between =
-    between-started c.passes_act_in_steps.ensures.acts first m c.requires.passes c.requires.free c.requires.going c.requires.step c.requires.informed same
+    between-started c.passes_act_in_steps.ensures.acts g.N.Known.known first m c.requires.free c.requires.going c.requires.step c.requires.informed same
     c.start.ensures.starts c.start.ensures.rest in
-    over-started c.from_residual.result c.in_err-first.field-0.0 first m c.from_residual.ensures.1 between c.requires.heeded same c.start.ensures.starts
+    over-started g.N.Known.known c.from_residual.result c.in_err-first.field-0.0 first m c.from_residual.ensures.1 between c.requires.heeded same c.start.ensures.starts
     c.in_err-first.ensures.err
 
 pub take_in-requires-clause-named : goal.take_in-requires-clause-named
@@ -52,7 +53,7 @@ returns-in-Ended g c =
     let waited =
     has-waited c.loop.rest c.take_pause-pause.result a w c.moment-present.result refl c.show.ensures.after c.show.ensures.sound c.moment-present.ensures
     c.take_pause-pause.ensures.waits c.take_pause-pause.ensures.asks c.take_pause-pause.ensures.clock in
-    over-ended c.passes_act_in_steps.ensures.acts c.loop.rest c.take_pause-pause.result first a w c.loop.invariant waited c.in-Ended.is
+    over-ended c.passes_act_in_steps.ensures.acts g.N.Known.known c.loop.rest c.take_pause-pause.result first a w c.loop.invariant waited c.in-Ended.is
     (sym c.has_live.ensures ∙ c.if-not-has_live.true)
 
 pub returns-in-Failed : goal.returns-in-Failed
@@ -63,7 +64,7 @@ returns-in-Failed g c =
     let waited =
     has-waited c.loop.rest c.take_pause-pause.result a w c.moment-present.result refl c.show.ensures.after c.show.ensures.sound c.moment-present.ensures
     c.take_pause-pause.ensures.waits c.take_pause-pause.ensures.asks c.take_pause-pause.ensures.clock in
-    over-failed c.passes_act_in_steps.ensures.acts c.loop.rest c.take_pause-pause.result first a w c.loop.invariant waited c.in-Failed.is
+    over-failed c.passes_act_in_steps.ensures.acts g.N.Known.known c.loop.rest c.take_pause-pause.result first a w c.loop.invariant waited c.in-Failed.is
 
 pub returns-in_err-asked : goal.returns-in_err-asked
 returns-in_err-asked g c =
@@ -74,7 +75,7 @@ returns-in_err-asked g c =
     has-waited c.loop.rest c.take_pause-pause.result a w c.moment-present.result refl c.show.ensures.after c.show.ensures.sound c.moment-present.ensures
     c.take_pause-pause.ensures.waits c.take_pause-pause.ensures.asks c.take_pause-pause.ensures.clock in
     let b = listener_of c.take_in.new.self.board (g.F.Front.seen c.take_in.new.front) (g.C.Clock.told c.take_pause-pause.new.clock) c.take_in.new.self.ready in
-    over-broken c.passes_act_in_steps.ensures.acts c.loop.rest c.take_pause-pause.result first a w c.loop.invariant waited
+    over-broken c.passes_act_in_steps.ensures.acts g.N.Known.known c.loop.rest c.take_pause-pause.result first a w c.loop.invariant waited
     c.from_residual-in_err-asked.result c.in_err-asked.field-0.0 b c.from_residual-in_err-asked.ensures.1
     (record {
       took = record { up = c.take_in.ensures.up; follows = c.take_in.ensures.follows; front = c.take_in.ensures.front; watched = c.take_in.ensures.watched; calls = refl };
@@ -99,7 +100,7 @@ returns-then-asked g c =
       step = c.in_ok-asked.ensures.step;
     } in
     let asked = c.in_ok-asked.ensures.asked c.if-asked.true in
-    over-asked c.passes_act_in_steps.ensures.acts c.loop.rest c.take_pause-pause.result first a w c.loop.invariant waited b gone asked.1 asked.2
+    over-asked c.passes_act_in_steps.ensures.acts g.N.Known.known c.loop.rest c.take_pause-pause.result first a w c.loop.invariant waited b gone asked.1 asked.2
 
 pub serve-requires-clause-free : goal.serve-requires-clause-free
 serve-requires-clause-free g c κs within =
@@ -129,7 +130,7 @@ returns-in_err-rest g c =
       rest = c.serve.ensures.rest;
       others = ap (λ (ready : List ℕ). record d { ready = ready }) (ap (λ (l : _). l.ready) c.serve.ensures.others);
     } in
-    over-served c.passes_act_in_steps.ensures.acts c.loop.rest c.take_pause-pause.result first a w c.loop.invariant waited b gone
+    over-served c.passes_act_in_steps.ensures.acts g.N.Known.known c.loop.rest c.take_pause-pause.result first a w c.loop.invariant waited b gone
     c.from_residual-in_err-rest.result c.in_err-rest.field-0.0 d c.from_residual-in_err-rest.ensures.1 served (c.in_ok-asked.ensures.heeded c.if-asked.false)
     c.in_err-rest.ensures.err
 
@@ -157,6 +158,8 @@ loop-preserved g c =
       others = ap (λ (ready : List ℕ). record d { ready = ready }) (ap (λ (l : _). l.ready) c.serve.ensures.others);
     } in
     let taken = c.in_ok-asked.ensures.taken c.if-asked.false in
-    turn-served c.passes_act_in_steps.ensures.acts c.loop.rest c.take_pause-pause.result first a w c.loop.invariant waited b gone c.histories_join.ensures.state
+    let before =
+    turn-served c.passes_act_in_steps.ensures.acts g.N.Known.known c.loop.rest c.take_pause-pause.result first a w c.loop.invariant waited b gone c.histories_join.ensures.state
     c.in_ok-rest.rest d c.show-in-loop.ensures.after c.show-in-loop-2.ensures.after served (c.in_ok-asked.ensures.heeded c.if-asked.false) taken.0 taken.1
-    c.in_ok-rest.ensures.until c.in_ok-rest.ensures.quiet
+    c.in_ok-rest.ensures.until c.in_ok-rest.ensures.quiet in
+    turn-folded g.N.Known.known d c.fold_history.new.board c.fold_history.ensures first c.in_ok-rest.rest before

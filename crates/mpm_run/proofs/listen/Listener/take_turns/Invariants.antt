@@ -6,5 +6,5 @@ use Rattle.mpm_run.proofs.listen.Listener.take_turns.Given as goal
 -- that was read stops it, and the clock tells exactly where it did
 abbrev pub invariant-loop : goal.invariant-loop
 invariant-loop g l =
-    IsBeforeTurn (listener_of l.fn.self.board (g.F.Front.seen l.fn.front) (g.C.Clock.told l.fn.clock) l.fn.self.ready) l.rest
+    IsBeforeTurn g.N.Known.known (listener_of l.fn.self.board (g.F.Front.seen l.fn.front) (g.C.Clock.told l.fn.clock) l.fn.self.ready) l.rest
     (listener_of l.self.board (g.F.Front.seen l.front) (g.C.Clock.told l.clock) l.self.ready)

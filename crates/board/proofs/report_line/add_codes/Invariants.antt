@@ -1,7 +1,7 @@
 use Rattle.std.proofs.Common.{◌≡◌, take, ◌++◌}
 use Rattle.std.specs.List.{flat_map}
 use Rattle.board.specs.ReportLine.{further_code}
-use Rattle.mpm_run.proofs.report.add_codes.Given as goal
+use Rattle.board.proofs.report_line.add_codes.Given as goal
 
 -- the further codes so far are added
 abbrev pub invariant-loop-note : goal.invariant-loop-note
