@@ -47,9 +47,10 @@ answers_more (Some x) None c xs ys h k = absurd h
 answers_more (Some x) (Some y) None xs ys h k = absurd k
 answers_more (Some x) (Some y) (Some z) xs ys h k = k ∙ ap (λ (l : List Got). l ++ ys) h ∙ append_assoc x xs ys
 
-pub heard_more : (a b c : Option (List Got)) (bytes : List ℕ) → HasHeard a b → HearsOnce b c bytes None → HasHeard a c
-heard_more a b c bytes h k = record {
+pub heard_more : (a b c : Option (List Got)) (before bytes : List ℕ) → HasHeard a b before → HearsOnce b c before bytes None → HasHeard a c bytes
+heard_more a b c before bytes h k = record {
   earlier = h.earlier ++ k.last ∷ [];
   answers = answers_more a b c h.earlier (k.last ∷ []) h.answers k.answers;
-  gave = list_all-append gave_bytes h.earlier (k.last ∷ []) ∙ ap₂ (λ x y. x && (y && true)) h.gave k.decides;
+  gave = list_all-append gave_bytes h.earlier (k.last ∷ []) ∙ ap₂ (λ x y. x && (y && true)) h.gave k.decides.0;
+  asks = λ some. k.decides.1;
 }

@@ -35,6 +35,13 @@ gave_bytes got.End = false
 gave_bytes got.NotReady = false
 gave_bytes got.Failed = false
 
+-- how many bytes the read gave
+abbrev pub count_of_got : Got → ℕ
+count_of_got (got.Got n) = n
+count_of_got got.End = 0
+count_of_got got.NotReady = 0
+count_of_got got.Failed = 0
+
 -- what is heard where the last read answered this: no line at the end or behind a failure, and else what the bytes are; and where it
 -- gave bytes no more are to come
 abbrev pub IsHeardBy : Got → List ℕ → Heard → Type 0
@@ -49,12 +56,18 @@ AnswersMore None told' answers = ⊤
 AnswersMore (Some told) None answers = ⊥
 AnswersMore (Some told) (Some told') answers = told' ≡ told ++ answers
 
--- what is heard by reads that gave bytes, and a last one, which decides
+-- what is heard by reads that gave bytes, and a last one, which decides; where it isn't the first, what had come before it still
+-- asked for more
 pub record HearsBy (told told' : Option (List Got)) (bytes : List ℕ) (what : Heard) : Type 0 where
   pub earlier : List Got
   pub last : Got
+  pub before : List ℕ
+  pub came : List ℕ
   pub answers : AnswersMore told told' (earlier ++ last ∷ [])
   pub gave : list_all gave_bytes earlier ≡ true
+  pub behind : bytes ≡ before ++ came
+  pub count : length came ≡ count_of_got last
+  pub asks : earlier ≢ [] → IsHeard before heard.More
   pub decides : IsHeardBy last bytes what
 
 -- behind the bytes that had come stand just those that the reader gave, where it tells what it has left

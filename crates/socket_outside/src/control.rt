@@ -17,7 +17,7 @@ const MOST_CALLERS: usize = 16;
 /// How many lines wait at most.
 const MOST_LINES: usize = 64;
 
-/// How many connections are taken in one wait at most.
+/// How many connections one wait, or one accept, takes at most.
 const MOST_TAKEN: u32 = 64;
 
 /// A connection that brings a command line.
@@ -31,7 +31,7 @@ struct Caller {
 #[derive(Drop)]
 pub(crate) struct ControlPort {
     listener: Option<TcpListener>,
-    // Connections may wait of which no event tells again: the system refused one, or as many were taken as in one wait may be.
+    // Connections may wait of which no event tells again: the system refused one, or as many were taken as one wait or accept may.
     asks: bool,
     callers: ShortQueue<Caller>,
     lines: ShortQueue<Line>,
@@ -75,7 +75,7 @@ impl ControlPort {
         self.lines.take()
     }
 
-    /// Something came: reads on, and takes the connections that wait.
+    /// Something came, or may have: reads on, and takes the connections that wait.
     pub(crate) fn attend(&mut self, registry: &Registry) {
         self.hear_callers();
         self.asks = true;

@@ -24,7 +24,7 @@ pub struct SocketFront<'a, R: Net + time::Clock> {
     net: &'a R,
     clock: SystemClock<'a, R>,
     sockets: Sockets,
-    // An accept failed since the last wait.
+    // Since the last wait an accept failed, or looked for control connections.
     pressed: bool,
     counters: FrontCounters,
 }
@@ -106,8 +106,9 @@ impl<'a, R: Net + time::Clock> Front for SocketFront<'a, R> {
         bound
     }
 
-    /// Lasts no longer than a tenth of a second behind a failed accept, and not at all where the bell was rung since the last
-    /// wait; `quiet` means nothing to it. No slot is given twice.
+    /// Lasts no longer than a tenth of a second where an accept since the last wait failed or looked for control connections, or
+    /// where one of these may wait of which no event tells again; and not at all where the bell was rung since the last wait.
+    /// `quiet` means nothing to it. No slot is given twice.
     fn wait<W: Wait>(
         &mut self,
         _rt: &W,

@@ -182,7 +182,7 @@ impl Sockets {
         self.asks = false;
     }
 
-    /// Whether a control connection may wait that the last wait didn't take.
+    /// Whether a control connection may wait of which no event tells again.
     pub(crate) fn asks_control(&self) -> bool {
         self.control.asks()
     }

@@ -1,4 +1,4 @@
--- The reads so far gave bytes, and these stand behind those that had come. Fewer may come each time.
+-- The reads so far gave bytes, behind which more are to come, and these stand behind those that had come. Fewer may come each time.
 use Rattle.std.proofs.Common.{◌-◌, length}
 use Rattle.socket_outside.specs.CommandLines.{HearsOn}
 use Rattle.socket_outside.specs.CommandLinesInside.{HasHeard}
@@ -6,7 +6,7 @@ use Rattle.socket_outside.proofs.command_lines.Spoken.hear.Given as goal
 
 abbrev pub invariant-loop-heard : goal.invariant-loop-heard
 invariant-loop-heard g l = record {
-  reads : HasHeard (g.S.Speaker.answered l.fn.speaker) (g.S.Speaker.answered l.speaker);
+  reads : HasHeard (g.S.Speaker.answered l.fn.speaker) (g.S.Speaker.answered l.speaker) l.self;
   bytes : HearsOn l.fn.self l.self (g.S.Speaker.left l.fn.speaker) (g.S.Speaker.left l.speaker);
 }
 
