@@ -38,7 +38,7 @@ pub use front::{Arrival, Front, Woke};
 pub use line::Line;
 pub use link::{Got, Link, Sent};
 pub use memory::NoMemory;
-pub use note::{Note, Notes, Snapshot};
+pub use note::{Note, Notes, Page, Snapshot};
 pub use octets::Octets;
 pub use ready::Ready;
 pub use script_line::{ClientAct, CommandWord, LinkCall, ScriptLine, SiteLine};

@@ -1,9 +1,12 @@
 //! What the table notes of a response when it is decided, and what a status page shows.
-ghost use Rattle.std.specs.Prelude.{◌≡◌};
+ghost use Rattle.std.specs.Prelude.{◌≡◌, IfOk};
 ghost use Rattle.mpm_base.specs.Notes.{says_last};
 
+use crate::memory::NoMemory;
 use crate::octets::Octets;
 use crate::sequence::Sequence;
+use std::alloc::Global;
+use std::marker::Model;
 use std::mem::size_of;
 
 /// The numbers and letters of a status page.
@@ -27,6 +30,39 @@ pub struct Snapshot {
     pub letters: Octets,
 }
 
+/// A snapshot, which contracts see as such. Few responses show one, so a note keeps it in a box.
+#[derive(Debug, Drop)]
+pub struct Page {
+    snapshot: Box<Snapshot>,
+}
+
+impl Model for Page {
+    ghost use Rattle.mpm_base.specs.declared.note.Snapshot.{Snapshot};
+
+    ghost Value = { Snapshot };
+
+    ghost view = { λ p. p.snapshot.value };
+}
+
+impl Page {
+    /// The page that shows this. NoMemory where memory lacks for it.
+    pub fn make(alloc: Global, snapshot: Snapshot) -> Result<Page, NoMemory>
+        ensures { IfOk result (λ page. page ≡ snapshot) }
+    {
+        match Box::new(alloc, snapshot) {
+            Ok(snapshot) => Ok(Page { snapshot }),
+            Err(_) => Err(NoMemory),
+        }
+    }
+
+    /// What it shows.
+    pub fn snapshot(&self) -> &Snapshot
+        ensures { result.now ≡ self.now }
+    {
+        &self.snapshot
+    }
+}
+
 /// What was decided about one response.
 #[derive(Debug, Drop)]
 pub struct Note {
@@ -38,8 +74,8 @@ pub struct Note {
     pub last: bool,
     /// Its status code (RFC 9110, section 15).
     pub code: u16,
-    /// What the status page shows, where the response is one. There is no such response yet.
-    pub page: Option<Box<Snapshot>>,
+    /// What the status page shows, where the response is one.
+    pub page: Option<Page>,
 }
 
 // A connection keeps its notes as long as it lives.
