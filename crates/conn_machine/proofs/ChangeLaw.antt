@@ -117,9 +117,9 @@ unused-in_phase phase (Working cell before) = refl
 
 -- a response is one more
 change_answered : (s : State) (name : ConnName) (ask : Ask) (r : Row) → IsMet name (λ x. is_working x.place && not x.last) r
-    → Change r (answered_row s ask r)
+    → Change r (answered_row s name.slot ask r)
 change_answered s name ask r met =
-    answered (note_for s ask r) met.live (ap not (unused-in_phase _ r.place) ∙ met.live)
+    answered (note_for s name.slot ask r) met.live (ap not (unused-in_phase _ r.place) ∙ met.live)
     (not-true r.last (and_parts (is_working r.place) (not r.last) met.passes).1) refl refl
 
 -- a response makes rows of the rows that stood there
@@ -127,7 +127,7 @@ made_answered : (s : State) (name : ConnName) (ask : Ask) (slot : ℕ) (r' : Row
     → slice_get (next_answer s name ask).rows slot ≡ Some r' → IsMade s.rows slot r'
 made_answered s name ask slot r' may at =
     let lives = (and_parts (not (is_halted s.going)) _ may).1 in
-    made_by (answered_row s ask) s.rows name.slot slot r'
+    made_by (answered_row s name.slot ask) s.rows name.slot slot r'
     (λ r there. change_answered s name ask r (is_met name (λ x. is_working x.place && not x.last) s.rows r lives there)) at
 
 -- a change to either of two rows is a change to the one that the test names

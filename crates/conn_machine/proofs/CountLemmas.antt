@@ -111,7 +111,7 @@ others p steady s (event.Queue name) may none here =
 others p steady s (event.Start name) may none here =
     stays p steady (λ r. is_queued r.place) s.rows name (served_row s) may (λ r live. refl) (λ r. refl)
 others p steady s (event.Answer name ask) may none here =
-    stays p steady (λ r. is_working r.place && not r.last) s.rows name (answered_row s ask) (and_parts (not (is_halted s.going)) _ may).1
+    stays p steady (λ r. is_working r.place && not r.last) s.rows name (answered_row s name.slot ask) (and_parts (not (is_halted s.going)) _ may).1
     (λ r live. ap not (unused-in_phase _ r.place) ∙ live) (λ r. refl)
 others p steady s (event.Linger name why) may none here =
     stays p steady (λ r. not (is_lingering r) && linger_cause_fits s why (is_signalled s name.slot) r) s.rows name (lingering_row s why) may

@@ -162,11 +162,11 @@ answers : (s : State) (name : ConnName) (ask : Ask) → may_answer s name ≡ tr
 answers s name ask may =
     let (r, at, works) = answer-row s name may in
     let b = is_signalled s name.slot in
-    let r' = answered_row s ask r in
+    let r' = answered_row s name.slot ask r in
     let works' : is_working r'.place ≡ true = works-in_phase _ r.place ∙ works in
     let old = chances_by-works (late s r) r.place r.from (rests r.from (is_lingering r)) b works in
     let new = chances_by-works (late s r') r'.place r'.from (rests r'.from (is_lingering r')) b works' in
-    updated s name.slot r (answered_row s ask) at (omega (arith, old, new))
+    updated s name.slot r (answered_row s name.slot ask) at (omega (arith, old, new))
 
 -- a row whose time is over is with the listener
 late-place : (s : State) (kind : Kind) (r : Row) → is_late_as s kind r ≡ true → (is_held r.place || is_working r.place) ≡ true

@@ -33,6 +33,7 @@ pub mod RowLemmas
 pub mod RowSound
 pub mod RunLemmas
 pub mod ServeLemmas
+pub mod ShownLemmas
 pub mod SizeLemmas
 pub mod SoundLemmas
 pub mod SoundRuns

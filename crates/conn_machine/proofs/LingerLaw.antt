@@ -119,7 +119,7 @@ so_next s (event.Queue name) slot r r' sound may live lingers at got =
 so_next s (event.Start name) slot r r' sound may live lingers at got =
     so_updated s.rows name.slot slot r r' (served_row s) at (λ _ _. record { deadline = refl; cause = refl }) got
 so_next s (event.Answer name ask) slot r r' sound may live lingers at got =
-    so_updated s.rows name.slot slot r r' (answered_row s ask) at (λ _ _. record { deadline = refl; cause = refl }) got
+    so_updated s.rows name.slot slot r r' (answered_row s name.slot ask) at (λ _ _. record { deadline = refl; cause = refl }) got
 so_next s (event.Linger name why) slot r r' sound may live lingers at got =
     so_updated s.rows name.slot slot r r' (lingering_row s why) at (so_lingering s name why r may lingers) got
 so_next s (event.Close name why how) slot r r' sound may live lingers at got =

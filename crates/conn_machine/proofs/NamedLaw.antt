@@ -112,7 +112,7 @@ name_stays s (event.Hold other) name may other_is has = name_kept name s.rows ot
 name_stays s (event.Queue other) name may other_is has = name_kept name s.rows other.slot queued_row has (λ r live. refl) (λ r. refl)
 name_stays s (event.Start other) name may other_is has = name_kept name s.rows other.slot (served_row s) has (λ r live. refl) (λ r. refl)
 name_stays s (event.Answer other ask) name may other_is has =
-    name_kept name s.rows other.slot (answered_row s ask) has (λ r live. ap not (unused-in_phase _ r.place) ∙ live) (λ r. refl)
+    name_kept name s.rows other.slot (answered_row s other.slot ask) has (λ r live. ap not (unused-in_phase _ r.place) ∙ live) (λ r. refl)
 name_stays s (event.Linger other why) name may other_is has =
     name_kept name s.rows other.slot (lingering_row s why) has (λ r live. refl) (λ r. refl)
 name_stays s (event.Close other why how) name may other_is has = name_closed s name other why how may other_is has

@@ -308,7 +308,7 @@ event_moves s p had (event.Start name) may role =
 event_moves s p had (event.Answer name ask) may role =
     let m = met (λ r. is_working r.place && not r.last) s.rows name (and_parts (not (is_halted s.going)) _ may).1 in
     let h = had_row had name role in
-    changed s.rows name.slot m.row (answered_row s ask) had _ m.at (inr h) (inr (h.0, h.1, h.2, working_hand _ m.row.place (and_parts (is_working m.row.place) (not m.row.last) m.passes).0, m.life ∙ had_life had name h.0 role h.1))
+    changed s.rows name.slot m.row (answered_row s name.slot ask) had _ m.at (inr h) (inr (h.0, h.1, h.2, working_hand _ m.row.place (and_parts (is_working m.row.place) (not m.row.last) m.passes).0, m.life ∙ had_life had name h.0 role h.1))
 event_moves s p had (event.Linger name why) may role =
     let m = met (λ r. not (is_lingering r) && linger_cause_fits s why (is_signalled s name.slot) r) s.rows name may in
     changed s.rows name.slot m.row (lingering_row s why) had _ m.at (inr (had_row had name role)) (inl (refl, refl))

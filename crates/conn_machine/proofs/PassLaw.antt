@@ -245,7 +245,7 @@ event_leaves s p had (event.Start name) other may role =
     leaves_quiet s name.slot m.row (served_row s) m.at (hand_waits_not m.row (queued_in_hand m.row.place m.passes))
 event_leaves s p had (event.Answer name ask) other may role =
     let m = met (λ r. is_working r.place && not r.last) s.rows name (and_parts (not (is_halted s.going)) _ may).1 in
-    leaves_quiet s name.slot m.row (answered_row s ask) m.at
+    leaves_quiet s name.slot m.row (answered_row s name.slot ask) m.at
     (hand_waits_not m.row (working_in_hand m.row.place (and_parts (is_working m.row.place) (not m.row.last) m.passes).0))
 event_leaves s p had (event.Linger name why) other may role =
     let m = met (λ r. not (is_lingering r) && linger_cause_fits s why (is_signalled s name.slot) r) s.rows name may in

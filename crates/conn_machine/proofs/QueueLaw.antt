@@ -135,7 +135,7 @@ starts s name may =
 answers : (s : State) (name : ConnName) (ask : Ask) → may_answer s name ≡ true → waiting (next_answer s name ask) ≤ waiting s
 answers s name ask may =
     let (r, at, works) = answer-row s name may in
-    omega (arith, kept s name.slot r (answered_row s ask) at refl)
+    omega (arith, kept s name.slot r (answered_row s name.slot ask) at refl)
 
 -- Linger adds none
 lingers : (s : State) (name : ConnName) (why : Cause) → may_linger s name why ≡ true

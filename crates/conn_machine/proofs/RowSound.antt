@@ -69,8 +69,8 @@ pub sound-answer : (s : State) (name : ConnName) (ask : Ask) → IsSound s → m
 sound-answer s name ask sound may =
     let lives = and_parts (not (is_halted s.going)) (lives_and (λ r. is_working r.place && not r.last) s.rows name) may in
     let has = row_of_name (λ r. is_working r.place && not r.last) s.rows name lives.1 in
-    fair_update s name.slot has.row (answered_row s ask) s.signals s.accepted sound has.found
-    (fair-answer s ask has.row (sound_row s name.slot has.row sound has.found has.live) has.live has.passes)
+    fair_update s name.slot has.row (answered_row s name.slot ask) s.signals s.accepted sound has.found
+    (fair-answer s name.slot ask has.row (sound_row s name.slot has.row sound has.found has.live) has.live has.passes)
     (inl (record { count = refl; live = λ _. has.live; arrival = refl }))
 
 -- a connection whose link lingers keeps a sound state sound

@@ -40,7 +40,7 @@ entries_of-other p history e other =
     filter-append (is_of_pass p) history (e ∷ []) ∙ ap (λ xs. entries_of p history ++ xs) last ∙ append-nil (entries_of p history)
 
 -- the numbers of a list that is one longer
-range_with_len-snoc : (a n : ℕ) → range_with_len a (n + 1) ≡ range_with_len a n ++ (a + n) ∷ []
+pub range_with_len-snoc : (a n : ℕ) → range_with_len a (n + 1) ≡ range_with_len a n ++ (a + n) ∷ []
 range_with_len-snoc a zero = rw add-zero refl
 range_with_len-snoc a (suc n) =
     let e : a + 1 + n ≡ a + suc n = omega arith in

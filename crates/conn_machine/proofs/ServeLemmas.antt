@@ -4,8 +4,6 @@ use Rattle.std.proofs.lemmas.Bool.{and_parts, and_from, or_parts, not-true, eqb-
 use Rattle.std.proofs.lemmas.List.Sums.{fold-append}
 use Rattle.mpm_base.specs.declared.conn.Ask.{Ask}
 use Rattle.mpm_base.specs.declared.note.Note.{Note}
-use Rattle.conn_machine.specs.declared.row.Phase.{Phase}
-use Rattle.conn_machine.specs.declared.row.Phase.TheVariants as phase
 use Rattle.conn_machine.specs.declared.row.Place.{Place}
 use Rattle.conn_machine.specs.declared.row.Place.TheVariants.{Vacant, Spent, Working}
 use Rattle.conn_machine.specs.declared.row.Row.{Row}
@@ -14,7 +12,7 @@ use Rattle.conn_machine.specs.Rows.{is_live, is_queued, is_working, in_phase, is
 use Rattle.conn_machine.specs.Children.{is_running}
 use Rattle.conn_machine.specs.States.{child_of}
 use Rattle.mpm_base.specs.Moment.{greatest_moment}
-use Rattle.conn_machine.specs.Table.{cell_for, served_row, is_last_for, note_for, answered_row}
+use Rattle.conn_machine.specs.Table.{cell_for, served_row, is_last_for, phase_after, note_for, answered_row}
 use Rattle.conn_machine.specs.Sound.{CellIsBelow, KindFits, IsInService, HasSoundNotes, IsSound}
 use Rattle.conn_machine.proofs.FairLemmas.{IsFair}
 use Rattle.conn_machine.proofs.CellLemmas.{free_cell, is_queued_in}
@@ -52,10 +50,6 @@ fair-start s slot r all found sound live is =
 
 -- ## Answer
 
--- what a worker does after the response was decided
-abbrev phase_after : Note → Phase
-phase_after note = if note.last then phase.Close else phase.Write
-
 -- the row with a response noted, in that place
 abbrev noted_row : Note → Bool → Place → Row → Row
 noted_row note short place r =
@@ -76,7 +70,7 @@ notes_more most r note short place before undecided room =
 -- a row with a response noted is fair
 fair_noted : (s : State) (r : Row) (note : Note) (short : Bool) (p : IsServed r.place) → IsSoundRow s r → is_live r ≡ true
     → r.last ≡ false → (note.last ≡ false → length r.notes + 1 ≡ (child_of s r).shape.most → ⊥)
-    → IsFair s r (noted_row note short (Working p.cell (phase_after note)) r)
+    → IsFair s r (noted_row note short (Working p.cell (phase_after note.last)) r)
 fair_noted s r note short p sound live undecided room =
     let service = in_service s r p sound in
     let below : p.cell < (child_of s r).shape.threads = subst (CellIsBelow (child_of s r).shape.threads) p.place sound.below in
@@ -88,7 +82,7 @@ fair_noted s r note short p sound live undecided room =
       below = λ _. below;
       kind = λ _. record { stays = service.stays; from = service.from };
       request = λ _. tt;
-      notes = λ _. notes_more (child_of s r).shape.most r note short (Working p.cell (phase_after note)) sound.notes undecided room;
+      notes = λ _. notes_more (child_of s r).shape.most r note short (Working p.cell (phase_after note.last)) sound.notes undecided room;
       deadline = sound.deadline;
     }
 
@@ -104,15 +98,16 @@ answer_room s ask r goes_on =
     (not (is_running (child_of s r).phase)) goes_on)
 
 -- a row with a response decided is fair
-pub fair-answer : (s : State) (ask : Ask) (r : Row) → IsSoundRow s r → is_live r ≡ true → (is_working r.place && not r.last) ≡ true
-    → IsFair s r (answered_row s ask r)
-fair-answer s ask r sound live may =
+pub fair-answer : (s : State) (slot : ℕ) (ask : Ask) (r : Row) → IsSoundRow s r → is_live r ≡ true → (is_working r.place && not r.last) ≡ true
+    → IsFair s r (answered_row s slot ask r)
+fair-answer s slot ask r sound live may =
     let parts = and_parts (is_working r.place) (not r.last) may in
     let p = served_by r.place parts.0 in
-    let place : in_phase (phase_after (note_for s ask r)) r.place ≡ Working p.cell (phase_after (note_for s ask r)) =
-    ap (in_phase (phase_after (note_for s ask r))) p.place in
-    subst (λ q. IsFair s r (noted_row (note_for s ask r) ask.refused q r)) (sym place)
-    (fair_noted s r (note_for s ask r) ask.refused p sound live (not-true r.last parts.1) (answer_room s ask r))
+    let note = note_for s slot ask r in
+    let place : in_phase (phase_after note.last) r.place ≡ Working p.cell (phase_after note.last) =
+    ap (in_phase (phase_after note.last)) p.place in
+    subst (λ q. IsFair s r (noted_row note ask.refused q r)) (sym place)
+    (fair_noted s r note ask.refused p sound live (not-true r.last parts.1) (answer_room s ask r))
 
 -- ## Close
 

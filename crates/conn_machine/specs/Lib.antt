@@ -11,6 +11,7 @@ pub mod NotesInside
 pub mod Passes
 pub mod Rows
 pub mod Runs
+pub mod Shown
 pub mod Sizes
 pub mod Sound
 pub mod States

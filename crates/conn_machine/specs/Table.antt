@@ -14,6 +14,7 @@ use Rattle.mpm_base.specs.declared.conn.Tail.{Tail}
 use Rattle.mpm_base.specs.declared.conn.Tail.TheVariants as tail
 use Rattle.mpm_base.specs.declared.conn.Ask.{Ask}
 use Rattle.mpm_base.specs.declared.note.Note.{Note}
+use Rattle.mpm_base.specs.declared.note.Snapshot.{Snapshot}
 use Rattle.conn_machine.specs.declared.row.Phase.{Phase}
 use Rattle.conn_machine.specs.declared.row.Phase.TheVariants as phase
 use Rattle.conn_machine.specs.declared.row.Place.TheVariants.{Vacant, Spent, Held, Parked, Queued, Working}
@@ -32,6 +33,7 @@ use Rattle.conn_machine.specs.declared.state.State.{State}
 use Rattle.conn_machine.specs.Lists.{update}
 use Rattle.conn_machine.specs.Rows.{is_vacant, is_held, is_parked, is_queued, is_working, in_phase, is_from, is_live, is_lingering, is_live_in, has_note, row_passes, lives_and, carried_count, lowest_free_cell}
 use Rattle.conn_machine.specs.Children.{is_empty, is_running, is_stopping, child_at, all_stopped, running_count, started_child, retired_child}
+use Rattle.conn_machine.specs.Shown.{snapshot_of}
 use Rattle.mpm_base.specs.Shape.{is_in_bounds}
 use Rattle.conn_machine.specs.States.{later, is_serving, is_halted, is_over, is_signalled, child_of, pick_child, is_overdue}
 use Rattle.mpm_base.specs.Moment.{greatest_moment}
@@ -218,22 +220,38 @@ is_last_for s ask r =
     ask.asked_close || ask.refused || length r.notes + 1 == (child_of s r).shape.most
     || not (child_of s r).shape.keep || not (is_running (child_of s r).phase)
 
--- no response is the status page yet
-abbrev pub note_for : State → Ask → Row → Note
-note_for s ask r =
+-- a worker goes on to send a response, the last one or another
+abbrev pub phase_after : Bool → Phase
+phase_after last = if last then phase.Close else phase.Write
+
+-- the row once its worker went on to send a response
+abbrev pub sending_row : Bool → Row → Row
+sending_row last r = record r { place = in_phase (phase_after last) r.place }
+
+-- the state once the worker of the slot's row went on to send a response
+abbrev pub when_sending : Bool → ℕ → State → State
+when_sending last slot s = record s { rows = update s.rows slot (sending_row last) }
+
+-- what the response shows where it is the status page: the state once its worker went on to send it
+abbrev pub page_for : State → ℕ → Ask → Bool → Option Snapshot
+page_for s slot ask last = if ask.page then Some (snapshot_of (when_sending last slot s)) else None
+
+-- the note of the response to what the connection in the slot asks
+abbrev pub note_for : State → ℕ → Ask → Row → Note
+note_for s slot ask r =
     record {
       date = s.moment / 1000;
       asked_close = ask.asked_close || ask.refused;
       last = is_last_for s ask r;
       code = ask.code;
-      page = None;
+      page = page_for s slot ask (is_last_for s ask r);
     }
 
 -- the row with a response noted: its worker goes on to send it
 abbrev pub with_note : Note → Bool → Row → Row
 with_note note short r =
     record r {
-      place = in_phase (if note.last then phase.Close else phase.Write) r.place;
+      place = in_phase (phase_after note.last) r.place;
       mid = true;
       last = note.last;
       short = short;
@@ -241,12 +259,12 @@ with_note note short r =
     }
 
 -- the row with a further note, whose response is begun
-abbrev pub answered_row : State → Ask → Row → Row
-answered_row s ask r = with_note (note_for s ask r) ask.refused r
+abbrev pub answered_row : State → ℕ → Ask → Row → Row
+answered_row s slot ask r = with_note (note_for s slot ask r) ask.refused r
 
 -- the state after Answer
 abbrev pub next_answer : State → ConnName → Ask → State
-next_answer s name ask = record s { rows = update s.rows name.slot (answered_row s ask) }
+next_answer s name ask = record s { rows = update s.rows name.slot (answered_row s name.slot ask) }
 
 -- whether the response of the slot is the last one
 abbrev pub noted_at : State → ℕ → Ask → Bool
@@ -500,14 +518,14 @@ reply s (event.StartChild k) = Done
 reply s (event.Command c) = Done
 reply s (event.Retire k) = Done
 
--- doing the event may take memory: a response is noted
+-- doing the event may take memory: a response is noted that is the status page
 abbrev pub takes_memory : Event → Bool
 takes_memory (event.Accept slot) = false
 takes_memory (event.Park name kind) = false
 takes_memory (event.Hold name) = false
 takes_memory (event.Queue name) = false
 takes_memory (event.Start name) = false
-takes_memory (event.Answer name ask) = true
+takes_memory (event.Answer name ask) = ask.page
 takes_memory (event.Linger name why) = false
 takes_memory (event.Close name why how) = false
 takes_memory (event.Ready slot) = false

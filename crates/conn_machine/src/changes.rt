@@ -1,9 +1,11 @@
 //! What each event does to a row.
 ghost use Rattle.std.specs.Prelude.{◌≡◌, ◌+◌, false, [], ◌∷◌, ◌++◌};
+ghost use Rattle.conn_machine.specs.Rows.{in_phase};
 ghost use Rattle.conn_machine.specs.Table.{closed_row, held_row, mid_after, queued_row, with_note};
 ghost use Rattle.conn_machine.specs.declared.row.Place.TheVariants.{Held, Parked, Working};
 
 use crate::row::{Phase, Place, Row};
+use crate::shown::phase_after;
 use mpm_base::{Cause, Kind, Moment, Note};
 
 impl Row {
@@ -81,17 +83,19 @@ impl Row {
         self.notes.clear();
     }
 
+    /// Its worker goes on to this phase.
+    pub fn go_on(&mut self, next: Phase)
+        ensures { self.new ≡ record self.old { place = in_phase next self.old.place } }
+    {
+        self.place = self.place.in_phase(next);
+    }
+
     /// The response is decided, and noted.
     pub fn answer(&mut self, note: &Note, short: bool)
         ensures { self.new ≡ with_note note.now short self.old }
     {
         self.notes.add(note);
-        let next = if note.last {
-            Phase::Close
-        } else {
-            Phase::Write
-        };
-        self.place = self.place.in_phase(next);
+        self.go_on(phase_after(note.last));
         self.mid = true;
         self.last = note.last;
         self.short = short;

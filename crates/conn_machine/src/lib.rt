@@ -23,6 +23,7 @@ pub mod laws_of_runs;
 mod row;
 mod row_notes;
 mod rows;
+mod shown;
 mod state;
 mod stepping;
 

@@ -1,6 +1,7 @@
 //! One row of the table: a connection, or a slot without one.
 ghost use Rattle.std.specs.Prelude.{◌≡◌};
 ghost use Rattle.conn_machine.specs.Rows as rows;
+ghost use Rattle.conn_machine.specs.Shown as shown;
 ghost use Rattle.conn_machine.specs.States.{unused_row};
 
 use crate::row_notes::RowNotes;
@@ -132,6 +133,18 @@ impl Place {
         }
     }
 
+    /// Whether the worker of that cell serves it, in this phase.
+    pub fn is_in_cell_as(self, phase: Phase, number: u32) -> bool
+        ensures { result ≡ shown.is_in_cell_as phase number self }
+    {
+        match self {
+            Place::Working(cell, own) => {
+                cell == number && phase_number(own) == phase_number(phase)
+            }
+            _ => false,
+        }
+    }
+
     /// The place once the worker went on to the phase.
     pub fn in_phase(self, next: Phase) -> Place
         ensures { result ≡ rows.in_phase next self }
@@ -185,6 +198,17 @@ fn kind_number(kind: Kind) -> u8
         Kind::Writing => 2,
         Kind::Linger => 3,
         Kind::ShortLinger => 4,
+    }
+}
+
+/// A number for each phase, to tell two apart by.
+fn phase_number(phase: Phase) -> u8
+    ensures { result ≡ shown.phase_number phase }
+{
+    match phase {
+        Phase::Read => 0,
+        Phase::Write => 1,
+        Phase::Close => 2,
     }
 }
 
@@ -279,6 +303,13 @@ impl Row {
         ensures { result ≡ rows.is_served_in child cell self.now }
     {
         self.child == child && self.place.is_in_cell(cell)
+    }
+
+    /// Whether the worker of that cell of the child serves it, in this phase.
+    pub fn is_served_as(&self, phase: Phase, child: u32, cell: u32) -> bool
+        ensures { result ≡ shown.is_served_as phase child cell self.now }
+    {
+        self.child == child && self.place.is_in_cell_as(phase, cell)
     }
 
     /// Whether there is a response.

@@ -5,6 +5,7 @@ ghost use Rattle.std.specs.List.{list_any, range_with_len};
 ghost use Rattle.std.specs.Option.{option_copied};
 ghost use Rattle.conn_machine.specs.Lists.{update};
 ghost use Rattle.conn_machine.specs.Rows as spec;
+ghost use Rattle.conn_machine.specs.Shown as shown;
 ghost use Rattle.conn_machine.specs.States.{unused_row};
 ghost use Rattle.conn_machine.specs.Table.{closed_row, held_row, mid_after, queued_row, with_note};
 ghost use Rattle.conn_machine.specs.declared.row.Place.TheVariants.{Held, Parked, Working};
@@ -153,6 +154,30 @@ impl Rows {
         match self.counts.child(child) {
             Some(counts) => counts.is_busy(cell),
             None => self.items.iter().any(|row| row.is_served_in(child, cell)),
+        }
+    }
+
+    /// Whether the worker of that cell of the child serves a row, in this phase.
+    fn is_served_as(&self, phase: Phase, child: u32, cell: u32) -> bool
+        ensures { result ≡ list_any (shown.is_served_as phase child cell) self.now }
+    {
+        self.items
+            .iter()
+            .any(|row| row.is_served_as(phase, child, cell))
+    }
+
+    /// The phase in which the worker of that cell of the child serves a row, where it serves one.
+    pub fn phase_in(&self, child: u32, cell: u32) -> Option<Phase>
+        ensures { result ≡ shown.phase_in self.now child cell }
+    {
+        if self.is_served_as(Phase::Read, child, cell) {
+            Some(Phase::Read)
+        } else if self.is_served_as(Phase::Write, child, cell) {
+            Some(Phase::Write)
+        } else if self.is_served_as(Phase::Close, child, cell) {
+            Some(Phase::Close)
+        } else {
+            None
         }
     }
 
@@ -316,6 +341,19 @@ impl Rows {
         let row = &mut self.items[slot as usize];
         let before = row.standing();
         row.close();
+        let now = row.standing();
+        self.counts.change(before, now);
+    }
+
+    /// Of the row of the slot: its worker goes on to this phase.
+    #[tactic(auto, using(crate::proofs::ListLemmas::set_is_update))]
+    pub fn go_on(&mut self, slot: u32, next: Phase)
+        requires { slot < length self.old }
+        ensures { self.new ≡ update self.old slot (λ r. record r { place = spec.in_phase next r.place }) }
+    {
+        let row = &mut self.items[slot as usize];
+        let before = row.standing();
+        row.go_on(next);
         let now = row.standing();
         self.counts.change(before, now);
     }

@@ -10,11 +10,11 @@ ghost use Rattle.conn_machine.specs.declared.event.Reply.TheVariants.{Done, Cell
 use crate::event::{Commanded, Event, Reply};
 use crate::row::{Phase, Row};
 use crate::state::{Going, State};
-use mpm_base::{Ask, Cause, ConnName, Kind, Moment, NoMemory, Note};
+use mpm_base::{Ask, Cause, ConnName, Kind, Moment, NoMemory};
 use std::alloc::Global;
 
-/// Does what the event table says of the event, and gives its reply. Only a response that has a page may
-/// take memory; where it lacks the state stays as it was. The state has at most 8,192 rows and 32 children, and as many
+/// Does what the event table says of the event, and gives its reply. Only a response that is the status page
+/// takes memory; where it lacks the state stays as it was. The state has at most 8,192 rows and 32 children, and as many
 /// signals as rows.
 #[tactic(auto, using(crate::proofs::SoundRuns::sound_step, crate::proofs::SizeLemmas::sizes_step, crate::proofs::SizeLemmas::sized_step))]
 pub fn step(alloc: Global, state: &mut State, event: &Event) -> Result<Reply, NoMemory>
@@ -30,14 +30,13 @@ pub fn step(alloc: Global, state: &mut State, event: &Event) -> Result<Reply, No
     ensures sizes { HasSizesOf state.old state.new }
     ensures sized { IsSized state.old → IsSized state.new }
 {
-    let _ = alloc;
     match *event {
         Event::Accept(slot) => Ok(accept(state, slot)),
         Event::Park(name, kind) => Ok(park(state, name, kind)),
         Event::Hold(name) => Ok(hold(state, name)),
         Event::Queue(name) => Ok(queue(state, name)),
         Event::Start(name) => Ok(start(state, name)),
-        Event::Answer(name, ask) => Ok(answer(state, name, &ask)),
+        Event::Answer(name, ask) => answer(alloc, state, name, &ask),
         Event::Linger(name, cause) => Ok(linger(state, name, cause)),
         Event::Close(name, _, _) => Ok(close(state, name)),
         Event::Ready(slot) => Ok(ready(state, slot)),
@@ -152,7 +151,7 @@ fn start(state: &mut State, name: ConnName) -> Reply
 }
 
 /// Whether the response is the last one of the row's connection.
-fn is_last_for(state: &State, ask: &Ask, row: &Row) -> bool
+pub(crate) fn is_last_for(state: &State, ask: &Ask, row: &Row) -> bool
     ensures { result ≡ table.is_last_for state.now ask.now row.now }
 {
     let child = state.child_of(row);
@@ -164,24 +163,21 @@ fn is_last_for(state: &State, ask: &Ask, row: &Row) -> bool
 }
 
 #[tactic(auto, using(crate::proofs::ListLemmas::update_as))]
-fn answer(state: &mut State, name: ConnName, ask: &Ask) -> Reply
-    requires { table.may_answer state.old name ≡ true }
-    ensures state { state.new ≡ table.next_answer state.old name ask.now }
-    ensures reply { result ≡ Noted (table.noted_at state.old name.slot ask.now) }
+fn answer(alloc: Global, state: &mut State, name: ConnName, ask: &Ask) -> Result<Reply, NoMemory>
+    requires may { table.may_answer state.old name ≡ true }
+    requires few_rows { length state.old.rows ≤ 8192 }
+    requires few_children { length state.old.children ≤ 32 }
+    ensures state { OnOk result (state.new ≡ table.next_answer state.old name ask.now) }
+    ensures reply { IfOk result (λ answer. answer ≡ Noted (table.noted_at state.old name.slot ask.now)) }
+    ensures err { OnErr result (state.new ≡ state.old) }
+    ensures sure { ask.now.page ≡ false → IsOk result }
 {
-    let Some(row) = state.rows.live(name) else {
+    let Some(_) = state.rows.live(name) else {
         unreachable!()
     };
-    let last = is_last_for(state, ask, row);
-    let note = Note {
-        date: state.moment / 1000,
-        asked_close: ask.asked_close || ask.refused,
-        last,
-        code: ask.code,
-        page: None,
-    };
+    let note = state.note_for(alloc, name, ask)?;
     state.rows.answer(name.slot, &note, ask.refused);
-    Reply::Noted(last)
+    Ok(Reply::Noted(note.last))
 }
 
 #[tactic(auto, using(crate::proofs::ListLemmas::update_as))]
