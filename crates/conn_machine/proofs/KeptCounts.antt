@@ -15,10 +15,13 @@ use Rattle.conn_machine.specs.declared.counts.ChildCounts.{ChildCounts}
 use Rattle.conn_machine.specs.declared.counts.Counts.{Counts}
 use Rattle.conn_machine.specs.declared.counts.Standing.{Standing}
 use Rattle.conn_machine.specs.declared.counts.Totals.{Totals}
+use Rattle.conn_machine.specs.declared.row.Phase.{Phase}
+use Rattle.conn_machine.specs.declared.row.Phase.TheVariants.{Read, Write, Close}
 use Rattle.conn_machine.specs.declared.row.Row.{Row}
 use Rattle.conn_machine.specs.Rows.{is_vacant, is_working, is_with_a_pass, is_parked_as, is_closing, is_live, is_carried_by, is_open_in, is_live_in, is_working_in, is_served_in, is_free_cell, lowest_free_cell}
+use Rattle.conn_machine.specs.Shown.{is_served_as, phase_in}
 use Rattle.conn_machine.specs.States.{unused_row}
-use Rattle.conn_machine.specs.CountsInside.{one_if, moved_count, standing_of, changed_totals, CountsAll, no_counts, counts_of, MovesStanding, CountsChild, IsChanged, AreOpeningCounts, IsCounted}
+use Rattle.conn_machine.specs.CountsInside.{one_if, moved_count, standing_of, changed_totals, CountsAll, no_counts, word_of, told_phase, counts_of, MovesStanding, CountsChild, IsChanged, AreOpeningCounts, IsCounted}
 use Rattle.conn_machine.proofs.CellLemmas.{count_by-any, count_by-none}
 use Rattle.conn_machine.proofs.CountLemmas.{count_none}
 use Rattle.conn_machine.proofs.UpdateLemmas.{count_cons}
@@ -151,6 +154,11 @@ child_changed k rows i r r' old new few below is moves was =
           (r'.child == k) _ below is refl refl (λ own. (l.own own).busy c)
           (λ other. ap (λ (x : ChildCounts). bit_at x.busy c) (l.other other)) (λ own. (e.own own).busy c)
           (λ other. ap (λ (x : ChildCounts). bit_at x.busy c) (e.other other)) (was.busy c);
+      phases = λ phase c.
+          bit_changed (is_served_as phase k c) rows i r r' (bit_at (word_of phase old) c) (bit_at (word_of phase moves.between) c)
+          (bit_at (word_of phase new) c) (r.child == k) _ (r'.child == k) _ below is refl refl (λ own. (l.own own).phases phase c)
+          (λ other. ap (λ (x : ChildCounts). bit_at (word_of phase x) c) (l.other other)) (λ own. (e.own own).phases phase c)
+          (λ other. ap (λ (x : ChildCounts). bit_at (word_of phase x) c) (e.other other)) (was.phases phase c);
     }
 
 -- ## All counts
@@ -194,6 +202,12 @@ nothing_counted zero k = refl
 nothing_counted (suc n) zero = refl
 nothing_counted (suc n) (suc k) = nothing_counted n k
 
+-- no bit is set
+no_bits : (phase : Phase) (c : ℕ) → bit_at (word_of phase no_counts) c ≡ 0
+no_bits Read c = bit_at-zero c
+no_bits Write c = bit_at-zero c
+no_bits Close c = bit_at-zero c
+
 -- of slots that were never used nothing is counted of a child
 unused_child : (k slots : ℕ) → CountsChild no_counts (replicate slots unused_row) k
 unused_child k slots = record {
@@ -202,6 +216,7 @@ unused_child k slots = record {
   live = sym (count_none (is_live_in k) unused_row (and_no (0 == k)) slots);
   working = sym (count_none (is_working_in k) unused_row (and_no (0 == k)) slots);
   busy = λ c. bit_at-zero c ∙ sym (count_none (is_served_in k c) unused_row (and_no (0 == k)) slots);
+  phases = λ phase c. no_bits phase c ∙ sym (count_none (is_served_as phase k c) unused_row (and_no (0 == k)) slots);
 }
 
 -- the counts of slots that were never used
@@ -258,11 +273,19 @@ any_counted p xs n is = any_as p xs n is (list_any p xs) refl
 pub any_seen : (p : Row → Bool) (rows seen : List Row) (n : ℕ) → rows ≡ seen → n ≡ count_by p rows → nat_lt 0 n ≡ list_any p seen
 any_seen p rows seen n view is = any_counted p rows n is ∙ ap (list_any p) view
 
--- a bit that is the count of its cell is set exactly where a row is served there
-pub bit_told : (busy k c : ℕ) (rows seen : List Row) → rows ≡ seen → bit_at busy c ≡ count_by (is_served_in k c) rows
-    → (bit_at busy c == 1) ≡ list_any (is_served_in k c) seen
-bit_told busy k c rows seen view is =
-    bit_is (bit_at busy c) (bit_at-lt busy c) ∙ any_seen (is_served_in k c) rows seen (bit_at busy c) view is
+-- a bit that is the count of some rows is set exactly where there is one
+pub bit_told : (p : Row → Bool) (word c : ℕ) (rows seen : List Row) → rows ≡ seen → bit_at word c ≡ count_by p rows
+    → (bit_at word c == 1) ≡ list_any p seen
+bit_told p word c rows seen view is = bit_is (bit_at word c) (bit_at-lt word c) ∙ any_seen p rows seen (bit_at word c) view is
+
+-- the words tell in which phase a row is served in the cell
+pub phase_told : (kept : ChildCounts) (k c : ℕ) (rows seen : List Row) → rows ≡ seen → CountsChild kept rows k
+    → told_phase kept c ≡ phase_in seen k c
+phase_told kept k c rows seen view told =
+    let reads = bit_told (is_served_as Read k c) kept.reading c rows seen view (told.phases Read c) in
+    let sends = bit_told (is_served_as Write k c) kept.sending c rows seen view (told.phases Write c) in
+    let ends = bit_told (is_served_as Close k c) kept.finishing c rows seen view (told.phases Close c) in
+    rw (reads, sends, ends) refl
 
 -- ## The lowest free cell
 

@@ -1,15 +1,18 @@
 -- What is kept of the rows beside them, so that few calls go over them: numbers that equal the counts of the rows.
-use Rattle.std.specs.Prelude.{◌≡◌, ◌==◌, ℕ, ◌+◌, ◌-◌, ◌<◌, ◌^◌, Bool, true, false, not, ◌&&◌, List, count_by, cond, length, min, nat_lt, replicate, slice_index_or}
+use Rattle.std.specs.Prelude.{◌≡◌, ◌==◌, ℕ, ◌+◌, ◌-◌, ◌<◌, ◌^◌, Bool, true, false, not, ◌&&◌, List, count_by, cond, if◌then◌else◌, length, min, nat_lt, replicate, slice_index_or, Option, None, Some}
 use Rattle.std.specs.Int.{bit_at}
 use Rattle.mpm_base.specs.declared.conn.Kind.TheVariants.{KeepAlive, Writing}
 use Rattle.conn_machine.specs.declared.counts.ChildCounts.{ChildCounts}
 use Rattle.conn_machine.specs.declared.counts.Counts.{Counts}
 use Rattle.conn_machine.specs.declared.counts.Standing.{Standing}
 use Rattle.conn_machine.specs.declared.counts.Totals.{Totals}
+use Rattle.conn_machine.specs.declared.row.Phase.{Phase}
+use Rattle.conn_machine.specs.declared.row.Phase.TheVariants.{Read, Write, Close}
 use Rattle.conn_machine.specs.declared.row.Place.{Place}
 use Rattle.conn_machine.specs.declared.row.Place.TheVariants.{Vacant, Spent, Held, Parked, Queued, Working}
 use Rattle.conn_machine.specs.declared.row.Row.{Row}
 use Rattle.conn_machine.specs.Rows.{is_vacant, is_unused, is_working, is_carried_at, is_with_a_pass, is_in_cell, is_parked_as, is_closing, is_live, is_lingering, is_live_in, is_working_in, is_served_in, carried_count, open_count}
+use Rattle.conn_machine.specs.Shown.{is_in_cell_as, is_served_as}
 
 -- ## One number
 
@@ -56,20 +59,40 @@ pub record CountsAll (t : Totals) (rows : List Row) : Type 0 where
 
 -- nothing is counted
 abbrev pub no_counts : ChildCounts
-no_counts = record { carried = 0; open_rows = 0; live = 0; working = 0; busy = 0 }
+no_counts =
+    record { carried = 0; open_rows = 0; live = 0; working = 0; busy = 0; reading = 0; sending = 0; finishing = 0 }
+
+-- the word of the cells whose workers are in this phase
+abbrev pub word_of : Phase → ChildCounts → ℕ
+word_of Read counts = counts.reading
+word_of Write counts = counts.sending
+word_of Close counts = counts.finishing
 
 -- what is counted of the child
 abbrev pub counts_of : List ChildCounts → ℕ → ChildCounts
 counts_of children k = slice_index_or children k no_counts
 
--- the word of busy cells can say that a row is at the place: not in a cell that is busy, or beyond the word
+-- the word can say that a row is at the place: not in a cell whose bit is set, or beyond the word
 abbrev pub has_bit_for : ℕ → Place → Bool
-has_bit_for busy Vacant = true
-has_bit_for busy Spent = true
-has_bit_for busy Held = true
-has_bit_for busy (Parked kind) = true
-has_bit_for busy Queued = true
-has_bit_for busy (Working cell phase) = nat_lt cell 64 && bit_at busy cell == 0
+has_bit_for word Vacant = true
+has_bit_for word Spent = true
+has_bit_for word Held = true
+has_bit_for word (Parked kind) = true
+has_bit_for word Queued = true
+has_bit_for word (Working cell phase) = nat_lt cell 64 && bit_at word cell == 0
+
+-- each word of the child can say it
+abbrev pub has_bits_for : ChildCounts → Place → Bool
+has_bits_for counts place =
+    has_bit_for counts.busy place && has_bit_for counts.reading place && has_bit_for counts.sending place
+    && has_bit_for counts.finishing place
+
+-- the phase of the worker of the cell, as the words tell it
+abbrev pub told_phase : ChildCounts → ℕ → Option Phase
+told_phase counts c =
+    if bit_at counts.reading c == 1 then Some Read
+    else (if bit_at counts.sending c == 1 then Some Write
+    else (if bit_at counts.finishing c == 1 then Some Close else None))
 
 -- the counts of the row's own child, without the row
 pub record LeavesOwn (x : Standing) (old new : ChildCounts) : Type 0 where
@@ -78,6 +101,8 @@ pub record LeavesOwn (x : Standing) (old new : ChildCounts) : Type 0 where
   pub live : new.live ≡ moved_count old.live (not (is_unused x.place)) false
   pub working : new.working ≡ moved_count old.working (is_working x.place) false
   pub busy : (c : ℕ) → bit_at new.busy c ≡ bit_at old.busy c - one_if (is_in_cell c x.place)
+  pub phases : (phase : Phase) (c : ℕ)
+      → bit_at (word_of phase new) c ≡ bit_at (word_of phase old) c - one_if (is_in_cell_as phase c x.place)
 
 -- the counts of the row's own child, with the row
 pub record EntersOwn (x : Standing) (old new : ChildCounts) : Type 0 where
@@ -86,6 +111,8 @@ pub record EntersOwn (x : Standing) (old new : ChildCounts) : Type 0 where
   pub live : new.live ≡ moved_count old.live false (not (is_unused x.place))
   pub working : new.working ≡ moved_count old.working false (is_working x.place)
   pub busy : (c : ℕ) → bit_at new.busy c ≡ bit_at old.busy c + one_if (is_in_cell c x.place)
+  pub phases : (phase : Phase) (c : ℕ)
+      → bit_at (word_of phase new) c ≡ bit_at (word_of phase old) c + one_if (is_in_cell_as phase c x.place)
 
 -- the counts of a child without the row, which may be another child's
 pub record LosesStanding (k : ℕ) (x : Standing) (old new : ChildCounts) : Type 0 where
@@ -103,19 +130,20 @@ pub record MovesStanding (k : ℕ) (before now : Standing) (old new : ChildCount
   pub leaves : LosesStanding k before old between
   pub enters : Enters k now between new
 
--- the numbers are the counts of the child's rows, and each bit is the count of its cell
+-- the numbers are the counts of the child's rows, and each bit is the count of its cell, of all rows or of those in a phase
 pub record CountsChild (kept : ChildCounts) (rows : List Row) (k : ℕ) : Type 0 where
   pub carried : kept.carried ≡ carried_count rows k
   pub open_rows : kept.open_rows ≡ open_count rows k
   pub live : kept.live ≡ count_by (is_live_in k) rows
   pub working : kept.working ≡ count_by (is_working_in k) rows
   pub busy : (c : ℕ) → bit_at kept.busy c ≡ count_by (is_served_in k c) rows
+  pub phases : (phase : Phase) (c : ℕ) → bit_at (word_of phase kept) c ≡ count_by (is_served_as phase k c) rows
 
 -- ## All counts
 
 -- the counts can say that a row stands so
 abbrev pub is_countable : List ChildCounts → Standing → Bool
-is_countable children x = nat_lt x.child (length children) && has_bit_for (counts_of children x.child).busy x.place
+is_countable children x = nat_lt x.child (length children) && has_bits_for (counts_of children x.child) x.place
 
 -- the counts of so many slots, none of which was ever used
 pub record AreOpeningCounts (slots : ℕ) (counts : Counts) : Type 0 where

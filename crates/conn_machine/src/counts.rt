@@ -4,8 +4,9 @@ ghost use Rattle.std.specs.Prelude.{◌≡◌, ◌≢◌, ◌==◌, ℕ, ◌+◌
 ghost use Rattle.std.specs.Int.{bit_at};
 ghost use Rattle.conn_machine.specs.CountsInside as spec;
 ghost use Rattle.conn_machine.specs.Rows.{is_in_cell};
+ghost use Rattle.conn_machine.specs.Shown.{is_in_cell_as};
 
-use crate::row::{Place, Row};
+use crate::row::{Phase, Place, Row, phase_number};
 use crate::state::MOST_CHILDREN;
 use mpm_base::{Kind, NoMemory};
 use std::alloc::Global;
@@ -39,6 +40,10 @@ pub(crate) struct ChildCounts {
     pub working: u32,
     // Bit c is set exactly where a row is served in cell c.
     pub busy: u64,
+    // Bit c is set exactly where a row is served in cell c, whose worker reads a request, sends a response, or sends the last one.
+    pub reading: u64,
+    pub sending: u64,
+    pub finishing: u64,
 }
 
 /// The counts of a list of rows.
@@ -121,31 +126,66 @@ fn without_bit(word: u64, bit: u32) -> u64
     word & !(1 << bit)
 }
 
-/// The word of busy cells without the row that is at the place.
+/// The word of cells without that of the row that is at the place.
 #[tactic(auto, using(crate::proofs::KeptCounts::bit_less, crate::proofs::KeptCounts::bit_beyond, crate::proofs::KeptCounts::none_less))]
-fn busy_without(busy: u64, place: Place) -> u64
-    ensures { (c : ℕ) → bit_at result c ≡ bit_at busy c - spec.one_if (is_in_cell c place) }
+fn cells_without(word: u64, place: Place) -> u64
+    ensures { (c : ℕ) → bit_at result c ≡ bit_at word c - spec.one_if (is_in_cell c place) }
 {
     match place {
         Place::Working(cell, _) => {
             if cell < 64 {
-                without_bit(busy, cell)
+                without_bit(word, cell)
             } else {
-                busy
+                word
             }
         }
-        _ => busy,
+        _ => word,
     }
 }
 
-/// The word of busy cells with a row at the place.
-fn busy_with(busy: u64, place: Place) -> u64
-    requires { spec.has_bit_for busy place ≡ true }
-    ensures { (c : ℕ) → bit_at result c ≡ bit_at busy c + spec.one_if (is_in_cell c place) }
+/// The word of cells with that of a row at the place.
+fn cells_with(word: u64, place: Place) -> u64
+    requires { spec.has_bit_for word place ≡ true }
+    ensures { (c : ℕ) → bit_at result c ≡ bit_at word c + spec.one_if (is_in_cell c place) }
 {
     match place {
-        Place::Working(cell, _) => with_bit(busy, cell),
-        _ => busy,
+        Place::Working(cell, _) => with_bit(word, cell),
+        _ => word,
+    }
+}
+
+/// The word of the cells whose workers are in the phase, without the row that is at the place.
+fn phase_without(word: u64, phase: Phase, place: Place) -> u64
+    ensures { (c : ℕ) → bit_at result c ≡ bit_at word c - spec.one_if (is_in_cell_as phase c place) }
+{
+    match place {
+        Place::Working(_, own) if phase_number(own) == phase_number(phase) => {
+            cells_without(word, place)
+        }
+        _ => word,
+    }
+}
+
+/// The word of the cells whose workers are in the phase, with a row at the place.
+fn phase_with(word: u64, phase: Phase, place: Place) -> u64
+    requires { spec.has_bit_for word place ≡ true }
+    ensures { (c : ℕ) → bit_at result c ≡ bit_at word c + spec.one_if (is_in_cell_as phase c place) }
+{
+    match place {
+        Place::Working(_, own) if phase_number(own) == phase_number(phase) => {
+            cells_with(word, place)
+        }
+        _ => word,
+    }
+}
+
+/// Whether the word can say that a row is at the place.
+fn has_bit_for(word: u64, place: Place) -> bool
+    ensures { result ≡ spec.has_bit_for word place }
+{
+    match place {
+        Place::Working(cell, _) => cell < 64 && (word >> cell) & 1 == 0,
+        _ => true,
     }
 }
 
@@ -173,23 +213,42 @@ impl ChildCounts {
             live: 0,
             working: 0,
             busy: 0,
+            reading: 0,
+            sending: 0,
+            finishing: 0,
         }
     }
 
-    /// Whether the word of busy cells can say that a row is at the place.
-    fn has_bit_for(&self, place: Place) -> bool
-        ensures { result ≡ spec.has_bit_for self.now.busy place }
+    /// Whether the words can say that a row is at the place.
+    fn has_bits_for(&self, place: Place) -> bool
+        ensures { result ≡ spec.has_bits_for self.now place }
     {
-        match place {
-            Place::Working(cell, _) => cell < 64 && (self.busy >> cell) & 1 == 0,
-            _ => true,
-        }
+        has_bit_for(self.busy, place)
+            && has_bit_for(self.reading, place)
+            && has_bit_for(self.sending, place)
+            && has_bit_for(self.finishing, place)
     }
+
     /// Whether the worker of the cell serves a row.
     pub fn is_busy(&self, cell: u32) -> bool
         ensures { result ≡ (bit_at self.now.busy cell == 1) }
     {
         has_bit(self.busy, cell)
+    }
+
+    /// The phase of the worker of the cell, where it serves a row.
+    pub fn phase_in(&self, cell: u32) -> Option<Phase>
+        ensures { result ≡ spec.told_phase self.now cell }
+    {
+        if has_bit(self.reading, cell) {
+            Some(Phase::Read)
+        } else if has_bit(self.sending, cell) {
+            Some(Phase::Write)
+        } else if has_bit(self.finishing, cell) {
+            Some(Phase::Close)
+        } else {
+            None
+        }
     }
 
     /// The lowest free cell; 64 where each below is busy.
@@ -209,12 +268,15 @@ impl ChildCounts {
         self.open_rows = moved_count(self.open_rows, live && !row.lingering, false);
         self.live = moved_count(self.live, live, false);
         self.working = moved_count(self.working, row.place.is_working(), false);
-        self.busy = busy_without(self.busy, row.place);
+        self.busy = cells_without(self.busy, row.place);
+        self.reading = phase_without(self.reading, Phase::Read, row.place);
+        self.sending = phase_without(self.sending, Phase::Write, row.place);
+        self.finishing = phase_without(self.finishing, Phase::Close, row.place);
     }
 
     /// With the row, which is of the child.
     fn enter(&mut self, row: Standing)
-        requires { spec.has_bit_for self.old.busy row.place ≡ true }
+        requires { spec.has_bits_for self.old row.place ≡ true }
         ensures { spec.EntersOwn row self.old self.new }
     {
         let live = !row.place.is_unused();
@@ -222,7 +284,10 @@ impl ChildCounts {
         self.open_rows = moved_count(self.open_rows, false, live && !row.lingering);
         self.live = moved_count(self.live, false, live);
         self.working = moved_count(self.working, false, row.place.is_working());
-        self.busy = busy_with(self.busy, row.place);
+        self.busy = cells_with(self.busy, row.place);
+        self.reading = phase_with(self.reading, Phase::Read, row.place);
+        self.sending = phase_with(self.sending, Phase::Write, row.place);
+        self.finishing = phase_with(self.finishing, Phase::Close, row.place);
     }
 }
 
@@ -302,7 +367,7 @@ impl Counts {
         ensures { result ≡ spec.is_countable self.now.children.items row }
     {
         match self.children.get(row.child as usize) {
-            Some(counts) => counts.has_bit_for(row.place),
+            Some(counts) => counts.has_bits_for(row.place),
             None => false,
         }
     }

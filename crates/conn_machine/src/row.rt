@@ -202,7 +202,7 @@ fn kind_number(kind: Kind) -> u8
 }
 
 /// A number for each phase, to tell two apart by.
-fn phase_number(phase: Phase) -> u8
+pub(crate) fn phase_number(phase: Phase) -> u8
     ensures { result ≡ shown.phase_number phase }
 {
     match phase {

@@ -166,8 +166,8 @@ impl Rows {
             .any(|row| row.is_served_as(phase, child, cell))
     }
 
-    /// The phase in which the worker of that cell of the child serves a row, where it serves one.
-    pub fn phase_in(&self, child: u32, cell: u32) -> Option<Phase>
+    /// The phase in which the worker of that cell of the child serves a row, where it serves one, by a look at each row.
+    fn seen_phase_in(&self, child: u32, cell: u32) -> Option<Phase>
         ensures { result ≡ shown.phase_in self.now child cell }
     {
         if self.is_served_as(Phase::Read, child, cell) {
@@ -178,6 +178,16 @@ impl Rows {
             Some(Phase::Close)
         } else {
             None
+        }
+    }
+
+    /// The phase in which the worker of that cell of the child serves a row, where it serves one.
+    pub fn phase_in(&self, child: u32, cell: u32) -> Option<Phase>
+        ensures { result ≡ shown.phase_in self.now child cell }
+    {
+        match self.counts.child(child) {
+            Some(counts) => counts.phase_in(cell),
+            None => self.seen_phase_in(child, cell),
         }
     }
 

@@ -1,4 +1,5 @@
 use Rattle.std.proofs.Common.{◌∙◌}
+use Rattle.conn_machine.specs.Rows.{is_served_in}
 use Rattle.conn_machine.proofs.KeptCounts.{bit_told, child_told}
 use Rattle.conn_machine.proofs.rows.Rows.is_served.Goals as goal
 
@@ -8,4 +9,5 @@ returns-in-Some c =
     child_told c.self.inside.counts c.self.inside.items.items c.args.child c.in-Some.counts c.child.result c.self.invariant c.in-Some.is
     c.child.ensures in
     c.is_busy.ensures
-    ∙ bit_told c.in-Some.counts.busy c.args.child c.args.cell c.self.inside.items.items c.args.self.now c.self.view_is (told.busy c.args.cell)
+    ∙ bit_told (is_served_in c.args.child c.args.cell) c.in-Some.counts.busy c.args.cell c.self.inside.items.items
+    c.args.self.now c.self.view_is (told.busy c.args.cell)
