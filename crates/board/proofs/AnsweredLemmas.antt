@@ -25,32 +25,32 @@ found-lives rows name row found =
 
 -- it is found after the response was decided
 answered-found : RowsChangeAlone → (s : State) (name : ConnName) (ask : Ask) (row : Row) → live_row s.rows name ≡ Some row
-    → live_row (next s (event.Answer name ask)).rows name ≡ Some (answered_row s ask row)
+    → live_row (next s (event.Answer name ask)).rows name ≡ Some (answered_row s name.slot ask row)
 answered-found law s name ask row found =
     let lives = found-lives s.rows name row found in
     let same : lives.row ≡ row = cc (lives.found, found) in
-    let live : is_live (answered_row s ask lives.row) ≡ true =
+    let live : is_live (answered_row s name.slot ask lives.row) ≡ true =
     ap not (in_phase-unused (answer_phase s ask lives.row) lives.row.place) ∙ lives.live in
-    live_row-update law s.rows name lives.row (answered_row s ask) lives.at live lives.life
-    ∙ ap (λ (r : Row). Some (answered_row s ask r)) same
+    live_row-update law s.rows name lives.row (answered_row s name.slot ask) lives.at live lives.life
+    ∙ ap (λ (r : Row). Some (answered_row s name.slot ask r)) same
 
 -- the note is that of the row
 decided-note : (s : State) (name : ConnName) (ask : Ask) (note : Note) (row : Row) → live_row s.rows name ≡ Some row
-    → IsDecided s name ask note → note_for s ask row ≡ note
+    → IsDecided s name ask note → note_for s name.slot ask row ≡ note
 decided-note s name ask note row found decided =
     let same : row ≡ decided.row = cc (decided.found, found) in
-    ap (note_for s ask) same ∙ sym decided.note_is
+    ap (note_for s name.slot ask) same ∙ sym decided.note_is
 
 -- a connection that took the note is still the one of its row
 pub of-answered : RowsChangeAlone → (s : State) (c c' : SeenConn) (ask : Ask) (note : Note) → IsOf s c → IsDecided s c.name ask note
     → TakesNote note c c' → IsOf (next s (event.Answer c.name ask)) c'
 of-answered law s c c' ask note of decided takes =
-    let notes : c.notes ++ note ∷ [] ≡ of.row.notes ++ note_for s ask of.row ∷ [] =
+    let notes : c.notes ++ note ∷ [] ≡ of.row.notes ++ note_for s c.name.slot ask of.row ∷ [] =
     ap (λ (ns : List Note). ns ++ note ∷ []) of.fits.notes
     ∙ ap (λ (n : Note). of.row.notes ++ n ∷ []) (sym (decided-note s c.name ask note of.row of.found decided)) in
     subst (IsOf (next s (event.Answer c.name ask))) (sym takes.new_is)
     (record {
-      row = answered_row s ask of.row;
+      row = answered_row s c.name.slot ask of.row;
       found = answered-found law s c.name ask of.row of.found;
       fits = record { child = of.fits.child; generation = of.fits.generation; notes = notes; rank = of.fits.rank };
     })

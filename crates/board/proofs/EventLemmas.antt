@@ -286,9 +286,9 @@ answer-there law s name ask conns queues ended room may there =
     (and_parts (not (is_halted s.going)) (lives_and (λ (r : Row). is_working r.place && not r.last) s.rows name) may).1 in
     let r = lives.row in
     let away = working-away r.place (and_parts (is_working r.place) (not r.last) lives.passes).0 in
-    let count = live-same s.rows name.slot r (answered_row s ask) lives.at lives.live
+    let count = live-same s.rows name.slot r (answered_row s name.slot ask) lives.at lives.live
     (ap not (in_phase-unused (answer_phase s ask r) r.place) ∙ lives.live) in
-    there_away law s.rows conns queues name.slot r (answered_row s ask) ended ended room room there lives.at away
+    there_away law s.rows conns queues name.slot r (answered_row s name.slot ask) ended ended room room there lives.at away
     (in_phase-home (answer_phase s ask r) r.place ∙ away) (omega (arith, count, there.has_room))
 
 -- a connection ends, which takes the room that was left for it

@@ -75,7 +75,7 @@ stays_but law s (event.Queue name) = record {
   signals = signals_but s.signals name.slot false;
 }
 stays_but law s (event.Start name) = record { rows = rows_but law s.rows name.slot (served_row s); signals = λ j differs. refl }
-stays_but law s (event.Answer name ask) = record { rows = rows_but law s.rows name.slot (answered_row s ask); signals = λ j differs. refl }
+stays_but law s (event.Answer name ask) = record { rows = rows_but law s.rows name.slot (answered_row s name.slot ask); signals = λ j differs. refl }
 stays_but law s (event.Linger name why) = record {
   rows = rows_but law s.rows name.slot (lingering_row s why);
   signals = signals_but s.signals name.slot true;

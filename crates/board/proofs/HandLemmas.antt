@@ -10,6 +10,7 @@ use Rattle.mpm_base.specs.declared.conn.Cause.TheVariants as cause
 use Rattle.mpm_base.specs.declared.conn.Kind.{Kind}
 use Rattle.mpm_base.specs.declared.conn.Kind.TheVariants.{Reading, KeepAlive, Writing, Linger, ShortLinger}
 use Rattle.mpm_base.specs.declared.conn.Ask.{Ask}
+use Rattle.mpm_base.specs.declared.note.Note.{Note}
 use Rattle.conn_machine.specs.declared.row.Place.{Place}
 use Rattle.conn_machine.specs.declared.row.Place.TheVariants.{Vacant, Spent, Held, Parked, Queued, Working}
 use Rattle.conn_machine.specs.declared.row.Row.{Row}
@@ -19,7 +20,7 @@ use Rattle.conn_machine.specs.Lists.{update}
 use Rattle.conn_machine.specs.Rows.{is_parked, is_queued, is_working, is_live, is_lingering, is_from, carried_count, is_live_as, row_where, live_row, lives_and}
 use Rattle.conn_machine.specs.Children.{is_stopping}
 use Rattle.conn_machine.specs.States.{is_signalled, is_halted, child_of}
-use Rattle.conn_machine.specs.Table.{is_allowed, next, may_wait, may_be_held, may_be_queued, linger_cause_fits, parked_row, lingering_row, held_row, queued_row, served_row, is_last_for, noted_at}
+use Rattle.conn_machine.specs.Table.{is_allowed, next, may_wait, may_be_held, may_be_queued, linger_cause_fits, parked_row, lingering_row, held_row, queued_row, served_row, note_for}
 use Rattle.conn_machine.specs.Sound.{IsSound}
 use Rattle.timeout_queues.specs.Waiting.{ParkedName, IsFree, parked_of, without_name}
 use Rattle.conn_state.specs.declared.turn.LastLinger.TheVariants as linger
@@ -34,7 +35,6 @@ use Rattle.board.specs.Board.{SeenBoard, AreHome, IsAtHome, IsHeldHere, conn_at,
 use Rattle.board.specs.QueuesInside.{waits_in, queues_of, waits_under}
 use Rattle.board.specs.RowsInside.{RowsChangeAlone}
 use Rattle.board.specs.Events.{IsDecided}
-use Rattle.board.specs.EventsInside.{decided_note}
 use Rattle.board.proofs.BoardLemmas.{LivesAs, get-below, lives_as}
 use Rattle.board.proofs.QueueLemmas.{is-free, is-parked}
 use Rattle.board.proofs.EventLemmas.{parked-home, home-of, linger-lives, parked-settled, queue-parked}
@@ -298,18 +298,12 @@ start-taken law s name c may taken =
 -- ## A response
 
 -- the note that is answered is that of the row
-pub answer-note : (s : State) (name : ConnName) (ask : Ask) (last : Bool) (moment : ℕ) → is_allowed s (event.Answer name ask) ≡ true
-    → last ≡ noted_at s name.slot ask → moment ≡ s.moment → IsDecided s name ask (decided_note moment ask last)
-answer-note s name ask last moment may last_is moment_is =
+pub answer-note : (s : State) (name : ConnName) (ask : Ask) (note : Note) → is_allowed s (event.Answer name ask) ≡ true
+    → ((r : Row) → slice_get s.rows name.slot ≡ Some r → note ≡ note_for s name.slot ask r) → IsDecided s name ask note
+answer-note s name ask note may is =
     let lives = lives_as s.rows name (λ (r : Row). is_working r.place && not r.last)
     (and_parts (not (is_halted s.going)) (lives_and (λ (r : Row). is_working r.place && not r.last) s.rows name) may).1 in
-    let same : noted_at s name.slot ask ≡ is_last_for s ask lives.row =
-    ap (λ (o : Option Row). option_map_or (is_last_for s ask) o false) lives.at in
-    record {
-      row = lives.row;
-      found = lives.found;
-      note_is = rw (last_is, moment_is, same) refl;
-    }
+    record { row = lives.row; found = lives.found; note_is = is lives.row lives.at }
 
 -- ## A refusal
 

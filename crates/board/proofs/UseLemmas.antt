@@ -136,7 +136,7 @@ answer-used s name ask may =
     let lives = lives_as s.rows name (λ (r : Row). is_working r.place && not r.last)
     (and_parts (not (is_halted s.going)) (lives_and (λ (r : Row). is_working r.place && not r.last) s.rows name) may).1 in
     let r = lives.row in
-    rows_still s.rows name.slot r (answered_row s ask) lives.at lives.live
+    rows_still s.rows name.slot r (answered_row s name.slot ask) lives.at lives.live
     (ap not (in_phase-unused (answer_phase s ask r) r.place) ∙ lives.live) refl
 
 -- one lingers

@@ -30,4 +30,4 @@ IsTaken s name child generation = Took name child generation ≡ taken_reply s n
 pub record IsDecided (s : State) (name : ConnName) (ask : Ask) (note : Note) : Type 0 where
   pub row : Row
   pub found : live_row s.rows name ≡ Some row
-  pub note_is : note ≡ note_for s ask row
+  pub note_is : note ≡ note_for s name.slot ask row

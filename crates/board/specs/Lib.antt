@@ -5,7 +5,6 @@ pub mod BoardParts
 pub mod Book
 pub mod BookInside
 pub mod Events
-pub mod EventsInside
 pub mod Faults
 pub mod FaultsInside
 pub mod Finds

@@ -1,6 +1,7 @@
 //! The board's events.
 ghost use Rattle.std.specs.Prelude.{◌≡◌, ◌+◌, ◌<◌, ◌≤◌, ◌^◌, true, false, Some, None, [], ◌∷◌, ◌++◌, length, slice_set, IfOk, IfErr, OnOk, OnErr};
 ghost use Rattle.mpm_base.specs.Shape.{is_in_bounds};
+ghost use Rattle.conn_machine.specs.Shown.{snapshot_of};
 ghost use Rattle.conn_machine.specs.States.{is_halted, opening_state};
 ghost use Rattle.conn_machine.specs.Table.{is_allowed, cell_at, reply, taken_reply};
 ghost use Rattle.conn_machine.specs.Runs.{IsInPassOrderFrom, Run, after, first_row};
@@ -21,7 +22,6 @@ ghost use Rattle.conn_state.specs.Known.{IsOfOutside};
 ghost use Rattle.board.specs.Book.{AddsOnly, book_with_entry, row_in};
 ghost use Rattle.board.specs.Board.{Agrees, AreOfOutside, conn_at, folded_board};
 ghost use Rattle.board.specs.Events.{IsAdded, IsDecided, IsTaken, with_recorded};
-ghost use Rattle.board.specs.EventsInside.{decided_note};
 ghost use Rattle.board.specs.Faults.{IsNotTakenFor, IsRefusedFor};
 ghost use Rattle.board.specs.Finds.{cause_of};
 ghost use Rattle.board.specs.Fits.{FoundNoMore, IsClosing, IsOnItsWay, IsTakenUp, IsOf, IsSettled};
@@ -36,7 +36,7 @@ use crate::waits::wait_in_queue;
 use conn_machine::{Commanded, Entry, Event, Folded, Kept, Reply, State, Why};
 use conn_slots::Slots;
 use conn_state::{Conn, Ended, Known, Nothing};
-use mpm_base::{Ask, Cause, ConnName, Kind, Link, Moment, NoMemory, Note, Shape};
+use mpm_base::{Ask, Cause, ConnName, Kind, Link, Moment, NoMemory, Note, Shape, Snapshot};
 use stand_ins::PlainLink;
 use std::alloc::Global;
 use std::marker::{Model, PhantomData};
@@ -207,6 +207,14 @@ impl<L: Link, N: Known> Board<L, N> {
         self.parts.book.show();
     }
 
+    /// What a status page shows of the state. It goes over the cells of the children, and over no connections.
+    pub fn snapshot(&self, alloc: Global) -> Result<Snapshot, NoMemory>
+        ensures { IfOk result (λ shown. shown ≡ snapshot_of self.now.book.state) }
+    {
+        self.parts.book.show();
+        self.parts.book.state().snapshot(alloc)
+    }
+
     /// Whether the history may be folded: it weighs 65,536 or more, and fewer than 2 to the 62nd entries were folded before. An entry weighs
     /// 1, and one that keeps a page 64 more.
     pub fn can_fold(&self) -> bool
@@ -375,7 +383,7 @@ impl<L: Link, N: Known> Board<L, N> {
         cell
     }
 
-    /// A response is decided: its note.
+    /// A response is decided: its note. Where the response is the status page the note has what it shows.
     pub fn answer(&mut self, who: u32, name: ConnName, ask: Ask) -> Result<Note, BoardFault>
         requires who { who < self.old.book.passes }
         requires row { row_in who self.old.book ≡ Some name }
@@ -391,10 +399,8 @@ impl<L: Link, N: Known> Board<L, N> {
         let parts = &mut *self.parts;
         one_row_changes();
         parts.book.show();
-        let Reply::Noted(last) = parts.book.record(who, Event::Answer(name, ask))? else {
-            unreachable!()
-        };
-        Ok(note_of(parts.book.state(), &ask, last))
+        let note = parts.book.answer(who, name, &ask)?;
+        Ok(note)
     }
 
     /// The service of the connection ended: it lingers, in the queue of its kind, until its client has ended too or its time is
@@ -518,18 +524,5 @@ impl<L: Link, N: Known> Board<L, N> {
     {
         let parts = &mut *self.parts;
         let _ = parts.book.record_sure(who, Event::Retire(child));
-    }
-}
-
-/// The note of a response that is decided now.
-fn note_of(state: &State, ask: &Ask, last: bool) -> Note
-    ensures { result ≡ decided_note state.now.moment ask.now last }
-{
-    Note {
-        date: state.moment / 1000,
-        asked_close: ask.asked_close || ask.refused,
-        last,
-        code: ask.code,
-        page: None,
     }
 }

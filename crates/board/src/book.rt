@@ -13,6 +13,8 @@ ghost use Rattle.conn_machine.specs.Sound.{IsSound};
 ghost use Rattle.board.specs.AheadInside.{IsAhead};
 ghost use Rattle.board.specs.BookInside.{lines_then};
 ghost use Rattle.board.specs.Book.{AddsOnly, book_with_entry, folded_book, numbered_entry, row_in};
+ghost use Rattle.conn_machine.specs.declared.event.Event.TheVariants as event;
+ghost use Rattle.board.specs.Events.{IsDecided};
 ghost use Rattle.board.specs.Faults.{IsRefusedFor};
 ghost use Rattle.board.specs.FaultsInside.{IsRecorded};
 ghost use Rattle.board.specs.RoomInside as spec;
@@ -28,7 +30,7 @@ use conn_machine::laws_of_runs::{
     records_open_with_nothing,
 };
 use conn_machine::{Entry, Event, Folded, Reply, State};
-use mpm_base::{NoMemory, Octets, Shape};
+use mpm_base::{Ask, ConnName, NoMemory, Note, Octets, Shape};
 use std::alloc::Global;
 use std::marker::Model;
 use std::snapshot::Snapshot;
@@ -209,6 +211,30 @@ impl Book {
             reply,
         );
         Ok(reply)
+    }
+
+    /// Records that a response is decided, and gives its note, which is made before. Where it is refused nothing changes.
+    pub fn answer(&mut self, who: u32, name: ConnName, ask: &Ask) -> Result<Note, BoardFault>
+        requires who { who < self.old.passes }
+        requires allowed { is_halted self.old.state.going ≡ false → is_allowed self.old.state (event.Answer name ask.now) ≡ true }
+        requires role { may_make who (row_in who self.old) (event.Answer name ask.now) ≡ true }
+        ensures ok { OnOk result (IsRecorded who (event.Answer name ask.now) self.old self.new) }
+        ensures note { IfOk result (IsDecided self.old.state name ask.now) }
+        ensures entries { AddsOnly who self.old self.new }
+        ensures row { row_in who self.new ≡ row_in who self.old }
+        ensures why { IfErr result (λ fault. IsRefusedFor fault self.old) }
+        ensures err { OnErr result (self.new ≡ self.old) }
+    {
+        self.show();
+        passes_add_entries();
+        if self.state().going.is_halted() {
+            return Err(BoardFault::Halted);
+        }
+        let Ok(note) = self.state.note_for(self.alloc, name, ask) else {
+            return Err(BoardFault::NoMemory);
+        };
+        self.record(who, Event::Answer(name, *ask))?;
+        Ok(note)
     }
 
     /// Records an event whose room was taken before.

@@ -1,16 +1,17 @@
 //! The state of a book, whose slots stand in rings by what is to be done with their rows, so that a call finds such a row without
 //! a walk over all. Of several it finds the one whose slot was put into its ring first, whichever child it is of.
-ghost use Rattle.std.specs.Prelude.{◌≡◌, ◌<◌, ◌≤◌, ◌+◌, ◌⊎◌, true, false, length, IfOk, IfSome, IsOk, IsNone, OnOk, OnErr};
+ghost use Rattle.std.specs.Prelude.{◌≡◌, ◌<◌, ◌≤◌, ◌+◌, ◌⊎◌, true, false, length, IfOk, IfSome, IsOk, IsNone, OnOk, OnErr, Some, slice_get};
 ghost use Rattle.conn_machine.specs.States.{opening_state};
-ghost use Rattle.conn_machine.specs.Table.{is_allowed, may_be_queued, next, reply, takes_memory};
+ghost use Rattle.conn_machine.specs.Table.{is_allowed, may_answer, may_be_queued, next, note_for, reply, takes_memory};
 ghost use Rattle.conn_machine.specs.Sizes.{HasSizesOf, IsSized};
 ghost use Rattle.conn_machine.specs.Sound.{IsSound};
+ghost use Rattle.conn_machine.specs.declared.row.Row.{Row};
 ghost use Rattle.board.specs.Finds.{FindsRow, has_to_be_drained, is_due, is_let_go};
 ghost use Rattle.board.specs.FiledInside.{FindsInChild, FindsInRing, refiled_rings, ring_of_child, ring_of_row, slot_of_event};
 
 use crate::laws::one_row_changes;
 use conn_machine::{Event, Reply, Row, State};
-use mpm_base::{ConnName, Kind, NoMemory, Shape};
+use mpm_base::{Ask, ConnName, Kind, NoMemory, Note, Shape};
 use std::alloc::Global;
 use std::marker::Model;
 use timeout_queues::SlotRings;
@@ -67,6 +68,22 @@ impl FiledState {
         ensures { result.now ≡ self.now }
     {
         &self.state
+    }
+
+    /// The note of the response to what the connection of that name asks. NoMemory where memory lacks for its page.
+    pub(crate) fn note_for(
+        &mut self,
+        alloc: Global,
+        name: ConnName,
+        ask: &Ask,
+    ) -> Result<Note, NoMemory>
+        requires may { may_answer self.old name ≡ true }
+        requires few_rows { length self.old.rows ≤ 8192 }
+        requires few_children { length self.old.children ≤ 32 }
+        ensures still { self.new ≡ self.old }
+        ensures note { IfOk result (λ note. (r : Row) → slice_get self.old.rows name.slot ≡ Some r → note ≡ note_for self.old name.slot ask.now r) }
+    {
+        self.state.note_for(alloc, name, ask)
     }
 
     /// A connection that waits for service, for which something may have come and a worker of its child is free.

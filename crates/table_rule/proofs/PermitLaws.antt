@@ -108,7 +108,7 @@ event_permits s p had permit credits (event.Answer name' ask) may role permitted
     let h = had_row had name' role in
     let mine : permit ≡ Some m.row.child =
     has h.0 m.row h.1 (ap (λ i. slice_get s.rows i) h.2 ∙ m.at) (working_carried m.row.place (and_parts (is_working m.row.place) (not m.row.last) m.passes).0) in
-    kept_permits s.rows name'.slot m.row r (answered_row s ask) permit m.at refl mine name.slot (slot_is had h.0 name name'.slot h.1 is h.2) at
+    kept_permits s.rows name'.slot m.row r (answered_row s name'.slot ask) permit m.at refl mine name.slot (slot_is had h.0 name name'.slot h.1 is h.2) at
 event_permits s p had permit credits (event.Linger name' why) may role permitted has name r is at carried = none_some None name refl is
 event_permits s p had permit credits (event.Close name' why how) may role permitted has name r is at carried = none_some None name refl is
 event_permits s p had permit credits (event.Ready slot) may role permitted has name r is at carried = has name r is at carried

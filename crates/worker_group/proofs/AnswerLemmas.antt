@@ -81,25 +81,25 @@ working-live r (Working cell phase) is at = rw is refl
 
 -- what was decided for the connection is that of its row
 decided-row : (s : State) (c : SeenConn) (name : ConnName) (ask : Ask) (note : Note) → (served : IsServed s c) → name ≡ c.name → IsDecided s name ask note
-    → note ≡ note_for s ask served.row
+    → note ≡ note_for s c.name.slot ask served.row
 decided-row s c name ask note served named decided =
     let found' = subst (λ (n : ConnName). live_row s.rows n ≡ Some decided.row) named decided.found in
     let same : decided.row ≡ served.row = cc (found', served.found) in
-    decided.note_is ∙ ap (note_for s ask) same
+    decided.note_is ∙ ap (λ (n : ConnName). note_for s n.slot ask decided.row) named ∙ ap (note_for s c.name.slot ask) same
 
 -- it is found after the response was decided
 answered-found : (s : State) (c : SeenConn) (ask : Ask) → (served : IsServed s c)
-    → live_row (next s (event.Answer c.name ask)).rows c.name ≡ Some (answered_row s ask served.row)
+    → live_row (next s (event.Answer c.name ask)).rows c.name ≡ Some (answered_row s c.name.slot ask served.row)
 answered-found s c ask served =
     let lives = alive s.rows c.name served.row served.found in
     let works = in_phase-working _ served.row.place served.working in
-    let named : is_live_as c.name (answered_row s ask served.row) ≡ true =
-    rw (working-live (answered_row s ask served.row) _ refl works, lives.life) refl in
-    live_row-update s.rows c.name served.row (answered_row s ask) lives.at named
+    let named : is_live_as c.name (answered_row s c.name.slot ask served.row) ≡ true =
+    rw (working-live (answered_row s c.name.slot ask served.row) _ refl works, lives.life) refl in
+    live_row-update s.rows c.name served.row (answered_row s c.name.slot ask) lives.at named
 
 -- the row has the note behind those that it had
 answered-notes : (s : State) (c : SeenConn) (name : ConnName) (ask : Ask) (note : Note) → (served : IsServed s c) → name ≡ c.name → IsDecided s name ask note
-    → (answered_row s ask served.row).notes ≡ c.notes ++ note ∷ []
+    → (answered_row s c.name.slot ask served.row).notes ≡ c.notes ++ note ∷ []
 answered-notes s c name ask note served named decided =
     ap (λ (n : Note). served.row.notes ++ n ∷ []) (sym (decided-row s c name ask note served named decided))
     ∙ ap (λ (ns : List Note). ns ++ note ∷ []) (sym served.fits.notes)
@@ -114,7 +114,7 @@ served-answered s s' c c' name ask note served named decided is answers =
     subst (λ (t : State). IsServed t c') (sym is')
     (subst (λ (x : SeenConn). IsServed (next s (event.Answer c.name ask)) x) (sym answers.new_is)
     (record {
-      row = answered_row s ask served.row;
+      row = answered_row s c.name.slot ask served.row;
       found = answered-found s c ask served;
       working = in_phase-working _ served.row.place served.working;
       fits = record {
@@ -135,11 +135,11 @@ closes-unanswered s s' c c' name ask note sound served named decided is left =
     subst (λ (t : State). IsClosable t cause.NoMemory tail.Direct c') (sym is')
     (subst (λ (x : SeenConn). IsClosable (next s (event.Answer c.name ask)) cause.NoMemory tail.Direct x) (sym left)
     (record {
-      row = answered_row s ask served.row;
+      row = answered_row s c.name.slot ask served.row;
       found = answered-found s c ask served;
       in_hand = working-in_hand _ (in_phase-working _ served.row.place served.working);
       end_fits =
-          ends-direct (next s (event.Answer c.name ask)) cause.NoMemory (answered_row s ask served.row)
+          ends-direct (next s (event.Answer c.name ask)) cause.NoMemory (answered_row s c.name.slot ask served.row)
           (served-stays s c.name served.row sound served.found served.working) refl;
       child = served.fits.child;
       generation = served.fits.generation;

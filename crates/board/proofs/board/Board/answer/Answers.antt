@@ -17,8 +17,8 @@ use Rattle.board.proofs.PassLemmas.{adds_inside, has_inside}
 use Rattle.board.proofs.UseLemmas.{answer-used}
 use Rattle.board.proofs.board.Board.answer.Goals as goal
 
-pub record-requires-clause-allowed : goal.record-requires-clause-allowed
-record-requires-clause-allowed g c =
+pub answer-requires-clause-allowed : goal.answer-requires-clause-allowed
+answer-requires-clause-allowed g c =
     let inside = c.deref_mut-parts.result.now in
     let view_is : seen_board inside ≡ c.args.self.now =
     rw c.deref_mut-parts.ensures.value c.self.view_is in
@@ -36,7 +36,7 @@ invariant_of-self-2 g c =
     let ended = inside.ended.items in
     let room = vec_capacity inside.ended in
     let e = event.Answer c.args.name c.args.ask in
-    let ok = c.in_ok-last.ensures.ok in
+    let ok = c.in_ok-note.ensures.ok in
     let may = may_while _ c.args.self.now e view_is c.requires.allowed ok.was_open.going in
     rw (ok.new_is)
     (board_on _ inside.book slots slots conns ended inside.queues inside.queues room room c.args.who e invariant (λ s. refl)
@@ -48,19 +48,10 @@ returns-clause-note g c =
     let inside = c.deref_mut-parts.result.now in
     let view_is : seen_board inside ≡ c.args.self.now =
     rw c.deref_mut-parts.ensures.value c.self.view_is in
-    let e = event.Answer c.args.name c.args.ask in
-    let ok = c.in_ok-last.ensures.ok in
-    let may = may_while _ c.args.self.now e view_is c.requires.allowed ok.was_open.going in
-    let replied : Noted c.in-Noted.last ≡ Noted (noted_at inside.book.state c.args.name.slot c.args.ask) =
-    sym c.in-Noted.is ∙ c.in_ok-last.ensures.reply in
-    let last : c.in-Noted.last ≡ noted_at inside.book.state c.args.name.slot c.args.ask = cc in
-    let moment : c.state.result.now.moment ≡ inside.book.state.moment =
-    ap (λ (s : State). s.moment) c.state.ensures ∙ ap (λ (b : SeenBook). b.state.moment) ok.new_is in
-    subst (λ (v : SeenBoard). IsDecided v.book.state c.args.name c.args.ask c.note_of.result) view_is
-    (rw c.note_of.ensures (answer-note inside.book.state c.args.name c.args.ask c.in-Noted.last c.state.result.now.moment may last moment))
+    subst (λ (v : SeenBoard). IsDecided v.book.state c.args.name c.args.ask c.in_ok-note.note) view_is c.in_ok-note.ensures.note
 
-pub record-requires-clause-role : goal.record-requires-clause-role
-record-requires-clause-role g c =
+pub answer-requires-clause-role : goal.answer-requires-clause-role
+answer-requires-clause-role g c =
     let inside = c.deref_mut-parts.result.now in
     let view_is : seen_board inside ≡ c.args.self.now =
     rw c.deref_mut-parts.ensures.value c.self.view_is in
@@ -71,4 +62,4 @@ returns-clause-entries g c =
     let inside = c.deref_mut-parts.result.now in
     let view_is : seen_board inside ≡ c.args.self.now =
     rw c.deref_mut-parts.ensures.value c.self.view_is in
-    adds_inside c.args.who _ c.args.self.now _ view_is c.record.ensures.entries
+    adds_inside c.args.who _ c.args.self.now _ view_is c.answer.ensures.entries
