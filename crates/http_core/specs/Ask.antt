@@ -3,15 +3,20 @@ use Rattle.std.specs.Prelude.{◌<◌, ◌≤◌, false, length, ⊤}
 use Rattle.mpm_base.specs.declared.conn.Ask.{Ask}
 use Rattle.http_read.specs.RequestParts.{RequestParts}
 use Rattle.file_table.specs.Site.{SeenSite}
-use Rattle.http_core.specs.Served.{code_of, is_head, served_to, size_at}
+use Rattle.http_core.specs.Served.{code_of, is_head, is_page, served_to, size_at}
 use Rattle.http_core.specs.declared.plan.Plan.{Plan}
 use Rattle.http_core.specs.declared.plan.FilePart.{FilePart}
 use Rattle.http_core.specs.declared.plan.Served.{Served}
 use Rattle.http_core.specs.declared.plan.Served.TheVariants as served
 
--- what a request asks for: its code, and whether it asks to close; no response is a status page
+-- what a request asks for: its code, whether it asks to close, and whether its response is the status page
 abbrev pub ask_for : SeenSite → RequestParts → Ask
-ask_for site r = record { asked_close = r.asked_close; refused = false; code = code_of (served_to site r); page = false }
+ask_for site r = record {
+  asked_close = r.asked_close;
+  refused = false;
+  code = code_of (served_to site r);
+  page = is_page (served_to site r);
+}
 
 -- the plan of the response to a request
 abbrev pub plan_for : SeenSite → RequestParts → Plan
@@ -30,4 +35,5 @@ IsServedOf site (served.Part part) = IsPartOf site part
 IsServedOf site (served.Unsatisfied size) = ⊤
 IsServedOf site (served.Moved path) = ⊤
 IsServedOf site served.Options = ⊤
+IsServedOf site (served.Page auto) = ⊤
 IsServedOf site (served.Refused code) = ⊤

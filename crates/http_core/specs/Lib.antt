@@ -4,4 +4,5 @@ pub mod Range
 pub mod RangeInside
 pub mod Reply
 pub mod Served
+pub mod StatusPage
 pub mod Target

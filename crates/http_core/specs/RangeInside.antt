@@ -31,4 +31,5 @@ IsPartWithin file size (served.Part part) = IsBytesOf file size part
 IsPartWithin file size (served.Unsatisfied n) = ⊤
 IsPartWithin file size (served.Moved path) = ⊤
 IsPartWithin file size served.Options = ⊤
+IsPartWithin file size (served.Page auto) = ⊤
 IsPartWithin file size (served.Refused code) = ⊤

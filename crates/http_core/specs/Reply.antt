@@ -4,11 +4,13 @@ use Rattle.std.specs.Fmt.{decimal}
 use Rattle.httpdate.specs.Date.{unix_secs, date_text}
 use Rattle.httpdate.specs.declared.date.HttpDate.{HttpDate}
 use Rattle.mpm_base.specs.declared.note.Note.{Note}
+use Rattle.mpm_base.specs.declared.note.Snapshot.{Snapshot}
 use Rattle.mpm_base.specs.declared.store.File.{File}
 use Rattle.file_table.specs.ContentType.{type_of_name}
 use Rattle.file_table.specs.Site.{SeenSite}
 use Rattle.http_core.specs.Served.{code_of}
 use Rattle.http_core.specs.Code.{code_text}
+use Rattle.http_core.specs.StatusPage.{page_text, page_type}
 use Rattle.http_core.specs.declared.plan.Plan.{Plan}
 use Rattle.http_core.specs.declared.plan.Served.{Served}
 use Rattle.http_core.specs.declared.plan.Served.TheVariants as served
@@ -29,6 +31,7 @@ connection_line last minor =
 abbrev pub allow_line : Served → List ℕ
 allow_line served.Options = head_line_of (codes "Allow: GET, HEAD, OPTIONS")
 allow_line (served.Refused code) = if code == 405 then head_line_of (codes "Allow: GET, HEAD, OPTIONS") else []
+allow_line (served.Page auto) = []
 allow_line (served.Whole part) = []
 allow_line (served.Part part) = []
 allow_line (served.Unsatisfied size) = []
@@ -39,6 +42,7 @@ abbrev pub location_line : Served → List ℕ
 location_line (served.Moved path) = head_line_of (codes "Location: " ++ path)
 location_line served.Options = []
 location_line (served.Refused code) = []
+location_line (served.Page auto) = []
 location_line (served.Whole part) = []
 location_line (served.Part part) = []
 location_line (served.Unsatisfied size) = []
@@ -50,6 +54,7 @@ range_line (served.Part part) =
 range_line (served.Unsatisfied size) = head_line_of (codes "Content-Range: bytes */" ++ decimal size)
 range_line served.Options = []
 range_line (served.Refused code) = []
+range_line (served.Page auto) = []
 range_line (served.Whole part) = []
 range_line (served.Moved path) = []
 
@@ -58,11 +63,12 @@ abbrev pub type_of_file : Option File → List ℕ
 type_of_file None = []
 type_of_file (Some file) = type_of_name file.name
 
--- the content type of what is served: that of the file, or a text; OPTIONS has none
+-- the content type of what is served: that of the file or of the status page, or a text; OPTIONS has none
 abbrev pub type_line : SeenSite → Served → List ℕ
 type_line site served.Options = []
 type_line site (served.Whole part) = head_line_of (codes "Content-Type: " ++ type_of_file (slice_get site.files part.file))
 type_line site (served.Part part) = head_line_of (codes "Content-Type: " ++ type_of_file (slice_get site.files part.file))
+type_line site (served.Page auto) = head_line_of (codes "Content-Type: " ++ page_type auto)
 type_line site (served.Unsatisfied size) = head_line_of (codes "Content-Type: text/plain")
 type_line site (served.Moved path) = head_line_of (codes "Content-Type: text/plain")
 type_line site (served.Refused code) = head_line_of (codes "Content-Type: text/plain")
@@ -71,14 +77,21 @@ type_line site (served.Refused code) = head_line_of (codes "Content-Type: text/p
 abbrev pub code_body : ℕ → List ℕ
 code_body code = code_text code ++ codes "\n"
 
--- how many bytes the body of a GET has
-abbrev pub reply_length : Served → ℕ
-reply_length (served.Whole part) = part.to - part.from
-reply_length (served.Part part) = part.to - part.from
-reply_length served.Options = 0
-reply_length (served.Unsatisfied size) = length (code_body 416)
-reply_length (served.Moved path) = length (code_body 301)
-reply_length (served.Refused code) = length (code_body code)
+-- the body of a GET, where the status page shows this
+abbrev pub body_of_get : Served → Option Snapshot → Body
+body_of_get (served.Whole part) page = body.File part.file part.from part.to
+body_of_get (served.Part part) page = body.File part.file part.from part.to
+body_of_get served.Options page = body.Nothing
+body_of_get (served.Page auto) page = body.Own (page_text auto page)
+body_of_get (served.Unsatisfied size) page = body.Own (code_body 416)
+body_of_get (served.Moved path) page = body.Own (code_body 301)
+body_of_get (served.Refused code) page = body.Own (code_body code)
+
+-- how many bytes a body has
+abbrev pub body_length : Body → ℕ
+body_length body.Nothing = 0
+body_length (body.Own bytes) = length bytes
+body_length (body.File file from to) = to - from
 
 -- the first two lines of a head
 abbrev pub first_lines : ℕ → List ℕ → List ℕ
@@ -88,31 +101,22 @@ first_lines code date = head_line_of (codes "HTTP/1.1 " ++ code_text code) ++ he
 abbrev pub last_lines : ℕ → List ℕ
 last_lines size = head_line_of (codes "Content-Length: " ++ decimal size) ++ head_line_of []
 
--- the head of the response of this plan and date; `last` says that no other response follows
-abbrev pub head_of : SeenSite → Plan → Bool → List ℕ → List ℕ
-head_of site plan last date =
-    first_lines (code_of plan.served) date ++ connection_line last plan.minor ++ allow_line plan.served ++ location_line plan.served
-    ++ range_line plan.served ++ type_line site plan.served ++ last_lines (reply_length plan.served)
+-- the head of the response of this plan, note and date: a HEAD has the same lines as a GET (RFC 9110, section 9.3.2)
+abbrev pub head_of : SeenSite → Plan → Note → List ℕ → List ℕ
+head_of site plan note date =
+    first_lines (code_of plan.served) date ++ connection_line note.last plan.minor ++ allow_line plan.served ++ location_line plan.served
+    ++ range_line plan.served ++ type_line site plan.served ++ last_lines (body_length (body_of_get plan.served note.page))
 
--- the body of a GET
-abbrev pub body_of_get : Served → Body
-body_of_get (served.Whole part) = body.File part.file part.from part.to
-body_of_get (served.Part part) = body.File part.file part.from part.to
-body_of_get served.Options = body.Nothing
-body_of_get (served.Unsatisfied size) = body.Own (code_body 416)
-body_of_get (served.Moved path) = body.Own (code_body 301)
-body_of_get (served.Refused code) = body.Own (code_body code)
-
--- the body of the response of this plan; a HEAD has none
-abbrev pub reply_body : Plan → Body
-reply_body plan = if plan.only_head then body.Nothing else body_of_get plan.served
+-- the body of the response of this plan and note; a HEAD has none
+abbrev pub reply_body : Plan → Note → Body
+reply_body plan note = if plan.only_head then body.Nothing else body_of_get plan.served note.page
 
 -- the reply is the response of this plan, dated by the note's second, behind the bytes that were there
 pub record IsReply (site : SeenSite) (plan : Plan) (note : Note) (before : List ℕ) (reply : Reply) : Type 0 where
   pub date : HttpDate
   pub second : unix_secs date ≡ note.date
-  pub head : reply.head ≡ before ++ head_of site plan note.last (date_text date)
-  pub body : reply.body ≡ reply_body plan
+  pub head : reply.head ≡ before ++ head_of site plan note (date_text date)
+  pub body : reply.body ≡ reply_body plan note
 
 -- the head of the response to a refused head
 abbrev pub refusal_head : ℕ → List ℕ → List ℕ

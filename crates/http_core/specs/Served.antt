@@ -1,5 +1,5 @@
 -- What a request is served: the first rule that fits.
-use Rattle.std.specs.Prelude.{ℕ, ◌==◌, ◌||◌, Bool, not, List, length, codes, Option, Some, None, if◌then◌else◌, slice_get}
+use Rattle.std.specs.Prelude.{ℕ, ◌==◌, ◌||◌, Bool, true, false, not, List, length, codes, Option, Some, None, if◌then◌else◌, slice_get}
 use Rattle.std.specs.Str.{bytes_eq}
 use Rattle.mpm_base.specs.declared.store.File.{File}
 use Rattle.http_read.specs.RequestParts.{RequestParts}
@@ -8,6 +8,7 @@ use Rattle.file_table.specs.Site.{SeenSite}
 use Rattle.file_table.specs.declared.found.Found.{Found}
 use Rattle.file_table.specs.declared.found.Found.TheVariants as resource
 use Rattle.http_core.specs.Range.{range_in_value, selection_of}
+use Rattle.http_core.specs.StatusPage.{asks_for_text, is_status_path}
 use Rattle.http_core.specs.Target.{path_of}
 use Rattle.http_core.specs.declared.range.Range.{Range}
 use Rattle.http_core.specs.declared.range.Selection.{Selection}
@@ -80,10 +81,17 @@ served_of site get range (resource.Redirect path) = served.Moved path
 served_of site get range resource.Missing = served.Refused 404
 served_of site get range (resource.File place) = served_range place (size_at site place) (range_for get (size_at site place) range)
 
+-- what a target serves to GET, or else to HEAD: the status page, where its path is that, for which no range counts; or what it
+-- names in the site
+abbrev pub served_at : SeenSite → Bool → Option (List ℕ) → List ℕ → Served
+served_at site get range target =
+    if is_status_path (path_of target) then served.Page (asks_for_text target)
+    else served_of site get range (resource_of_target site target)
+
 -- what a request is served
 abbrev pub served_to : SeenSite → RequestParts → Served
 served_to site r =
-    if is_get r.method || is_head r.method then served_of site (is_get r.method) r.range (resource_of_target site r.target)
+    if is_get r.method || is_head r.method then served_at site (is_get r.method) r.range r.target
     else (if is_options r.method
     then (if bytes_eq r.target (codes "*") then served.Options else options_of (resource_of_target site r.target))
     else (if is_disallowed r.method then served.Refused 405 else served.Refused 501))
@@ -95,4 +103,15 @@ code_of (served.Part part) = 206
 code_of (served.Unsatisfied size) = 416
 code_of (served.Moved path) = 301
 code_of served.Options = 200
+code_of (served.Page auto) = 200
 code_of (served.Refused code) = code
+
+-- what is served is the status page
+abbrev pub is_page : Served → Bool
+is_page (served.Page auto) = true
+is_page (served.Whole part) = false
+is_page (served.Part part) = false
+is_page (served.Unsatisfied size) = false
+is_page (served.Moved path) = false
+is_page served.Options = false
+is_page (served.Refused code) = false

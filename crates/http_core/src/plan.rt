@@ -1,6 +1,6 @@
 //! What a request is served, as plain data.
 ghost use Rattle.std.specs.Prelude.{◌≡◌};
-ghost use Rattle.http_core.specs.Served.{code_of};
+ghost use Rattle.http_core.specs.Served.{code_of, is_page};
 
 use mpm_base::Octets;
 
@@ -30,6 +30,8 @@ pub enum Served {
     Moved(Octets),
     /// The methods that are served (section 9.3.7).
     Options,
+    /// The status page: true as plain text, for programs; false as HTML.
+    Page(bool),
     /// A refusal by its code.
     Refused(u16),
 }
@@ -56,7 +58,15 @@ impl Served {
             Served::Unsatisfied(_) => 416,
             Served::Moved(_) => 301,
             Served::Options => 200,
+            Served::Page(_) => 200,
             Served::Refused(code) => *code,
         }
+    }
+
+    /// Whether it is the status page.
+    pub fn is_page(&self) -> bool
+        ensures { result ≡ is_page self.now }
+    {
+        matches!(self, Served::Page(_))
     }
 }

@@ -6,22 +6,23 @@ ghost use Rattle.file_table.specs.Resource.{IsFoundIn};
 ghost use Rattle.http_core.specs.Ask as spec;
 ghost use Rattle.http_core.specs.Ask.{IsServedOf};
 ghost use Rattle.http_core.specs.RangeInside.{HasSmallBound, IsPartWithin};
-ghost use Rattle.http_core.specs.Served.{is_disallowed, is_get, is_head, is_options, options_of, range_for, served_range, resource_of_target, served_of, served_to, size_at};
+ghost use Rattle.http_core.specs.Served.{is_disallowed, is_get, is_head, is_options, options_of, range_for, served_range, resource_at, resource_of_target, served_at, served_of, served_to, size_at};
 
 use crate::plan::{FilePart, Plan, Served};
 use crate::range::{Range, Selection, range_of, selection_of};
+use crate::status_page::{asks_for_text, is_status_path};
 use crate::target::path_of;
 use file_table::{Found, Site, bytes, find};
 use http_read::Request;
 use mpm_base::{Ask, NoMemory};
 use std::alloc::Global;
 
-/// What the path of the target names.
-fn resource_of_target(alloc: Global, site: &Site, target: &[u8]) -> Result<Found, NoMemory>
-    ensures resource { IfOk result (λ found. found ≡ resource_of_target site.now target.now) }
+/// What the path of a target names.
+fn resource_at(alloc: Global, site: &Site, path: Option<&[u8]>) -> Result<Found, NoMemory>
+    ensures resource { IfOk result (λ found. found ≡ resource_at site.now (option_map (λ p. p.now) path.entry)) }
     ensures there { IfOk result (IsFoundIn site.now) }
 {
-    match path_of(target) {
+    match path {
         Some(path) => find(alloc, site, path),
         None => Ok(Found::BadPath),
     }
@@ -111,12 +112,16 @@ fn is_disallowed(method: &[u8]) -> bool
 }
 
 /// What is served to a GET, or else to a HEAD.
-fn serve_file(alloc: Global, site: &Site, request: &Request, get: bool) -> Result<Served, NoMemory>
-    ensures value { IfOk result (λ served. served
-        ≡ served_of site.now get request.now.range (resource_of_target site.now request.now.target)) }
+fn served_at(alloc: Global, site: &Site, request: &Request, get: bool) -> Result<Served, NoMemory>
+    ensures value { IfOk result (λ served. served ≡ served_at site.now get request.now.range request.now.target) }
     ensures of { IfOk result (IsServedOf site.now) }
 {
-    let found = resource_of_target(alloc, site, request.target())?;
+    let target = request.target();
+    let path = path_of(target);
+    if is_status_path(path) {
+        return Ok(Served::Page(asks_for_text(target)));
+    }
+    let found = resource_at(alloc, site, path)?;
     Ok(served_of(site, get, request.range(), found))
 }
 
@@ -129,7 +134,7 @@ fn serve_options(alloc: Global, site: &Site, target: &[u8]) -> Result<Served, No
     if matches!(target, b"*") {
         return Ok(Served::Options);
     }
-    let found = resource_of_target(alloc, site, target)?;
+    let found = resource_at(alloc, site, path_of(target))?;
     Ok(options_of(found))
 }
 
@@ -139,8 +144,8 @@ fn served_to(alloc: Global, site: &Site, request: &Request) -> Result<Served, No
     ensures of { IfOk result (IsServedOf site.now) }
 {
     match request.method() {
-        b"GET" => serve_file(alloc, site, request, true),
-        b"HEAD" => serve_file(alloc, site, request, false),
+        b"GET" => served_at(alloc, site, request, true),
+        b"HEAD" => served_at(alloc, site, request, false),
         b"OPTIONS" => serve_options(alloc, site, request.target()),
         method => Ok(Served::Refused(if is_disallowed(method) { 405 } else { 501 })),
     }
@@ -164,7 +169,7 @@ pub fn ask_of(alloc: Global, site: &Site, request: &Request) -> Result<(Ask, Pla
         asked_close: request.asked_close(),
         refused: false,
         code: served.code(),
-        page: false,
+        page: served.is_page(),
     };
     let plan = Plan {
         served,

@@ -1,5 +1,5 @@
 //! A response: its head, and what its body is.
-ghost use Rattle.std.specs.Prelude.{◌≡◌, true, IfOk};
+ghost use Rattle.std.specs.Prelude.{◌≡◌, true, IfOk, if◌then◌else◌};
 ghost use Rattle.httpdate.specs.Date.{unix_secs};
 ghost use Rattle.mpm_base.specs.Moment.{IsSecond};
 ghost use Rattle.http_core.specs.Ask.{IsServedOf};
@@ -9,6 +9,7 @@ ghost use Rattle.http_core.specs.Code.{refuses_head};
 
 use crate::code::code_text;
 use crate::plan::{Plan, Served};
+use crate::status_page::page_text;
 use crate::writing::{write_head, write_refusal};
 use file_table::Site;
 use httpdate::HttpDate;
@@ -24,6 +25,19 @@ pub enum Body {
     Own(Octets),
     /// The bytes of a file of the site, by its place: from the one place up to the other, which isn't one of them.
     File(u32, u64, u64),
+}
+
+impl Body {
+    /// How many bytes it has.
+    fn len(&self) -> u64
+        ensures { result ≡ spec.body_length self.now }
+    {
+        match self {
+            Body::Nothing => 0,
+            Body::Own(text) => text.len() as u64,
+            Body::File(_, from, to) => to.saturating_sub(*from),
+        }
+    }
 }
 
 /// A response, its head as bytes.
@@ -56,30 +70,27 @@ fn code_body(alloc: Global, code: u16) -> Result<Octets, NoMemory>
 }
 
 /// The body of a GET.
-fn body_of_get(alloc: Global, served: &Served) -> Result<Body, NoMemory>
-    ensures { IfOk result (λ body. body ≡ spec.body_of_get served.now) }
+fn body_of_get(alloc: Global, served: &Served, note: &Note) -> Result<Body, NoMemory>
+    ensures { IfOk result (λ body. body ≡ spec.body_of_get served.now note.now.page) }
 {
     match served {
         Served::Whole(part) => Ok(Body::File(part.file, part.from, part.to)),
         Served::Part(part) => Ok(Body::File(part.file, part.from, part.to)),
         Served::Options => Ok(Body::Nothing),
+        Served::Page(auto) => Ok(Body::Own(page_text(alloc, *auto, &note.page)?)),
         _ => Ok(Body::Own(code_body(alloc, served.code())?)),
     }
 }
 
-/// The body of the response of this plan.
-fn body_of(alloc: Global, plan: &Plan) -> Result<Body, NoMemory>
-    ensures { IfOk result (λ body. body ≡ spec.reply_body plan.now) }
+/// What of the body of a GET is sent: a HEAD has none.
+fn sent_body(only_head: bool, body: Body) -> Body
+    ensures { result ≡ (if only_head then Body.Nothing else body) }
 {
-    if plan.only_head {
-        Ok(Body::Nothing)
-    } else {
-        body_of_get(alloc, &plan.served)
-    }
+    if only_head { Body::Nothing } else { body }
 }
 
 /// The response of this plan with the note: its head is written behind what the buffer holds, which is dropped where
-/// memory lacks.
+/// memory lacks. A status page shows what the note keeps, and is empty where that is nothing.
 pub fn response(
     alloc: Global,
     head: Octets,
@@ -93,8 +104,9 @@ pub fn response(
 {
     let mut head = head;
     let date = date_at(note.date);
-    write_head(&mut head, site, plan, note.last, &date)?;
-    let body = body_of(alloc, plan)?;
+    let body = body_of_get(alloc, &plan.served, note)?;
+    write_head(&mut head, site, plan, note, body.len(), &date)?;
+    let body = sent_body(plan.only_head, body);
     Ok(Reply { head, body })
 }
 

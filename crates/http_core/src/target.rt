@@ -1,6 +1,6 @@
 //! The path of a target.
 ghost use Rattle.std.specs.Prelude.{◌≡◌, ◌==◌, position, slice_index, option_map};
-ghost use Rattle.std.specs.List.{before_first, list_any, position_or_len};
+ghost use Rattle.std.specs.List.{after_first, before_first, list_any, position_or_len};
 ghost use Rattle.http_core.specs.Target.{begins_fragment, begins_path, has_scheme, path_behind, path_of, path_or_root};
 
 /// The place of the first such byte, where there is one.
@@ -22,6 +22,18 @@ pub fn before_byte(text: &[u8], byte: u8) -> &[u8]
     ensures { result.now ≡ before_first (λ b. b == byte) text.now }
 {
     text.split_at(place_of_byte(text, byte)).0
+}
+
+/// What stands behind the first such byte; nothing where there is none.
+pub fn after_byte(text: &[u8], byte: u8) -> &[u8]
+    ensures { result.now ≡ after_first (λ b. b == byte) text.now }
+{
+    let place = place_of_byte(text, byte);
+    if place < text.len() {
+        &text[place + 1..]
+    } else {
+        b""
+    }
 }
 
 /// Whether the target begins with a path.

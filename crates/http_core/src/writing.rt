@@ -7,9 +7,10 @@ ghost use Rattle.http_core.specs.Reply as spec;
 
 use crate::code::code_text;
 use crate::plan::{FilePart, Plan, Served};
+use crate::status_page::page_type;
 use file_table::{Site, content_type};
 use httpdate::HttpDate;
-use mpm_base::{NoMemory, Octets};
+use mpm_base::{NoMemory, Note, Octets};
 
 /// Room for a head without its Location. None takes more: at most, with their ends, 30 bytes of a status line with a part's
 /// code, 37 of Date, 24 of Connection, 85 of Content-Range, 40 of Content-Type, 38 of Content-Length, numbers having at
@@ -132,19 +133,8 @@ fn add_type(head: &mut Octets, site: &Site, served: &Served) -> Result<(), NoMem
         Served::Options => Ok(()),
         Served::Whole(part) => add_type_of_file(head, site, part.file),
         Served::Part(part) => add_type_of_file(head, site, part.file),
+        Served::Page(auto) => add_line(head, b"Content-Type: ", page_type(*auto)),
         _ => head.add(TEXT),
-    }
-}
-
-/// How many bytes the body of a GET has.
-fn length_of(served: &Served) -> u64
-    ensures { result ≡ spec.reply_length served.now }
-{
-    match served {
-        Served::Whole(part) => part.to.saturating_sub(part.from),
-        Served::Part(part) => part.to.saturating_sub(part.from),
-        Served::Options => 0,
-        _ => code_text(served.code()).len() as u64 + 1,
     }
 }
 
@@ -157,26 +147,28 @@ fn add_last_lines(head: &mut Octets, size: u64) -> Result<(), NoMemory>
     head.add(b"\r\n\r\n")
 }
 
-/// Writes the head of the response of this plan.
+/// Writes the head of the response of this plan with the note, the body of a GET having so many bytes.
 pub fn write_head(
     head: &mut Octets,
     site: &Site,
     plan: &Plan,
-    last: bool,
+    note: &Note,
+    size: u64,
     date: &HttpDate,
 ) -> Result<(), NoMemory>
-    requires { IsServedOf site.now plan.now.served }
-    ensures { OnOk result (head.new ≡ head.old ++ spec.head_of site.now plan.now last (date_text date.now)) }
+    requires of { IsServedOf site.now plan.now.served }
+    requires size { size ≡ spec.body_length (spec.body_of_get plan.now.served note.now.page) }
+    ensures { OnOk result (head.new ≡ head.old ++ spec.head_of site.now plan.now note.now (date_text date.now)) }
 {
     let served = &plan.served;
     head.reserve(room_of(served))?;
     add_first_lines(head, served.code(), date)?;
-    add_connection(head, last, plan.minor)?;
+    add_connection(head, note.last, plan.minor)?;
     add_allow(head, served)?;
     add_location(head, served)?;
     add_range(head, served)?;
     add_type(head, site, served)?;
-    add_last_lines(head, length_of(served))
+    add_last_lines(head, size)
 }
 
 /// Writes the head of the response to a refused head.

@@ -13,7 +13,7 @@ returns c =
     let served = plan.served in
     let date = date_text c.args.date.now in
     let first = first_lines (code_of served) date in
-    let second = first ++ connection_line c.args.last plan.minor in
+    let second = first ++ connection_line c.args.note.now.last plan.minor in
     let third = second ++ allow_line served in
     let fourth = third ++ location_line served in
     let fifth = fourth ++ range_line served in
@@ -26,4 +26,4 @@ returns c =
     let range = one_more head fourth _ _ _ location c.in_ok-add_range.ensures in
     let kind = one_more head fifth _ _ _ range c.in_ok-add_type.ensures in
     on_ok_weaker c.add_last_lines.result
-    (λ e. one_more head sixth _ _ _ kind (e ∙ ap (λ n. c.add_type.new.head ++ last_lines n) c.length_of.ensures)) c.add_last_lines.ensures
+    (λ e. one_more head sixth _ _ _ kind (e ∙ ap (λ n. c.add_type.new.head ++ last_lines n) c.requires.size)) c.add_last_lines.ensures
