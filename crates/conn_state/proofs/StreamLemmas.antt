@@ -1,5 +1,5 @@
 -- How the reply stream goes on.
-use Rattle.std.proofs.Common.{◌≡◌, ℕ, ◌<◌, Bool, inl, inr, false, List, [], ◌∷◌, ◌++◌, drop, length, Option, Some, None, refl, sym, ap, subst, ◌∙◌, arith, append_assoc, length-append}
+use Rattle.std.proofs.Common.{◌≡◌, ℕ, ◌<◌, inl, inr, false, List, [], ◌∷◌, ◌++◌, drop, length, Option, Some, None, refl, sym, ap, subst, ◌∙◌, arith, append_assoc, length-append}
 use Rattle.std.proofs.lemmas.Bool.{false≢true}
 use Rattle.std.proofs.lemmas.List.{append-nil}
 use Rattle.mpm_base.specs.Notes.{says_last}
@@ -136,8 +136,8 @@ replies-snoc site (head ∷ items) (first ∷ notes) replies item note response 
 -- ## Responses
 
 -- a head isn't empty
-some-head : (site : SeenSite) (plan : Plan) (last : Bool) (date : List ℕ) → 0 < length (head_of site plan last date)
-some-head site plan last date = omega arith
+some-head : (site : SeenSite) (plan : Plan) (note : Note) (date : List ℕ) → 0 < length (head_of site plan note date)
+some-head site plan note date = omega arith
 
 -- the head of a refusal isn't empty
 some-refusal : (code : ℕ) (date : List ℕ) → 0 < length (refusal_head code date)
@@ -146,7 +146,7 @@ some-refusal code date = omega arith
 -- the head of a reply isn't empty
 some-reply : (site : SeenSite) (item : Item) (note : Note) (reply : Reply) → IsReplyTo site item note reply → 0 < length reply.head
 some-reply site (inl request) note reply is =
-    subst (λ xs. 0 < length xs) (sym is.head) (some-head site (plan_for site request) note.last _)
+    subst (λ xs. 0 < length xs) (sym is.head) (some-head site (plan_for site request) note _)
 some-reply site (inr refusal) note reply is =
     subst (λ xs. 0 < length xs) (sym is.1.head) (some-refusal note.code _)
 
