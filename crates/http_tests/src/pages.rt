@@ -1,6 +1,8 @@
-//! The status pages, whole.
+//! The status pages, whole, and the one that responses show.
+ghost use Rattle.std.specs.Prelude.{◌≡◌, IfOk, is_some};
+
 use crate::texts::{grown, small_of};
-use mpm_base::{NoMemory, Octets, Snapshot};
+use mpm_base::{NoMemory, Octets, Page, Snapshot};
 use scoreboard::{page_auto, page_html};
 use std::alloc::Global;
 use std::io;
@@ -16,6 +18,20 @@ pub fn show_pages(rt: &impl Print, alloc: Global, rows: &str) -> io::Result<()> 
         print!(rt; "{}", String::from_utf8_lossy(alloc, page.as_slice())?)?;
     }
     Ok(())
+}
+
+/// What each status page of a response shows, no two of its numbers being the same.
+const SHOWN: &str = "R_WC.G 10 4 1 29 8 7 5";
+
+/// The status page of a response, where it is to be one.
+pub fn page_where(alloc: Global, wanted: bool) -> Result<Option<Page>, NoMemory>
+    ensures { IfOk result (λ page. is_some page ≡ wanted) }
+{
+    if !wanted {
+        return Ok(None);
+    }
+    let snapshot = snapshot_of(alloc, SHOWN)?;
+    Ok(Some(Page::make(alloc, snapshot)?))
 }
 
 /// The snapshot of these numbers and letters.

@@ -5,11 +5,12 @@ ghost use Rattle.http_core.specs.Ask.{IsServedOf};
 ghost use Rattle.http_core.specs.Code.{refuses_head};
 
 use crate::heads::LIMITS;
+use crate::pages::page_where;
 use crate::texts::{grown, number_of, text_of, words};
 use file_table::{LoadFault, Site, SiteOrder, bytes, load};
 use http_core::{Body, Plan, ask_of, continue_text, refusal, response};
 use http_read::{HeadAnswer, Request, next_head};
-use mpm_base::{Ask, NoMemory, Note, Octets};
+use mpm_base::{Ask, NoMemory, Note, Octets, Page};
 use stand_ins::{Calls, Files, MemStore};
 use std::alloc::Global;
 use std::io;
@@ -68,8 +69,8 @@ fn add_body(site: &Site, body: &Body, text: &mut Octets) -> Result<(), NoMemory>
     }
 }
 
-/// A note of this second and code.
-fn note_of(date: u64, last: bool, code: u16) -> Note
+/// A note of this second, code and page.
+fn note_of(date: u64, last: bool, code: u16, page: Option<Page>) -> Note
     ensures date { result.date ≡ date }
     ensures code { result.code ≡ code }
 {
@@ -78,7 +79,7 @@ fn note_of(date: u64, last: bool, code: u16) -> Note
         asked_close: last,
         last,
         code,
-        page: None,
+        page,
     }
 }
 
@@ -105,7 +106,8 @@ fn answer_of(
     requires { IsSecond date }
 {
     let (ask, plan) = plan_of(alloc, site, request)?;
-    let note = note_of(date, last || ask.asked_close, ask.code);
+    let page = page_where(alloc, ask.page)?;
+    let note = note_of(date, last || ask.asked_close, ask.code, page);
     let text = reply_of(alloc, site, &plan, &note)?;
     Ok((ask.code, text))
 }
@@ -146,7 +148,7 @@ fn show_answers_of(
 fn refusal_of(alloc: Global, code: u16) -> Result<Octets, NoMemory>
     requires { refuses_head code ≡ true }
 {
-    let note = note_of(0, true, code);
+    let note = note_of(0, true, code, None);
     let reply = refusal(alloc, Octets::make(alloc), &note)?;
     let mut text = reply.head;
     if let Body::Own(own) = &reply.body {

@@ -6,6 +6,7 @@ ghost use Rattle.conn_state.specs.declared.turn.LastLinger.TheVariants as linger
 
 use crate::heads::LIMITS;
 use crate::leaving::may_end;
+use crate::pages::page_where;
 use crate::turn_answers::{is_usable, left_by_drop, left_by_read, left_by_write, lingers};
 use conn_state::{Conn, Ended, LastLinger, LastTurn, LingerTurn, Nothing, ReadTurn, WriteTurn};
 use file_table::Site;
@@ -27,6 +28,7 @@ const TURNS: u64 = 100;
 /// A connection, and what its last turns answered.
 #[derive(Drop)]
 pub struct TestConn<L: Link> {
+    alloc: Global,
     conn: Conn<L, Nothing>,
     turn: LastTurn,
     linger: LastLinger,
@@ -49,6 +51,7 @@ impl<L: Link> TestConn<L> {
         requires fresh { IfSome (L.seen link).told IsFresh }
     {
         TestConn {
+            alloc,
             conn: Conn::new(alloc, NAME, 2, 5, LIMITS, site, link),
             turn: LastTurn::New,
             linger: LastLinger::Open,
@@ -91,21 +94,24 @@ impl<L: Link> TestConn<L> {
     }
 
     /// Answers what was asked, at the second, and for the last time where it is to be or has to be. False where nothing may be
-    /// answered.
+    /// answered, or memory lacks for a status page.
     pub fn answer(&mut self, second: u64, last: bool) -> bool {
         let LastTurn::Asked(ask) = self.turn else {
             return false;
         };
-        if ask.page || second >= SECONDS || !self.is_open() {
+        if second >= SECONDS || !self.is_open() {
             return false;
         }
+        let Ok(page) = page_where(self.alloc, ask.page) else {
+            return false;
+        };
         let asked_close = ask.asked_close || ask.refused;
         let note = Note {
             date: second,
             asked_close,
             last: last || asked_close,
             code: ask.code,
-            page: None,
+            page,
         };
         self.turn = match self.conn.answer(note) {
             Ok(()) => LastTurn::Answered,
