@@ -1,14 +1,22 @@
-//! What an operator may ask of a running server.
+//! What an operator may ask of a running server, and what a graceful restart makes of its files.
 //!
-//! `read_command` reads a command line: exactly one of three words, which stand in `specs/CommandWord.antt` of `mpm_base`. To come: `reload`, which
-//! makes the configuration and the site of a new generation.
+//! `read_command` reads a command line: exactly one of three words, which stand in `specs/CommandWord.antt` of `mpm_base`, and `spelling`
+//! spells one. `reload` goes to the next edition of a store and answers the plan of a new generation, its configuration and its site, or
+//! for each refusal its cause (`specs/Reload.antt`).
 #![tactic(auto)]
 
 ghost use Rattle.std.specs.Prelude.{◌≡◌, ◌≢◌, MatchResult};
 ghost use Rattle.mpm_base.specs.CommandWord.{command_word};
 ghost use Rattle.mpm_base.specs.declared.script_line.CommandWord.{CommandWord};
 
+mod plan;
+mod reading;
+mod reload_fault;
+mod site_loading;
+
 pub use mpm_base::CommandWord as Command;
+pub use plan::{Plan, reload};
+pub use reload_fault::ReloadFault;
 use thiserror::Error;
 
 /// The line asks for nothing that the server does.

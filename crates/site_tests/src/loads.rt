@@ -70,28 +70,43 @@ pub fn show_sizes(rt: &impl Print, alloc: Global, rows: &str) -> io::Result<()> 
     Ok(())
 }
 
-/// Files of these names and sizes.
-fn sized(alloc: Global, row: &str) -> Result<Files, NoMemory> {
+/// Files of these names and sizes, each of the byte `#` alone.
+pub fn sized(alloc: Global, row: &str) -> Result<Files, NoMemory> {
     let mut files = Files::make(alloc);
     for part in row.split('|') {
         let (name, size) = part.split_once(' ').unwrap_or((part, ""));
         let mut bytes = Vec::new(alloc);
-        bytes.resize(number_of(size) as usize, 7)?;
+        bytes.resize(number_of(size) as usize, b'#')?;
         files.set(name, bytes.as_slice())?;
     }
     Ok(files)
 }
 
-/// A store of 65,537 files, which tells nothing and can't give their names.
+/// A store of 65,537 files, which tells nothing and can't give their names. All are empty.
 #[derive(Drop)]
-struct CrowdedStore {
-    refusals: u64,
+pub struct CrowdedStore {
+    /// How often it was renewed.
+    pub renewals: u64,
+    /// How often it was asked for fewer names than it has.
+    pub refusals: u64,
+}
+
+impl CrowdedStore {
+    /// One of which no call was made.
+    pub fn make() -> CrowdedStore {
+        CrowdedStore {
+            renewals: 0,
+            refusals: 0,
+        }
+    }
 }
 
 impl Store for CrowdedStore {
     ghost seen = { λ s. record { told = None; counts = record { faults = 0; refusals = s.refusals } } };
 
-    fn renew(&mut self) {}
+    fn renew(&mut self) {
+        self.renewals = self.renewals.saturating_add(1);
+    }
 
     fn names(&mut self, _: Global, _: &str, most: u32) -> Result<Names, StoreFault> {
         if most >= 65_537 {
@@ -101,14 +116,14 @@ impl Store for CrowdedStore {
         Err(StoreFault::Many)
     }
 
-    fn read(&mut self, _: Global, _: &str, _: u64) -> Result<Octets, StoreFault> {
-        Err(StoreFault::NoMemory)
+    fn read(&mut self, alloc: Global, _: &str, _: u64) -> Result<Octets, StoreFault> {
+        Ok(Octets::make(alloc))
     }
 }
 
 /// Shows that a store of too many files is refused, and how often it was asked.
 pub fn show_crowd(rt: &impl Print, alloc: Global) -> io::Result<()> {
-    let mut store = CrowdedStore { refusals: 0 };
+    let mut store = CrowdedStore::make();
     let Ok(order) = htdocs(alloc) else {
         return Err(io::Error::from(ErrorKind::OutOfMemory));
     };

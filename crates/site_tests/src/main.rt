@@ -1,5 +1,5 @@
-//! Tests of the site, by public calls alone: of configurations, of the one that a script writes, and of the files of a site, what
-//! paths name, its bounds and its search. The file `stdin` has what is asked, and `stdout` what must come of it, row by row.
+//! Tests of the site, by public calls alone: of configurations, of the one that a script writes, of the files of a site, what
+//! paths name, its bounds and its search, and of restarts. The file `stdin` has what is asked, and `stdout` what must come of it, row by row.
 //!
 //! In the input a line that begins with `== ` begins a section: the word behind it says what its rows are, and the rest is its title.
 //! In a row of a configuration or a script `|` stands for a line feed.
@@ -11,12 +11,16 @@
 //! - `paths`: names of files up to a row `--`, and paths that are asked of the site of these files, each of which has its name as its
 //!   bytes. `calls`: such names, and calls of the store that fail. `types`: such names, whose content types are shown.
 //! - `sizes`: sites, as names and sizes with `|` between them.
+//! - `reload`: names of files up to a row `--`, and configurations of a running server, each with the one behind ` => ` that it finds
+//!   beside these files when it is restarted, or without one. `reload-sizes`: what it finds, as names and sizes. `reload-calls`: such
+//!   names, and calls of the store that fail in the first of two restarts. `reload-crowd`: no rows, as for `crowd`.
 //! - `crowd`: no rows, for a store of 65,537 files. `search`: names in two parts with `|` between them, which are looked for among 65,536.
 #![tactic(auto)]
 
 mod configurations;
 mod loads;
 mod paths;
+mod reloads;
 mod scripts;
 mod search;
 mod texts;
@@ -48,6 +52,10 @@ fn show_section(rt: &impl Print, alloc: Global, kind: &str, rows: &str) -> io::R
         "types" => paths::show_types(rt, alloc, rows),
         "calls" => loads::show_calls(rt, alloc, rows),
         "sizes" => loads::show_sizes(rt, alloc, rows),
+        "reload" => reloads::show_restarts(rt, alloc, rows),
+        "reload-sizes" => reloads::show_sizes(rt, alloc, rows),
+        "reload-calls" => reloads::show_calls(rt, alloc, rows),
+        "reload-crowd" => reloads::show_crowd(rt, alloc),
         "crowd" => loads::show_crowd(rt, alloc),
         "search" => search::show_search(rt, alloc, rows),
         _ => configurations::show_rows(rt, alloc, kind, rows),

@@ -1,0 +1,2 @@
+pub mod Reload
+pub mod ReloadInside

@@ -1,0 +1,50 @@
+//! Makes the configuration and the site of a new generation.
+ghost use Rattle.std.specs.Prelude.{◌≡◌, MatchResult};
+ghost use Rattle.mpm_base.specs.Store.{Renews};
+ghost use Rattle.restart_control.specs.Reload.{HasCause, IsPlan};
+
+use crate::reading::read_named;
+use crate::reload_fault::ReloadFault;
+use crate::site_loading::{fault_for, load_site};
+use file_table::Site;
+use mpm_base::Store;
+use mpm_config::{Config, carry_limits};
+use std::alloc::Global;
+
+/// What a new generation works by.
+#[derive(Debug, Drop)]
+pub struct Plan {
+    /// Its configuration, with the two limits of the running server. Listen and ControlListen are those that were read, which a running
+    /// server doesn't change.
+    pub config: Config,
+    /// The files that it serves.
+    pub site: Site,
+}
+
+/// Goes to the next edition of the store, once, and makes a plan of it: the configuration of that name, which keeps ServerLimit and
+/// ThreadLimit of the old one and is corrected again, and the site of the files under its DocumentRoot. The warnings of the configuration
+/// are dropped. The store is renewed even where there is no plan. Absent where the store has no such file; Conf where it is refused, and
+/// as a bad value at 0 where it has more than 1,048,576 bytes; Load where its files are more, or larger, than a site takes; StoreFault
+/// where a call of the store failed; NoMemory where memory lacks.
+pub fn reload<D: Store>(
+    alloc: Global,
+    store: &mut D,
+    name: &str,
+    old: &Config,
+) -> Result<Plan, ReloadFault>
+    ensures store { Renews (D.seen store.old) (D.seen store.new) }
+    ensures answer { MatchResult result
+        (IsPlan (D.seen store.new).told name.now old.entry.now)
+        (HasCause (D.seen store.new).told name.now old.entry.now (D.seen store.old).counts (D.seen store.new).counts) }
+{
+    store.renew();
+    let mut config = match read_named(alloc, store, name) {
+        Ok((config, _)) => config,
+        Err(fault) => return Err(fault),
+    };
+    carry_limits(old, &mut config);
+    match load_site(alloc, store, &config) {
+        Ok(site) => Ok(Plan { config, site }),
+        Err(fault) => Err(fault_for(fault)),
+    }
+}

@@ -1,0 +1,24 @@
+//! Why a graceful restart makes no plan.
+use file_table::LoadFault;
+use mpm_config::ConfFault;
+use thiserror::Error;
+
+/// Why a graceful restart makes no plan.
+#[derive(Debug, Drop, Error)]
+pub enum ReloadFault {
+    /// The store has no configuration of that name.
+    #[error("no configuration")]
+    Absent,
+    /// The configuration is refused, one of more than 1,048,576 bytes as a bad value at 0. Never for want of memory.
+    #[error("configuration: {0}")]
+    Conf(ConfFault),
+    /// The files are more, or larger, than a site takes: TooMany or TooLarge.
+    #[error("site: {0}")]
+    Load(LoadFault),
+    /// A call of the store failed.
+    #[error("the store failed")]
+    StoreFault,
+    /// Memory was wanted and not found.
+    #[error("out of memory")]
+    NoMemory,
+}

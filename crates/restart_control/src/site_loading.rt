@@ -1,0 +1,50 @@
+//! Loads the site that a configuration makes of a store.
+ghost use Rattle.std.specs.Prelude.{◌≡◌, IfOk, IfSome};
+ghost use Rattle.file_table.specs.Load.{IsWithinLimits, LeavesStore, MayLoad};
+ghost use Rattle.restart_control.specs.Reload.{order_of};
+ghost use Rattle.restart_control.specs.ReloadInside.{fault_for};
+
+use crate::reload_fault::ReloadFault;
+use file_table::{LoadFault, Site, SiteOrder, load};
+use mpm_base::{NoMemory, Octets, Store};
+use mpm_config::Config;
+use std::alloc::Global;
+
+/// The site of the files under the configuration's DocumentRoot. TooMany or TooLarge where they are more, or larger, than a site takes,
+/// StoreFault where a call of the store failed, NoMemory where memory lacks.
+pub(crate) fn load_site<D: Store>(
+    alloc: Global,
+    store: &mut D,
+    config: &Config,
+) -> Result<Site, LoadFault>
+    ensures leaves { LeavesStore (D.seen store.old) (D.seen store.new) result }
+    ensures site { IfSome (D.seen store.old).told (λ t. MayLoad (order_of config.entry.now) t.files result) }
+    ensures limits { IfOk result IsWithinLimits }
+{
+    config.show();
+    let Ok(order) = site_order(alloc, config) else {
+        return Err(LoadFault::NoMemory);
+    };
+    load(alloc, store, &order)
+}
+
+/// What a site is made of by the configuration.
+fn site_order(alloc: Global, config: &Config) -> Result<SiteOrder, NoMemory>
+    ensures { IfOk result (λ order. order ≡ order_of config.entry.now) }
+{
+    let root = Octets::of(alloc, config.root.as_slice())?;
+    let index = Octets::of(alloc, config.index.as_slice())?;
+    Ok(SiteOrder { root, index })
+}
+
+/// The fault of a restart for that of its site.
+pub(crate) fn fault_for(fault: LoadFault) -> ReloadFault
+    ensures { result ≡ fault_for fault }
+{
+    match fault {
+        LoadFault::StoreFault => ReloadFault::StoreFault,
+        LoadFault::NoMemory => ReloadFault::NoMemory,
+        LoadFault::TooMany => ReloadFault::Load(LoadFault::TooMany),
+        LoadFault::TooLarge(name, size) => ReloadFault::Load(LoadFault::TooLarge(name, size)),
+    }
+}
