@@ -81,12 +81,7 @@ pub fn show_restarts(rt: &impl Print, alloc: Global, rows: &str) -> io::Result<(
             grown(files.set(CONF_NAME, new.as_slice()))?;
         }
         let old = grown(text_of(alloc, old))?;
-        let mut store = grown(store_before(
-            alloc,
-            old.as_slice(),
-            files,
-            Calls::make(alloc),
-        ))?;
+        let mut store = grown(store_before(alloc, old.as_slice(), files, Calls::make(alloc)))?;
         show_reload(rt, alloc, &mut store, old.as_slice())?;
     }
     Ok(())
