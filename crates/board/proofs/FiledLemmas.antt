@@ -274,20 +274,6 @@ of_ring b r ring at =
 
 -- ## A slot that is found
 
--- a slot that stands in a ring has a row of that ring
-pub row_standing : (s : State) (rings : List (Option ℕ)) (ring slot : ℕ) → AreFiled s rings → StandsIn rings ring slot
-    → (r : Row) × (slice_get s.rows slot ≡ Some r) × (ring_of_row (is_signalled s slot) r ≡ Some ring)
-row_standing s rings ring slot are stands =
-    let below : slot < length s.rows = omega (arith, slice_get_within rings slot (Some ring) stands, are.slots) in
-    let r : Row = get_or s.rows slot unused_row in
-    let at : slice_get s.rows slot ≡ Some r = slice_get-get_or s.rows slot unused_row below in
-    (r, at, same_Some _ _ (sym (are.filed slot r at) ∙ stands))
-
--- where no slot stands in a ring, no row is of it
-pub none_of_ring : (s : State) (rings : List (Option ℕ)) (ring : ℕ) → AreFiled s rings → ((slot : ℕ) → StandsIn rings ring slot → ⊥)
-    → FindsInRing s ring None
-none_of_ring s rings ring are none slot r at is = none slot (are.filed slot r at ∙ ap Some is)
-
 -- ## A connection that is found
 
 -- a row that waits is the live one of its name
@@ -424,10 +410,6 @@ go_beyond s slot r past =
 abbrev pub FindsBelow : (ℕ → Row → Bool) → State → ℕ → Option ConnName → Type 0
 FindsBelow test s n None = FailsInChildren test s n
 FindsBelow test s n (Some name) = lives_and (test name.slot) s.rows name ≡ true
-
--- there is no child below 0
-pub finds_first : (test : ℕ → Row → Bool) (s : State) → FindsBelow test s 0 None
-finds_first test s = λ slot r at below. absurd (omega arith)
 
 -- what was found so far, or of the child n, is found of one child more
 pub finds_more : (test : ℕ → Row → Bool) (s : State) (n : ℕ) (one other of_both : Option ConnName) → FindsBelow test s n one → FindsInChild test n s other

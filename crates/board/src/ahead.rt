@@ -1,5 +1,5 @@
 //! The numbers of the record that a fold would make of a history, and the load of that. They are kept as entries are added, so that a
-//! fold goes over no entry.
+//! fold counts no entry, and only drops each.
 ghost use Rattle.std.specs.Prelude.{◌≡◌, ◌+◌, ◌<◌, ◌^◌, ℕ, List, [], ◌∷◌, ◌++◌, length, nat_le, slice_index, IfOk};
 ghost use Rattle.conn_machine.specs.Folds.{CountsWithin, HasPlacesFor, fold_load, fold_of, opening_record};
 ghost use Rattle.conn_machine.specs.Made.{AreOfPasses};

@@ -187,14 +187,3 @@ refused-large call name size answer command reads is refused =
       shows = refused.shows;
       text = refused.writes;
     })
-
--- for the fault
-pub refusal_of : (sink sink' : SinkSeen) (e : ScriptFault) (shown : Option ℕ) (line : ℕ) (why : ScriptRefusal) → e ≡ fault_at why line
-    → RefusesRun sink sink' (Some line) (script_refused line why) shown → IsRefusalOf sink sink' e shown
-refusal_of sink sink' e shown line why is refused = record {
-  line = line;
-  why = why;
-  fault_is = is;
-  shows = refused.shows;
-  text = refused.writes;
-}

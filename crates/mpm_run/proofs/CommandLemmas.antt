@@ -95,12 +95,6 @@ all-read (Some t) told' takes read =
 
 -- ## A line that is read
 
--- only one command is spelled as this one is
-pub other-word : (word : CommandWord) → word ≢ words.Stop → command_word word ≢ stop_line
-other-word words.Graceful other same = absurd (cc)
-other-word words.GracefulStop other same = absurd (cc)
-other-word words.Stop other same = other refl
-
 line-read : (t : FrontTold) (line : List ℕ) → slice_get t.lines t.read ≡ Some line → t.read < greatest_count
     → lines_read (after_command true t) ≡ lines_read t ++ line ∷ []
 line-read t line at few =

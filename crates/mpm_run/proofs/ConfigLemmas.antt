@@ -269,44 +269,6 @@ ends-uncontrolled call word name answer conf command reads is control refused = 
 
 -- ## The configuration of a script
 
--- a text that the store of a script gave
-conf-of-text : (lines : List ScriptLine) (text : List ℕ) (result : Result (Configuration × List ℕ) NoConfig) → HasConfig lines text
-    → length text ≤ most_config → IsConfigOf text result → IsScriptConfig lines result
-conf-of-text lines text (Ok read) has few is =
-    record { text = text; text_is = has; accepted = record { few = few; accepted = is.accepted }; told_is = is.told_is }
-conf-of-text lines text (Err (no.Refused why number)) has few is =
-    record { text = text; text_is = has; refused = inr (record { few = few; refused = is }) }
-conf-of-text lines text (Err no.NoMemory) has few is = tt
-conf-of-text lines text (Err no.Missing) has few is = is
-conf-of-text lines text (Err no.Failed) has few is = is
-
--- what the store of a script answers, whose configuration is this text
-conf-of-answer : (lines : List ScriptLine) (text : List ℕ) (many : Bool) (answer : Result (List ℕ) StoreFault) (result : Result (Configuration × List ℕ) NoConfig)
-    → nat_lt most_config (length text) ≡ many → HasConfig lines text
-    → AnswersUnlessNoMemory answer (if many then Err (store.Large (length text)) else Ok text) → IsConfigFrom answer result → IsScriptConfig lines result
-conf-of-answer lines text false (Ok bytes) result few has meant is =
-    let same : bytes ≡ text = cc meant in
-    conf-of-text lines text result has (grind (arith, nat_tests, few)) (subst (λ (t : List ℕ). IsConfigOf t result) same is)
-conf-of-answer lines text true (Err (store.Large size)) result many has meant is =
-    subst (IsScriptConfig lines) (sym is)
-    (record { text = text; text_is = has; refused = inl (record { many = grind (arith, nat_tests, many); why_is = refl; number_is = refl }) })
-conf-of-answer lines text true (Ok bytes) result many has meant is = absurd (cc meant)
-conf-of-answer lines text false (Err (store.Large size)) result few has meant is = absurd (cc meant)
-conf-of-answer lines text true (Err store.Missing) result many has meant is = absurd (cc meant)
-conf-of-answer lines text false (Err store.Missing) result few has meant is = absurd (cc meant)
-conf-of-answer lines text true (Err store.Many) result many has meant is = absurd (cc meant)
-conf-of-answer lines text false (Err store.Many) result few has meant is = absurd (cc meant)
-conf-of-answer lines text true (Err store.Failed) result many has meant is = absurd (cc meant)
-conf-of-answer lines text false (Err store.Failed) result few has meant is = absurd (cc meant)
-conf-of-answer lines text many (Err store.NoMemory) result many_is has meant is = subst (IsScriptConfig lines) (sym is) tt
-
-pub script-config : (lines : List ScriptLine) (text : List ℕ) (answer : Result (List ℕ) StoreFault) (result : Result (Configuration × List ℕ) NoConfig)
-    → HasConfig lines text → AnswersUnlessNoMemory answer (file_answer (bytes_of (codes "httpd.conf") (editions_of lines).files) most_config)
-    → IsConfigFrom answer result → IsScriptConfig lines result
-script-config lines text answer result has meant is =
-    conf-of-answer lines text (nat_lt most_config (length text)) answer result refl has
-    (subst (λ (file : Option (List ℕ)). AnswersUnlessNoMemory answer (file_answer file most_config)) has meant) is
-
 -- why a script has no configuration
 pub of-text : (lines : List ScriptLine) (why : NoConfig) → IsScriptConfig lines (Err why) → IsOfText why
 of-text lines (no.Refused why number) is = tt

@@ -68,16 +68,6 @@ failed-end going status (inr (inl asked)) may four = absurd (omega (arith, may-e
 failed-end going status (inr (inr (inl failed))) may four = failed
 failed-end going status (inr (inr (inr no_memory))) may four = absurd (omega (arith, may-end going _ status no_memory may, four))
 
--- a server whose front never failed ends with none of these
-pub played-status : (old new : FrontSeen) (s : State) (status : ℕ) → StoppedFor old new s → new.counts.faults ≡ 0 → MayEndWith s.going status
-    → IsPlayedStatus status
-played-status old new s status stopped still may = by (stopped-end old new s stopped) where
-  by : IsEnd s.going → IsPlayedStatus status
-  by (inl ended) = may-end s.going _ status ended may
-  by (inr (inl asked)) = may-end s.going _ status asked may
-  by (inr (inr (inl failed))) = absurd (never-failed old new s stopped still failed)
-  by (inr (inr (inr no_memory))) = inr (inr (may-end s.going _ status no_memory may))
-
 -- the status before the report is 6 only where the server stopped for want of memory
 six-lacks : (going : Going) (status : ℕ) → IsEnd going → IsExitStatusOf going status → status ≡ 6 → going ≡ Halted why.NoMemory
 six-lacks going status (inl ended) is six = absurd (omega (arith, subst (λ (g : Going). IsExitStatusOf g status) ended is, six))
@@ -129,14 +119,6 @@ patience-of comings t calls b is echoes patient =
     patient (record { front = t; tells = refl; comings = comings; patient = is; asked = calls; clock = refl; echoes = echoes })
 
 -- ## What is left
-
--- what holds of what is left
-pub left-if : {X : Type 0} (o : Option X) (left : X) (P : X → Type 0) → o ≡ Some left → P left → IfSome o P
-left-if o left P is holds = subst (λ (o' : Option _). IfSome o' P) (sym is) holds
-
--- the same of what has to be left
-pub left-and : {X : Type 0} (o : Option X) (left : X) (P : X → Type 0) → o ≡ Some left → P left → IsSomeAnd o P
-left-and o left P is holds = subst (λ (o' : Option _). IsSomeAnd o' P) (sym is) holds
 
 -- what follows of it, where something is
 pub left-some : {X : Type 0} (o : Option X) {P Q : X → Type 0} → IsSome o → IfSome o P → ((x : X) → P x → Q x) → IsSomeAnd o Q

@@ -303,17 +303,6 @@ time-wait answer ready (Some waits) waits' present moment calls calls' more asks
     subst (λ (o : Option (List WaitTold)). IsInTime o calls') (sym more.is)
     (time-more answer more.wait waits present moment calls calls' more.answers asks time)
 
-asks-none : (answer : Woke) (calls : Option (List (ℕ × ℕ))) → moments_in answer ≡ [] → AsksFor answer 0 calls calls 0
-asks-none (woke.Woke m) calls none = absurd (cc none)
-asks-none woke.Ended calls none = (refl, refl)
-asks-none woke.Failed calls none = (refl, refl)
-
--- after one that gives no moment
-pub time-unasked : (answer : Woke) (ready : List ℕ) (waits waits' : Option (List WaitTold)) (calls : Option (List (ℕ × ℕ)))
-    → WaitsMore ready answer waits waits' → moments_in answer ≡ [] → IsInTime waits calls → IsInTime waits' calls
-time-unasked answer ready waits waits' calls more none time =
-    time-wait answer ready waits waits' 0 0 calls calls more (asks-none answer calls none) time
-
 -- after calls that make no wait
 pub time-kept : (waits waits' : Option (List WaitTold)) (calls : Option (List (ℕ × ℕ))) → waits' ≡ waits → IsInTime waits calls → IsInTime waits' calls
 time-kept waits waits' calls same time = subst (λ (o : Option (List WaitTold)). IsInTime o calls) (sym same) time

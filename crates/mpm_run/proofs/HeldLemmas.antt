@@ -82,19 +82,6 @@ holding law s s' name was c found is named handed way = record {
 pub was-at : (s s' : State) (name : ConnName) (was : Row) (c : SeenConn) → IsHolding s s' name was c → slice_get s.rows name.slot ≡ Some was
 was-at s s' name was c holds = found-at s.rows name was holds.was_found
 
--- a row that waits waits for something
-kind-parked : (p : Place) → is_parked p ≡ true → kind_of p ≡ None → ⊥
-kind-parked Vacant at none = absurd (cc)
-kind-parked Spent at none = absurd (cc)
-kind-parked Held at none = absurd (cc)
-kind-parked (Parked kind) at none = absurd (cc)
-kind-parked Queued at none = absurd (cc)
-kind-parked (Working cell phase) at none = absurd (cc)
-
-pub waits-for_none : (s : State) (name : ConnName) (was : Row) → live_row s.rows name ≡ Some was → is_parked was.place ≡ true → waits_for s name ≡ None → ⊥
-waits-for_none s name was found at none =
-    kind-parked was.place at (sym (ap (λ (o : Option Row). option_and_then (λ (r : Row). kind_of r.place) o) found) ∙ none)
-
 -- it waits in that place
 parked-by : (p : Place) (kind : Kind) → kind_of p ≡ Some kind → p ≡ Parked kind
 parked-by Vacant kind is = absurd (cc)
@@ -219,13 +206,6 @@ held-lingering s s' name was c why holds some =
       shows = way.shows;
     }
 
--- it may be read, to drop what still comes
-pub held-lingers : (s s' : State) (name : ConnName) (was : Row) (c : SeenConn) (why : Cause) → IsHolding s s' name was c → was.cause ≡ Some why
-    → lingers c.linger ≡ true
-held-lingers s s' name was c why holds some =
-    let way : LingersFor why c = subst (λ (o : Option Cause). IsOnItsWay o c) some holds.way in
-    way.half_closed
-
 -- the notes of the row are those that it ended with
 notes-end : (why : Cause) (notes noted : List Note) → notes ≡ noted → NotesEnd why notes noted
 notes-end cause.ClientDone notes noted same = same
@@ -335,16 +315,6 @@ pub closes-turned : (s : State) (why : Cause) (c c' : SeenConn) (answer : Linger
     → LingersOn c c' answer → tail_of answer ≡ Some how → IsClosable s why how c'
 closes-turned s why c c' answer how held turned shown =
     closes-lingering s why how c' held (tail-fits s held.row answer how shown) (left-by answer how c'.linger shown turned.linger)
-
-not-ready : (answer : LingerTurn) → tail_of answer ≡ None → after_linger answer ≡ linger.NotReady
-not-ready left.Drained none = absurd (cc)
-not-ready left.Sated none = absurd (cc)
-not-ready left.NotReady none = refl
-not-ready left.LinkFailed none = absurd (cc)
-
--- nothing more came as yet
-pub turned-late : (c c' : SeenConn) (answer : LingerTurn) → LingersOn c c' answer → tail_of answer ≡ None → c'.linger ≡ linger.NotReady
-turned-late c c' answer turned none = turned.linger ∙ not-ready answer none
 
 -- ## A further wait
 

@@ -17,16 +17,3 @@ script-file words name is = inl is
 
 pub config-file : (words : List (List ℕ)) (name : List ℕ) → NamesConfig words name → NamesFile words name
 config-file words name is = inr is
-
-pub serve-calls : (words : List (List ℕ)) (name : List ℕ) → IsServeWords words name → CallsFront words
-serve-calls words name is = inl (name, is)
-
-pub send-calls : (words : List (List ℕ)) (word : CommandWord) (name : List ℕ) → IsSendWords words word name → CallsFront words
-send-calls words word name is = inr (word, name, is)
-
--- a load is of one connection at least, and of 100,000 at most
-pub load-some : (words : List (List ℕ)) (n : ℕ) → IsLoadWords words n → 1 ≤ n
-load-some words n is = is.found.number.some
-
-pub load-few : (words : List (List ℕ)) (n : ℕ) → IsLoadWords words n → n ≤ 100000
-load-few words n is = is.found.number.few

@@ -48,12 +48,6 @@ second-of-four : (a l h : Bool) → (a || true || (l && false) || h) ≡ true
 second-of-four true l h = refl
 second-of-four false l h = refl
 
-third-of-four : (a k p h : Bool) → (a || (k && p && false) || true || h) ≡ true
-third-of-four true k p h = refl
-third-of-four false true true h = refl
-third-of-four false true false h = refl
-third-of-four false false p h = refl
-
 -- ## One whose child stops
 
 -- the row is kept alive, its child stops, and nothing came for it
@@ -149,21 +143,6 @@ to-drain s name found =
     let live = lives (has_to_be_drained s name.slot) s.rows name found in
     let parts = parts-three (is_parked live.row.place) (is_lingering live.row) (is_signalled s name.slot) live.passes in
     record { found = live.found; waits = parts.0; lingers = parts.1; came = parts.2 }
-
--- it may be held
-pub may-hold_draining : (s : State) (name : ConnName) (r : Row) → IsToDrain s name r → is_allowed s (event.Hold name) ≡ true
-may-hold_draining s name r is =
-    passes-found (may_be_held s (is_signalled s name.slot)) s.rows name r is.found
-    (rw (is.waits, is.lingers, is.came)
-    (third-of-four (nat_le r.deadline s.moment) (is_from KeepAlive r) (is_stopping (child_of s r).phase) (is_halted s.going)))
-
--- it has a cause
-pub drains-some : (s : State) (name : ConnName) (r : Row) → IsToDrain s name r → cause_of s name ≡ None → ⊥
-drains-some s name r is none = off (r.cause) is.lingers (sym (cause-of s name r is.found) ∙ none)
-  where
-    off : (o : Option Cause) → is_some o ≡ true → o ≡ None → ⊥
-    off None some none = absurd (cc)
-    off (Some why) some none = absurd (cc)
 
 -- ## One that is late, and one that waits when the server has stopped
 

@@ -276,9 +276,6 @@ rest_start k b b' is = rest_added (event.StartChild k) b b' is (record { moment 
 pub rest_retire : (k : ℕ) (b b' : SeenBoard) → b' ≡ with_recorded 0 (event.Retire k) b → LeavesRest b.book b'.book
 rest_retire k b b' is = rest_added (event.Retire k) b b' is (record { moment = refl; accepted = refl; up = λ up. up })
 
-pub rest_ready : (slot : ℕ) (b b' : SeenBoard) → b' ≡ with_recorded 0 (event.Ready slot) b → LeavesRest b.book b'.book
-rest_ready slot b b' is = rest_added (event.Ready slot) b b' is (record { moment = refl; accepted = refl; up = λ up. up })
-
 -- so does what left the book as it was
 pub rest_same : (b b' : SeenBook) → b' ≡ b → LeavesRest b b'
 rest_same b b' same = subst (LeavesRest b) (sym same) (record { moment = refl; accepted = refl; up = λ up. up })

@@ -42,13 +42,6 @@ none-any test (r ∷ rows) none = rw (none 0 r refl, none-any test rows (λ slot
 pub none-late : (s : State) → FindsRow (is_late s) s None → NoneOverdue s
 none-late s found = none-any (is_overdue s.moment) s.rows found
 
--- then time may pass
-pub may-tick : (s : State) (m : ℕ) → is_halted s.going ≡ false → NoneOverdue s → s.moment < m → m ≤ greatest_moment → is_allowed s (event.Tick m) ≡ true
-may-tick s m going none later within =
-    let after : nat_lt s.moment m ≡ true = grind (arith, nat_tests) in
-    let before : nat_le m greatest_moment ≡ true = grind (arith, nat_tests) in
-    rw (going, none, after, before) refl
-
 any-behind : (first rest : Bool) → rest ≡ true → (first || rest) ≡ true
 any-behind true rest behind = refl
 any-behind false rest behind = behind
@@ -60,10 +53,3 @@ any-at test (x ∷ rows) zero r at passes =
     let same : x ≡ r = cc at in
     rw (same, passes) refl
 any-at test (x ∷ rows) (suc slot) r at passes = any-behind (test x) (list_any test rows) (any-at test rows slot r at passes)
-
--- one that is late was found only where one is
-pub late-none : (s : State) (name : ConnName) → FindsRow (is_late s) s (Some name) → NoneOverdue s → ⊥
-late-none s name found none =
-    let live = late-row s name found in
-    let any = any-at (is_overdue s.moment) s.rows name.slot live.row (found-at s.rows name live.row live.found) live.passes in
-    absurd (cc (any, none))

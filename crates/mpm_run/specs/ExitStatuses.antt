@@ -323,7 +323,8 @@ pub record EndsAs (sink sink' : SinkSeen) (c : Configuration) (b : SeenBoard) (s
   pub lacking : status ≡ 6 → EndsLacking sink sink' c b
 
 -- what is left of a run of this configuration and this site: its history, and what was folded before; it closed each connection that it
--- took, each child is gone, and each connection was served by the limits of the configuration and the site, also those that were folded
+-- took, each child is gone, and each connection was served by the limits of the configuration and the site, and so were ones that the folded
+-- entries close
 pub record HasRun (c : Configuration) (site : SeenSite) (b : SeenBoard) : Type 0 where
   pub run : IsRunFrom (numbers_of c) b
   pub folded : HasFolded (numbers_of c) b.book
@@ -334,7 +335,8 @@ pub record HasRun (c : Configuration) (site : SeenSite) (b : SeenBoard) : Type 0
 -- ## Of a script
 
 -- a script was played, and what is left is of a run of it by its configuration and its site: a board, and the front that played the
--- script; each connection, also one that was folded, received a front of what its client sends, and all of it where the client had done
+-- script; each connection received a front of what its client sends, and all of it where the client had done, and so did ones that the
+-- folded entries close
 pub record HasPlayed (call : Call) (c : Configuration) (b : SeenBoard) (f : SeenFront) : Type 0 where
   pub config : List ℕ
   pub site : SeenSite

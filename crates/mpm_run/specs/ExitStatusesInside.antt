@@ -93,8 +93,8 @@ pub record IsLeftOfRun (s : Scripted) : Type 0 where
   pub ended : s.board.book.state.going ≡ Halted why.FrontEnded → HasEnd s.board s.front
   pub unfailed : s.board.book.state.going ≢ Halted why.FrontFailed
 
--- what is left is of a run by this configuration and this site, in which each connection, also one that was folded, received a front of
--- what its client of the script sends, and all of it where the client had done
+-- what is left is of a run by this configuration and this site, in which each connection received a front of what its client of the
+-- script sends, and all of it where the client had done, and so did ones that the folded entries close
 pub record HasRunScript (lines : List ScriptLine) (c : Configuration) (site : SeenSite) (b : SeenBoard) : Type 0 where
   pub has_run : HasRun c site b
   pub receive : AllReceive (clients_of lines) b.ended

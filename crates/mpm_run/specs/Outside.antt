@@ -13,9 +13,10 @@ use Rattle.mpm_run.specs.Watched.{AreWatched, IsOpenedAndHushed}
 use Rattle.mpm_run.specs.declared.run_numbers.RunNumbers.{RunNumbers}
 
 -- what a run by these numbers did with a front that tells: it was bound once, to what the numbers say, dialled nothing, and listens no
--- more; where it waited at all and nothing was folded, the children were started before all else; behind the watches of what was folded each
--- link that the table took was watched under the name of its connection; what became of each link that it handed out; each ended connection
--- that is kept received a front of what its client sends; and its command lines were heeded
+-- more; where it waited at all and nothing was folded, the children were started before all else; behind as many watches as connections
+-- were taken before, which are of the first links in order, each link that the table took was watched under the name of its connection;
+-- what became of each link that it handed out; each ended connection that is kept received a front of what its client sends; and its
+-- command lines were heeded
 pub record KeepsFront (n : RunNumbers) (b : SeenBoard) (t : FrontTold) : Type 0 where
   pub opened : IsOpenedAndHushed n t
   pub started : IsStartedFirst n b.book t

@@ -41,10 +41,6 @@ less k o e = ap (bit_at k) e ∙ bit_self k
 gone_else : (j k : ℕ) (o : Option ℕ) → o ≡ Some k → j ≢ k → 0 ≡ bit_at j o
 gone_else j k o e ne = sym (ap (bit_at j) e ∙ bit_other j k ne)
 
-not_true : (b : Bool) → (b ≡ true → ⊥) → b ≡ false
-not_true true n = absurd (n refl)
-not_true false n = refl
-
 -- the child of an idle word
 word_child : (k : ℕ) → k + 2 - 2 ≡ k
 word_child k = omega arith

@@ -240,7 +240,7 @@ fn deadline_at(slots: &[Option<Entry>], place: u32) -> Moment
 }
 
 // The last of a ring whose deadline is at or before this one, found by going back from the end, or from the gap where that is a
-// place behind which all is due later.
+// place behind which all is due at or after it.
 fn last_before(slots: &[Option<Entry>], rings: &Rings, head: u32, gap: u32, deadline: Moment) -> u32
     requires rings { IsRings by_kind (map parked_in slots.now) rings.now.before.items rings.now.behind.items }
     requires head { (length slots.now ≤ head) × (head < length slots.now + 5) }
