@@ -1,5 +1,5 @@
--- What a status page shows of a state: numbers and letters, which are filters of the rows. The names of the numbers are those of Apache's
--- status page; the letters and when each stands are this server's own.
+-- What a status page shows of a state: a letter for each worker, by filters of the rows, and counts of letters and of rows. The letters and
+-- the numbers, and when each stands, are this server's own.
 use Rattle.std.specs.Prelude.{◌==◌, ℕ, ◌||◌, ◌&&◌, Bool, false, List, count_by, flat_map, map, if◌then◌else◌, Option, None, Some}
 use Rattle.std.specs.List.{enumerate_from, list_any, range_with_len}
 use Rattle.mpm_base.specs.declared.conn.Kind.TheVariants.{KeepAlive, Writing}

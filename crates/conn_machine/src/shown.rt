@@ -137,7 +137,7 @@ impl State {
     }
 
     /// What a status page shows of the state. It goes over the cells, and over no rows. NoMemory where memory lacks for the letters, or
-    /// where there are more of them than 32 bits can say, as there are in no sound state.
+    /// where there are more of them than 32 bits can say, as there are in no sound state of so few children.
     #[tactic(auto, unfolding(crate::specs::Shown::snapshot_of))]
     pub fn snapshot(&self, alloc: Global) -> Result<Snapshot, NoMemory>
         requires few_rows { length self.now.rows ≤ 8192 }

@@ -15,7 +15,7 @@ abbrev pub is_status_path : Option (List ℕ) → Bool
 is_status_path None = false
 is_status_path (Some path) = bytes_eq path status_path
 
--- the query of a target: what stands behind its first question mark (RFC 3986, section 3.4); nothing where there is none
+-- the query of a target: all that stands behind its first question mark; nothing where there is none
 abbrev pub query_of : List ℕ → List ℕ
 query_of target = after_first begins_query target
 

@@ -1,4 +1,4 @@
--- The status pages of a snapshot, byte by byte.
+-- The status pages of a snapshot, byte by byte. The names of the numbers are those of Apache's status page, but for `Generation`.
 use Rattle.std.specs.Prelude.{ℕ, List, [], ◌∷◌, ◌++◌, codes, decimal}
 use Rattle.mpm_base.specs.declared.note.Snapshot.{Snapshot}
 
