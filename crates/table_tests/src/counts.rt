@@ -1,4 +1,5 @@
 //! The counts that a list of rows keeps beside them, and what a look at each row counts.
+use crate::pages::plain_phase;
 use conn_machine::{Place, Row, Rows};
 use mpm_base::Kind;
 use std::io;
@@ -51,7 +52,7 @@ fn kept_of(rows: &Rows, child: u32, cells: u32) -> ChildTotals {
     }
 }
 
-fn is_live(row: &Row) -> bool {
+pub fn is_live(row: &Row) -> bool {
     !matches!(row.place, Place::Vacant | Place::Spent)
 }
 
@@ -63,22 +64,22 @@ fn is_carried(row: &Row) -> bool {
     matches!(row.place, Place::Queued | Place::Working(_, _))
 }
 
-fn is_closing(row: &Row) -> bool {
+pub fn is_closing(row: &Row) -> bool {
     matches!(
         row.place,
         Place::Parked(Kind::Linger) | Place::Parked(Kind::ShortLinger)
     )
 }
 
-fn is_parked_as_writing(row: &Row) -> bool {
+pub fn is_parked_as_writing(row: &Row) -> bool {
     matches!(row.place, Place::Parked(Kind::Writing))
 }
 
-fn is_parked_as_keep_alive(row: &Row) -> bool {
+pub fn is_parked_as_keep_alive(row: &Row) -> bool {
     matches!(row.place, Place::Parked(Kind::KeepAlive))
 }
 
-fn is_in_cell(row: &Row, child: u32, number: u32) -> bool {
+pub fn is_in_cell(row: &Row, child: u32, number: u32) -> bool {
     match row.place {
         Place::Working(cell, _) => row.child == child && cell == number,
         _ => false,
@@ -146,7 +147,7 @@ pub fn show_other(rt: &impl Print, rows: &Rows, children: u32, cells: u32) -> io
             return Ok(true);
         }
         if let Some(cell) = other_cell(rows, child, cells) {
-            print!(rt; "child {child}: cell {cell} is served, or isn't")?;
+            print!(rt; "child {child}: cell {cell} is served, or isn't, or in another phase")?;
             return Ok(true);
         }
     }
@@ -155,5 +156,8 @@ pub fn show_other(rt: &impl Print, rows: &Rows, children: u32, cells: u32) -> io
 
 /// The first cell of the child of which the list keeps something else.
 fn other_cell(rows: &Rows, child: u32, cells: u32) -> Option<u32> {
-    (0..cells).find(|cell| rows.is_served(child, *cell) != is_served(rows.as_slice(), child, *cell))
+    (0..cells).find(|cell| {
+        rows.is_served(child, *cell) != is_served(rows.as_slice(), child, *cell)
+            || rows.phase_in(child, *cell) != plain_phase(rows.as_slice(), child, *cell)
+    })
 }

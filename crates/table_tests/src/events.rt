@@ -57,15 +57,26 @@ fn command_of(word: &str, rest: &str) -> Option<Commanded> {
     }
 }
 
-/// What a request asks of the table: a code, and behind it `close` where it asks to close, or `refused` where it was refused.
+/// What a request asks of the table: a code, and behind it `close` where it asks to close, `refused` where it was refused, and `page`
+/// where its response is the status page.
 fn ask_of(text: &str) -> Ask {
     let (code, how) = words(text);
     Ask {
-        asked_close: how == "close",
-        refused: how == "refused",
+        asked_close: has_word(how, "close"),
+        refused: has_word(how, "refused"),
         code: code.parse::<u16>().unwrap_or(0),
-        page: false,
+        page: has_word(how, "page"),
     }
+}
+
+/// Whether the word is one of those of the text.
+fn has_word(text: &str, word: &str) -> bool {
+    for own in text.split(' ') {
+        if own == word {
+            return true;
+        }
+    }
+    false
 }
 
 /// The shape of these eight words, in the order of its fields, with `on` or `off` for `keep`; or one of two workers where there are

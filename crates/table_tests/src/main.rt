@@ -4,17 +4,20 @@
 //!
 //! In the input a line that begins with `== ` begins a section: the words up to a colon say what its rows are, and the rest is its
 //! title. Events have their names, as `Close 0.1 LinkFailed Direct` for the connection of slot 0 in life 1; a command stands without
-//! the word `Command`. An answer has its code, and `close` behind it where the request asks to close, or `refused`. A shape is eight
+//! the word `Command`. An answer has its code, and `close` behind it where the request asks to close, or `refused`,
+//! and `page` where it is the status page. A shape is eight
 //! words, in the order of its fields, with `on` or `off` for `keep`; where there are none it is `2 200 60000 5000 on 100 1 2`.
 //!
 //! - `may SLOTS CHILDREN SHAPE`: the first row has the events that come first, with `, ` between them. Each other one has a title up to
 //!   a colon, then more events up to a semicolon, and an event that is allowed behind them or isn't.
 //! - `step SLOTS CHILDREN SHAPE`: the same, and the last event is done: the state before it is shown, its reply, and the state behind it.
 //! - `play SLOTS CHILDREN SHAPE`: events that come one behind the other. In a row `show` the state is shown, and `accepted N` and
-//!   `newest N` make one of its numbers another.
+//!   `newest N` make one of its numbers another. In a row `page` what a status page shows is shown, in a row `kinds` with the number of
+//!   letters of each kind in place of them, and in a row `page of SLOT` what the last response of the slot shows. A row `do` has events with `, `
+//!   between them, and shows no reply.
 //! - `bounds`: shapes that a configuration may have, or may not.
 //! - `counts SLOTS CHILDREN SHAPE`: a seed, and a number of events that numbers from it ask for. Behind each the counts that are kept are
-//!   compared with what a look at each row counts.
+//!   compared with what a look at each row counts, and what a status page shows with what that shows.
 //! - `changes SLOTS CHILDREN CELLS`: the same for changes of rows that no event need make, of children and in cells below these numbers;
 //!   where `CELLS` is 0 each is in the lowest free cell.
 //! - `record`: numbers of passes, whose record without any entry is shown. `laws`: no rows; each law is called.
@@ -32,6 +35,7 @@ mod counts;
 mod events;
 mod noted;
 mod numbers;
+mod pages;
 mod plain_queues;
 mod plain_rings;
 mod played;

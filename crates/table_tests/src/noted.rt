@@ -1,6 +1,6 @@
 //! The notes of the responses that a table decided, slot by slot. A row of the table keeps their number, and what the last one says.
-use conn_machine::{Event, Reply};
-use mpm_base::{Ask, Moment, NoMemory, Note, Notes};
+use conn_machine::Event;
+use mpm_base::{NoMemory, Note, Notes, Snapshot};
 use std::alloc::Global;
 
 /// The notes of each slot.
@@ -26,15 +26,28 @@ impl NotesBySlot {
         self.items.get(slot as usize)
     }
 
-    /// The event was done at that moment, with that reply.
-    pub fn follow(&mut self, moment: Moment, event: &Event, reply: Reply) -> Result<(), NoMemory> {
+    /// The event was done, and this is the note of its response, where there is one.
+    pub fn follow(&mut self, event: &Event, note: Option<Note>) -> Result<(), NoMemory> {
         match *event {
-            Event::Answer(name, ask) => self.add(name.slot, note_of(moment, &ask, reply)),
+            Event::Answer(name, _) => match note {
+                Some(note) => self.add(name.slot, note),
+                None => Ok(()),
+            },
             Event::Close(name, _, _) => {
                 self.clear(name.slot);
                 Ok(())
             }
             _ => Ok(()),
+        }
+    }
+
+    /// What the last response of the slot shows, where it is a status page.
+    pub fn last_page(&self, slot: u32) -> Option<&Snapshot> {
+        let notes = self.get(slot)?;
+        let note = notes.as_slice().last()?;
+        match note.page {
+            Some(ref page) => Some(page.snapshot()),
+            None => None,
         }
     }
 
@@ -51,16 +64,5 @@ impl NotesBySlot {
         if let Some(notes) = self.items.get_mut(slot as usize) {
             notes.clear();
         }
-    }
-}
-
-/// The note of a response that was decided at the moment, with that reply.
-fn note_of(moment: Moment, ask: &Ask, reply: Reply) -> Note {
-    Note {
-        date: moment / 1000,
-        asked_close: ask.asked_close || ask.refused,
-        last: matches!(reply, Reply::Noted(true)),
-        code: ask.code,
-        page: None,
     }
 }

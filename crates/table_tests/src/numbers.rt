@@ -26,3 +26,8 @@ impl NumberStream {
 pub fn below(number: u64, count: usize) -> u32 {
     u32::try_from(number % (count as u64).max(1)).unwrap_or(0)
 }
+
+/// The count, where it has 32 bits.
+pub fn small(count: usize) -> u32 {
+    u32::try_from(count).unwrap_or(0)
+}

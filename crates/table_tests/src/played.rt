@@ -1,24 +1,33 @@
-//! Changes that numbers ask for, behind each of which the counts that are kept are compared with what a look at each row counts.
+//! Changes that numbers ask for, behind each of which the counts that are kept are compared with what a look at each row counts, and what
+//! a status page shows with what that shows.
 use crate::calls::kind_from;
 use crate::counts::{has_live, show_other};
-use crate::numbers::{NumberStream, below};
+use crate::numbers::{NumberStream, below, small};
+use crate::pages::show_other_page;
 use crate::random_events::{cause_from, event_from};
 use crate::tables::Table;
 use crate::texts::{grown, number_of, small_of, words};
-use conn_machine::{Phase, Rows, State};
+use conn_machine::{Event, Phase, Rows, State};
 use mpm_base::{NoMemory, Note};
 use std::alloc::Global;
 use std::io;
 
-/// Shows whether the counts of a state are right behind each event, and how many events it allowed, for the seed and the number of
-/// events of each row.
+/// How many events were allowed, and how many of them were answers that are a status page.
+#[derive(Clone, Copy, Debug)]
+struct Done {
+    allowed: u64,
+    pages: u64,
+}
+
+/// Shows whether the counts of a state, and the status pages, are right behind each event, and how many events it allowed, for the seed
+/// and the number of events of each row.
 pub fn show_counts(rt: &impl Print, alloc: Global, opening: &str, rows: &str) -> io::Result<()> {
     for row in rows.lines() {
         print!(rt; "{row} => ")?;
         let (seed, events) = words(row);
         let mut numbers = NumberStream::from(number_of(seed));
         let done = play_events(rt, alloc, opening, &mut numbers, number_of(events))?;
-        println!(rt; ", {done} allowed")?;
+        println!(rt; ", {} allowed, {} pages", done.allowed, done.pages)?;
     }
     Ok(())
 }
@@ -31,19 +40,23 @@ fn play_events(
     opening: &str,
     numbers: &mut NumberStream,
     events: u64,
-) -> io::Result<u64> {
+) -> io::Result<Done> {
     let mut table = grown(Table::open(alloc, opening))?;
     let children = small(table.state.children.len()).saturating_add(1);
     let cells = table.state.shape.threads.max(8).saturating_add(2);
-    let mut done: u64 = 0;
+    let mut done = Done {
+        allowed: 0,
+        pages: 0,
+    };
     for _ in 0..events {
         if is_over(&table.state) {
             table = grown(Table::open(alloc, opening))?;
         }
-        if grown(plays_one(alloc, &mut table, numbers))? {
-            done = done.saturating_add(1);
-        }
-        if show_other(rt, &table.state.rows, children, cells)? {
+        let event = grown(play_one(alloc, &mut table, numbers))?;
+        done.count(event.as_ref());
+        if show_other(rt, &table.state.rows, children, cells)?
+            || show_other_pages(rt, alloc, &table, event.as_ref())?
+        {
             return Ok(done);
         }
     }
@@ -51,27 +64,68 @@ fn play_events(
     Ok(done)
 }
 
-/// The count, where it has 32 bits.
-fn small(count: usize) -> u32 {
-    u32::try_from(count).unwrap_or(0)
-}
-
 /// Whether the server takes no connection any more, and has none.
 fn is_over(state: &State) -> bool {
     !state.going.is_serving() && !has_live(state.rows.as_slice())
 }
 
-/// Plays the next event, and says whether it was allowed.
-fn plays_one(
+/// Plays the next event, and gives it where it was allowed.
+fn play_one(
     alloc: Global,
     table: &mut Table,
     numbers: &mut NumberStream,
-) -> Result<bool, NoMemory> {
+) -> Result<Option<Event>, NoMemory> {
     let number = numbers.next();
     let detail = numbers.next();
     let event = event_from(alloc, &table.state, number, detail)?;
-    let reply = table.play(alloc, &event)?;
-    Ok(reply.is_some())
+    match table.play(alloc, &event)? {
+        Some(_) => Ok(Some(event)),
+        None => Ok(None),
+    }
+}
+
+/// The slot of a connection whose answer is a status page, where the event is one.
+fn slot_of_page(event: Option<&Event>) -> Option<u32> {
+    match event {
+        Some(Event::Answer(name, ask)) if ask.page => Some(name.slot),
+        _ => None,
+    }
+}
+
+impl Done {
+    /// The event was allowed, where there is one.
+    fn count(&mut self, event: Option<&Event>) {
+        if event.is_some() {
+            self.allowed = self.allowed.saturating_add(1);
+        }
+        if slot_of_page(event).is_some() {
+            self.pages = self.pages.saturating_add(1);
+        }
+    }
+}
+
+/// Shows where a status page of the state behind the event, or the one that the event answers, shows something else than a look at each
+/// row, and says whether it does.
+fn show_other_pages(
+    rt: &impl Print,
+    alloc: Global,
+    table: &Table,
+    event: Option<&Event>,
+) -> io::Result<bool> {
+    let page = grown(table.page(alloc))?;
+    if show_other_page(rt, alloc, &table.state, &page)? {
+        return Ok(true);
+    }
+    let Some(slot) = slot_of_page(event) else {
+        return Ok(false);
+    };
+    match table.notes.last_page(slot) {
+        Some(page) => show_other_page(rt, alloc, &table.state, page),
+        None => {
+            print!(rt; "no page of slot {slot}")?;
+            Ok(true)
+        }
+    }
 }
 
 /// What the rows of a list may be given: so many children, and so many cells, or the lowest free one where there are none.
@@ -127,7 +181,7 @@ fn change_row(rows: &mut Rows, bounds: Bounds, number: u64, detail: u64) {
     if slot as usize >= rows.len() {
         return;
     }
-    match number % 8 {
+    match number % 9 {
         0 => rows.take(slot, detail, below(detail, bounds.children), 0),
         1 => rows.park(slot, kind_from(detail), detail),
         2 => rows.hold(slot),
@@ -135,10 +189,20 @@ fn change_row(rows: &mut Rows, bounds: Bounds, number: u64, detail: u64) {
         4 => rows.linger(slot, kind_from(detail), detail, cause_from(detail / 8)),
         5 => rows.close(slot),
         6 => rows.answer(slot, &note_of(detail), false),
+        7 => rows.go_on(slot, phase_from(detail)),
         _ => {
             let cell = cell_from(rows, slot, bounds, detail);
-            rows.start(slot, cell, Phase::Read);
+            rows.start(slot, cell, phase_from(detail / 64));
         }
+    }
+}
+
+/// The phase of that number, in their order.
+fn phase_from(number: u64) -> Phase {
+    match number % 3 {
+        0 => Phase::Read,
+        1 => Phase::Write,
+        _ => Phase::Close,
     }
 }
 
@@ -153,7 +217,7 @@ fn cell_from(rows: &Rows, slot: u32, bounds: Bounds, detail: u64) -> u32 {
     }
 }
 
-/// A note.
+/// A note of a response that is no status page.
 fn note_of(detail: u64) -> Note {
     Note {
         date: 0,

@@ -72,7 +72,7 @@ fn ask_from(detail: u64) -> Ask {
         asked_close: detail % 8 == 0,
         refused: detail % 8 == 1,
         code: 200,
-        page: false,
+        page: detail / 8 % 2 == 0,
     }
 }
 

@@ -3,10 +3,11 @@ ghost use Rattle.conn_machine.specs.Sizes.{IsSized};
 
 use crate::events::{event_of, restart_to, shape_of};
 use crate::noted::NotesBySlot;
+use crate::pages::{show_kinds, show_page};
 use crate::shown::{show_sizes, show_state};
 use crate::texts::{grown, number_of, small_of, words};
 use conn_machine::{Event, Reply, State, is_in_bounds, may, step};
-use mpm_base::NoMemory;
+use mpm_base::{NoMemory, Snapshot};
 use std::alloc::Global;
 use std::io;
 
@@ -42,9 +43,18 @@ impl Table {
         if !may(&self.state, event) {
             return Ok(None);
         }
+        let note = match *event {
+            Event::Answer(name, ref ask) => Some(self.state.note_for(alloc, name, ask)?),
+            _ => None,
+        };
         let reply = step(alloc, &mut self.state, event)?;
-        self.notes.follow(self.state.moment, event, reply)?;
+        self.notes.follow(event, note)?;
         Ok(Some(reply))
+    }
+
+    /// What a status page shows of the state.
+    pub fn page(&self, alloc: Global) -> Result<Snapshot, NoMemory> {
+        self.state.snapshot(alloc)
     }
 }
 
@@ -145,7 +155,22 @@ fn show_row_of_play(
             table.state.newest = small_of(number);
             Ok(())
         }
+        "page" => show_page_of(rt, alloc, table, row),
+        "kinds" => show_kinds(rt, &grown(table.page(alloc))?),
+        "do" => play_events(rt, alloc, table, number),
         _ => show_event(rt, alloc, table, row),
+    }
+}
+
+/// Shows what a status page shows of the state, or what the last response of the slot that the row names shows.
+fn show_page_of(rt: &impl Print, alloc: Global, table: &Table, row: &str) -> io::Result<()> {
+    println!(rt; "{row} =>")?;
+    match row.strip_prefix("page of ") {
+        None => show_page(rt, &grown(table.page(alloc))?),
+        Some(slot) => match table.notes.last_page(small_of(slot)) {
+            Some(page) => show_page(rt, page),
+            None => println!(rt; "  no page"),
+        },
     }
 }
 
