@@ -1,2 +1,3 @@
 mod BoardLemmas
 mod DrivenLemmas
+mod NotedLemmas
