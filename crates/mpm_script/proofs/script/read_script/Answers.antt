@@ -4,10 +4,10 @@ use Rattle.mpm_script.specs.Clients.{made_by}
 use Rattle.mpm_script.specs.Script.{is_repeated, moment_from}
 use Rattle.mpm_script.proofs.AgreementLemmas.{agree_push, agrees_if, moment_push, names_push}
 use Rattle.mpm_script.proofs.SequenceLemmas.{line_once, lines_push}
-use Rattle.mpm_script.proofs.script.read_lines.Goals as goal
+use Rattle.mpm_script.proofs.script.read_script.Goals as goal
 
-pub returns-in_default-clause-err : goal.returns-in_default-clause-err
-returns-in_default-clause-err c = record {
+pub returns-in_default-clause-answer : goal.returns-in_default-clause-answer
+returns-in_default-clause-answer c = record {
   lines = c.lines.script;
   rest = c.lines.rest.now;
   are_lines = c.lines.invariant.are_lines;
@@ -19,8 +19,8 @@ returns-in_default-clause-err c = record {
   };
 }
 
-pub returns-then-is_repeated-clause-err : goal.returns-then-is_repeated-clause-err
-returns-then-is_repeated-clause-err c = record {
+pub returns-then-is_repeated-clause-answer : goal.returns-then-is_repeated-clause-answer
+returns-then-is_repeated-clause-answer c = record {
   lines = c.lines.script;
   rest = c.lines.rest.now;
   are_lines = c.lines.invariant.are_lines;

@@ -1,7 +1,7 @@
 use Rattle.std.proofs.Common.{◌≡◌, [], length}
 use Rattle.mpm_script.specs.Clients.{names_of}
 use Rattle.mpm_script.specs.Script.{AllAgree, AreLines, moment_from}
-use Rattle.mpm_script.proofs.script.read_lines.Given as goal
+use Rattle.mpm_script.proofs.script.read_script.Given as goal
 
 abbrev pub invariant-lines : goal.invariant-lines
 invariant-lines l = record {
