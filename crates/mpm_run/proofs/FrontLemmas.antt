@@ -12,11 +12,13 @@ use Rattle.mpm_base.specs.declared.front.Arrival.{Arrival}
 use Rattle.mpm_base.specs.declared.front.Arrival.TheVariants as arrival
 use Rattle.mpm_base.specs.declared.front.Woke.{Woke}
 use Rattle.mpm_base.specs.declared.front.Woke.TheVariants as woke
+use Rattle.conn_machine.specs.declared.state.Going.{Going}
 use Rattle.conn_machine.specs.declared.state.State.{State}
+use Rattle.conn_machine.specs.States.{is_serving}
 use Rattle.conn_state.specs.Conn.{IsFresh}
 use Rattle.conn_state.specs.Known.{IsOfClient, KnownOutside, TellsFrom}
 use Rattle.mpm_run.specs.Watched.{IsHushed}
-use Rattle.mpm_run.specs.ListenInside.{AsksFor, Follows, IsArrival, IsInStep, IsKnownOfFront, KeepsStep, OnlyReads, OnlyReadsAndTakes, OnlyTakes, TellsAlike, contacts, contacts_of}
+use Rattle.mpm_run.specs.ListenInside.{AsksFor, Follows, HandsOutEach, IsArrival, IsInStep, IsKnownOfFront, KeepsStep, ListensAsServed, OnlyReads, OnlyReadsAndTakes, OnlyTakes, TellsAlike, contacts, contacts_of}
 use Rattle.mpm_run.specs.Outside.{clients_told, comings_told}
 use Rattle.mpm_run.specs.Stops.{HasFailedLast, HasGivenAll}
 use Rattle.mpm_run.specs.Times.{IsInTime, waits_of}
@@ -155,15 +157,15 @@ takes-also : (t t' : FrontTold) → OnlyTakes t t' → OnlyReadsAndTakes t t'
 takes-also t t' only = record {
   rest =
       only.rest
-      ∙ ap (λ (read : ℕ). record t { accepted = t'.accepted; watches = t'.watches; turned_away = t'.turned_away; read = read; failed = t'.failed })
-      (sym (ap (λ (x : FrontTold). x.read) only.rest));
+      ∙ ap (λ (x : FrontTold). record t { accepted = t'.accepted; watches = t'.watches; turned_away = t'.turned_away; read = x.read; hushed = x.hushed; failed = t'.failed })
+      (sym only.rest);
 }
 
 reads-also : (t t' : FrontTold) → OnlyReads t t' → OnlyReadsAndTakes t t'
 reads-also t t' only = record {
   rest =
       only.rest
-      ∙ ap (λ (x : FrontTold). record t { accepted = x.accepted; watches = x.watches; turned_away = x.turned_away; read = t'.read; failed = x.failed })
+      ∙ ap (λ (x : FrontTold). record t { accepted = x.accepted; watches = x.watches; turned_away = x.turned_away; read = t'.read; hushed = t'.hushed; failed = x.failed })
       (sym only.rest);
 }
 
@@ -172,8 +174,8 @@ reads-takes a b c first second = record {
   rest =
       second.rest
       ∙ ap (λ (x : FrontTold). record x { accepted = c.accepted; watches = c.watches; turned_away = c.turned_away; failed = c.failed }) first.rest
-      ∙ ap (λ (read : ℕ). record a { accepted = c.accepted; watches = c.watches; turned_away = c.turned_away; read = read; failed = c.failed })
-      (sym (ap (λ (x : FrontTold). x.read) second.rest));
+      ∙ ap (λ (x : FrontTold). record a { accepted = c.accepted; watches = c.watches; turned_away = c.turned_away; read = x.read; hushed = x.hushed; failed = c.failed })
+      (sym second.rest);
 }
 
 tells-weaker : (P Q : FrontTold → FrontTold → Type 0) → ((t t' : FrontTold) → P t t' → Q t t') → (told told' : Option FrontTold) → TellsOn P told told'
@@ -309,10 +311,30 @@ time-kept waits waits' calls same time = subst (λ (o : Option (List WaitTold)).
 
 -- ## The table is in step with the front
 
--- where it took no connection
-pub step-kept : (told : Option FrontTold) (s s' : State) → s'.accepted ≡ s.accepted → IsInStep told s → IsInStep told s'
-step-kept None s s' same step = tt
-step-kept (Some t) s s' same step = record { listens = step.listens; taken = record { accepted = step.taken.accepted ∙ sym same; none = step.taken.none } }
+-- a front listens as it did where the server goes on as it did
+listens-on : (t t' : FrontTold) (s s' : State) → t'.hushed ≡ t.hushed → s'.going ≡ s.going → ListensAsServed s t → ListensAsServed s' t'
+listens-on t t' s s' hushed going listens = hushed ∙ listens ∙ ap (λ (g : Going). not (is_serving g)) (sym going)
+
+-- where it took no connection, and the server goes on as it did
+pub step-kept : (told : Option FrontTold) (s s' : State) → s'.accepted ≡ s.accepted → s'.going ≡ s.going → IsInStep told s → IsInStep told s'
+step-kept None s s' same going step = tt
+step-kept (Some t) s s' same going step = record {
+  listens = listens-on t t s s' refl going step.listens;
+  taken = record { accepted = step.taken.accepted ∙ sym same; none = step.taken.none };
+}
+
+-- then the front listens as the server goes on
+pub step-listens : (told : Option FrontTold) (s : State) → IsInStep told s → IfSome told (ListensAsServed s)
+step-listens None s step = tt
+step-listens (Some t) s step = step.listens
+
+-- and so it does behind links that were taken
+pub listens-takes : (told told' : Option FrontTold) (s s' : State) → TellsOn OnlyTakes told told' → s'.going ≡ s.going → IfSome told (ListensAsServed s)
+    → IfSome told' (ListensAsServed s')
+listens-takes None told' s s' takes going listens = subst (λ (o : Option FrontTold). IfSome o (ListensAsServed s')) (sym takes) tt
+listens-takes (Some t) told' s s' takes going listens =
+    subst (λ (o : Option FrontTold). IfSome o (ListensAsServed s')) (sym takes.1)
+    (listens-on t takes.0 s s' (ap (λ (x : FrontTold). x.hushed) takes.2.rest) going listens)
 
 waits-step : (until : Option ℕ) (quiet : Bool) (answer : Woke) (ready : List ℕ) (t t' : FrontTold) (s : State) → GoesForward until quiet answer ready t t'
     → KeepsStep s t → KeepsStep s t'
@@ -330,11 +352,11 @@ step-wait until quiet answer ready (Some t) told' s tells step =
 
 -- after an accept that handed a link out, whose connection the table took
 pub step-taken : {L : Type 0} (link : L) (told told' : Option FrontTold) (s s' : State) → told' ≡ option_map (after_accept (arrival.Some link)) told
-    → s'.accepted ≡ next_count s.accepted → IsInStep told s → IsInStep told' s'
-step-taken link None told' s s' is taken step = subst (λ (o : Option FrontTold). IsInStep o s') (sym is) tt
-step-taken link (Some t) told' s s' is taken step =
+    → s'.accepted ≡ next_count s.accepted → s'.going ≡ s.going → IsInStep told s → IsInStep told' s'
+step-taken link None told' s s' is taken going step = subst (λ (o : Option FrontTold). IsInStep o s') (sym is) tt
+step-taken link (Some t) told' s s' is taken going step =
     subst (λ (o : Option FrontTold). IsInStep o s') (sym is)
-    (record { listens = step.listens; taken = record { accepted = ap next_count step.taken.accepted ∙ sym taken; none = step.taken.none } })
+    (record { listens = listens-on t (after_accept (arrival.Some link) t) s s' refl going step.listens; taken = record { accepted = ap next_count step.taken.accepted ∙ sym taken; none = step.taken.none } })
 
 -- after one that handed none out
 step-unhanded : {L : Type 0} (answer : Arrival L) (t : FrontTold) (s : State) → (answer ≡ arrival.None) ⊎ (answer ≡ arrival.Failed) → KeepsStep s t
@@ -349,17 +371,17 @@ pub step-none : {L : Type 0} (told told' : Option FrontTold) (answer : Arrival L
 step-none None told' answer s none is step = subst (λ (o : Option FrontTold). IsInStep o s) (sym is) tt
 step-none (Some t) told' answer s none is step = subst (λ (o : Option FrontTold). IsInStep o s) (sym is) (step-unhanded answer t s none step)
 
--- where listening goes on each connection was handed out
 given-all : (s : State) (t : FrontTold) → HasAllTaken t → KeepsStep s t → HasGivenAll s t
-given-all s t all step = record {
-  left = all.left;
-  read = all.read;
-  given = elim all.accepted [
-    | inl given ↦ given.1
-    | inr hushed ↦ let listens = step.listens in absurd (cc (hushed, listens))
-  ];
-  taken = step.taken.accepted;
-}
+given-all s t all step = record { left = all.left; read = all.read; taken = step.taken.accepted }
+
+-- while the server takes connections the front listens, so each connection was handed out
+handed-each : (s : State) (t : FrontTold) → HasAllTaken t → KeepsStep s t → HandsOutEach s t
+handed-each s t all step serving = elim all.accepted [
+  | inl given ↦ given.1
+  | inr hushed ↦
+      let listens : true ≡ false = sym hushed ∙ step.listens ∙ ap not serving in
+      absurd (cc)
+]
 
 -- after a wait that answered Ended all was taken
 pub all-taken : (until : Option ℕ) (quiet : Bool) (ready : List ℕ) (told told' : Option FrontTold) (s : State)
@@ -368,6 +390,14 @@ all-taken until quiet ready None told' s tells step = subst (λ (o : Option Fron
 all-taken until quiet ready (Some t) told' s tells step =
     subst (λ (o : Option FrontTold). IfSome o (HasGivenAll s)) (sym tells.1)
     (given-all s tells.0 tells.2.answers (waits-step until quiet woke.Ended ready t tells.0 s tells.2 step))
+
+-- and while the server takes connections each was handed out
+pub each-handed : (until : Option ℕ) (quiet : Bool) (ready : List ℕ) (told told' : Option FrontTold) (s : State)
+    → TellsOn (GoesForward until quiet woke.Ended ready) told told' → IsInStep told s → IfSome told' (HandsOutEach s)
+each-handed until quiet ready None told' s tells step = subst (λ (o : Option FrontTold). IfSome o (HandsOutEach s)) (sym tells) tt
+each-handed until quiet ready (Some t) told' s tells step =
+    subst (λ (o : Option FrontTold). IfSome o (HandsOutEach s)) (sym tells.1)
+    (handed-each s tells.0 tells.2.answers (waits-step until quiet woke.Ended ready t tells.0 s tells.2 step))
 
 -- ## The link that is handed out
 
@@ -528,7 +558,7 @@ pub given-hushed : (s s' : State) (told told' : Option FrontTold) → told' ≡ 
 given-hushed s s' None told' is same given = subst (λ (o : Option FrontTold). IfSome o (HasGivenAll s')) (sym is) tt
 given-hushed s s' (Some t) told' is same given =
     subst (λ (o : Option FrontTold). IfSome o (HasGivenAll s')) (sym is)
-    (record { left = given.left; read = given.read; given = given.given; taken = given.taken ∙ sym same })
+    (record { left = given.left; read = given.read; taken = given.taken ∙ sym same })
 
 -- ## A bind
 
@@ -592,18 +622,4 @@ pub reads-trans : (a b c : Option FrontTold) → TellsOn OnlyReads a b → Tells
 reads-trans None b c first second = subst (λ (o : Option FrontTold). TellsOn OnlyReads o c) first second
 reads-trans (Some t) b c first second =
     let later = subst (λ (o : Option FrontTold). TellsOn OnlyReads o c) first.1 second in
-    (later.0, later.1, record { rest = later.2.rest ∙ ap (λ (x : FrontTold). record x { read = later.0.read }) first.2.rest })
-
--- the table is in step with it
-pub step-reads : (told told' : Option FrontTold) (s : State) → TellsOn OnlyReads told told' → IsInStep told s → IsInStep told' s
-step-reads None told' s reads step = subst (λ (o : Option FrontTold). IsInStep o s) (sym reads) tt
-step-reads (Some t) told' s reads step =
-    subst (λ (o : Option FrontTold). IsInStep o s) (sym reads.1)
-    (record {
-      listens = ap (λ (x : FrontTold). x.hushed) reads.2.rest ∙ step.listens;
-      taken =
-          record {
-            accepted = ap (λ (x : FrontTold). x.accepted) reads.2.rest ∙ step.taken.accepted;
-            none = ap (λ (x : FrontTold). x.turned_away) reads.2.rest ∙ step.taken.none;
-          };
-    })
+    (later.0, later.1, record { rest = later.2.rest ∙ ap (λ (x : FrontTold). record x { read = later.0.read; hushed = later.0.hushed }) first.2.rest })
