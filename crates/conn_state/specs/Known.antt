@@ -49,7 +49,3 @@ pub record HasEdition (e : KnownEdition) (limits : Limits) (site : SeenSite) : T
 abbrev pub IsOfEdition : Option KnownEdition → Limits → SeenSite → Type 0
 IsOfEdition None limits site = ⊥
 IsOfEdition (Some e) limits site = HasEdition e limits site
-
--- where the type knows the edition of that number, a server may serve by it, and the limits and the site are that edition's
-abbrev pub IsByEdition : Option KnownOutside → ℕ → Limits → SeenSite → Type 0
-IsByEdition known number limits site = IfSome known (λ k. IfSome (k.edition number) (λ e. IsOfEdition e limits site))

@@ -1,10 +1,10 @@
 -- How the listener heeds its command lines, one behind the other.
-use Rattle.std.proofs.Common.{◌≡◌, ◌≢◌, ◌⊎◌, inl, inr, ℕ, ◌+◌, true, false, List, [], ◌∷◌, ◌++◌, map, Option, None, Some, option_map, IfSome, refl, sym, ap, subst, ◌∙◌, arith}
+use Rattle.std.proofs.Common.{◌≡◌, ◌≢◌, inl, inr, ℕ, ◌+◌, true, false, List, [], ◌∷◌, ◌++◌, map, Option, None, Some, option_map, IfSome, refl, sym, ap, subst, ◌∙◌, arith}
 use Rattle.std.proofs.lemmas.List.{map-append}
 use Rattle.std.specs.Str.{bytes_eq}
 use Rattle.mpm_base.specs.CommandWord.{command_word}
 use Rattle.mpm_base.specs.Count.{Rises}
-use Rattle.mpm_base.specs.Front.{Commands, FrontSeen, FrontTold, TellsOn, after_command, after_hush, hushed_front}
+use Rattle.mpm_base.specs.Front.{Commands, FrontSeen, FrontTold, TellsOn, after_command, hushed_front}
 use Rattle.mpm_base.specs.Store.{StoreSeen, StoreTold}
 use Rattle.mpm_base.specs.declared.script_line.CommandWord.{CommandWord}
 use Rattle.mpm_base.specs.declared.script_line.CommandWord.TheVariants as word
@@ -20,11 +20,11 @@ use Rattle.board.specs.Book.{SeenBook, row_in}
 use Rattle.board.specs.Editions.{GenerationsKeepTheirEditions, orders_in}
 use Rattle.board.specs.Faults.{IsRefusedFor}
 use Rattle.worker_group.specs.Acts.{Acts, ActsInSteps}
-use Rattle.worker_group.specs.Service.{IsUp, RefusalLasts}
+use Rattle.worker_group.specs.Service.{RefusalLasts}
 use Rattle.mpm_run.specs.Commands.{stop_line}
-use Rattle.mpm_run.specs.ListenInside.{Follows, HasNoneToHeed, HasOneToHeed, HasReadAll, IsInStep, IsWatching, KeepsStep, ListensAsServed, OnlyReads}
+use Rattle.mpm_run.specs.ListenInside.{Follows, HasNoneToHeed, HasOneToHeed, HasReadAll, IsInStep, IsWatching, OnlyReads}
 use Rattle.mpm_run.specs.OrdersInside.{KnowsComing, MayHush, ServesNewest, StandsBehind}
-use Rattle.mpm_run.specs.RoundInside.{DoesOrders, NoneStops, StartsAsAsked}
+use Rattle.mpm_run.specs.RoundInside.{DoesOrders, NoneHalts, StartsAsAsked}
 use Rattle.mpm_run.specs.Served.{all_entries}
 use Rattle.mpm_run.specs.Standing.{KnowsLater, StandsOn, standing}
 use Rattle.mpm_run.specs.declared.edition.Edition.{Edition}
@@ -33,10 +33,11 @@ use Rattle.mpm_run.proofs.AskedLemmas.{asked-silent, startless-orders}
 use Rattle.mpm_run.proofs.CommandLemmas.{heeded-line, heeded-none, read-none, stopped-line}
 use Rattle.mpm_run.proofs.CountLemmas.{rises-behind}
 use Rattle.mpm_run.proofs.EditionLemmas.{newest-acts}
-use Rattle.mpm_run.proofs.FrontLemmas.{follows-command, follows-hushed, follows-same, follows-trans, reads-command, reads-same, reads-trans}
+use Rattle.mpm_run.proofs.FrontLemmas.{follows-same, follows-trans}
+use Rattle.mpm_run.proofs.FrontCallLemmas.{follows-command, follows-hushed, reads-command, reads-same, reads-trans}
 use Rattle.mpm_run.proofs.LineLemmas.{HasReadLine, asks-nothing, asks-stop, has_ended, reads-line}
 use Rattle.mpm_run.proofs.OrderStandLemmas.{stands-front, stands-line}
-use Rattle.mpm_run.proofs.StandingLemmas.{ReadsAlike, SameLines, broken-behind, stands-more}
+use Rattle.mpm_run.proofs.StandingLemmas.{ReadsAlike, SameLines, stands-more}
 use Rattle.mpm_run.proofs.WatchLemmas.{nobody-ordered, watched-as, watched-reads}
 
 -- ## Changes
@@ -47,7 +48,7 @@ changed same change = ap change same
 
 -- ## Commands behind commands
 
-none-both : (a b : List Commanded) → NoneStops a → NoneStops b → NoneStops (a ++ b)
+none-both : (a b : List Commanded) → NoneHalts a → NoneHalts b → NoneHalts (a ++ b)
 none-both [] b first second = second
 none-both (commanded.Graceful shape ∷ a) b first second = none-both a b first second
 none-both (commanded.Refused reason ∷ a) b first second = none-both a b first second

@@ -17,6 +17,7 @@ pub mod FoldLemmas
 pub mod FoldedRunLemmas
 pub mod FoldedTurnLemmas
 pub mod FoundLemmas
+pub mod FrontCallLemmas
 pub mod FrontLemmas
 pub mod GoneLemmas
 pub mod HaltLemmas

@@ -1,10 +1,9 @@
 -- How a run stands behind a command line that was read, and what was done for it.
-use Rattle.std.proofs.Common.{◌≡◌, ◌⊎◌, inl, inr, ◌≤◌, ◌<◌, ◌+◌, ℕ, suc, Bool, true, false, not, ◌||◌, cond, List, [], ◌∷◌, ◌++◌, length, map, Option, None, Some, option_map, IfSome, refl, sym, ap, subst, ◌∙◌, append-nil, append_assoc, arith}
+use Rattle.std.proofs.Common.{◌≡◌, inl, inr, ◌≤◌, ◌<◌, ◌+◌, ℕ, suc, Bool, true, false, not, ◌||◌, cond, List, [], ◌∷◌, ◌++◌, Option, None, Some, option_map, IfSome, refl, sym, ap, subst, ◌∙◌, append-nil, arith}
 use Rattle.std.proofs.lemmas.Bool.{cases_order}
 use Rattle.std.proofs.lemmas.List.Folds.{list_any-append}
 use Rattle.std.proofs.lemmas.List.Sums.{sum_by-cons}
-use Rattle.std.specs.List.{list_any}
-use Rattle.mpm_base.specs.Count.{NeverFalls, Rises, greatest_count}
+use Rattle.mpm_base.specs.Count.{Rises, greatest_count}
 use Rattle.mpm_base.specs.Front.{FrontSeen, FrontTold}
 use Rattle.mpm_base.specs.Store.{StoreSeen, StoreTold, after_renew}
 use Rattle.mpm_base.specs.declared.script_line.CommandWord.{CommandWord}
@@ -23,9 +22,9 @@ use Rattle.worker_group.specs.Acts.{Acts}
 use Rattle.mpm_run.specs.Commands.{done_by, done_in, is_by_line, is_graceful_stop}
 use Rattle.mpm_run.specs.FirstNumbers.{opened_by}
 use Rattle.mpm_run.specs.Generations.{Opening, renewed}
-use Rattle.mpm_run.specs.Orders.{AreOrdered, IsDoneBy, IsOrdered, edition_with, newest_edition, orders_with}
+use Rattle.mpm_run.specs.Orders.{AreOrdered, IsDoneBy, IsOrdered, edition_with, newest_edition}
 use Rattle.mpm_run.specs.Served.{all_entries}
-use Rattle.mpm_run.specs.Standing.{DoesAllBut, HasTimeout, Standing, StandsSo, standing}
+use Rattle.mpm_run.specs.Standing.{DoesAllBut, HasTimeout, StandsSo, standing}
 use Rattle.mpm_run.specs.Stores.{IsRenewed, RisesBy, is_store_refusal}
 use Rattle.mpm_run.specs.declared.run_numbers.RunNumbers.{RunNumbers}
 use Rattle.mpm_run.proofs.AddedLemmas.{added-events, events_in}

@@ -1,9 +1,8 @@
 -- What a graceful restart makes of a store, as an edition of the run: its configuration, what connections are served by, or why there is none.
-use Rattle.std.proofs.Common.{◌≡◌, ◌⊎◌, inl, inr, ◌≤◌, ◌<◌, ◌+◌, ℕ, zero, suc, Bool, true, false, cond, nat_le, List, [], ◌∷◌, length, Option, None, Some, option_map, IfSome, Result, Ok, Err, refl, sym, ap, subst, ◌∙◌, arith}
+use Rattle.std.proofs.Common.{◌≡◌, inl, inr, ◌≤◌, ◌<◌, ◌+◌, ℕ, zero, suc, Bool, true, false, cond, nat_le, List, length, Option, None, Some, option_map, IfSome, Result, Ok, Err, refl, sym, ap, subst, ◌∙◌, arith}
 use Rattle.std.proofs.lemmas.Bool.Decides.{nat_tests}
 use Rattle.std.specs.Option.{option_and_then}
-use Rattle.mpm_base.specs.Store.{StoreCounts, StoreSeen, StoreTold, after_renew, bytes_of}
-use Rattle.mpm_base.specs.declared.shape.Shape.{Shape}
+use Rattle.mpm_base.specs.Store.{StoreCounts, StoreTold, after_renew, bytes_of}
 use Rattle.mpm_base.specs.declared.store.File.{File}
 use Rattle.mpm_config.specs.Config.{Configuration, with_limits}
 use Rattle.mpm_config.specs.Reading.{ConfigAndWarnings, config_of}
@@ -11,8 +10,8 @@ use Rattle.mpm_config.specs.declared.fault.ConfFault.{ConfFault}
 use Rattle.http_read.specs.declared.request.Limits.{Limits}
 use Rattle.file_table.specs.Site.{SeenSite}
 use Rattle.file_table.specs.declared.load_fault.LoadFault.{LoadFault}
-use Rattle.conn_state.specs.Known.{HasEdition, IsOfEdition, KnownEdition, KnownOutside}
-use Rattle.restart_control.specs.Reload.{HasAccepted, HasBadConfig, HasCause, HasLargeConfig, HasText, IsNextConfig, IsPlan, LacksSite, RefusesConfig}
+use Rattle.conn_state.specs.Known.{IsOfEdition, KnownEdition, KnownOutside}
+use Rattle.restart_control.specs.Reload.{HasBadConfig, HasCause, HasLargeConfig, IsNextConfig, IsPlan, LacksSite, RefusesConfig}
 use Rattle.restart_control.specs.declared.plan.Plan.{Plan}
 use Rattle.restart_control.specs.declared.reload_fault.ReloadFault.{ReloadFault}
 use Rattle.restart_control.specs.declared.reload_fault.ReloadFault.TheVariants as fault
@@ -21,7 +20,7 @@ use Rattle.mpm_run.specs.Configured.{most_config}
 use Rattle.mpm_run.specs.Generations.{Opening, carried, config_among, config_at, config_in, edition_of_files, made_edition, renewed}
 use Rattle.mpm_run.specs.Orders.{HasNoConfig, HasNoSite, HasShape, IsRefusedAs, shape_by}
 use Rattle.mpm_run.specs.OrdersInside.{reason_for}
-use Rattle.mpm_run.specs.Sites.{head_limits_of, order_of}
+use Rattle.mpm_run.specs.Sites.{head_limits_of}
 use Rattle.mpm_run.specs.Standing.{HasTimeout, KnowsLater, later_edition}
 
 -- ## Editions of a store

@@ -1,9 +1,9 @@
 -- What a restart and a graceful stop do: what was recorded, and how the run stands then.
-use Rattle.std.proofs.Common.{◌≡◌, ◌⊎◌, inl, inr, ◌≤◌, ◌<◌, ◌+◌, ℕ, suc, Bool, true, false, not, ◌&&◌, ◌==◌, cond, nat_lt, List, [], ◌∷◌, ◌++◌, Option, None, Some, option_map, IfSome, Result, Ok, Err, OnErr, OnOk, refl, sym, ap, subst, ◌∙◌, arith}
+use Rattle.std.proofs.Common.{◌≡◌, inl, inr, ◌≤◌, ◌+◌, ℕ, suc, Bool, true, false, not, ◌&&◌, cond, nat_lt, List, [], ◌∷◌, ◌++◌, Option, None, Some, option_map, IfSome, Result, Ok, Err, OnErr, OnOk, refl, sym, ap, subst, ◌∙◌, arith}
 use Rattle.std.proofs.lemmas.Bool.Decides.{nat_tests}
 use Rattle.std.proofs.lemmas.List.Sums.{sum_by-cons}
 use Rattle.mpm_base.specs.CommandWord.{command_word}
-use Rattle.mpm_base.specs.Count.{NeverFalls, Rises}
+use Rattle.mpm_base.specs.Count.{NeverFalls}
 use Rattle.mpm_base.specs.Front.{Commands, FrontSeen}
 use Rattle.mpm_base.specs.Store.{Renews, StoreCounts, StoreSeen, StoreTold, after_renew}
 use Rattle.mpm_base.specs.declared.script_line.CommandWord.{CommandWord}
@@ -22,7 +22,7 @@ use Rattle.conn_machine.specs.Events.{count_events, is_order}
 use Rattle.conn_machine.specs.Folds.{HaveBegun}
 use Rattle.conn_machine.specs.Runs.{after}
 use Rattle.conn_machine.specs.States.{is_serving}
-use Rattle.conn_machine.specs.Table.{greatest_generation, next}
+use Rattle.conn_machine.specs.Table.{greatest_generation}
 use Rattle.conn_state.specs.Known.{KnownOutside}
 use Rattle.board.specs.Book.{AddsOnly, SeenBook, book_with_entry, row_in}
 use Rattle.board.specs.Editions.{GenerationsKeepTheirEditions, IsOfGeneration, edition_of, orders_in}
@@ -34,21 +34,19 @@ use Rattle.restart_control.specs.declared.reload_fault.ReloadFault.TheVariants a
 use Rattle.board.specs.declared.faults.BoardFault.{BoardFault}
 use Rattle.mpm_run.specs.FirstNumbers.{opened_by}
 use Rattle.mpm_run.specs.Generations.{Opening, config_at, renewed}
-use Rattle.mpm_run.specs.Listen.{HasFolded}
 use Rattle.mpm_run.specs.Orders.{EndsUntil, HasShape, IsRefusedAs, ending_by, ending_moment, newest_edition, shape_by}
-use Rattle.mpm_run.specs.OrdersInside.{Begins, Carries, KnowsComing, LacksMemory, Refuses, ServesNewest, StandsBehind, BreaksBehind, may_begin, reason_for}
-use Rattle.mpm_run.specs.RoundInside.{DoesOrders, NoneStops}
+use Rattle.mpm_run.specs.OrdersInside.{Begins, Carries, KnowsComing, Refuses, ServesNewest, StandsBehind, BreaksBehind, may_begin, reason_for}
+use Rattle.mpm_run.specs.RoundInside.{DoesOrders}
 use Rattle.mpm_run.specs.Served.{all_entries}
 use Rattle.mpm_run.specs.Sites.{head_limits_of}
-use Rattle.mpm_run.specs.Standing.{HasTimeout, IsOpenedBy, Standing, StandsBroken, StandsOn, StandsSo, standing}
-use Rattle.mpm_run.specs.Started.{AreAskedFor}
-use Rattle.mpm_run.specs.Stores.{IsRenewed, RisesBy, is_store_refusal}
+use Rattle.mpm_run.specs.Standing.{HasTimeout, Standing, StandsBroken, StandsOn, StandsSo, standing}
+use Rattle.mpm_run.specs.Stores.{RisesBy, is_store_refusal}
 use Rattle.mpm_run.specs.declared.edition.Edition.{Edition}
 use Rattle.mpm_run.specs.declared.edition.NamedConfig.{NamedConfig}
 use Rattle.mpm_run.specs.declared.run_numbers.RunNumbers.{RunNumbers}
 use Rattle.mpm_run.proofs.AddedLemmas.{added-events}
 use Rattle.mpm_run.proofs.EditionLemmas.{newest-acts}
-use Rattle.mpm_run.proofs.LineLemmas.{HasReadLine, asks-ended, asks-ending, asks-graceful, has_ended, reads-line}
+use Rattle.mpm_run.proofs.LineLemmas.{HasReadLine, asks-ended, asks-ending, has_ended, reads-line}
 use Rattle.mpm_run.proofs.OrderStandLemmas.{IsRenewedOnce, once-more, one-entry, rises-one, stands-ending, stands-front, stands-line, stands-order, stands-unordered, state-behind}
 use Rattle.mpm_run.proofs.StandingLemmas.{SameLines, counted-both}
 use Rattle.mpm_run.proofs.PlanLemmas.{cause-of_order, config-of_order, knows-renewed, serves-plan, shape-of_order, timeout-of_order}

@@ -1,17 +1,13 @@
 -- How a run stands over a fold of its history.
-use Rattle.std.proofs.Common.{◌≡◌, ℕ, List, [], ◌∷◌, ◌++◌, map, Option, refl, sym, ap, subst, ◌∙◌}
+use Rattle.std.proofs.Common.{◌≡◌, List, [], ◌++◌, map, Option, refl, sym, subst}
 use Rattle.conn_machine.specs.declared.event.Entry.{Entry}
-use Rattle.conn_machine.specs.declared.folded.Folded.{Folded}
-use Rattle.conn_machine.specs.declared.state.State.{State}
-use Rattle.conn_machine.specs.Folds.{fold_of}
-use Rattle.conn_machine.specs.Runs.{after}
 use Rattle.conn_state.specs.Answered.{SeenEnded}
 use Rattle.conn_state.specs.Known.{KnownOutside}
 use Rattle.board.specs.Board.{EndedOfOutside, SeenBoard}
 use Rattle.board.specs.Book.{SeenBook, folded_book}
 use Rattle.board.specs.Editions.{GenerationsKeepTheirEditions, KeepsEditions}
 use Rattle.board.specs.ReportLine.{line_of}
-use Rattle.mpm_run.specs.FirstNumbers.{folded_by, opened_by}
+use Rattle.mpm_run.specs.FirstNumbers.{opened_by}
 use Rattle.mpm_run.specs.FoldsInside.{FoldsJoin, ShowsForFolds}
 use Rattle.mpm_run.specs.Listen.{HasFolded}
 use Rattle.mpm_run.specs.Served.{whole_book}

@@ -1,11 +1,11 @@
 -- How a run stands where its history goes on by entries none of which is a command, and its front reads no line.
-use Rattle.std.proofs.Common.{◌≡◌, ◌≢◌, ◌⊎◌, inl, inr, ◌≤◌, ◌+◌, ℕ, Bool, true, false, not, ◌||◌, cond, List, [], ◌∷◌, ◌++◌, length, map, take, Option, None, Some, IfSome, option_map, refl, sym, ap, subst, ◌∙◌, append-nil, append_assoc, arith}
+use Rattle.std.proofs.Common.{◌≡◌, inl, inr, ◌≤◌, ◌+◌, ℕ, Bool, true, false, not, ◌||◌, cond, List, [], ◌∷◌, ◌++◌, length, take, Option, None, Some, IfSome, option_map, refl, sym, ap, subst, ◌∙◌, append-nil, append_assoc, arith}
 use Rattle.std.proofs.lemmas.Grind.{flat_map-append}
 use Rattle.std.proofs.lemmas.List.{take-append-le}
 use Rattle.std.proofs.lemmas.List.Folds.{list_any-append}
 use Rattle.std.proofs.lemmas.List.Sums.{sum_by-append, sum_by-cons}
 use Rattle.std.specs.List.{flat_map, list_any}
-use Rattle.mpm_base.specs.Count.{NeverFalls, greatest_count}
+use Rattle.mpm_base.specs.Count.{NeverFalls}
 use Rattle.mpm_base.specs.Front.{FrontSeen, FrontTold, GoesForward, TellsOn, Waits, after_hush, hushed_front}
 use Rattle.mpm_base.specs.declared.front.Woke.{Woke}
 use Rattle.mpm_base.specs.Store.{StoreSeen}
@@ -33,7 +33,6 @@ use Rattle.mpm_run.specs.Orders.{AreOrdered, IsOrdered, edition_with, newest_edi
 use Rattle.mpm_run.specs.RoundInside.{StartsAsAsked}
 use Rattle.mpm_run.specs.Served.{all_entries, whole_book}
 use Rattle.mpm_run.specs.Standing.{DoesAllBut, HasTimeout, Standing, StandsBroken, StandsOn, StandsSo}
-use Rattle.mpm_run.specs.Started.{AreAskedFor}
 use Rattle.mpm_run.specs.Stores.{IsRenewed, RisesBy, is_store_refusal}
 use Rattle.mpm_run.specs.declared.edition.NamedConfig.{NamedConfig}
 use Rattle.mpm_run.specs.declared.run_numbers.RunNumbers.{RunNumbers}

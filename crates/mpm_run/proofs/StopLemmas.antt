@@ -12,7 +12,7 @@ use Rattle.mpm_run.specs.ListenInside.{HaltsAs, HasStopped, MustHalt, TurnsEnd, 
 use Rattle.mpm_run.specs.RoundInside.{GoesDown}
 use Rattle.mpm_run.specs.Times.{WasInformed}
 use Rattle.mpm_run.proofs.EventLemmas.{silent-gone, silent-halts, silent-retires}
-use Rattle.mpm_run.proofs.FrontLemmas.{failed-hushed, given-hushed}
+use Rattle.mpm_run.proofs.FrontCallLemmas.{failed-hushed, given-hushed}
 use Rattle.mpm_run.proofs.InformLemmas.{TellsAs, informed-as, of_time-as, so_far-as, tells-silent}
 
 -- ## What was informed

@@ -1,5 +1,5 @@
 -- What the listener keeps of its generations on its way, and what it does for a command line.
-use Rattle.std.specs.Prelude.{◌≡◌, ◌⊎◌, ◌&&◌, ℕ, ◌+◌, Bool, true, false, nat_lt, List, [], ◌∷◌, if◌then◌else◌, Option, None, Some}
+use Rattle.std.specs.Prelude.{◌≡◌, ◌⊎◌, ◌&&◌, ℕ, ◌+◌, Bool, nat_lt, [], ◌∷◌, if◌then◌else◌, Option, None, Some}
 use Rattle.mpm_base.specs.CommandWord.{command_word}
 use Rattle.mpm_base.specs.Front.{Commands, FrontSeen, after_hush}
 use Rattle.mpm_base.specs.Store.{StoreSeen, StoreTold}

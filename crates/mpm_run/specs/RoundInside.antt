@@ -204,24 +204,24 @@ pub record AreLetGo (l : Departures) : Type 0 where
   pub drained : AllLeftBy IsDrainedWay l.drained
 
 -- none of the commands stops the server
-abbrev pub NoneStops : List Commanded → Type 0
-NoneStops [] = ⊤
-NoneStops (commanded.Graceful shape ∷ orders) = NoneStops orders
-NoneStops (commanded.Refused reason ∷ orders) = NoneStops orders
-NoneStops (commanded.GracefulStop until ∷ orders) = NoneStops orders
-NoneStops (commanded.Stop reason ∷ orders) = ⊥
+abbrev pub NoneHalts : List Commanded → Type 0
+NoneHalts [] = ⊤
+NoneHalts (commanded.Graceful shape ∷ orders) = NoneHalts orders
+NoneHalts (commanded.Refused reason ∷ orders) = NoneHalts orders
+NoneHalts (commanded.GracefulStop until ∷ orders) = NoneHalts orders
+NoneHalts (commanded.Stop reason ∷ orders) = ⊥
 
 -- the same of a round, and none of its commands stops the server
 pub record AreWays (r : Round) : Type 0 where
   pub early : AllLeftBy IsLateWay r.early
   pub late : AllLeftBy IsLateWay r.late
   pub departures : AreLetGo r.departures
-  pub orders : NoneStops r.orders
+  pub orders : NoneHalts r.orders
 
 -- command lines were done, none of which stops the server, and nothing else was done
 pub record DoesOrders (old new : SeenBook) : Type 0 where
   pub orders : List Commanded
-  pub none : NoneStops orders
+  pub none : NoneHalts orders
   pub acts : Acts 0 (map event.Command orders) None old new
 
 -- the same, which led to this book; then a command was refused there for the fault

@@ -1,6 +1,6 @@
 -- The site that a run serves: the files of the script's first edition under the DocumentRoot of its configuration. And why it has
 -- none.
-use Rattle.std.specs.Prelude.{◌≡◌, ◌⊎◌, ℕ, List, [], ◌∷◌, Err}
+use Rattle.std.specs.Prelude.{◌≡◌, ◌⊎◌, ℕ, List, Err}
 use Rattle.mpm_base.specs.declared.script_line.ScriptLine.{ScriptLine}
 use Rattle.mpm_base.specs.declared.store.File.{File}
 use Rattle.mpm_config.specs.Config.{Configuration}

@@ -1,6 +1,6 @@
 -- Where a run stands on its way, of all that it did, the entries that were folded among it: what its orders, its command lines and its store
 -- are to that.
-use Rattle.std.specs.Prelude.{◌≡◌, ℕ, ◌<◌, ◌≤◌, ◌+◌, Bool, true, false, not, List, [], ◌∷◌, ◌++◌, length, Option, None, Some, option_map, IfSome, Result, Ok, Err}
+use Rattle.std.specs.Prelude.{◌≡◌, ℕ, ◌<◌, ◌≤◌, ◌+◌, false, not, List, [], ◌++◌, length, Option, None, Some, option_map, IfSome, Result, Ok, Err}
 use Rattle.std.specs.List.{list_any}
 use Rattle.mpm_base.specs.Count.{greatest_count}
 use Rattle.mpm_base.specs.Front.{FrontSeen, FrontTold}

@@ -55,7 +55,7 @@ returns-in-Ok-answer-clause-ends g c =
 
 pub report_run-status-requires : goal.report_run-status-requires
 report_run-status-requires g c =
-    record { stopped = stopped-end (front_seen c.in-Ok.front) (front_seen c.run_server-answer.new.front) c.in-Ok-answer.served.board.book.state c.in-Ok-answer.ensures.outside.stopped; }
+    record { stopped = stopped-end (front_seen c.in-Ok.front) (front_seen c.run_server-answer.new.front) c.in-Ok-answer.served.board.book.state c.in-Ok-answer.ensures.outside.stopped }
 
 pub returns-in-Ok-answer-clause-known : goal.returns-in-Ok-answer-clause-known
 returns-in-Ok-answer-clause-known g c =

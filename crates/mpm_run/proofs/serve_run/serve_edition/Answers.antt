@@ -25,7 +25,7 @@ returns-in-Ok-clause-ends g c =
 
 pub report_run-status-requires : goal.report_run-status-requires
 report_run-status-requires g c =
-    record { stopped = stopped-end (g.F.Front.seen c.args.front.now) (g.F.Front.seen c.run_server-answer.new.front) c.in-Ok.served.board.book.state c.in-Ok.ensures.outside.stopped; }
+    record { stopped = stopped-end (g.F.Front.seen c.args.front.now) (g.F.Front.seen c.run_server-answer.new.front) c.in-Ok.served.board.book.state c.in-Ok.ensures.outside.stopped }
 
 pub returns-in-Ok-clause-known : goal.returns-in-Ok-clause-known
 returns-in-Ok-clause-known g c =

@@ -11,7 +11,8 @@ use Rattle.mpm_run.specs.Started.{BeginsWithStarts}
 use Rattle.mpm_run.specs.Times.{waits_of}
 use Rattle.mpm_run.specs.declared.run_numbers.RunNumbers.{RunNumbers}
 use Rattle.mpm_run.proofs.ChildrenLemmas.{started-first}
-use Rattle.mpm_run.proofs.FrontLemmas.{follows-bind, follows-trans, named-follows}
+use Rattle.mpm_run.proofs.FrontLemmas.{follows-trans, named-follows}
+use Rattle.mpm_run.proofs.FrontCallLemmas.{follows-bind}
 use Rattle.mpm_run.proofs.OpeningLemmas.{known-front, knows-coming, serves-first, stands-opened, stood-behind}
 use Rattle.mpm_run.proofs.StartedLemmas.{are-watched, asked-opened, binds-true, heeded-opened, idle-bound, informed-opened, keeps-front, nothing-bound, opened-hushed, opens, starts-opened, step-opened, stopped-before, time-opened, unwaited, watching-opened}
 use Rattle.mpm_run.proofs.server.run_server.Goals as goal

@@ -7,7 +7,6 @@ use Rattle.conn_machine.specs.declared.event.Commanded.TheVariants as commanded
 use Rattle.conn_machine.specs.declared.state.State.{State}
 use Rattle.conn_machine.specs.States.{is_serving}
 use Rattle.board.specs.Board.{SeenBoard}
-use Rattle.board.specs.Book.{SeenBook}
 use Rattle.mpm_run.specs.Orders.{ending_moment}
 use Rattle.mpm_run.specs.Standing.{StandsBroken, standing}
 use Rattle.mpm_run.proofs.RestartLemmas.{ended-by, ended-stands, ending-stands, unended-breaks}

@@ -1,7 +1,6 @@
-use Rattle.std.proofs.Common.{◌≡◌, ◌≢◌, IfSome, List, [], None, Some, ℕ, ap, refl, rules, subst, sym, ◌∙◌}
+use Rattle.std.proofs.Common.{◌≡◌, ◌≢◌, IfSome, List, [], Some, ℕ, ap, refl, rules, subst, sym, ◌∙◌}
 use Rattle.mpm_base.specs.CommandWord.{command_word}
-use Rattle.mpm_base.specs.Front.{Commands, FrontSeen}
-use Rattle.mpm_base.specs.Store.{StoreSeen}
+use Rattle.mpm_base.specs.Front.{Commands}
 use Rattle.mpm_base.specs.declared.script_line.CommandWord.{CommandWord}
 use Rattle.mpm_base.specs.declared.script_line.CommandWord.TheVariants as word
 use Rattle.conn_machine.specs.States.{is_halted}

@@ -5,7 +5,8 @@ use Rattle.mpm_run.specs.Times.{WasInformed}
 use Rattle.mpm_run.proofs.AskedLemmas.{asked-silent, startless-gone, startless-halts, startless-retires}
 use Rattle.mpm_run.proofs.ChildrenLemmas.{begins-down}
 use Rattle.mpm_run.proofs.CommandLemmas.{heeds-hushed}
-use Rattle.mpm_run.proofs.FrontLemmas.{contacts-hushed, follows-hushed, follows-trans, is-hushed, time-kept, waits-hushed}
+use Rattle.mpm_run.proofs.FrontLemmas.{follows-trans, time-kept}
+use Rattle.mpm_run.proofs.FrontCallLemmas.{contacts-hushed, follows-hushed, is-hushed, waits-hushed}
 use Rattle.mpm_run.proofs.LinkLemmas.{handed-out}
 use Rattle.mpm_run.proofs.PaceLemmas.{patience-down}
 use Rattle.mpm_run.proofs.StoodLemmas.{stood-down}

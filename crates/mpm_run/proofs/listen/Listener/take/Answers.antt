@@ -12,7 +12,8 @@ use Rattle.mpm_run.specs.ListenInside.{WatchesAll}
 use Rattle.worker_group.specs.Service.{left_events}
 use Rattle.mpm_run.specs.RoundInside.{FailsTaking, GivesUp, way_of}
 use Rattle.mpm_run.proofs.EditionLemmas.{edition-acts, edition-same}
-use Rattle.mpm_run.proofs.FrontLemmas.{follows-turned, follows-watch, step-watch, takes-turned, takes-watch}
+use Rattle.mpm_run.proofs.FrontLemmas.{takes-turned, takes-watch}
+use Rattle.mpm_run.proofs.FrontCallLemmas.{follows-turned, follows-watch, step-watch}
 use Rattle.mpm_run.proofs.RoundLemmas.{acts-spelled, if-err-both, on-err, on-ok, takes-one}
 use Rattle.mpm_run.proofs.WatchLemmas.{takes-one-left, watched-taking, watched-turned}
 use Rattle.mpm_run.proofs.listen.Listener.take.Goals as goal
