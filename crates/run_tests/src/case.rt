@@ -138,11 +138,10 @@ fn put_down_file(case: &mut Case) -> Result<(), NoMemory> {
     if case.name.is_empty() {
         return Ok(());
     }
-    let files = match case.later.last_mut() {
-        Some(later) => later,
-        None => &mut case.files,
-    };
-    files.set(case.name.as_str(), case.file.as_slice())
+    match case.later.last_mut() {
+        Some(files) => files.set(case.name.as_str(), case.file.as_slice()),
+        None => case.files.set(case.name.as_str(), case.file.as_slice()),
+    }
 }
 
 /// Puts the words of the list at the end, where it isn't empty.
