@@ -1,4 +1,5 @@
-"""What the scenes of .ci/sockets are made of: a server with a folder and ports of its own, its clients, and what is expected of both."""
+"""What the scenes of .ci/sockets and .ci/restart_scenes.py are made of: a server with a folder and ports of its own, its clients, and what
+is expected of both. And the list of the scenes."""
 
 import collections
 import contextlib
@@ -6,6 +7,7 @@ import email.utils
 import os
 import re
 import select
+import signal
 import socket
 import struct
 import subprocess
@@ -35,6 +37,13 @@ CONTINUE = b"HTTP/1.1 100 Continue\r\n\r\n"
 # How many descriptors a server may have that is to be in want of them, and the words that start it so.
 FEW = 40
 FEW_DESCRIPTORS = ["sh", "-c", f'ulimit -n {FEW} && exec "$@"', "sh"]
+SCENES = []
+
+
+def scene(play):
+    """Adds the scene to those that are played."""
+    SCENES.append(play)
+    return play
 
 
 class Wrong(Exception):
@@ -289,34 +298,46 @@ class Server:
 
     def worked(self):
         """The processor seconds that the server took."""
-        with open(f"/proc/{self.process.pid}/stat") as file:
-            fields = file.read().rpartition(")")[2].split()
+        fields = self.told()
         return (int(fields[11]) + int(fields[12])) / os.sysconf("SC_CLK_TCK")
+
+    def told(self):
+        """What the system tells of the server, behind its name: first a letter, which is T where it stands still."""
+        with open(f"/proc/{self.process.pid}/stat") as file:
+            return file.read().rpartition(")")[2].split()
+
+    @contextlib.contextmanager
+    def standing_still(self):
+        """The server does nothing up to the end of the block."""
+        self.process.send_signal(signal.SIGSTOP)
+        until("a server that stands still", lambda: self.told()[0] == "T")
+        yield
+        self.process.send_signal(signal.SIGCONT)
 
     def stop(self, left=0):
         """Stops it by its control port, once so many connections are left."""
         until(f"a server that has {left} connections", lambda: self.connections() == left)
         self.tell(b"stop\n")
 
-    def expect_report(self, *lines, children=3, status=0):
-        """Goes on where the server ends with the report of connections that have these lines, in any order."""
+    def expect_report(self, *lines, children=3, status=0, generation=0):
+        """Goes on where the server ends with the report of connections that have these lines, in any order, in that generation."""
         try:
             printed, _ = self.process.communicate(timeout=DEADLINE)
         except subprocess.TimeoutExpired:
             raise Wrong(f"the server's end: wanted within {DEADLINE} seconds, and it didn't come") from None
         came = printed.decode(errors="backslashreplace").splitlines(keepends=True)
         came[REPORT_HEAD:] = sorted(came[REPORT_HEAD:])
-        wanted = report(lines, children)
+        wanted = report(lines, children, generation)
         if came != wanted:
             raise Wrong(f"the report: wanted {behind(wanted, came)}, and came {behind(came, wanted)}")
         expect("the status of the server", self.process.returncode, status)
 
 
-def report(lines, children):
-    """The report of connections that have these lines, which are sorted. Of more than 64 connections the lines have to be alike."""
+def report(lines, children, generation):
+    """The report of connections that have these lines, which are sorted. Of more than 64 those that end first have to be the first ones."""
     ends = [line.split() for line in lines]
     responses = sum(len(codes.split(",")) for _, _, _, codes in ends if codes != "-")
-    told = ["Generation: 0", f"Accepted: {len(ends)}", f"Closed: {len(ends)}", f"Responses: {responses}"]
+    told = [f"Generation: {generation}", f"Accepted: {len(ends)}", f"Closed: {len(ends)}", f"Responses: {responses}"]
     told += [f"{cause}: {sum(of == cause for _, of, _, _ in ends)}" for cause in CAUSES]
     return [f"{line}\n" for line in [*told, f"ChildrenStarted: {children}", *sorted(lines)[:64]]]
 

@@ -20,7 +20,6 @@ use Rattle.conn_machine.specs.Lists.{update}
 use Rattle.conn_machine.specs.Rows.{carried_count, is_from, is_lingering, is_live, is_live_as, is_parked, lives_and}
 use Rattle.conn_machine.specs.States.{child_of, is_signalled, opening_state, unused_row}
 use Rattle.conn_machine.specs.Table.{may_be_queued, next, taken_row, parked_row, held_row, queued_row, served_row, answered_row, lingering_row, closed_row}
-use Rattle.timeout_queues.specs.Filed.{StandsIn}
 use Rattle.board.specs.FiledInside.{AreFiled, FindsInChild, FindsInRing, refiled_rings, refiled_by, ring_of_child, ring_of_row, slot_of_event}
 use Rattle.board.specs.Finds.{FindsRow, has_to_be_drained, is_due, is_let_go}
 use Rattle.board.specs.RowsInside.{RowsChangeAlone}

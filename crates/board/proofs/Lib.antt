@@ -4,6 +4,7 @@ pub mod BoardLemmas
 pub mod BookLemmas
 pub mod ClientLemmas
 pub mod ClosedLemmas
+pub mod EditionLemmas
 pub mod EventLemmas
 pub mod FiledLemmas
 pub mod FindLemmas

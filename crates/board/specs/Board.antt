@@ -1,5 +1,8 @@
 -- What is seen of a board, and how its connections agree with its rows and its history.
 use Rattle.std.specs.Prelude.{◌≡◌, ℕ, Bool, true, false, List, [], ◌∷◌, length, map, Option, None, Some, slice_get, slice_index_or, ⊤}
+use Rattle.mpm_base.specs.Link.{LinkTold}
+use Rattle.http_read.specs.declared.request.Limits.{Limits}
+use Rattle.file_table.specs.Site.{SeenSite}
 use Rattle.conn_machine.specs.declared.row.Place.{Place}
 use Rattle.conn_machine.specs.declared.row.Place.TheVariants.{Vacant, Spent, Held, Parked, Queued, Working}
 use Rattle.conn_machine.specs.declared.row.Row.{Row}
@@ -10,8 +13,9 @@ use Rattle.conn_machine.specs.declared.state.State.{State}
 use Rattle.conn_machine.specs.Table.{next}
 use Rattle.conn_state.specs.Conn.{SeenConn}
 use Rattle.conn_state.specs.Answered.{SeenEnded, IsEnded}
-use Rattle.conn_state.specs.Known.{KnownOutside, IsOfOutside}
+use Rattle.conn_state.specs.Known.{KnownOutside, IsOfClient}
 use Rattle.board.specs.Book.{SeenBook, folded_book}
+use Rattle.board.specs.Editions.{IsOfGeneration}
 use Rattle.board.specs.ReportLine.{line_of}
 use Rattle.board.specs.Fits.{Fits, IsSettled, IsClosing}
 
@@ -95,19 +99,22 @@ folded_board b = record b { book = folded_book (map line_of b.ended) b.book; end
 
 -- ## The outside
 
--- where the type knows the outside, the link of each connection that the board has is that of one of the clients, and its limits and
--- its site are those of one of the editions
-abbrev pub WaitOfOutside : Option KnownOutside → List (Option SeenConn) → Type 0
-WaitOfOutside known conns = (slot : ℕ) (c : SeenConn) → conn_at conns slot ≡ Some c → IsOfOutside known c.told c.reader.limits c.site
+-- where the type knows the outside, the link is that of one of the clients, and the limits and the site are those of the edition of the
+-- generation
+pub record IsOfOutside (known : Option KnownOutside) (b : SeenBook) (told : Option LinkTold) (generation : ℕ) (limits : Limits) (site : SeenSite) : Type 0 where
+  pub client : IsOfClient known told
+  pub edition : IsOfGeneration known b generation limits site
 
--- the same of each connection that ended
-abbrev pub EndedOfOutside : Option KnownOutside → List SeenEnded → Type 0
-EndedOfOutside known [] = ⊤
-EndedOfOutside known (e ∷ ended) = IsOfOutside known e.told e.limits e.site × EndedOfOutside known ended
+-- so it is of each connection that the board has
+abbrev pub WaitOfOutside : Option KnownOutside → SeenBook → List (Option SeenConn) → Type 0
+WaitOfOutside known b conns = (slot : ℕ) (c : SeenConn) → conn_at conns slot ≡ Some c → IsOfOutside known b c.told c.generation c.reader.limits c.site
+
+-- and of each connection that ended
+abbrev pub EndedOfOutside : Option KnownOutside → SeenBook → List SeenEnded → Type 0
+EndedOfOutside known b [] = ⊤
+EndedOfOutside known b (e ∷ ended) = IsOfOutside known b e.told e.generation e.limits e.site × EndedOfOutside known b ended
 
 -- the same of those that a board has, and of those that ended
 pub record AreOfOutside (known : Option KnownOutside) (b : SeenBoard) : Type 0 where
-  pub conns : WaitOfOutside known b.conns
-  pub ended : EndedOfOutside known b.ended
-
--- ## Every board
+  pub conns : WaitOfOutside known b.book b.conns
+  pub ended : EndedOfOutside known b.book b.ended

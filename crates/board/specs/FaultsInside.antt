@@ -2,9 +2,11 @@
 use Rattle.std.specs.Prelude.{◌≡◌, ℕ}
 use Rattle.conn_machine.specs.declared.event.Event.{Event}
 use Rattle.board.specs.Book.{SeenBook, book_with_entry}
+use Rattle.board.specs.Editions.{KeepsEditions}
 use Rattle.board.specs.Faults.{IsOpen}
 
--- the pass recorded the event, and the server went on before
+-- the pass recorded the event, and the server went on before; generations keep their editions
 pub record IsRecorded (who : ℕ) (event : Event) (old new : SeenBook) : Type 0 where
   pub was_open : IsOpen old
   pub new_is : new ≡ book_with_entry who event old
+  pub keeps : KeepsEditions old (book_with_entry who event old)

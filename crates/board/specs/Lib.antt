@@ -4,6 +4,8 @@ pub mod BoardInside
 pub mod BoardParts
 pub mod Book
 pub mod BookInside
+pub mod Editions
+pub mod EditionsInside
 pub mod Events
 pub mod Faults
 pub mod FaultsInside

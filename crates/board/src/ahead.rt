@@ -1,6 +1,7 @@
 //! The numbers of the record that a fold would make of a history, and the load of that. They are kept as entries are added, so that a
 //! fold counts no entry, and only drops each.
 ghost use Rattle.std.specs.Prelude.{◌≡◌, ◌+◌, ◌<◌, ◌^◌, ℕ, List, [], ◌∷◌, ◌++◌, length, nat_le, slice_index, IfOk};
+ghost use Rattle.conn_machine.specs.Events.{count_events, is_order};
 ghost use Rattle.conn_machine.specs.Folds.{CountsWithin, HasPlacesFor, fold_load, fold_of, opening_record};
 ghost use Rattle.conn_machine.specs.Made.{AreOfPasses};
 ghost use Rattle.conn_machine.specs.Runs as spec;
@@ -81,6 +82,16 @@ impl Ahead {
         let _ = folded;
         let _ = history;
         self.ordinals[who as usize]
+    }
+
+    /// How many commands `graceful` were taken or refused.
+    pub fn orders(&self, folded: &Folded, history: &[Entry]) -> u64
+        requires { IsAhead folded.now history.now self.now }
+        ensures { result ≡ folded.now.orders + count_events is_order history.now }
+    {
+        let _ = folded;
+        let _ = history;
+        self.orders
     }
 
     /// Counts the entry, which comes behind the history.

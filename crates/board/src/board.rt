@@ -5,7 +5,8 @@ ghost use Rattle.conn_machine.specs.Shown.{snapshot_of};
 ghost use Rattle.conn_machine.specs.States.{is_halted, opening_state};
 ghost use Rattle.conn_machine.specs.Table.{is_allowed, cell_at, reply, taken_reply};
 ghost use Rattle.conn_machine.specs.Runs.{IsInPassOrderFrom, Run, after, first_row};
-ghost use Rattle.conn_machine.specs.Folds.{CountsWithin, HasPlacesFor, may_fold, opening_record};
+ghost use Rattle.conn_machine.specs.Events.{commanded};
+ghost use Rattle.conn_machine.specs.Folds.{CountsWithin, HasPlacesFor, HaveBegun, may_fold, opening_record};
 ghost use Rattle.conn_machine.specs.Made.{AreMade, AreOfPasses};
 ghost use Rattle.conn_machine.specs.Passes.{EachHasItsOwn};
 ghost use Rattle.conn_machine.specs.Sizes.{IsSized};
@@ -18,9 +19,10 @@ ghost use Rattle.mpm_base.specs.Moment.{IsSecond};
 ghost use Rattle.conn_state.specs.declared.turn.LastLinger.TheVariants as linger;
 ghost use Rattle.conn_state.specs.Answered.{IsEnded, MayLinger};
 ghost use Rattle.conn_state.specs.Conn.{SeenConn};
-ghost use Rattle.conn_state.specs.Known.{IsOfOutside};
+ghost use Rattle.conn_state.specs.Known.{IsOfClient};
 ghost use Rattle.board.specs.Book.{AddsOnly, book_with_entry, row_in};
 ghost use Rattle.board.specs.Board.{Agrees, AreOfOutside, conn_at, folded_board};
+ghost use Rattle.board.specs.Editions.{IsOfGeneration, UsedHaveEditions, edition_of, orders_in};
 ghost use Rattle.board.specs.Events.{IsAdded, IsDecided, IsTaken, with_recorded};
 ghost use Rattle.board.specs.Faults.{IsNotTakenFor, IsRefusedFor};
 ghost use Rattle.board.specs.Finds.{cause_of};
@@ -30,10 +32,10 @@ use crate::accept::slot_for_accept;
 use crate::book::Book;
 use crate::conns::{put_back, take_out};
 use crate::faults::{AcceptFault, BoardFault};
-use crate::laws::one_row_changes;
+use crate::laws::{generations_keep_their_editions, one_row_changes};
 use crate::report_line::further_lines;
 use crate::waits::wait_in_queue;
-use conn_machine::{Commanded, Entry, Event, Folded, Kept, Reply, State, Why};
+use conn_machine::{Commanded, Entry, Event, Folded, Kept, Order, Reply, State, Why};
 use conn_slots::Slots;
 use conn_state::{Conn, Ended, Known, Nothing};
 use mpm_base::{Ask, Cause, ConnName, Kind, Link, Moment, NoMemory, Note, Shape, Snapshot};
@@ -54,7 +56,7 @@ pub struct Taken {
 }
 
 /// The table of connections: its history, the connections that wait, and those that ended. Where `N` knows the outside, each link is
-/// that of one of its clients, and each connection is served by one of its editions. It is moved as one box.
+/// that of one of its clients, and each connection is served by the edition of its generation. It is moved as one box.
 #[derive(Drop)]
 pub struct Board<L: Link, N: Known> {
     // What `N` knows of the connections is kept by the board itself, so that a board forgets it without a move of its parts.
@@ -125,6 +127,7 @@ impl<L: Link, N: Known> Board<L, N> {
         ensures state { IfOk result (λ board. board.book.state ≡ opening_state slots children shape) }
         ensures passes { IfOk result (λ board. board.book.passes ≡ passes) }
         ensures ended { IfOk result (λ board. board.ended ≡ []) }
+        ensures edition { IfOk result (λ board. edition_of board.book 0 ≡ Some 0) }
     {
         let book = Book::open(alloc, slots, children, passes, shape)?;
         let parts = Parts {
@@ -207,6 +210,22 @@ impl<L: Link, N: Known> Board<L, N> {
         self.parts.book.show();
     }
 
+    /// What holds of the generations of every board: the editions of its record are those of generations that had begun before its
+    /// history, and each generation in use has an edition, the newest one among them.
+    pub fn show_editions(&self)
+        ensures begun { HaveBegun self.now.book.base self.now.book.folded }
+        ensures used { UsedHaveEditions self.now.book }
+    {
+        self.parts.book.show_editions();
+    }
+
+    /// How many commands `graceful` were taken or refused: the number of the last one.
+    pub fn orders(&self) -> u64
+        ensures { result ≡ orders_in self.now.book }
+    {
+        self.parts.book.orders()
+    }
+
     /// What a status page shows of the state. It goes over the cells of the children, and over no connections.
     pub fn snapshot(&self, alloc: Global) -> Result<Snapshot, NoMemory>
         ensures { IfOk result (λ shown. shown ≡ snapshot_of self.now.book.state) }
@@ -224,14 +243,16 @@ impl<L: Link, N: Known> Board<L, N> {
     }
 
     /// Folds the history: its entries and the connections that ended go, and the record counts them; the lines of the first 64
-    /// connections that ended are kept. Nothing else changes, and all room that was taken stays. Takes memory for those lines
-    /// alone, and none where 64 are there.
+    /// connections that ended are kept, and the editions of the generations in use. Nothing else changes, and all room that was taken
+    /// stays. Takes memory for those editions, and for those lines, where 64 aren't there.
     pub fn fold(&mut self) -> Result<(), NoMemory>
         requires { may_fold self.old.book.folded self.old.book.history ≡ true }
         ensures ok { OnOk result (self.new ≡ folded_board self.old) }
         ensures err { OnErr result (self.new ≡ self.old) }
     {
         let parts = &mut *self.parts;
+        generations_keep_their_editions();
+        parts.book.show();
         let folded = parts.book.folded();
         let lines = further_lines(
             parts.alloc,
@@ -239,7 +260,7 @@ impl<L: Link, N: Known> Board<L, N> {
             folded.closed,
             parts.ended.as_slice(),
         )?;
-        parts.book.fold(lines);
+        parts.book.fold(lines)?;
         parts.ended.clear();
         Ok(())
     }
@@ -295,6 +316,7 @@ impl<L: Link, N: Known> Board<L, N> {
         requires fits { IsOf self.old.book.state conn }
         requires settled { IsSettled kind (cause_of self.old.book.state conn.name) conn }
         requires turned { FoundNoMore kind conn }
+        requires edition { IsOfGeneration N.known self.old.book conn.generation conn.reader.limits conn.site }
         ensures ok { OnOk result (IsAdded who (event.Park conn.name kind) self.old (record self.new { conns = self.old.conns })) }
         ensures parked { OnOk result (self.new.conns ≡ slice_set self.old.conns conn.name.slot (Some conn)) }
         ensures why { IfErr result (λ e. IsRefusedFor e.0 self.old.book) }
@@ -327,6 +349,7 @@ impl<L: Link, N: Known> Board<L, N> {
         ensures name { result.name ≡ name }
         ensures handed { IsTakenUp self.new.book.state result }
         ensures way { IsOnItsWay (cause_of self.old.book.state name) result }
+        ensures edition { IsOfGeneration N.known self.new.book result.generation result.reader.limits result.site }
         ensures entries { AddsOnly who self.old.book self.new.book }
         ensures row { row_in who self.new.book ≡ Some name }
     {
@@ -350,6 +373,7 @@ impl<L: Link, N: Known> Board<L, N> {
         ensures name { IfOk result (λ conn. conn.name ≡ name) }
         ensures handed { IfOk result (λ conn. IsTakenUp self.new.book.state conn) }
         ensures stays_open { IfOk result (λ conn. conn.linger ≡ linger.Open) }
+        ensures edition { IfOk result (λ conn. IsOfGeneration N.known self.new.book conn.generation conn.reader.limits conn.site) }
         ensures why { IfErr result (λ fault. IsRefusedFor fault self.old.book) }
         ensures err { OnErr result (self.new ≡ self.old) }
         ensures entries { AddsOnly who self.old.book self.new.book }
@@ -412,6 +436,7 @@ impl<L: Link, N: Known> Board<L, N> {
         requires fits { IsOf self.old.book.state conn }
         requires half_closed { conn.linger ≡ linger.Shut }
         requires shows { MayLinger cause conn }
+        requires edition { IsOfGeneration N.known self.old.book conn.generation conn.reader.limits conn.site }
         ensures is { self.new ≡ record (with_recorded who (event.Linger conn.name cause) self.old) { conns = slice_set self.old.conns conn.name.slot (Some conn) } }
         ensures entries { AddsOnly who self.old.book self.new.book }
         ensures row { row_in who self.new.book ≡ None }
@@ -432,7 +457,8 @@ impl<L: Link, N: Known> Board<L, N> {
         requires allowed { is_allowed self.old.book.state (event.Close ended.name ended.cause ended.tail) ≡ true }
         requires fits { IsClosing self.old.book.state ended.name ended.cause ended.tail ended }
         requires answered { IsEnded ended }
-        requires outside { IsOfOutside N.known ended.told ended.limits ended.site }
+        requires client { IsOfClient N.known ended.told }
+        requires edition { IsOfGeneration N.known self.old.book ended.generation ended.limits ended.site }
         ensures is { self.new ≡ record (with_recorded who (event.Close ended.name ended.cause ended.tail) self.old) { ended = self.old.ended ++ ended ∷ [] } }
         ensures entries { AddsOnly who self.old.book self.new.book }
         ensures row { row_in who self.new.book ≡ None }
@@ -495,6 +521,23 @@ impl<L: Link, N: Known> Board<L, N> {
     {
         let parts = &mut *self.parts;
         parts.book.record(who, Event::StartChild(child))?;
+        Ok(())
+    }
+
+    /// A command from outside: a new generation begins, whose number is the one behind the newest and whose edition has the number of this
+    /// order; or the order is recorded as refused; or no connection is taken any more. Takes the room that a new edition needs.
+    pub fn command(&mut self, who: u32, order: Order) -> Result<(), BoardFault>
+        requires who { who < self.old.book.passes }
+        requires listener { who ≡ 0 }
+        requires allowed { is_halted self.old.book.state.going ≡ false → is_allowed self.old.book.state (event.Command (commanded order)) ≡ true }
+        ensures ok { OnOk result (IsAdded who (event.Command (commanded order)) self.old self.new) }
+        ensures why { IfErr result (λ fault. IsRefusedFor fault self.old.book) }
+        ensures err { OnErr result (self.new ≡ self.old) }
+        ensures entries { AddsOnly who self.old.book self.new.book }
+        ensures row { row_in who self.new.book ≡ row_in who self.old.book }
+    {
+        let parts = &mut *self.parts;
+        parts.book.record(who, Event::Command(order.commanded()))?;
         Ok(())
     }
 

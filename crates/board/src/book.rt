@@ -1,11 +1,10 @@
 //! The history that a board keeps, and the state after it.
 ghost use Rattle.std.specs.Prelude.{◌≡◌, ◌+◌, ◌<◌, ◌≤◌, ◌^◌, ℕ, List, true, false, [], ◌∷◌, ◌++◌, length, vec_len, vec_capacity, IfOk, IfErr, OnOk, OnErr};
 ghost use Rattle.mpm_base.specs.Shape.{is_in_bounds};
-ghost use Rattle.conn_machine.specs.Events.{is_order};
 ghost use Rattle.conn_machine.specs.States.{is_halted, opening_state};
 ghost use Rattle.conn_machine.specs.Table.{is_allowed, reply};
 ghost use Rattle.conn_machine.specs.Runs.{IsInPassOrderFrom, Run, after, first_row, has_after, may_make};
-ghost use Rattle.conn_machine.specs.Folds.{CountsWithin, HasPlacesFor, lines_after, may_fold, opening_record};
+ghost use Rattle.conn_machine.specs.Folds.{CountsWithin, HasPlacesFor, HaveBegun, lines_after, may_fold, opening_record};
 ghost use Rattle.conn_machine.specs.Made.{AreMade, AreOfPasses};
 ghost use Rattle.conn_machine.specs.Passes.{EachHasItsOwn};
 ghost use Rattle.conn_machine.specs.Sizes.{IsSized};
@@ -13,6 +12,7 @@ ghost use Rattle.conn_machine.specs.Sound.{IsSound};
 ghost use Rattle.board.specs.AheadInside.{IsAhead};
 ghost use Rattle.board.specs.BookInside.{lines_then};
 ghost use Rattle.board.specs.Book.{AddsOnly, book_with_entry, folded_book, numbered_entry, row_in};
+ghost use Rattle.board.specs.Editions.{KeepsEditions, UsedHaveEditions, orders_in};
 ghost use Rattle.conn_machine.specs.declared.event.Event.TheVariants as event;
 ghost use Rattle.board.specs.Events.{IsDecided};
 ghost use Rattle.board.specs.Faults.{IsRefusedFor};
@@ -21,13 +21,14 @@ ghost use Rattle.board.specs.RoomInside as spec;
 ghost use Rattle.board.specs.RoomInside.{is_sure};
 
 use crate::ahead::Ahead;
+use crate::editions::KnownEditions;
 use crate::faults::BoardFault;
 use crate::filed::{FiledState, step};
 use crate::laws::one_row_changes;
 use conn_machine::laws::{each_pass_has_its_own_connection, events_keep_states_sound};
 use conn_machine::laws_of_runs::{
-    folds_are_one_fold, histories_go_on_by_one_entry, passes_add_entries, records_go_on_by_folds,
-    records_open_with_nothing,
+    folds_are_one_fold, generations_begin_in_order, histories_go_on_by_one_entry,
+    passes_add_entries, records_go_on_by_folds, records_open_with_nothing,
 };
 use conn_machine::{Entry, Event, Folded, Reply, State};
 use mpm_base::{Ask, ConnName, NoMemory, Note, Octets, Shape};
@@ -51,6 +52,7 @@ pub struct Book {
     history: Vec<Entry>,
     state: FiledState,
     ahead: Ahead,
+    editions: KnownEditions,
 }
 
 impl Model for Book {
@@ -62,7 +64,7 @@ impl Model for Book {
 
     ghost view = { λ b. record { base = b.base.value; folded = b.folded; history = b.history.items; state = b.state; passes = length b.folded.ordinals } };
 
-    ghost invariant = { λ b. IsKept (length b.folded.ordinals) b.base.value b.folded b.history.items b.state b.ahead (vec_capacity b.history) };
+    ghost invariant = { λ b. IsKept (length b.folded.ordinals) b.base.value b.folded b.history.items b.state b.ahead b.editions.items.items (vec_capacity b.history) };
 }
 
 impl Book {
@@ -90,6 +92,7 @@ impl Book {
         let state = FiledState::opening(alloc, slots, children, shape)?;
         let folded = Folded::opening(alloc, passes)?;
         let ahead = Ahead::first(alloc, passes)?;
+        let editions = KnownEditions::first(alloc)?;
         let Ok(history) = Vec::with_capacity(alloc, 1) else {
             return Err(NoMemory);
         };
@@ -100,6 +103,7 @@ impl Book {
             history,
             state,
             ahead,
+            editions,
         })
     }
 
@@ -151,6 +155,22 @@ impl Book {
         let _ = &self.history;
     }
 
+    /// The editions of the record are of generations that had begun before the history, and each generation in use has an edition.
+    pub fn show_editions(&self)
+        ensures begun { HaveBegun self.now.base self.now.folded }
+        ensures used { UsedHaveEditions self.now }
+    {
+        generations_begin_in_order();
+        let _ = &self.history;
+    }
+
+    /// How many commands `graceful` were taken or refused.
+    pub fn orders(&self) -> u64
+        ensures { result ≡ orders_in self.now }
+    {
+        self.ahead.orders(&self.folded, self.history.as_slice())
+    }
+
     /// Whether the history may be folded.
     pub fn can_fold(&self) -> bool
         ensures { result ≡ may_fold self.now.folded self.now.history }
@@ -159,26 +179,32 @@ impl Book {
             && self.ahead.is_heavy(&self.folded, self.history.as_slice())
     }
 
-    /// Folds the history, where the record takes on these lines, or none. Wants no memory, and keeps the room that was taken.
-    pub fn fold(&mut self, lines: Option<Octets>)
+    /// Folds the history, where the record takes on these lines, or none. Takes memory for the editions of the generations in use, and keeps
+    /// the room that was taken.
+    pub fn fold(&mut self, lines: Option<Octets>) -> Result<(), NoMemory>
         requires { may_fold self.old.folded self.old.history ≡ true }
-        ensures { (ended : List (List ℕ)) → lines_then lines self.old.folded.lines ≡ lines_after ended self.old.folded.closed self.old.folded.lines → self.new ≡ folded_book ended self.old }
+        ensures ok { (ended : List (List ℕ)) → lines_then lines self.old.folded.lines ≡ lines_after ended self.old.folded.closed self.old.folded.lines → OnOk result (self.new ≡ folded_book ended self.old) }
+        ensures err { OnErr result (self.new ≡ self.old) }
     {
         each_pass_has_its_own_connection();
         records_go_on_by_folds();
         folds_are_one_fold();
+        generations_begin_in_order();
+        let editions = self.editions.in_use(self.alloc, self.state.state())?;
         self.ahead
             .fold_into(&mut self.folded, self.history.as_slice());
         take_on(&mut self.folded.lines, lines);
+        self.folded.editions = editions;
+        self.editions.keep_in_use(self.state.state());
         self.base = Snapshot::of(self.state.state());
         self.history.clear();
+        Ok(())
     }
 
     /// Records an event that the pass may make, and takes the room for what must follow it. Where it is refused nothing
     /// changes.
     pub fn record(&mut self, who: u32, event: Event) -> Result<Reply, BoardFault>
         requires who { who < self.old.passes }
-        requires unordered { is_order event ≡ false }
         requires allowed { is_halted self.old.state.going ≡ false → is_allowed self.old.state event ≡ true }
         requires role { may_make who (row_in who self.old) event ≡ true }
         ensures ok { OnOk result (IsRecorded who event self.old self.new) }
@@ -191,17 +217,23 @@ impl Book {
         histories_go_on_by_one_entry();
         passes_add_entries();
         one_row_changes();
+        generations_begin_in_order();
         if self.state().going.is_halted() {
             return Err(BoardFault::Halted);
         }
         let room = room_with_event(self.state());
         let most = (MOST_ENTRIES - self.folded.entries) as usize;
-        if self.history.len().saturating_add(room) > most || self.history.reserve(room).is_err() {
+        if self.history.len().saturating_add(room) > most
+            || self.editions.reserve_for(&event).is_err()
+            || self.history.reserve(room).is_err()
+        {
             return Err(BoardFault::NoMemory);
         }
         let Ok(reply) = step(self.alloc, &mut self.state, &event) else {
             return Err(BoardFault::NoMemory);
         };
+        let order = self.ahead.orders(&self.folded, self.history.as_slice()) + 1;
+        self.editions.add(&event, self.state.state().newest, order);
         append(
             &self.folded,
             &mut self.history,
@@ -244,12 +276,14 @@ impl Book {
         requires sure { is_sure event ≡ true }
         requires role { may_make who (row_in who self.old) event ≡ true }
         ensures is { self.new ≡ book_with_entry who event self.old }
+        ensures keeps { KeepsEditions self.old (book_with_entry who event self.old) }
         ensures entries { AddsOnly who self.old self.new }
         ensures row { row_in who self.new ≡ has_after (row_in who self.old) event result }
         ensures reply { result ≡ reply self.old.state event }
     {
         histories_go_on_by_one_entry();
         passes_add_entries();
+        generations_begin_in_order();
         let Ok(reply) = step(self.alloc, &mut self.state, &event) else {
             unreachable!()
         };

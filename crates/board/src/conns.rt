@@ -2,7 +2,8 @@
 ghost use Rattle.std.specs.Prelude.{◌≡◌, Some, None};
 ghost use Rattle.conn_slots.specs.Slots.{IsLive, with_item};
 ghost use Rattle.conn_state.specs.Conn.{SeenConn};
-ghost use Rattle.board.specs.Board.{WaitOfOutside, conn_at};
+ghost use Rattle.conn_state.specs.Known.{IsOfClient};
+ghost use Rattle.board.specs.Board.{conn_at};
 ghost use Rattle.board.specs.Layout.{conns_in};
 
 use conn_slots::Slots;
@@ -16,7 +17,7 @@ pub(crate) fn take_out<L: Link, N: Known>(
 ) -> Conn<L, N>
     requires live { IsLive conns.old.slots name }
     requires there { (c : SeenConn) × (conn_at (conns_in conns.old.slots) name.slot ≡ Some c) }
-    requires clients { WaitOfOutside N.known (conns_in conns.old.slots) }
+    requires client { (c : SeenConn) → conn_at (conns_in conns.old.slots) name.slot ≡ Some c → IsOfClient N.known c.told }
     ensures conn { conn_at (conns_in conns.old.slots) name.slot ≡ Some result }
     ensures emptied { conns.new.slots ≡ with_item conns.old.slots name None }
 {

@@ -20,13 +20,15 @@ ghost use Rattle.conn_state.specs.Conn.{SeenConn};
 ghost use Rattle.conn_state.specs.Known.{KnownOutside};
 ghost use Rattle.conn_state.specs.Turns.{TakesNote};
 ghost use Rattle.board.specs.Board.{AreClosed, AreEnded, EndedOfOutside};
+ghost use Rattle.board.specs.Book.{SeenBook};
+ghost use Rattle.board.specs.Editions.{GenerationsKeepTheirEditions, KeepsEditions};
 ghost use Rattle.board.specs.Events.{IsDecided};
 ghost use Rattle.board.specs.Fits.{IsOf};
 ghost use Rattle.board.specs.Ranks.{AllTell, has_rank, ranks_of};
 ghost use Rattle.board.specs.RowsInside.{RowsChangeAlone};
 
 use conn_machine::laws::arrivals_are_taken_once;
-use conn_machine::laws_of_runs::rows_change_one_at_a_time;
+use conn_machine::laws_of_runs::{generations_begin_in_order, rows_change_one_at_a_time};
 
 /// The links of the connections that ended, where they tell, are those of the connections that the history closed, in order. In
 /// a run from the opening state to one without a live connection they are, each once, those of the connections that were taken:
@@ -42,13 +44,22 @@ pub fn ended_links_are_of_closed_connections()
 
 /// The connections that ended in one history, and behind them those that ended in the next, are those that ended in both as one history.
 /// Where each connection of two lists shows what an ended connection shows, so does each of both lists together; and where each is of the
-/// outside, so is each of both. As many connections ended as the history closed.
+/// outside, so is each of both, and stays so in a book that keeps the editions. As many connections ended as the history closed.
 pub fn ended_connections_join()
     ensures closed { (base : State) (a b : List Entry) (ended ended' : List SeenEnded) → AreClosed base a ended → AreClosed (after base a) b ended' → AreClosed base (a ++ b) (ended ++ ended') }
     ensures answered { (ended ended' : List SeenEnded) → AreEnded ended → AreEnded ended' → AreEnded (ended ++ ended') }
-    ensures outside { (known : Option KnownOutside) (ended ended' : List SeenEnded) → EndedOfOutside known ended → EndedOfOutside known ended' → EndedOfOutside known (ended ++ ended') }
+    ensures outside { (known : Option KnownOutside) (book : SeenBook) (ended ended' : List SeenEnded) → EndedOfOutside known book ended → EndedOfOutside known book ended' → EndedOfOutside known book (ended ++ ended') }
+    ensures outside_stays { (known : Option KnownOutside) (old new : SeenBook) (ended : List SeenEnded) → KeepsEditions old new → EndedOfOutside known old ended → EndedOfOutside known new ended }
     ensures many { (base : State) (history : List Entry) (ended : List SeenEnded) → AreClosed base history ended → length ended ≡ count_events is_close history }
 {}
+
+/// Generations keep their editions, as `GenerationsKeepTheirEditions` in `specs/Editions.antt` says in full: while a history goes on, and
+/// over a fold where they are in use, as those of all live connections are. Each new one has the number of the order that began it.
+pub fn generations_keep_their_editions()
+    ensures { GenerationsKeepTheirEditions }
+{
+    generations_begin_in_order();
+}
 
 /// A connection that took the note of the response that was decided for it still fits its row.
 pub fn answered_connections_fit_their_rows()

@@ -4,13 +4,13 @@
 //! else stays, and a call that is refused changes nothing. The board has the connection of each row that waits or lingers, and
 //! the connections that ended, in the order of their closes; that these agree with the history is `Agrees` in
 //! `specs/Board.antt`, and holds of every board. How a connection fits its row, and how far it is on its way out, stands in
-//! `specs/Fits.antt`, what is kept of the history in `specs/Book.antt` and `specs/RoomInside.antt`, why a call is refused in
-//! `specs/Faults.antt`, and what the tests look for in `specs/Finds.antt`. The connections stand in a table of slots, of which
-//! contracts see the connections alone (`specs/Layout.antt`). The rows that wait stand in timeout queues besides, and the slots
-//! in rings by what is to be done with their rows, so no call goes over the rows, but that behind a restart with shorter timeouts
-//! one which waits looks for its place among those that wait longer. Where several connections would do, each test prefers the one
-//! that waited longest. No contract tells of either, nor of how far the slots are used
-//! (`specs/QueuesInside.antt`, `specs/FiledInside.antt`, `specs/SlotsInside.antt`).
+//! `specs/Fits.antt`, what is kept of the history in `specs/Book.antt` and `specs/RoomInside.antt`, which edition each generation
+//! has in `specs/Editions.antt`, why a call is refused in `specs/Faults.antt`, and what the tests look for in `specs/Finds.antt`.
+//! The connections stand in a table of slots, of which contracts see the connections alone (`specs/Layout.antt`). The rows that
+//! wait stand in timeout queues besides, and the slots in rings by what is to be done with their rows, so no call goes over the
+//! rows, but that behind a restart with shorter timeouts one which waits looks for its place among those that wait longer. Where
+//! several connections would do, each test prefers the one that waited longest. No contract tells of either, nor of how far the
+//! slots are used (`specs/QueuesInside.antt`, `specs/FiledInside.antt`, `specs/SlotsInside.antt`).
 #![tactic(auto)]
 
 mod accept;
@@ -18,6 +18,7 @@ mod ahead;
 mod board;
 mod book;
 mod conns;
+mod editions;
 mod faults;
 mod filed;
 mod finds;

@@ -1,8 +1,11 @@
 //! A board whose one pass makes what the board allows, with one connection at a time. Each call behind which the board can't go on
 //! answers none, so that another board is made.
-ghost use Rattle.std.specs.Prelude.{◌≡◌, ◌<◌, true, false, None, Some, [], OnSome};
+ghost use Rattle.std.specs.Prelude.{◌≡◌, ◌<◌, true, false, None, Some, [], IfSome, OnSome};
 ghost use Rattle.mpm_base.specs.Notes.{says_last};
+ghost use Rattle.conn_machine.specs.Events.{commanded};
+ghost use Rattle.conn_machine.specs.States.{is_halted};
 ghost use Rattle.conn_machine.specs.Table.{is_allowed};
+ghost use Rattle.conn_machine.specs.declared.event.Event.TheVariants.{Command};
 ghost use Rattle.conn_state.specs.declared.turn.LastTurn.TheVariants as turn;
 ghost use Rattle.conn_state.specs.declared.turn.LastLinger.TheVariants as linger;
 ghost use Rattle.conn_state.specs.Answered.{IsShown, MayLinger};
@@ -13,10 +16,10 @@ ghost use Rattle.board.specs.Fits.{FoundNoMore, IsOf, IsSettled};
 
 use crate::clients::link_of;
 use crate::seen::{ScriptBoard, Seen};
-use board::Board;
 use board::laws::answered_connections_fit_their_rows;
+use board::{Board, BoardFault};
 use conn_machine::laws_of_runs::records_go_on_by_folds;
-use conn_machine::{Commanded, Event, Why, may};
+use conn_machine::{Commanded, Event, Order, Why, may};
 use conn_state::laws::lingering_connections_keep_their_cause;
 use conn_state::{Conn, LingerTurn, Nothing, ReadTurn, WriteTurn};
 use file_table::Site;
@@ -104,6 +107,17 @@ impl Model for Lingering {
     ghost invariant = { λ h. (0 < h.board.book.passes) × (row_in 0 h.board.book ≡ Some h.conn.name) × IsOf h.board.book.state h.conn × LingersFor h.cause h.conn };
 }
 
+/// What a board answers to an order.
+#[derive(Clone, Copy)]
+pub enum Answer {
+    /// It is taken.
+    Taken,
+    /// The table doesn't allow it.
+    NotAllowed,
+    /// The server has stopped.
+    Halted,
+}
+
 /// What a turn of service leaves.
 #[derive(Drop)]
 enum Service {
@@ -122,6 +136,29 @@ fn allow(board: &ScriptBoard, event: &Event) -> Option<()>
         Some(())
     } else {
         None
+    }
+}
+
+/// Whether the board may be asked for the event: it allows it, or the server has stopped.
+fn may_ask(board: &ScriptBoard, event: &Event) -> bool
+    ensures { result ≡ true → is_halted board.now.book.state.going ≡ false → is_allowed board.now.book.state event.now ≡ true }
+{
+    board.show();
+    board.going().is_halted() || may(board.state(), event)
+}
+
+/// The order that the event is, if it is one.
+fn order_of(event: Event) -> Option<Order>
+    ensures { IfSome result (λ order. Command (commanded order) ≡ event) }
+{
+    let Event::Command(command) = event else {
+        return None;
+    };
+    match command {
+        Commanded::Graceful(shape) => Some(Order::Graceful(shape)),
+        Commanded::Refused(refusal) => Some(Order::Refused(refusal)),
+        Commanded::GracefulStop(until) => Some(Order::GracefulStop(until)),
+        Commanded::Stop(_) => None,
     }
 }
 
@@ -246,6 +283,25 @@ impl Driven {
         board.halt(0, Why::Asked);
         seen.look(&board);
         Some(Driven { board })
+    }
+
+    /// The command, which isn't `stop`, is given where the board allows it and where the server has stopped, and the board is folded where
+    /// it may be. The board answers this.
+    pub fn order(self, seen: &mut Seen, command: Commanded) -> Option<(Driven, Answer)> {
+        let Driven { mut board } = self;
+        let event = Event::Command(command);
+        if !may_ask(&board, &event) {
+            return Some((Driven { board }, Answer::NotAllowed));
+        }
+        let order = order_of(event)?;
+        match board.command(0, order) {
+            Ok(()) => (),
+            Err(BoardFault::Halted) => return Some((Driven { board }, Answer::Halted)),
+            Err(BoardFault::NoMemory) => return None,
+        }
+        seen.look(&board);
+        let driven = Driven { board }.fold(seen)?;
+        Some((driven, Answer::Taken))
     }
 
     /// The child is let go of.

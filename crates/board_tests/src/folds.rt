@@ -1,9 +1,10 @@
 //! Two boards behind the same calls, of which one folds its history wherever it may, and the other one never does.
+use crate::editions::{known_editions, order_in};
 use crate::moves::{LastBoard, last_board, show_seen, site_of};
 use crate::seen::{ScriptBoard, add_one};
 use crate::texts::{grown, small_of};
 use board::report_line::lines_after;
-use conn_machine::Event;
+use conn_machine::{Editions, Event};
 use mpm_base::Octets;
 use std::alloc::Global;
 use std::io;
@@ -19,6 +20,7 @@ struct Counts {
     children: u64,
     ticks: u64,
     readies: u64,
+    orders: u64,
 }
 
 impl Counts {
@@ -34,6 +36,7 @@ impl Counts {
             children: folded.children,
             ticks: folded.ticks,
             readies: folded.readies,
+            orders: folded.orders,
         };
         for entry in board.history() {
             counts.add(&entry.event);
@@ -44,6 +47,9 @@ impl Counts {
     /// Counts the entry of the event.
     fn add(&mut self, event: &Event) {
         self.entries = self.entries.saturating_add(1);
+        if order_in(event).is_some() {
+            self.orders = self.orders.saturating_add(1);
+        }
         match event {
             Event::Accept(_) => self.accepted = self.accepted.saturating_add(1),
             Event::Answer(_, _) => self.responses = self.responses.saturating_add(1),
@@ -88,8 +94,13 @@ fn show_both(
 }
 
 /// In what the first board, which was folded, differs from the second one, which never was: how often its finds found something, what is
-/// counted of all entries, the entries that it keeps, its state, or the lines of the first connections that ended.
-fn difference(alloc: Global, folding: &LastBoard, keeping: &LastBoard) -> io::Result<&'static str> {
+/// counted of all entries, the entries that it keeps, its state, the lines of the first connections that ended, or the editions of the
+/// generations in use.
+pub fn difference(
+    alloc: Global,
+    folding: &LastBoard,
+    keeping: &LastBoard,
+) -> io::Result<&'static str> {
     if !folding.seen.found_as(&keeping.seen) {
         return Ok("a find");
     }
@@ -106,6 +117,9 @@ fn difference(alloc: Global, folding: &LastBoard, keeping: &LastBoard) -> io::Re
     if lines_of(alloc, folding)?.as_slice() != lines_of(alloc, keeping)?.as_slice() {
         return Ok("a line");
     }
+    if editions_of(alloc, folding)?.as_slice() != editions_of(alloc, keeping)?.as_slice() {
+        return Ok("an edition");
+    }
     Ok("nothing")
 }
 
@@ -120,4 +134,9 @@ fn lines_of(alloc: Global, board: &ScriptBoard) -> io::Result<Octets> {
     let folded = board.folded();
     let lines = lines_after(alloc, &folded.lines, folded.closed, board.ended());
     grown(lines)
+}
+
+/// The editions of the generations in use.
+fn editions_of(alloc: Global, board: &ScriptBoard) -> io::Result<Editions> {
+    grown(known_editions(alloc, board))
 }

@@ -10,14 +10,20 @@
 //! - `folds SLOTS`: a seed, and a number of calls as above, none of which stops the board. They are made of two boards, of which one folds
 //!   its history wherever it may, also while its pass has a connection, and the other one never does. What is shown is in what the boards
 //!   differ then, and what was seen of the first one.
+//! - `orders SLOTS`: events and commands, divided by `; `, of two boards of so many slots and three children, of which one folds its history
+//!   wherever it may, and the other one never does. `Ready` has the number of signals of slot 0, `Graceful` the number of workers of a child.
+//!   What is shown is what came of the last command that isn't `Stop`; the number of orders, the newest generation, the editions of the record
+//!   and those of the generations in use, each behind its generation; and in what the boards differ then.
 //! - `passes`: no rows. Pass 0 makes an entry, and each of two passes looks.
 #![tactic(auto)]
 
 mod clients;
 mod driven;
+mod editions;
 mod folds;
 mod moves;
 mod numbers;
+mod orders;
 mod passes;
 mod scans;
 mod seen;
@@ -52,6 +58,7 @@ fn show_section<R: Print + Wait>(
     match word {
         "finds" => moves::show_finds(rt, alloc, rest, rows),
         "folds" => folds::show_folds(rt, alloc, rest, rows),
+        "orders" => orders::show_orders(rt, alloc, rest, rows),
         _ => passes::show_passes(rt, alloc),
     }
 }

@@ -1,7 +1,7 @@
 -- Editions: those that begin in a history, and those that stay in use.
-use Rattle.std.proofs.Common.{◌≡◌, ◌≤◌, ◌==◌, ℕ, zero, suc, ◌+◌, Bool, true, false, cond, List, [], ◌∷◌, ◌++◌, length, map, filter, Some, slice_get, refl, sym, ap, subst, ◌∙◌, add-zero, append_assoc, ne_eqb, arith}
+use Rattle.std.proofs.Common.{◌≡◌, ◌<◌, ◌≤◌, ◌==◌, ◌⊎◌, inl, inr, ℕ, zero, suc, ◌+◌, Bool, true, false, cond, List, [], ◌∷◌, ◌++◌, length, map, filter, Some, slice_get, refl, sym, ap, subst, ◌∙◌, add-zero, append_assoc, ne_eqb, arith}
 use Rattle.std.specs.List.{AllByRecursion, enumerate_from, list_any}
-use Rattle.std.proofs.lemmas.Bool.{eqb-false, or_from, or_parts}
+use Rattle.std.proofs.lemmas.Bool.{both_ways, cases_lt, eqb-false, eqb-true, false_from_ne_true, or_from, or_parts}
 use Rattle.std.proofs.lemmas.List.{map-append}
 use Rattle.std.proofs.lemmas.List.Elements.{filter-append}
 use Rattle.std.proofs.lemmas.List.Sums.{length-filter}
@@ -83,7 +83,7 @@ newest_command s (Refused reason) = omega arith
 newest_command s (GracefulStop until) = omega arith
 newest_command s (Stop why) = omega arith
 
-newest_next : (s : State) (e : Event) → (next s e).newest ≡ s.newest + one_if (begins_generation e)
+pub newest_next : (s : State) (e : Event) → (next s e).newest ≡ s.newest + one_if (begins_generation e)
 newest_next s (event.Accept slot) = omega arith
 newest_next s (event.Park name kind) = omega arith
 newest_next s (event.Hold name) = omega arith
@@ -99,7 +99,7 @@ newest_next s (event.Command c) = newest_command s c
 newest_next s (event.Retire k) = omega arith
 
 -- so the newest generation counts those that began
-newest_after : (s : State) (history : List Entry) → (after s history).newest ≡ s.newest + count_events begins_generation history
+pub newest_after : (s : State) (history : List Entry) → (after s history).newest ≡ s.newest + count_events begins_generation history
 newest_after s [] = omega arith
 newest_after s (e ∷ history) =
     let rest = newest_after (next s e.event) history in
@@ -108,7 +108,7 @@ newest_after s (e ∷ history) =
     omega (arith, rest, one, counted)
 
 -- each is begun by an order
-begun_orders : (n : ℕ) (history : List Entry)
+pub begun_orders : (n : ℕ) (history : List Entry)
     → length (filter (λ p. begins_generation p.1.event) (orders_from n history)) ≡ count_events begins_generation history
 begun_orders n [] = refl
 begun_orders n (e ∷ history) =
@@ -135,15 +135,15 @@ orders-append number a b =
     ∙ ap (λ n. orders_from number a ++ orders_from (number + n) b) (length-filter ordered a)
 
 -- the edition of a generation and its order, both with their numbers
-abbrev edition_of : ℕ × (ℕ × Entry) → Edition
+abbrev pub edition_of : ℕ × (ℕ × Entry) → Edition
 edition_of p = record { generation = p.0; edition = p.1.0 }
 
 -- the order began a generation
-abbrev is_begun_by : ℕ × Entry → Bool
+abbrev pub is_begun_by : ℕ × Entry → Bool
 is_begun_by p = begins_generation p.1.event
 
 -- the editions that begin in two histories are those of the first, and those that begin in the second behind it
-begun-append : (newest orders : ℕ) (a b : List Entry) → begun_editions newest orders (a ++ b)
+pub begun-append : (newest orders : ℕ) (a b : List Entry) → begun_editions newest orders (a ++ b)
     ≡ begun_editions newest orders a ++ begun_editions (newest + count_events begins_generation a) (orders + count_events is_order a) b
 begun-append newest orders a b =
     let first : List (ℕ × Entry) = filter is_begun_by (orders_from (orders + 1) a) in
@@ -217,10 +217,10 @@ stopped_of generation c none = by c.phase refl
     by Running is = rw is (rw is at none)
     by Stopping is = rw is (rw is at none)
 
--- a generation that isn't in use, and has begun, is not in use again
-unused_command : (s : State) (c : Commanded) (generation : ℕ) → generation ≤ s.newest → is_in_use s generation ≡ false
-    → is_in_use (next_command s c) generation ≡ false
-unused_command s c generation up unused = by c
+-- a generation that isn't in use before an event, and is not the newest behind it, is not in use there
+unused_command : (s : State) (c : Commanded) (generation : ℕ) → (generation == (next_command s c).newest) ≡ false
+    → is_in_use s generation ≡ false → is_in_use (next_command s c) generation ≡ false
+unused_command s c generation older unused = by c older
   where
     both : ((generation == s.newest) ≡ false) × (list_any (is_child_of generation) s.children ≡ false)
     both = or_parts (generation == s.newest) (list_any (is_child_of generation) s.children) unused
@@ -228,48 +228,81 @@ unused_command s c generation up unused = by c
     stopped : list_any (is_child_of generation) (map stopped_child s.children) ≡ false
     stopped = none_mapped (is_child_of generation) stopped_child (stopped_of generation) s.children both.1
 
-    by : (d : Commanded) → is_in_use (next_command s d) generation ≡ false
-    by (Graceful shape) =
-        or_from (generation == s.newest + 1) (list_any (is_child_of generation) (map stopped_child s.children))
-        (ne_eqb generation (s.newest + 1) (λ same. absurd (omega (arith, same, up)))) stopped
-    by (Refused reason) = unused
-    by (GracefulStop until) = or_from (generation == s.newest) (list_any (is_child_of generation) (map stopped_child s.children)) both.0 stopped
-    by (Stop why) = or_from (generation == s.newest) (list_any (is_child_of generation) (map stopped_child s.children)) both.0 stopped
+    by : (d : Commanded) → (generation == (next_command s d).newest) ≡ false → is_in_use (next_command s d) generation ≡ false
+    by (Graceful shape) other = or_from (generation == s.newest + 1) (list_any (is_child_of generation) (map stopped_child s.children)) other stopped
+    by (Refused reason) other = unused
+    by (GracefulStop until) other = or_from (generation == s.newest) (list_any (is_child_of generation) (map stopped_child s.children)) other stopped
+    by (Stop why) other = or_from (generation == s.newest) (list_any (is_child_of generation) (map stopped_child s.children)) other stopped
 
-unused_next : (s : State) (e : Event) (generation : ℕ) → generation ≤ s.newest → is_in_use s generation ≡ false
+unused_next : (s : State) (e : Event) (generation : ℕ) → (generation == (next s e).newest) ≡ false → is_in_use s generation ≡ false
     → is_in_use (next s e) generation ≡ false
-unused_next s e generation up unused = by e
+unused_next s e generation older unused = by e older
   where
     both : ((generation == s.newest) ≡ false) × (list_any (is_child_of generation) s.children ≡ false)
     both = or_parts (generation == s.newest) (list_any (is_child_of generation) s.children) unused
 
-    other : (s.newest == generation) ≡ false
-    other = ne_eqb s.newest generation (λ same. eqb-false generation s.newest both.0 (sym same))
+    started : (s.newest == generation) ≡ false
+    started = ne_eqb s.newest generation (λ same. eqb-false generation s.newest both.0 (sym same))
 
-    by : (d : Event) → is_in_use (next s d) generation ≡ false
-    by (event.Accept slot) = unused
-    by (event.Park name kind) = unused
-    by (event.Hold name) = unused
-    by (event.Queue name) = unused
-    by (event.Start name) = unused
-    by (event.Answer name ask) = unused
-    by (event.Linger name why) = unused
-    by (event.Close name why how) = unused
-    by (event.Ready slot) = unused
-    by (event.Tick m) = unused
-    by (event.StartChild k) =
-        or_from (generation == s.newest) (list_any (is_child_of generation) (update s.children k (started_child s.newest s.shape))) both.0
-        (none_changed (is_child_of generation) (started_child s.newest s.shape) (λ c none. other) s.children k both.1)
-    by (event.Command c) = unused_command s c generation up unused
-    by (event.Retire k) =
-        or_from (generation == s.newest) (list_any (is_child_of generation) (update s.children k retired_child)) both.0
+    by : (d : Event) → (generation == (next s d).newest) ≡ false → is_in_use (next s d) generation ≡ false
+    by (event.Accept slot) other = unused
+    by (event.Park name kind) other = unused
+    by (event.Hold name) other = unused
+    by (event.Queue name) other = unused
+    by (event.Start name) other = unused
+    by (event.Answer name ask) other = unused
+    by (event.Linger name why) other = unused
+    by (event.Close name why how) other = unused
+    by (event.Ready slot) other = unused
+    by (event.Tick m) other = unused
+    by (event.StartChild k) other =
+        or_from (generation == s.newest) (list_any (is_child_of generation) (update s.children k (started_child s.newest s.shape))) other
+        (none_changed (is_child_of generation) (started_child s.newest s.shape) (λ c none. started) s.children k both.1)
+    by (event.Command c) other = unused_command s c generation other unused
+    by (event.Retire k) other =
+        or_from (generation == s.newest) (list_any (is_child_of generation) (update s.children k retired_child)) other
         (none_changed (is_child_of generation) retired_child (λ c none. refl) s.children k both.1)
 
+-- a generation that is in use behind an event was so before it, or begins with it
+used_next : (s : State) (e : Event) (generation : ℕ) → is_in_use (next s e) generation ≡ true
+    → (is_in_use s generation ≡ true) ⊎ ((s.newest < generation) × (generation ≤ (next s e).newest))
+used_next s e generation used = by (is_in_use s generation) (generation == (next s e).newest) refl refl (cases_lt s.newest generation)
+  where
+    by : (before newest : Bool) → is_in_use s generation ≡ before → (generation == (next s e).newest) ≡ newest
+        → (s.newest < generation) ⊎ (generation ≤ s.newest)
+        → (is_in_use s generation ≡ true) ⊎ ((s.newest < generation) × (generation ≤ (next s e).newest))
+    by true newest is new place = inl is
+    by false true is new (inl above) = inr (above, omega (arith, eqb-true generation (next s e).newest new))
+    by false true is new (inr up) =
+        let same : generation ≡ s.newest = omega (arith, up, eqb-true generation (next s e).newest new, newest_next s e) in
+        absurd (eqb-false generation s.newest (or_parts (generation == s.newest) (list_any (is_child_of generation) s.children) is).0 same)
+    by false false is new place = absurd (both_ways (is_in_use (next s e) generation) (unused_next s e generation new is) used)
+
+-- so one that is in use behind a history was so before it, or began in it
+pub used_after : (s : State) (history : List Entry) (generation : ℕ) → is_in_use (after s history) generation ≡ true
+    → (is_in_use s generation ≡ true) ⊎ ((s.newest < generation) × (generation ≤ (after s history).newest))
+used_after s [] generation used = inl used
+used_after s (e ∷ history) generation used = by (used_after (next s e.event) history generation used)
+  where
+    behind : (is_in_use s generation ≡ true) ⊎ ((s.newest < generation) × (generation ≤ (next s e.event).newest))
+        → (is_in_use s generation ≡ true) ⊎ ((s.newest < generation) × (generation ≤ (after (next s e.event) history).newest))
+    behind (inl before) = inl before
+    behind (inr began) = inr (began.0, omega (arith, began.1, newest_after (next s e.event) history))
+
+    by : (is_in_use (next s e.event) generation ≡ true) ⊎ (((next s e.event).newest < generation) × (generation ≤ (after (next s e.event) history).newest))
+        → (is_in_use s generation ≡ true) ⊎ ((s.newest < generation) × (generation ≤ (after (next s e.event) history).newest))
+    by (inl first) = behind (used_next s e.event generation first)
+    by (inr began) = inr (omega (arith, began.0, newest_next s e.event), began.1)
+
+-- and one that isn't in use, and has begun, is not in use again
 unused_after : (s : State) (history : List Entry) (generation : ℕ) → generation ≤ s.newest → is_in_use s generation ≡ false
     → is_in_use (after s history) generation ≡ false
-unused_after s [] generation up unused = unused
-unused_after s (e ∷ history) generation up unused =
-    unused_after (next s e.event) history generation (omega (arith, up, newest_next s e.event)) (unused_next s e.event generation up unused)
+unused_after s history generation up unused =
+    false_from_ne_true (is_in_use (after s history) generation) (λ used. none (used_after s history generation used))
+  where
+    none : (is_in_use s generation ≡ true) ⊎ ((s.newest < generation) × (generation ≤ (after s history).newest)) → ⊥
+    none (inl before) = both_ways (is_in_use s generation) unused before
+    none (inr began) = absurd (omega (arith, began.0, up))
 
 -- ## Two folds
 

@@ -13,6 +13,7 @@ pub mod EditionLemmas
 pub mod FairLemmas
 pub mod FoldLemmas
 pub mod FreshLaw
+pub mod GenerationLaw
 pub mod HandLaw
 pub mod HistoryLemmas
 pub mod HoldLaw

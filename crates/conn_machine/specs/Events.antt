@@ -3,10 +3,13 @@ use Rattle.std.specs.Prelude.{◌==◌, ℕ, Bool, true, false, ◌||◌, List, 
 use Rattle.std.specs.List.{count_by}
 use Rattle.mpm_base.specs.declared.conn.Cause.{Cause}
 use Rattle.mpm_base.specs.declared.conn.Cause.TheVariants as cause
-use Rattle.conn_machine.specs.declared.event.Commanded.TheVariants.{Graceful, Refused}
+use Rattle.conn_machine.specs.declared.event.Commanded.{Commanded}
+use Rattle.conn_machine.specs.declared.event.Commanded.TheVariants.{Graceful, Refused, GracefulStop}
 use Rattle.conn_machine.specs.declared.event.Event.{Event}
 use Rattle.conn_machine.specs.declared.event.Event.TheVariants as event
 use Rattle.conn_machine.specs.declared.event.Entry.{Entry}
+use Rattle.conn_machine.specs.declared.event.Order.{Order}
+use Rattle.conn_machine.specs.declared.event.Order.TheVariants as order
 use Rattle.mpm_base.specs.Cause.{cause_number}
 
 -- a connection is taken
@@ -62,6 +65,12 @@ is_refused_entry other = false
 -- an order: a command `graceful`, taken or refused
 abbrev pub is_order : Event → Bool
 is_order e = begins_generation e || is_refused_entry e
+
+-- a command as the board takes it, as the table does
+abbrev pub commanded : Order → Commanded
+commanded (order.Graceful shape) = Graceful shape
+commanded (order.Refused reason) = Refused reason
+commanded (order.GracefulStop until) = GracefulStop until
 
 -- the event closes a connection for the cause
 abbrev pub is_close_for : Cause → Event → Bool

@@ -4,6 +4,7 @@ pub mod CountsInside
 pub mod Events
 pub mod Folds
 pub mod FoldsInside
+pub mod Generations
 pub mod Laws
 pub mod Lists
 pub mod Made

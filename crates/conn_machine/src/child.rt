@@ -1,7 +1,9 @@
 //! The children: groups of workers, each of one generation.
 ghost use Rattle.std.specs.Prelude.{◌≡◌, ◌==◌, ◌<◌, ◌≤◌, length, replicate, IfOk, slice_get};
+ghost use Rattle.std.specs.List.{list_any};
 ghost use Rattle.std.specs.Option.{option_copied};
 ghost use Rattle.conn_machine.specs.Children as spec;
+ghost use Rattle.conn_machine.specs.Folds.{is_child_of};
 ghost use Rattle.conn_machine.specs.Lists.{update};
 
 use mpm_base::{NoMemory, Shape};
@@ -159,6 +161,13 @@ impl Children {
             .iter()
             .filter(|child| child.phase.is_running())
             .count()
+    }
+
+    /// Whether a child that is there is of the generation.
+    pub fn has_one_of(&self, generation: u32) -> bool
+        ensures { result ≡ list_any (is_child_of generation) self.now }
+    {
+        self.items.iter().any(|child| !child.phase.is_empty() && child.generation == generation)
     }
 
     /// The child begins to take connections.

@@ -1,7 +1,8 @@
 //! What a value that keeps a history still knows of the entries that it folded.
-ghost use Rattle.std.specs.Prelude.{◌≡◌, [], ◌∷◌, length, replicate, None, IfOk};
-ghost use Rattle.conn_machine.specs.Folds.{first_edition, opening_record};
+ghost use Rattle.std.specs.Prelude.{◌≡◌, [], ◌∷◌, filter, length, replicate, None, IfOk};
+ghost use Rattle.conn_machine.specs.Folds.{first_edition, is_in_use, opening_record};
 
+use crate::state::State;
 use mpm_base::{ConnName, NoMemory, Octets};
 use std::alloc::Global;
 use std::marker::Model;
@@ -40,6 +41,21 @@ impl Editions {
             edition: 0,
         };
         match vec![in alloc; first; 1] {
+            Ok(items) => Ok(Editions { items }),
+            Err(_) => Err(NoMemory),
+        }
+    }
+
+    /// Those of the editions whose generation is in use, in their order.
+    pub fn in_use(alloc: Global, editions: &[Edition], state: &State) -> Result<Editions, NoMemory>
+        ensures { IfOk result (λ kept. kept ≡ filter (λ e. is_in_use state.now e.generation) editions.now) }
+    {
+        let kept = editions
+            .iter()
+            .copied()
+            .filter(|edition| state.is_in_use(edition.generation))
+            .collect(alloc);
+        match kept {
             Ok(items) => Ok(Editions { items }),
             Err(_) => Err(NoMemory),
         }

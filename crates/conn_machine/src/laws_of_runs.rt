@@ -15,6 +15,7 @@ ghost use Rattle.conn_machine.specs.States.{opening_state};
 ghost use Rattle.conn_machine.specs.Table.{is_allowed, next, reply};
 ghost use Rattle.conn_machine.specs.Runs.{Adds, IsHistory, IsNextOf, Run, after, asks_page, entries_of, first_row, has_after, is_of_pass, load, row_from, row_of};
 ghost use Rattle.conn_machine.specs.Folds.{CountsWithin, GoesOnFrom, HasPlacesFor, HaveBegun, fold_of, opening_record};
+ghost use Rattle.conn_machine.specs.Generations.{GenerationsBeginInOrder};
 ghost use Rattle.conn_machine.specs.Events.{count_events, is_close};
 ghost use Rattle.conn_machine.specs.Made.{AreMade, AreOfPasses, HasSeen};
 
@@ -77,6 +78,13 @@ pub fn folds_are_one_fold()
     ensures begun { (base : State) (f : Folded) (history : List Entry) (ended : List (List ℕ)) → HaveBegun base f → HaveBegun (after base history) (fold_of base history ended f) }
     ensures opening { (s : State) (passes : ℕ) → HaveBegun s (opening_record passes) }
     ensures nothing { (slots children passes : ℕ) (shape : Shape) → fold_of (opening_state slots children shape) [] [] (opening_record passes) ≡ opening_record passes }
+{}
+
+/// Generations begin one by one, in the order of the commands that begin them: each has the next number, and the edition that is the
+/// number of its order. One is in use only from then on, and as long as it is the newest or a child of it is there. In a sound state that
+/// of each live connection is, so what is kept of the editions in use finds the edition of each.
+pub fn generations_begin_in_order()
+    ensures { GenerationsBeginInOrder }
 {}
 
 /// The state after two histories, one behind the other, and the entries of a pass in both.

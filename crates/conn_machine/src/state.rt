@@ -4,6 +4,7 @@ ghost use Rattle.std.specs.List.{list_any};
 ghost use Rattle.conn_machine.specs.Rows.{is_live, is_live_in, is_live_as, live_row};
 ghost use Rattle.conn_machine.specs.Children.{child_at};
 ghost use Rattle.conn_machine.specs.States as spec;
+ghost use Rattle.conn_machine.specs.Folds.{is_in_use};
 
 use crate::child::{Child, Children};
 use crate::event::Why;
@@ -217,5 +218,12 @@ impl State {
         ensures { result ≡ list_any (is_live_in child) self.now.rows }
     {
         self.rows.has_live_in(child)
+    }
+
+    /// Whether the generation is the newest one, or that of a child which is there. It goes over the children, and over no rows.
+    pub fn is_in_use(&self, generation: u32) -> bool
+        ensures { result ≡ is_in_use self.now generation }
+    {
+        generation == self.newest || self.children.has_one_of(generation)
     }
 }

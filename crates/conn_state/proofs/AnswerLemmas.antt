@@ -29,7 +29,6 @@ use Rattle.conn_state.specs.Conn.{SeenConn, is_usable, Streams, StreamsWhile, Tu
 use Rattle.conn_state.specs.Turns.{IsNoteOf, LeavesItem, TakesNote}
 use Rattle.conn_state.specs.ConnInside.{IsPlanOf, IsPlanned, IsHeld}
 use Rattle.conn_state.proofs.ConnLemmas.{FollowsMay, usable-streams, sent-breaks}
-use Rattle.conn_state.proofs.KnownLemmas.{outside-kept}
 use Rattle.conn_state.proofs.OpenLemmas.{open-link, IsOnItsWay, still-open}
 
 -- what was asked, and the note for it
@@ -227,7 +226,7 @@ held-lost may known c plan u note held ready = record {
   };
   planned = tt;
   unsent = held.unsent;
-  outside = held.outside;
+  client = held.client;
 }
 
 -- ## The connection with its response
@@ -260,7 +259,7 @@ module _ (fitting : (site : SeenSite) (limits : Limits) (notes : List Note) (byt
             (leaves here.item held.conn.rest here.kept held.conn.stands) untold;
         planned = tt;
         unsent = of;
-        outside = outside-kept known c.told c.reader.limits r'.limits c.site limits held.outside;
+        client = held.client;
       })
 
   -- the next item has its response

@@ -33,7 +33,7 @@ use Rattle.conn_state.specs.Conn.{SeenConn, is_usable, LinkFits, Streams, BrokeO
 use Rattle.conn_state.specs.Known.{KnownOutside}
 use Rattle.conn_state.specs.Turns.{after_reading, after_writing, is_interim, is_more, is_gone, is_read_failure, pending_after, KeepsRead, FindsClient, ReadFinds, ReadsOn}
 use Rattle.conn_state.specs.ConnInside.{IsPlanOf, IsTurnOf, unsent_after, TakesIn, IsPlanned, IsHeld}
-use Rattle.conn_state.proofs.KnownLemmas.{outside-received, outside-sent}
+use Rattle.conn_state.proofs.KnownLemmas.{client-received, client-sent}
 use Rattle.conn_state.proofs.OpenLemmas.{before-open, told-open_received, told-open_sent, open-link, IsOnItsWay, still-open}
 use Rattle.conn_state.proofs.ItemLemmas.{KeepsHeads, KeepsSpelled, KeepsRefused}
 use Rattle.conn_state.proofs.ReaderLemmas.{KeepsKept, or-nothing, none-taken}
@@ -291,7 +291,7 @@ held-read stays goes_on may known c seen plan plan' u u' link' r' answer turn' h
           (pending-read answer c.site u u' takes.unsent_is ∙ ap (pending_after answer) (sym pending));
       planned = planned-read answer c.site takes.given r'.stage plan' takes.turn_of;
       unsent = unsent-read answer c.site u u' takes.unsent_is held.unsent;
-      outside = outside-received known c.told link'.told c.reader.limits r'.limits c.site (length takes.reads.got) takes.reads.told_is takes.reads.same_limits held.outside;
+      client = client-received known c.told link'.told (length takes.reads.got) takes.reads.told_is held.client;
     })
 
 -- ## What a turn of reading says
@@ -491,5 +491,5 @@ held-written may known c seen plan u u' link' answer turn' held is usable not_sh
       };
       planned = planned-written answer c.site c.reader.stage plan;
       unsent = of;
-      outside = outside-sent known c.told link'.told c.reader.limits c.site sends.sent sends.told_is held.outside;
+      client = client-sent known c.told link'.told sends.sent sends.told_is held.client;
     })

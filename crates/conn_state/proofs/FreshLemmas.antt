@@ -10,7 +10,7 @@ use Rattle.conn_state.specs.declared.stage.Stage.TheVariants as stage
 use Rattle.conn_state.specs.declared.turn.LastTurn.{LastTurn}
 use Rattle.conn_state.specs.declared.turn.LastTurn.TheVariants as turn
 use Rattle.conn_state.specs.declared.turn.LastLinger.TheVariants as linger
-use Rattle.conn_state.specs.Known.{KnownOutside, IsOfOutside}
+use Rattle.conn_state.specs.Known.{KnownOutside, IsOfClient}
 use Rattle.conn_state.specs.Replies.{AreNotesOf, AreReplies}
 use Rattle.conn_state.specs.Rest.{is_awaited, is_in_head}
 use Rattle.conn_state.specs.Reader.{StandsFor}
@@ -47,8 +47,8 @@ told-fresh c (Some t) none_noted none_pending in_head fresh = fresh-streams c t 
 
 -- a new connection holds
 pub held-new : (known : Option KnownOutside) (c : SeenConn) (u : Unsent) → c.turn ≡ turn.New → c.notes ≡ [] → c.pending ≡ [] → StandsFor c.reader [] → is_in_head c.reader.stage ≡ true
-    → IfSome c.told IsFresh → c.linger ≡ linger.Open → c.dropped ≡ 0 → IsUnsentOf c.site u → IsOfOutside known c.told c.reader.limits c.site → IsHeld known c None u
-held-new known c u is_new none_noted none_pending stands in_head fresh is_open none_dropped of outside = record {
+    → IfSome c.told IsFresh → c.linger ≡ linger.Open → c.dropped ≡ 0 → IsUnsentOf c.site u → IsOfClient known c.told → IsHeld known c None u
+held-new known c u is_new none_noted none_pending stands in_head fresh is_open none_dropped of client = record {
   conn = record {
     rest = [];
     stands = stands;
@@ -61,5 +61,5 @@ held-new known c u is_new none_noted none_pending stands in_head fresh is_open n
   };
   planned = subst (λ (x : LastTurn). IsPlanned x c.site c.reader.stage None) (sym is_new) tt;
   unsent = of;
-  outside = outside;
+  client = client;
 }

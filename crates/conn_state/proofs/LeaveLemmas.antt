@@ -19,7 +19,7 @@ use Rattle.conn_state.specs.Conn.{SeenConn, is_usable, is_half_closed, lingers, 
 use Rattle.conn_state.specs.Turns.{after_half_close, after_linger, is_drained, is_linger_failure}
 use Rattle.conn_state.specs.ConnInside.{IsHeld}
 use Rattle.conn_state.specs.LingerInside.{DropsOn}
-use Rattle.conn_state.proofs.KnownLemmas.{outside-received, outside-shut}
+use Rattle.conn_state.proofs.KnownLemmas.{client-received, client-shut}
 use Rattle.conn_state.proofs.OpenLemmas.{before-shut, open-link, open-none}
 use Rattle.conn_state.proofs.ConnLemmas.{rises-some}
 
@@ -177,7 +177,7 @@ held-shut known c seen plan u told' counts' made last held is not_shut told_is o
       conn = conn-leaving c told' counts' (after_half_close made) c.dropped held.conn step (shut-fits made c told' counts' none only.faults) link;
       planned = held.planned;
       unsent = held.unsent;
-      outside = outside-shut known c.told told' c.reader.limits c.site made told_is held.outside;
+      client = client-shut known c.told told' made told_is held.client;
     })
 
 -- ## Dropping
@@ -281,5 +281,5 @@ held-dropped known c seen plan u told' counts' dropped' answer last held is ling
       conn = conn-leaving c told' counts' (after_linger answer) dropped' held.conn step (drop-fits answer c told' counts' dropped' drops) link;
       planned = held.planned;
       unsent = held.unsent;
-      outside = outside-received known c.told told' c.reader.limits c.reader.limits c.site (length drops.got) drops.told_is refl held.outside;
+      client = client-received known c.told told' (length drops.got) drops.told_is held.client;
     })

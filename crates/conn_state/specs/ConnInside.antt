@@ -18,7 +18,7 @@ use Rattle.conn_state.specs.declared.turn.ReadTurn.TheVariants as read
 use Rattle.conn_state.specs.Replies.{refusal_ask}
 use Rattle.conn_state.specs.Reader.{SeenReader, IsReading, ReadsNext}
 use Rattle.conn_state.specs.Outgoing.{Unsent, IsUnsentOf}
-use Rattle.conn_state.specs.Known.{KnownOutside, IsOfOutside}
+use Rattle.conn_state.specs.Known.{KnownOutside, IsOfClient}
 use Rattle.conn_state.specs.Conn.{SeenConn, IsConn}
 
 -- the plan is that of the request
@@ -88,4 +88,4 @@ pub record IsHeld (known : Option KnownOutside) (c : SeenConn) (plan : Option Pl
   pub conn : IsConn c
   pub planned : IsPlanned c.turn c.site c.reader.stage plan
   pub unsent : IsUnsentOf c.site u
-  pub outside : IsOfOutside known c.told c.reader.limits c.site
+  pub client : IsOfClient known c.told

@@ -1,20 +1,27 @@
--- What a type knows of the outside, and what that says of a connection: of its link, the limits of its heads and its site.
-use Rattle.std.specs.Prelude.{◌≡◌, ℕ, ◌<◌, List, ◌++◌, length, Option, Some, IfSome, slice_get}
+-- What a type knows of the outside, and what that says of a link, and of the limits of heads and the site by which a server serves.
+use Rattle.std.specs.Prelude.{◌≡◌, ℕ, ◌<◌, List, ◌++◌, length, Option, Some, None, IfSome}
+use Rattle.mpm_base.specs.declared.store.File.{File}
 use Rattle.mpm_base.specs.Front.{client_at}
 use Rattle.mpm_base.specs.Link.{LinkTold}
 use Rattle.http_read.specs.declared.request.Limits.{Limits}
-use Rattle.file_table.specs.Site.{SeenSite}
+use Rattle.file_table.specs.declared.site.SiteOrder.{SiteOrder}
+use Rattle.file_table.specs.Site.{SeenSite, IsSiteOf}
 
--- what a server may serve by: the limits of heads, and the site
+-- of what the site of an edition is made: it is this one, or it is what the order makes of the files of a store
+pub data MadeSite : Type 0 where
+  This : SeenSite → MadeSite
+  Of : SiteOrder → List File → MadeSite
+
+-- what a server may serve by: the limits of heads, and of what the site is made
 pub record KnownEdition : Type 0 where
   pub limits : Limits
-  pub site : SeenSite
+  pub site : MadeSite
 
--- what a type knows of the outside: what each client sends, in the order of arrival, where the front tells that, and the editions by
--- which connections are served, in their order, where there is one at a place
+-- what a type knows of the outside: what each client sends, in the order of arrival, where the front tells that; and of each edition,
+-- by its number, nothing (`None`), that no server may serve by it (`Some None`), or its limits and its site
 pub record KnownOutside : Type 0 where
   pub clients : Option (List (List ℕ))
-  pub editions : List (Option KnownEdition)
+  pub edition : ℕ → Option (Option KnownEdition)
 
 -- the link tells, and is that of one of these clients: what it received, and what still comes behind it, are what that
 -- client sends
@@ -24,20 +31,21 @@ pub record TellsFrom (clients : List (List ℕ)) (told : Option LinkTold) : Type
   pub known : t.rank < length clients
   pub offered : t.received ++ t.coming ≡ client_at clients t.rank
 
--- one of these editions has the limits and the site
-pub record HaveEdition (editions : List (Option KnownEdition)) (limits : Limits) (site : SeenSite) : Type 0 where
-  pub place : ℕ
-  pub found : slice_get editions place ≡ Some (Some (record { limits = limits; site = site }))
-
 -- where the type knows the clients, the link is that of one of them
 abbrev pub IsOfClient : Option KnownOutside → Option LinkTold → Type 0
 IsOfClient known told = IfSome known (λ k. IfSome k.clients (λ clients. TellsFrom clients told))
 
--- where the type knows the outside, the limits and the site are those of one of the known editions
-abbrev pub IsOfEdition : Option KnownOutside → Limits → SeenSite → Type 0
-IsOfEdition known limits site = IfSome known (λ k. HaveEdition k.editions limits site)
+-- the site is made so
+abbrev pub IsMadeSite : MadeSite → SeenSite → Type 0
+IsMadeSite (This made) site = site ≡ made
+IsMadeSite (Of order files) site = IsSiteOf order files site
 
--- what a connection has of the outside, its link, the limits of its heads and its site, is of what the type knows
-pub record IsOfOutside (known : Option KnownOutside) (told : Option LinkTold) (limits : Limits) (site : SeenSite) : Type 0 where
-  pub client : IsOfClient known told
-  pub edition : IsOfEdition known limits site
+-- the limits and the site are those of the edition
+pub record HasEdition (e : KnownEdition) (limits : Limits) (site : SeenSite) : Type 0 where
+  pub limits_are : limits ≡ e.limits
+  pub site_is : IsMadeSite e.site site
+
+-- the limits and the site are those of the edition, by which a server may serve
+abbrev pub IsOfEdition : Option KnownEdition → Limits → SeenSite → Type 0
+IsOfEdition None limits site = ⊥
+IsOfEdition (Some e) limits site = HasEdition e limits site

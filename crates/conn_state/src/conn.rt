@@ -11,7 +11,7 @@ ghost use Rattle.conn_state.specs.Outgoing.{IsUnsentOf, pending_bytes};
 ghost use Rattle.conn_state.specs.declared.turn.LastTurn.TheVariants as turn;
 ghost use Rattle.conn_state.specs.declared.turn.LastLinger.TheVariants as linger;
 ghost use Rattle.conn_state.specs.Reader.{IsAnswerable, StandsFor, keeps_none};
-ghost use Rattle.conn_state.specs.Known.{IsOfClient, IsOfEdition, IsOfOutside};
+ghost use Rattle.conn_state.specs.Known.{IsOfClient};
 ghost use Rattle.conn_state.specs.Conn.{IsConn, IsFresh, is_usable, lingers};
 ghost use Rattle.conn_state.specs.Turns.{AsksNothing, IsNoteOf, KeepsRead, LingersOn, ReadsOn, ShutsOn, TakesNote, WritesOn};
 ghost use Rattle.conn_state.specs.Answered.{IsEnded, IsEndOf, IsShown};
@@ -41,8 +41,7 @@ use std::sync::Arc;
 /// For how many notes room is taken at once: so a connection with many of them has little that it doesn't use.
 const NOTES_AT_ONCE: usize = 8;
 
-/// A connection over a link, served of the site of its generation. Where `N` knows the outside, the link is that of one of the
-/// clients, and its limits and its site are those of one of the editions.
+/// A connection over a link, served of the site of its generation. Where `N` knows the clients, the link is that of one of them.
 #[derive(Drop)]
 pub struct Conn<L: Link, N: Known> {
     alloc: Global,
@@ -114,7 +113,6 @@ impl<L: Link, N: Known> Conn<L, N> {
     ) -> Conn<L, N>
         requires fresh { IfSome (L.seen link).told IsFresh }
         requires client { IsOfClient N.known (L.seen link).told }
-        requires edition { IsOfEdition N.known limits site.value }
         ensures told { result.told ≡ (L.seen link).told }
         ensures counts { result.counts ≡ (L.seen link).counts }
         ensures name { result.name ≡ name }
@@ -147,9 +145,9 @@ impl<L: Link, N: Known> Conn<L, N> {
         }
     }
 
-    /// The same connection, of a type that knows this of its link, its limits and its site.
+    /// The same connection, of a type that knows this of its link.
     pub fn known_as<M: Known>(self) -> Conn<L, M>
-        requires outside { IsOfOutside M.known self.told self.reader.limits self.site }
+        requires client { IsOfClient M.known self.told }
         ensures same { result ≡ self }
     {
         Conn {
@@ -177,10 +175,10 @@ impl<L: Link, N: Known> Conn<L, N> {
         self.known_as()
     }
 
-    /// Shows what holds of each connection, and what its type knows of its link, its limits and its site. Does nothing.
+    /// Shows what holds of each connection, and what its type knows of its link. Does nothing.
     pub fn show(&self)
         ensures conn { IsConn self.now }
-        ensures outside { IsOfOutside N.known self.now.told self.now.reader.limits self.now.site }
+        ensures client { IsOfClient N.known self.now.told }
     {
         let _ = &self.turn;
     }
@@ -327,7 +325,7 @@ impl<L: Link, N: Known> Conn<L, N> {
         requires shown { IsShown cause tail self }
         ensures ends { IsEndOf self cause tail result }
         ensures ended { IsEnded result }
-        ensures outside { IsOfOutside N.known result.told result.limits result.site }
+        ensures client { IsOfClient N.known result.told }
     {
         follows_what_was_read();
         steps_wait_for_requests();

@@ -1,13 +1,13 @@
--- That children are started only where they are asked for, and that each command is a stop.
-use Rattle.std.proofs.Common.{◌≡◌, ◌≢◌, ℕ, true, List, [], ◌∷◌, ◌++◌, map, None, Some, Result, Ok, Err, refl, sym, ap, subst, ◌∙◌, eqb-true}
+-- That children are started only where they are asked for.
+use Rattle.std.proofs.Common.{◌≡◌, ◌≢◌, ℕ, true, List, [], ◌∷◌, ◌++◌, map, Option, None, Some, Result, Ok, Err, refl, sym, ap, subst, ◌∙◌, eqb-true}
 use Rattle.std.specs.List.{flat_map}
 use Rattle.mpm_base.specs.declared.conn.Cause.{Cause}
 use Rattle.mpm_base.specs.declared.conn.ConnName.{ConnName}
 use Rattle.conn_machine.specs.declared.event.Commanded.{Commanded}
-use Rattle.conn_machine.specs.declared.event.Commanded.TheVariants.{Graceful, GracefulStop, Refused, Stop}
 use Rattle.conn_machine.specs.declared.event.Entry.{Entry}
 use Rattle.conn_machine.specs.declared.event.Event.{Event}
 use Rattle.conn_machine.specs.declared.event.Event.TheVariants as event
+use Rattle.conn_machine.specs.declared.event.Why.{Why}
 use Rattle.conn_machine.specs.declared.folded.Folded.{Folded}
 use Rattle.conn_machine.specs.declared.state.State.{State}
 use Rattle.conn_machine.specs.Runs.{AreEntriesOf, after, may_make}
@@ -20,23 +20,17 @@ use Rattle.worker_group.specs.declared.service.Exit.TheVariants as exit
 use Rattle.worker_group.specs.Acts.{Acts}
 use Rattle.worker_group.specs.Service.{left_events}
 use Rattle.mpm_run.specs.declared.listen.End.{End}
+use Rattle.mpm_run.specs.ListenInside.{why_of}
 use Rattle.mpm_run.specs.ClosingInside.{Departure, departure_events, lingering_give_up_events}
-use Rattle.mpm_run.specs.RoundInside.{Departures, Intake, StartsAsAsked, departures_events, gone_events, halt_events, intake_events, time_events}
+use Rattle.mpm_run.specs.RoundInside.{Departures, Intake, StartsAsAsked, departures_events, gone_events, halt_events, halts_for, intake_events, time_events}
 use Rattle.mpm_run.specs.Started.{AreAskedFor, IsAskedFor}
 use Rattle.mpm_run.proofs.AddedLemmas.{added-events, events_in}
 use Rattle.mpm_run.proofs.EventLemmas.{in-both}
 use Rattle.mpm_run.proofs.PatientLemmas.{all-both}
 
--- ## Events in which no child is started, and none but stops is commanded
+-- ## Events in which no child is started
 
--- a command other than a stop counts as one
-abbrev pub orders_in : Commanded → List ℕ
-orders_in (Graceful shape) = 0 ∷ []
-orders_in (Refused reason) = 0 ∷ []
-orders_in (GracefulStop until) = 0 ∷ []
-orders_in (Stop why) = []
-
--- the child that an event starts, or a command other than a stop
+-- the child that an event starts
 abbrev pub starts_in : Event → List ℕ
 starts_in (event.Accept slot) = []
 starts_in (event.Park name kind) = []
@@ -49,7 +43,7 @@ starts_in (event.Close name cause tail) = []
 starts_in (event.Ready slot) = []
 starts_in (event.Tick m) = []
 starts_in (event.StartChild k) = k ∷ []
-starts_in (event.Command c) = orders_in c
+starts_in (event.Command c) = []
 starts_in (event.Retire k) = []
 
 -- the events start none
@@ -100,8 +94,16 @@ startless-time early ticks late =
     startless-both (gone_events early ++ map event.Tick ticks) (gone_events late)
     (startless-both (gone_events early) (map event.Tick ticks) (startless-gone early) (startless-ticks ticks)) (startless-gone late)
 
+pub startless-orders : (orders : List Commanded) → AreStartless (map event.Command orders)
+startless-orders [] = refl
+startless-orders (c ∷ orders) = startless-orders orders
+
+startless-halting : (o : Option Why) → AreStartless (halts_for o)
+startless-halting None = refl
+startless-halting (Some why) = refl
+
 pub startless-halts : (turns : Result End BoardFault) → AreStartless (halt_events turns)
-startless-halts (Ok end) = refl
+startless-halts (Ok end) = startless-halting (why_of end)
 startless-halts (Err fault) = refl
 
 -- ## Histories that go on
@@ -119,10 +121,7 @@ startless-by (event.Close name cause tail) entries s none rest = (tt, rest none)
 startless-by (event.Ready slot) entries s none rest = (tt, rest none)
 startless-by (event.Tick m) entries s none rest = (tt, rest none)
 startless-by (event.StartChild k) entries s none rest = absurd (cc none)
-startless-by (event.Command (Graceful shape)) entries s none rest = absurd (cc none)
-startless-by (event.Command (Refused reason)) entries s none rest = absurd (cc none)
-startless-by (event.Command (GracefulStop until)) entries s none rest = absurd (cc none)
-startless-by (event.Command (Stop why)) entries s none rest = (tt, rest none)
+startless-by (event.Command c) entries s none rest = (tt, rest none)
 startless-by (event.Retire k) entries s none rest = (tt, rest none)
 
 asked-startless : (s : State) (entries : List Entry) → AreStartless (events_in entries) → AreAskedFor s entries
@@ -154,7 +153,7 @@ serves-startless p had (event.Close name cause tail) other may = refl
 serves-startless p had (event.Ready slot) other may = refl
 serves-startless p had (event.Tick m) other may = refl
 serves-startless p had (event.StartChild k) other may = absurd (other (eqb-true p 0 may))
-serves-startless p had (event.Command c) other may = absurd (other (eqb-true p 0 may))
+serves-startless p had (event.Command c) other may = refl
 serves-startless p had (event.Retire k) other may = refl
 
 served-startless : (p : ℕ) (base : State) (f : Folded) (before added : List Entry) → p ≢ 0 → AreEntriesOf p base f before added → AreStartless (events_in added)

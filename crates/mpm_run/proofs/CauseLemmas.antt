@@ -1,25 +1,21 @@
 -- What a store that was read says of the script, and why a script isn't played.
 use Rattle.std.proofs.Common.{◌≡◌, inl, inr, ℕ, ◌<◌, List, length, Option, None, Some, IfSome, IsSome, option_map, Result, Ok, Err, refl, sym, subst, ◌∙◌, arith}
-use Rattle.mpm_base.specs.Sink.{SinkSeen}
 use Rattle.mpm_base.specs.Store.{ReadsFile, StoreSeen, StoreTold, bytes_of}
 use Rattle.mpm_base.specs.declared.store.StoreFault.{StoreFault}
 use Rattle.mpm_base.specs.declared.store.StoreFault.TheVariants as store
 use Rattle.mpm_base.specs.declared.script_line.ScriptLine.{ScriptLine}
-use Rattle.mpm_script.specs.Clients.{clients_of}
 use Rattle.mpm_script.specs.Load.{load_lines}
 use Rattle.mpm_script.specs.Script.{ScriptIs}
 use Rattle.mpm_script.specs.declared.script.ScriptFault.{ScriptFault}
 use Rattle.mpm_run.specs.Calls.{Call, HasFile, IsRefusedAsLarge, PlaysLines, most_script}
 use Rattle.mpm_run.specs.Configured.{HasConfig}
-use Rattle.mpm_run.specs.ExitStatuses.{EndsConfigRefused, EndsRefused, EndsSiteRefused, EndsUnread, HasPlayed, fault_at}
-use Rattle.mpm_run.specs.ExitStatusesInside.{IsConfigRefusalOf, IsPlayed, IsRefusalOf, RefusesRun}
+use Rattle.mpm_run.specs.ExitStatuses.{EndsConfigRefused, EndsRefused, EndsSiteRefused, EndsUnread, HasPlayed}
+use Rattle.mpm_run.specs.ExitStatusesInside.{HasRunScript, IsConfigRefusalOf, IsPlayed, IsRefusalOf, RefusesRun}
 use Rattle.command_words.specs.Invocations.{IsLoadWords, IsScriptWords, NamesFile}
 use Rattle.mpm_run.specs.Sites.{HasSite}
 use Rattle.mpm_run.specs.SitesInside.{IsSiteRefusalOf}
-use Rattle.mpm_run.specs.Tells.{AllReceive}
 use Rattle.mpm_run.specs.Texts.{script_refused, store_fault}
 use Rattle.mpm_run.specs.declared.outcome.Scripted.{Scripted}
-use Rattle.mpm_run.specs.declared.texts.ScriptRefusal.{ScriptRefusal}
 use Rattle.mpm_run.specs.declared.texts.ScriptRefusal.TheVariants.{BadLine}
 
 -- ## What a read says of a file
@@ -32,7 +28,7 @@ is_large most None name size may = tt
 is_large most (Some t) name size may = (may.1.0, may.1.1, omega (arith, may.0, may.1.2))
 
 -- bytes that are known are those of a file of the store
-is_file : (told : Option StoreTold) (name bytes : List ℕ) → IfSome (option_map (λ t. bytes_of name t.files) told) (λ file. file ≡ Some bytes)
+pub is_file : (told : Option StoreTold) (name bytes : List ℕ) → IfSome (option_map (λ t. bytes_of name t.files) told) (λ file. file ≡ Some bytes)
     → IfSome told (λ t. bytes_of name t.files ≡ Some bytes)
 is_file None name bytes is = tt
 is_file (Some t) name bytes is = is
@@ -105,10 +101,11 @@ makes-load call count command unasked = inr (record { count = count; command = c
 
 -- they were played
 pub played : (o : Option Scripted) (call : Call) (lines : List ScriptLine) → PlaysLines call lines → (IsSome o → call.shown ≡ None)
-    → IfSome o (IsPlayed lines) → IfSome o (λ s. HasPlayed call s.config s.board s.front)
+    → IfSome o (IsPlayed lines) → IfSome o (λ s. HasPlayed call s.config s.board s.front s.store)
 played None call lines plays shows run = tt
 played (Some s) call lines plays shows run =
     let same = sym run.script in
+    let ran = subst (λ (script : List ScriptLine). HasRunScript script s.config run.site s.board s.front s.store) same run.run in
     record {
       config = run.text;
       site = run.site;
@@ -117,9 +114,12 @@ played (Some s) call lines plays shows run =
       accepted = run.accepted;
       site_is = subst (λ (script : List ScriptLine). HasSite script s.config run.site) same run.site_is;
       shows = shows refl;
-      has_run = run.run.has_run;
-      receive = subst (λ (script : List ScriptLine). AllReceive (clients_of script) s.board.ended) same run.run.receive;
-      receive_before = subst (λ (script : List ScriptLine). AllReceive (clients_of script) run.run.has_run.folded.ended) same run.run.receive_before;
+      has_run = ran.has_run;
+      receive = ran.receive;
+      receive_before = ran.receive_before;
+      taken = ran.taken;
+      lines = ran.done;
+      store_is = ran.store_is;
     }
 
 -- their configuration is refused

@@ -66,7 +66,7 @@ let-go steps Way way name named a b c is_way held same left = record {
 -- a hold leaves alone what the listener decides
 pub rest-held : (name : ConnName) (conns : List (Option SeenConn)) (b b' : SeenBoard)
     → b' ≡ record (with_recorded 0 (event.Hold name) b) { conns = conns } → LeavesRest b.book b'.book
-rest-held name conns b b' is = subst (λ (v : SeenBoard). LeavesRest b.book v.book) (sym is) (record { moment = refl; accepted = refl; up = λ up. up })
+rest-held name conns b b' is = subst (λ (v : SeenBoard). LeavesRest b.book v.book) (sym is) (record { moment = refl; accepted = refl; newest = refl; going = refl })
 
 -- so does a close behind it
 pub rest-held_closed : (why : Cause) (how : Tail) (name named : ConnName) (conns : List (Option SeenConn)) (b b' : SeenBoard) (d : SeenBook)
@@ -74,7 +74,7 @@ pub rest-held_closed : (why : Cause) (how : Tail) (name named : ConnName) (conns
     → LeavesRest b.book d
 rest-held_closed why how name named conns b b' d is closed =
     subst (LeavesRest b.book) (sym (closed ∙ ap (λ (v : SeenBoard). book_with_entry 0 (event.Close named why how) v.book) is))
-    (record { moment = refl; accepted = refl; up = λ up. up })
+    (record { moment = refl; accepted = refl; newest = refl; going = refl })
 
 -- ## Several
 

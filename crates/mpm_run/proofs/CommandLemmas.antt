@@ -1,16 +1,14 @@
 -- Command lines that are read, and what they say.
-use Rattle.std.proofs.Common.{◌≡◌, ◌≢◌, ◌⊎◌, ◌<◌, ◌≤◌, inl, inr, ℕ, zero, suc, Bool, true, false, List, [], ◌∷◌, ◌++◌, length, take, slice_get, Option, None, Some, option_map, IfSome, Result, Ok, Err, refl, sym, ap, subst, ◌∙◌, arith}
+use Rattle.std.proofs.Common.{◌≡◌, ◌≢◌, ◌⊎◌, ◌<◌, ◌≤◌, inl, inr, ℕ, zero, suc, Bool, true, false, List, [], ◌∷◌, ◌++◌, length, take, slice_get, Option, None, Some, option_map, IfSome, Result, Ok, Err, sym, ap, subst, ◌∙◌, arith}
 use Rattle.std.proofs.lemmas.List.{take-append-le}
 use Rattle.std.proofs.lemmas.Bool.{cases_order}
-use Rattle.mpm_base.specs.CommandWord.{command_word}
 use Rattle.mpm_base.specs.Count.{greatest_count, next_count}
 use Rattle.mpm_base.specs.Front.{FrontTold, GivesLine, GoesForward, TellsOn, after_command, hushed_front}
 use Rattle.mpm_base.specs.declared.front.Woke.{Woke}
-use Rattle.mpm_base.specs.declared.script_line.CommandWord.{CommandWord}
-use Rattle.mpm_base.specs.declared.script_line.CommandWord.TheVariants as words
 use Rattle.conn_machine.specs.declared.event.Why.TheVariants as why
 use Rattle.conn_machine.specs.declared.state.Going.{Going}
-use Rattle.conn_machine.specs.declared.state.Going.TheVariants.{Halted}
+use Rattle.conn_machine.specs.declared.state.Going.TheVariants.{Serving, Ending, Halted}
+use Rattle.conn_machine.specs.States.{is_halted}
 use Rattle.board.specs.declared.faults.BoardFault.{BoardFault}
 use Rattle.mpm_run.specs.declared.listen.End.{End}
 use Rattle.mpm_run.specs.declared.listen.End.TheVariants as end
@@ -95,7 +93,7 @@ all-read (Some t) told' takes read =
 
 -- ## A line that is read
 
-line-read : (t : FrontTold) (line : List ℕ) → slice_get t.lines t.read ≡ Some line → t.read < greatest_count
+pub line-read : (t : FrontTold) (line : List ℕ) → slice_get t.lines t.read ≡ Some line → t.read < greatest_count
     → lines_read (after_command true t) ≡ lines_read t ++ line ∷ []
 line-read t line at few =
     ap (λ (n : ℕ). take n t.lines) (next-few t.read few) ∙ take-next t.lines t.read line at where
@@ -149,19 +147,28 @@ read-none (Some t) told' is gives = subst HasReadAll (sym is) gives
 
 -- ## The end
 
+-- no line stops a server that goes on
+heeds-up : (going : Going) (t : FrontTold) → is_halted going ≡ false → NoneStops (lines_read t) → HeedsLines going t
+heeds-up Serving t up none = none
+heeds-up (Ending until) t up none = none
+heeds-up (Halted reason) t up none = absurd (cc up)
+
 -- what was read is as the server stopped
-heeds-as : (turns : Result End BoardFault) (going : Going) (t : FrontTold) → HaltsAs turns going → HeedsUntil turns t → HeedsLines going t
-heeds-as (Ok end.Ended) going t halts heeds = subst (λ (g : Going). HeedsLines g t) (sym halts) heeds.none
-heeds-as (Ok end.Asked) going t halts heeds = subst (λ (g : Going). HeedsLines g t) (sym halts) heeds
-heeds-as (Ok end.Failed) going t halts heeds = subst (λ (g : Going). HeedsLines g t) (sym halts) heeds.none
-heeds-as (Err fault) going t halts heeds = subst (λ (g : Going). HeedsLines g t) (sym halts) heeds.none
+heeds-as : (turns : Result End BoardFault) (old going : Going) (t : FrontTold) → is_halted old ≡ false → HaltsAs turns old going → HeedsUntil turns t
+    → HeedsLines going t
+heeds-as (Ok end.Ended) old going t up halts heeds = subst (λ (g : Going). HeedsLines g t) (sym halts) heeds.none
+heeds-as (Ok end.Asked) old going t up halts heeds = subst (λ (g : Going). HeedsLines g t) (sym halts) heeds
+heeds-as (Ok end.Failed) old going t up halts heeds = subst (λ (g : Going). HeedsLines g t) (sym halts) heeds.none
+heeds-as (Ok end.Overdue) old going t up halts heeds = subst (λ (g : Going). HeedsLines g t) (sym halts) heeds.none
+heeds-as (Ok end.Gone) old going t up halts heeds = subst (λ (g : Going). HeedsLines g t) (sym halts) (heeds-up old t up heeds.none)
+heeds-as (Err fault) old going t up halts heeds = subst (λ (g : Going). HeedsLines g t) (sym halts) heeds.none
 
 -- and stays so once listening was stopped
-pub heeds-hushed : (turns : Result End BoardFault) (told told' : Option FrontTold) (going : Going) → told' ≡ option_map hushed_front told
-    → HaltsAs turns going → IfSome told (HeedsUntil turns) → IfSome told' (HeedsLines going)
-heeds-hushed turns None told' going is halts heeds = subst (λ (o : Option FrontTold). IfSome o (HeedsLines going)) (sym is) tt
-heeds-hushed turns (Some t) told' going is halts heeds =
-    subst (λ (o : Option FrontTold). IfSome o (HeedsLines going)) (sym is) (hushed-heeds going t (heeds-as turns going t halts heeds)) where
+pub heeds-hushed : (turns : Result End BoardFault) (told told' : Option FrontTold) (old going : Going) → told' ≡ option_map hushed_front told
+    → is_halted old ≡ false → HaltsAs turns old going → IfSome told (HeedsUntil turns) → IfSome told' (HeedsLines going)
+heeds-hushed turns None told' old going is up halts heeds = subst (λ (o : Option FrontTold). IfSome o (HeedsLines going)) (sym is) tt
+heeds-hushed turns (Some t) told' old going is up halts heeds =
+    subst (λ (o : Option FrontTold). IfSome o (HeedsLines going)) (sym is) (hushed-heeds going t (heeds-as turns old going t up halts heeds)) where
       hushed-heeds : (g : Going) (u : FrontTold) → HeedsLines g u → HeedsLines g (hushed_front u)
       hushed-heeds (Halted why.Asked) u h = λ few. record { before = (h few).before; lines_are = (h few).lines_are; none = (h few).none }
       hushed-heeds g u h = h
@@ -183,6 +190,13 @@ heeds-ended told heeded = heeds-of (Ok end.Ended) HasNoneToHeed told (λ t h. h)
 -- and those of a front that failed
 pub heeds-failed : (told : Option FrontTold) → IfSome told HasNoneToHeed → IfSome told (HeedsUntil (Ok end.Failed))
 heeds-failed told heeded = heeds-of (Ok end.Failed) HasNoneToHeed told (λ t h. h) heeded
+
+-- and those behind which a graceful stop was out of time, or at its end
+pub heeds-overdue : (told : Option FrontTold) → IfSome told HasNoneToHeed → IfSome told (HeedsUntil (Ok end.Overdue))
+heeds-overdue told heeded = heeds-of (Ok end.Overdue) HasNoneToHeed told (λ t h. h) heeded
+
+pub heeds-gone : (told : Option FrontTold) → IfSome told HasNoneToHeed → IfSome told (HeedsUntil (Ok end.Gone))
+heeds-gone told heeded = heeds-of (Ok end.Gone) HasNoneToHeed told (λ t h. h) heeded
 
 -- those that were asked to stop heeded the last
 pub heeds-asked : (told : Option FrontTold) → IfSome told HasOneToHeed → IfSome told (HeedsUntil (Ok end.Asked))

@@ -1,11 +1,10 @@
 -- What is read of a configuration.
-use Rattle.std.proofs.Common.{◌≡◌, inl, inr, ℕ, ◌≤◌, ◌⊎◌, ◌++◌, nat_lt, Bool, true, false, if◌then◌else◌, List, codes, length, Option, None, Some, IfSome, option_map, Result, Ok, Err, refl, ap, sym, subst, ◌∙◌, arith}
-use Rattle.std.proofs.lemmas.Bool.Decides.{nat_tests}
+use Rattle.std.proofs.Common.{◌≡◌, inl, inr, ℕ, ◌⊎◌, ◌++◌, Bool, List, Option, None, Some, IfSome, option_map, Result, Ok, Err, refl, ap, sym, subst, ◌∙◌, arith}
 use Rattle.mpm_base.specs.CommandWord.{command_word}
 use Rattle.mpm_base.specs.Count.{Rises}
 use Rattle.mpm_base.specs.Front.{Dials, FrontSeen}
 use Rattle.mpm_base.specs.Sink.{SinkSeen}
-use Rattle.mpm_base.specs.Store.{ReadsFile, StoreSeen, bytes_of}
+use Rattle.mpm_base.specs.Store.{ReadsFile, StoreSeen}
 use Rattle.mpm_base.specs.declared.script_line.CommandWord.{CommandWord}
 use Rattle.mpm_base.specs.declared.script_line.ScriptLine.{ScriptLine}
 use Rattle.mpm_base.specs.declared.store.StoreFault.{StoreFault}
@@ -16,10 +15,8 @@ use Rattle.mpm_config.specs.Reading.{ConfigAndWarnings, Refuses as refuses, and_
 use Rattle.mpm_config.specs.Settings.{Settings}
 use Rattle.mpm_config.specs.Warning.{Notice}
 use Rattle.mpm_config.specs.declared.fault.ConfFault.{ConfFault}
-use Rattle.stand_ins.specs.PlainStore.{AnswersUnlessNoMemory, file_answer}
-use Rattle.script_front.specs.Editions.{editions_of}
-use Rattle.mpm_run.specs.Calls.{Call, HasAccepted}
-use Rattle.mpm_run.specs.Configured.{Configures, HasConfig, config_fault, most_config, warnings_of}
+use Rattle.mpm_run.specs.Calls.{Call, HadAccepted, HasAccepted, KeepsFiles}
+use Rattle.mpm_run.specs.Configured.{Configures, config_fault, most_config, warnings_of}
 use Rattle.mpm_run.specs.ConfiguredInside.{IsAccepted, HasReadConfig, IsConfigFrom, IsConfigOf, IsOfText, IsRefusalFor, IsScriptConfig}
 use Rattle.mpm_run.specs.ExitStatuses.{EndsConfigRefused, EndsTested, EndsTestUnwritten, EndsUncontrolled, EndsUnread, HasDialled, Sends}
 use Rattle.mpm_run.specs.ExitStatusesInside.{HasRunScript, IsConfigRefusalOf, IsPlayed, RefusesConfig, RefusesConfigOf, RefusesRun}
@@ -32,7 +29,7 @@ use Rattle.mpm_run.specs.declared.config_reading.NoConfig.TheVariants as no
 use Rattle.mpm_run.specs.declared.outcome.Scripted.{Scripted}
 use Rattle.mpm_run.specs.declared.texts.ConfigRefusal.{ConfigRefusal}
 use Rattle.mpm_run.specs.declared.texts.ConfigRefusal.TheVariants.{NotText, UnknownDirective, BadValue, BadSection, Unclosed, TooDeep}
-use Rattle.mpm_run.proofs.CauseLemmas.{has_file, too_large, unread-failed, unread-missing}
+use Rattle.mpm_run.proofs.CauseLemmas.{has_file, is_file, too_large, unread-failed, unread-missing}
 use Rattle.mpm_run.proofs.InvocationLemmas.{config-file}
 
 -- ## Warnings
@@ -141,6 +138,26 @@ has-accepted call read name answer conf reads stays is =
     let text = from-ok answer conf is in
     let has = has_file most_config call read name text.0 answer reads stays text.1 in
     record { bytes = text.0; has = has; accepted = record { few = has.few; accepted = text.2.accepted } }
+
+-- it was accepted, whatever the store tells later
+pub had-accepted : (call : Call) (read : StoreSeen) (name : List ℕ) (answer : Result (List ℕ) StoreFault) (conf : Configuration × List ℕ)
+    → ReadsFile call.store read name most_config answer → IsConfigFrom answer (Ok conf) → HadAccepted call name conf.0
+had-accepted call read name answer conf reads is =
+    let text = from-ok answer conf is in
+    let how = subst (ReadsFile call.store read name most_config) text.1 reads in
+    record {
+      bytes = text.0;
+      file = is_file call.store.told name text.0 how.may.1;
+      accepted = record { few = how.may.0; accepted = text.2.accepted };
+    }
+
+-- so it is accepted where the store still tells what it told
+pub accepted-still : (call : Call) (name : List ℕ) (c : Configuration) → KeepsFiles call → HadAccepted call name c → HasAccepted call name c
+accepted-still call name c kept had = record {
+  bytes = had.bytes;
+  has = record { kept = kept; few = had.accepted.few; file = had.file };
+  accepted = had.accepted;
+}
 
 -- and this is told of its corrections
 pub told-of : (answer : Result (List ℕ) StoreFault) (conf : Configuration × List ℕ) → IsConfigFrom answer (Ok conf) → conf.1 ≡ warnings_of conf.0
@@ -296,5 +313,5 @@ is-played (Some s) lines c told has run = record {
   text_is = has.text_is;
   accepted = subst (Configures has.text) (sym run.config) has.accepted;
   site_is = subst (λ (x : Configuration). HasSite lines x run.site) (sym run.config) run.site_is;
-  run = subst (λ (x : Configuration). HasRunScript lines x run.site s.board) (sym run.config) run.run;
+  run = subst (λ (x : Configuration). HasRunScript lines x run.site s.board s.front s.store) (sym run.config) run.run;
 }

@@ -22,7 +22,7 @@ use Rattle.mpm_run.specs.ListenInside.{IsEnd}
 use Rattle.mpm_run.specs.Patient.{ArePatient, IsPatientRun}
 use Rattle.mpm_run.specs.Stops.{HasEnded, HasGivenAll, StoppedFor}
 use Rattle.mpm_run.specs.ExitStatuses.{EndsAs, EndsLacking, HasEnd, IsGoodEnd, KeepsTime, MayEndWith, board_report}
-use Rattle.mpm_run.specs.ExitStatusesInside.{EndsReport, IsExitStatusOf, IsPlayedStatus, IsStoppedStatus, LacksInRun, LacksReport, ReportsAs, WritesAll, status_of_writes}
+use Rattle.mpm_run.specs.ExitStatusesInside.{EndsReport, IsExitStatusOf, IsOpenedStatus, IsPlayedStatus, IsStoppedStatus, LacksInRun, LacksReport, ReportsAs, WritesAll, status_of_writes}
 use Rattle.mpm_run.specs.Times.{IsInTime, WasInformed, waits_of}
 use Rattle.mpm_run.proofs.CountLemmas.{never-rises, rises-before, rises-behind}
 
@@ -33,47 +33,87 @@ stopped-ended : (old new : FrontSeen) (s : State) → StoppedFor old new s → s
 stopped-ended old new s (inl ended) going = ended
 stopped-ended old new s (inr (inl asked)) going = absurd (cc (asked.going, going))
 stopped-ended old new s (inr (inr (inl failed))) going = absurd (cc (failed.going, going))
-stopped-ended old new s (inr (inr (inr no_memory))) going = absurd (cc (no_memory, going))
+stopped-ended old new s (inr (inr (inr (inl no_memory)))) going = absurd (cc (no_memory, going))
+stopped-ended old new s (inr (inr (inr (inr (inl ending))))) going = absurd (cc (ending.1, going))
+stopped-ended old new s (inr (inr (inr (inr (inr overdue))))) going = absurd (cc (overdue, going))
 
--- it stopped for one of these
+-- it stopped for one of these, or ended
 pub stopped-end : (old new : FrontSeen) (s : State) → StoppedFor old new s → IsEnd s.going
 stopped-end old new s (inl ended) = inl ended.going
 stopped-end old new s (inr (inl asked)) = inr (inl asked.going)
 stopped-end old new s (inr (inr (inl failed))) = inr (inr (inl failed.going))
-stopped-end old new s (inr (inr (inr no_memory))) = inr (inr (inr no_memory))
+stopped-end old new s (inr (inr (inr (inl no_memory)))) = inr (inr (inr (inl no_memory)))
+stopped-end old new s (inr (inr (inr (inr gracefully)))) = inr (inr (inr (inr gracefully)))
 
 -- one whose front never failed didn't stop for that
 pub never-failed : (old new : FrontSeen) (s : State) → StoppedFor old new s → new.counts.faults ≡ 0 → s.going ≡ Halted why.FrontFailed → ⊥
 never-failed old new s (inl ended) still going = absurd (cc (ended.going, going))
 never-failed old new s (inr (inl asked)) still going = absurd (cc (asked.going, going))
 never-failed old new s (inr (inr (inl failed))) still going = never-rises old.counts.faults new.counts.faults failed.failed still
-never-failed old new s (inr (inr (inr no_memory))) still going = absurd (cc (no_memory, going))
+never-failed old new s (inr (inr (inr (inl no_memory)))) still going = absurd (cc (no_memory, going))
+never-failed old new s (inr (inr (inr (inr (inl ending))))) still going = absurd (cc (ending.1, going))
+never-failed old new s (inr (inr (inr (inr (inr overdue))))) still going = absurd (cc (overdue, going))
 
 -- ## With which exit status
 
 may-end : (going going' : Going) (status : ℕ) → going ≡ going' → MayEndWith going status → MayEndWith going' status
 may-end going going' status is may = subst (λ (g : Going). MayEndWith g status) is may
 
--- with these it stopped because nothing more could come, or because it was asked to
+-- with these it stopped because nothing more could come, or because it was asked to, or ended gracefully
 pub good-end : (going : Going) (status : ℕ) → IsEnd going → MayEndWith going status → (status ≡ 0) ⊎ (status ≡ 5) → IsGoodEnd going
 good-end going status (inl ended) may good = inl ended
-good-end going status (inr (inl asked)) may good = inr asked
+good-end going status (inr (inl asked)) may good = inr (inl asked)
 good-end going status (inr (inr (inl failed))) may good = absurd (omega (arith, may-end going _ status failed may, good))
-good-end going status (inr (inr (inr no_memory))) may good = absurd (omega (arith, may-end going _ status no_memory may, good))
+good-end going status (inr (inr (inr (inl no_memory)))) may good = absurd (omega (arith, may-end going _ status no_memory may, good))
+good-end going status (inr (inr (inr (inr gracefully)))) may good = inr (inr gracefully)
 
 -- with this one for a wait that failed
 failed-end : (going : Going) (status : ℕ) → IsEnd going → MayEndWith going status → status ≡ 4 → going ≡ Halted why.FrontFailed
 failed-end going status (inl ended) may four = absurd (omega (arith, may-end going _ status ended may, four))
 failed-end going status (inr (inl asked)) may four = absurd (omega (arith, may-end going _ status asked may, four))
 failed-end going status (inr (inr (inl failed))) may four = failed
-failed-end going status (inr (inr (inr no_memory))) may four = absurd (omega (arith, may-end going _ status no_memory may, four))
+failed-end going status (inr (inr (inr (inl no_memory)))) may four = absurd (omega (arith, may-end going _ status no_memory may, four))
+failed-end going status (inr (inr (inr (inr (inl ending))))) may four = absurd (omega (arith, may-end going _ status ending.1 may, four))
+failed-end going status (inr (inr (inr (inr (inr overdue))))) may four = absurd (omega (arith, may-end going _ status overdue may, four))
+
+-- with these statuses a run ends that came to its end
+good-status : (status : ℕ) → (status ≡ 0) ⊎ (status ≡ 5) ⊎ (status ≡ 6) → IsOpenedStatus status
+good-status status (inl zero) = inl zero
+good-status status (inr (inl five)) = inr (inr (inl five))
+good-status status (inr (inr six)) = inr (inr (inr six))
+
+failed-status : (status : ℕ) → (status ≡ 4) ⊎ (status ≡ 6) → IsOpenedStatus status
+failed-status status (inl four) = inr (inl four)
+failed-status status (inr six) = inr (inr (inr six))
+
+-- with these each run
+pub opened-status : (going : Going) (status : ℕ) → IsEnd going → MayEndWith going status → IsOpenedStatus status
+opened-status going status (inl ended) may = good-status status (may-end going _ status ended may)
+opened-status going status (inr (inl asked)) may = good-status status (may-end going _ status asked may)
+opened-status going status (inr (inr (inl failed))) may = failed-status status (may-end going _ status failed may)
+opened-status going status (inr (inr (inr (inl no_memory)))) may = inr (inr (inr (may-end going _ status no_memory may)))
+opened-status going status (inr (inr (inr (inr (inl ending))))) may = good-status status (may-end going _ status ending.1 may)
+opened-status going status (inr (inr (inr (inr (inr overdue))))) may = good-status status (may-end going _ status overdue may)
+
+-- with these each run whose front didn't fail
+pub played-status : (going : Going) (status : ℕ) → IsEnd going → (going ≡ Halted why.FrontFailed → ⊥) → MayEndWith going status → IsPlayedStatus status
+played-status going status (inl ended) unfailed may = may-end going _ status ended may
+played-status going status (inr (inl asked)) unfailed may = may-end going _ status asked may
+played-status going status (inr (inr (inl failed))) unfailed may = absurd (unfailed failed)
+played-status going status (inr (inr (inr (inl no_memory)))) unfailed may = inr (inr (may-end going _ status no_memory may))
+played-status going status (inr (inr (inr (inr (inl ending))))) unfailed may = may-end going _ status ending.1 may
+played-status going status (inr (inr (inr (inr (inr overdue))))) unfailed may = may-end going _ status overdue may
 
 -- the status before the report is 6 only where the server stopped for want of memory
 six-lacks : (going : Going) (status : ℕ) → IsEnd going → IsExitStatusOf going status → status ≡ 6 → going ≡ Halted why.NoMemory
 six-lacks going status (inl ended) is six = absurd (omega (arith, subst (λ (g : Going). IsExitStatusOf g status) ended is, six))
 six-lacks going status (inr (inl asked)) is six = absurd (omega (arith, subst (λ (g : Going). IsExitStatusOf g status) asked is, six))
 six-lacks going status (inr (inr (inl failed))) is six = absurd (omega (arith, subst (λ (g : Going). IsExitStatusOf g status) failed is, six))
-six-lacks going status (inr (inr (inr no_memory))) is six = no_memory
+six-lacks going status (inr (inr (inr (inl no_memory)))) is six = no_memory
+six-lacks going status (inr (inr (inr (inr (inl ending))))) is six =
+    absurd (omega (arith, subst (λ (g : Going). IsExitStatusOf g status) ending.1 is, six))
+six-lacks going status (inr (inr (inr (inr (inr overdue))))) is six =
+    absurd (omega (arith, subst (λ (g : Going). IsExitStatusOf g status) overdue is, six))
 
 -- so the report was written behind that, or memory lacked for it
 pub lacks-in-run : (old new : SinkSeen) (b : SeenBoard) (status : ℕ) → IsEnd b.book.state.going → IsExitStatusOf b.book.state.going status
@@ -84,7 +124,7 @@ lacks-in-run old new b status end is (inr same) = inr same
 -- ## The end of the script
 
 -- each client has its name
-clients-names : (lines : List ScriptLine) → length (clients_of lines) ≡ length (names_of lines)
+pub clients-names : (lines : List ScriptLine) → length (clients_of lines) ≡ length (names_of lines)
 clients-names lines = length-map (names_of lines) (λ name. sent_by name lines)
 
 -- the script was played to its end
@@ -96,7 +136,8 @@ ended-end old new b f ended told of_script none ends =
     record {
       answered = omega (arith, rose, ends);
       happened = omega (arith, all.left, of_script.left);
-      taken = sym all.taken ∙ all.given ∙ ap length of_script.clients ∙ clients-names f.script;
+      read = all.read;
+      taken = sym all.taken;
     }
 
 -- so it was where the server stopped because nothing more could come

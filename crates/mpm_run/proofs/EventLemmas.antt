@@ -1,11 +1,13 @@
 -- What the events of the listener tick and signal.
-use Rattle.std.proofs.Common.{◌≡◌, ℕ, List, [], ◌∷◌, ◌++◌, map, None, Result, Ok, Err, refl, ap, ◌∙◌, append-nil, append_assoc}
+use Rattle.std.proofs.Common.{◌≡◌, ℕ, List, [], ◌∷◌, ◌++◌, map, Option, None, Some, Result, Ok, Err, refl, ap, ◌∙◌, append-nil, append_assoc}
 use Rattle.std.proofs.lemmas.Grind.{flat_map-append}
 use Rattle.std.specs.List.{flat_map}
 use Rattle.mpm_base.specs.declared.conn.Cause.{Cause}
 use Rattle.mpm_base.specs.declared.conn.ConnName.{ConnName}
+use Rattle.conn_machine.specs.declared.event.Commanded.{Commanded}
 use Rattle.conn_machine.specs.declared.event.Event.{Event}
 use Rattle.conn_machine.specs.declared.event.Event.TheVariants as event
+use Rattle.conn_machine.specs.declared.event.Why.{Why}
 use Rattle.board.specs.declared.faults.BoardFault.{BoardFault}
 use Rattle.board.specs.Book.{SeenBook}
 use Rattle.worker_group.specs.declared.service.Exit.{Exit}
@@ -13,8 +15,9 @@ use Rattle.worker_group.specs.declared.service.Exit.TheVariants as exit
 use Rattle.worker_group.specs.Acts.{Acts, events_of}
 use Rattle.worker_group.specs.Service.{left_events}
 use Rattle.mpm_run.specs.declared.listen.End.{End}
+use Rattle.mpm_run.specs.ListenInside.{why_of}
 use Rattle.mpm_run.specs.ClosingInside.{Departure, departure_events, lingering_give_up_events}
-use Rattle.mpm_run.specs.RoundInside.{Departures, Round, Intake, gone_events, departures_events, halt_events, round_events, intake_events, time_events}
+use Rattle.mpm_run.specs.RoundInside.{Departures, Round, Intake, gone_events, departures_events, halt_events, halts_for, round_events, intake_events, time_events}
 use Rattle.mpm_run.specs.Times.{signals_in, signals_of, ticks_in, ticks_of}
 
 -- ## Lists of events
@@ -47,8 +50,16 @@ pub silent-retires : (children : List ℕ) → AreSilent (map event.Retire child
 silent-retires [] = silent-none
 silent-retires (k ∷ children) = record { ticks = (silent-retires children).ticks; signals = (silent-retires children).signals }
 
+pub silent-orders : (orders : List Commanded) → AreSilent (map event.Command orders)
+silent-orders [] = silent-none
+silent-orders (c ∷ orders) = record { ticks = (silent-orders orders).ticks; signals = (silent-orders orders).signals }
+
+silent-halting : (o : Option Why) → AreSilent (halts_for o)
+silent-halting None = silent-none
+silent-halting (Some why) = record { ticks = refl; signals = refl }
+
 pub silent-halts : (turns : Result End BoardFault) → AreSilent (halt_events turns)
-silent-halts (Ok end) = record { ticks = refl; signals = refl }
+silent-halts (Ok end) = silent-halting (why_of end)
 silent-halts (Err fault) = record { ticks = refl; signals = refl }
 
 silent-left : (way : Exit) (name : ConnName) → AreSilent (left_events way name)
@@ -107,27 +118,33 @@ in-first find es fs xs first none = in-both find es fs xs [] first none ∙ appe
 -- what a round did behind its signals neither ticks nor signals
 abbrev rest_of : Round → List Event
 rest_of r =
-    departures_events r.departures ++ map event.Retire r.retired ++ map event.StartChild r.starts ++ flat_map intake_events r.takes
+    departures_events r.departures ++ map event.Command r.orders ++ map event.Retire r.retired ++ map event.StartChild r.starts
+    ++ flat_map intake_events r.takes
 
 silent-rest : (r : Round) → AreSilent (rest_of r)
 silent-rest r =
-    let retired = silent-both (departures_events r.departures) (map event.Retire r.retired) (silent-lettings r.departures) (silent-retires r.retired) in
-    let started =
-    silent-both (departures_events r.departures ++ map event.Retire r.retired) (map event.StartChild r.starts) retired (silent-starts r.starts) in
-    silent-both (departures_events r.departures ++ map event.Retire r.retired ++ map event.StartChild r.starts)
-    (flat_map intake_events r.takes) started (silent-takes r.takes)
+    let lets = departures_events r.departures in
+    let orders = map event.Command r.orders in
+    let retired = map event.Retire r.retired in
+    let ordered = silent-both lets orders (silent-lettings r.departures) (silent-orders r.orders) in
+    let gone = silent-both (lets ++ orders) retired ordered (silent-retires r.retired) in
+    let started = silent-both (lets ++ orders ++ retired) (map event.StartChild r.starts) gone (silent-starts r.starts) in
+    silent-both (lets ++ orders ++ retired ++ map event.StartChild r.starts) (flat_map intake_events r.takes) started (silent-takes r.takes)
 
 -- it stands behind them
 rest-behind : (r : Round) → round_events r ≡ (time_events r.early r.ticks r.late ++ map event.Ready r.signals) ++ rest_of r
 rest-behind r =
     let front = time_events r.early r.ticks r.late ++ map event.Ready r.signals in
     let lets = departures_events r.departures in
+    let orders = map event.Command r.orders in
     let retired = map event.Retire r.retired in
     let started = map event.StartChild r.starts in
     let taken = flat_map intake_events r.takes in
     ap (λ (es : List Event). es ++ taken)
-    (ap (λ (es : List Event). es ++ started) (append_assoc front lets retired) ∙ append_assoc front (lets ++ retired) started)
-    ∙ append_assoc front (lets ++ retired ++ started) taken
+    (ap (λ (es : List Event). es ++ started)
+    (ap (λ (es : List Event). es ++ retired) (append_assoc front lets orders) ∙ append_assoc front (lets ++ orders) retired)
+    ∙ append_assoc front (lets ++ orders ++ retired) started)
+    ∙ append_assoc front (lets ++ orders ++ retired ++ started) taken
 
 -- the ticks of a round are those to which time passed in it
 pub ticks-round : (r : Round) → flat_map ticks_in (round_events r) ≡ r.ticks

@@ -1,5 +1,5 @@
 -- A turn whose history was folded at its end, or wasn't.
-use Rattle.std.proofs.Common.{◌≡◌, Option, ◌∙◌, ap, sym, subst}
+use Rattle.std.proofs.Common.{◌≡◌, ℕ, [], Option, ◌∙◌, ap, sym, subst}
 use Rattle.conn_machine.specs.declared.state.State.{State}
 use Rattle.conn_state.specs.Known.{KnownOutside}
 use Rattle.board.specs.Board.{SeenBoard}
@@ -9,18 +9,19 @@ use Rattle.mpm_run.specs.declared.listen.Rest.{Rest}
 use Rattle.mpm_run.specs.FoldsInside.{ListensOn}
 use Rattle.mpm_run.specs.ListenInside.{IsInStep, TookAll, asked_children}
 use Rattle.mpm_run.specs.Patient.{IsAtRest}
+use Rattle.mpm_run.specs.Standing.{KnowsLater}
 use Rattle.mpm_run.specs.Started.{BeginsWithStarts}
 use Rattle.mpm_run.specs.Times.{waits_of}
 use Rattle.mpm_run.proofs.OverLemmas.{IsBeforeTurn}
 use Rattle.mpm_run.proofs.PaceLemmas.{KeepsPace, Rests}
+use Rattle.mpm_run.proofs.StandingTurnLemmas.{stands-on}
 use Rattle.mpm_run.proofs.TurnLemmas.{HasKept, IsBetween}
 use Rattle.mpm_run.proofs.WaitLemmas.{SeenListener}
 
 module _ (known : Option KnownOutside) (a : SeenListener) (b : SeenBoard) (listens : ListensOn known a.board b) where
-  kept-folded : (first : SeenListener) → HasKept known first a → HasKept known first (record a { board = b })
+  kept-folded : (first : SeenListener) → HasKept first a → HasKept first (record a { board = b })
   kept-folded first kept = record {
     asked = λ began. listens.asked (kept.asked began);
-    folded = λ n asked before. listens.folded n (kept.asked asked) (kept.folded n asked before);
     passes = listens.passes ∙ kept.passes;
     free = listens.free kept.free;
     up = subst (λ (s : State). IsUp s.going) (sym listens.state) kept.up;
@@ -28,13 +29,19 @@ module _ (known : Option KnownOutside) (a : SeenListener) (b : SeenBoard) (liste
     contacts = kept.contacts;
     watched = λ began. listens.watched a.front.told (kept.watched began);
     time = kept.time;
+    config = kept.config;
   }
 
   between-folded : (first : SeenListener) → IsBetween known first a → IsBetween known first (record a { board = b })
   between-folded first before = record {
     kept = kept-folded first before.kept;
+    stands =
+        stands-on known [] 0 first a (record a { board = b }) before.kept.config before.kept.asked before.stands
+        (listens.folded a.config a.edition.stop_ms a.store a.front);
     step = subst (IsInStep a.front.told) (sym listens.state) before.step;
     informed = listens.informed (waits_of a.front.told) a.calls before.informed;
+    knows = subst (λ (orders : ℕ). KnowsLater known orders a.config.name.now a.config.config.now a.store.told) (sym listens.orders) before.knows;
+    serves = listens.edition a.edition.limits a.edition.site.value before.serves;
   }
 
   rests-folded : (rest : Rest) → Rests rest a → Rests rest (record a { board = b })

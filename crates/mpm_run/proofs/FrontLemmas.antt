@@ -1,9 +1,8 @@
--- What the calls of a front leave of it, and whether the table is in step with it.
-use Rattle.std.proofs.Common.{◌≡◌, ◌⊎◌, inl, inr, ℕ, Bool, true, false, not, List, [], ◌∷◌, ◌++◌, map, Option, None, Some, is_some, option_map, IfSome, refl, sym, ap, subst, ◌∙◌, arith}
+-- What a wait and a link that is taken leave of a front, and whether the table is in step with it.
+use Rattle.std.proofs.Common.{◌≡◌, ◌⊎◌, inl, inr, ℕ, Bool, true, false, not, List, [], ◌∷◌, ◌++◌, map, Option, None, Some, option_map, IfSome, refl, sym, ap, subst, ◌∙◌, arith}
 use Rattle.mpm_base.specs.Count.{next_count}
-use Rattle.mpm_base.specs.Front.{FrontTold, FrontSeen, BoundTold, Commands, DialTold, TellsOn, GoesForward, Waits, Binds, HasAllTaken, IsHandedOut, Accepts, WaitTold, after_accept, after_bind, after_command, after_hush, after_turning_away, after_watch, front_after_turning_away, front_after_watch, hushed_front, is_ended, moments_in, moments_of, wait_failed}
+use Rattle.mpm_base.specs.Front.{FrontTold, FrontSeen, BoundTold, DialTold, TellsOn, GoesForward, Waits, HasAllTaken, IsHandedOut, Accepts, WaitTold, after_accept, after_turning_away, after_watch, is_ended, moments_in, moments_of, wait_failed}
 use Rattle.mpm_base.specs.Clock.{asked_at}
-use Rattle.mpm_base.specs.declared.addr.Addr.{Addr}
 use Rattle.mpm_base.specs.declared.conn.ConnName.{ConnName}
 use Rattle.std.proofs.lemmas.Grind.{flat_map-append}
 use Rattle.std.proofs.lemmas.List.{append-nil, map-append}
@@ -12,11 +11,12 @@ use Rattle.mpm_base.specs.declared.front.Arrival.{Arrival}
 use Rattle.mpm_base.specs.declared.front.Arrival.TheVariants as arrival
 use Rattle.mpm_base.specs.declared.front.Woke.{Woke}
 use Rattle.mpm_base.specs.declared.front.Woke.TheVariants as woke
+use Rattle.conn_machine.specs.declared.state.Going.{Going}
 use Rattle.conn_machine.specs.declared.state.State.{State}
+use Rattle.conn_machine.specs.States.{is_serving}
 use Rattle.conn_state.specs.Conn.{IsFresh}
 use Rattle.conn_state.specs.Known.{IsOfClient, KnownOutside, TellsFrom}
-use Rattle.mpm_run.specs.Watched.{IsHushed}
-use Rattle.mpm_run.specs.ListenInside.{AsksFor, Follows, IsArrival, IsInStep, IsKnownOfFront, KeepsStep, OnlyReads, OnlyReadsAndTakes, OnlyTakes, TellsAlike, contacts, contacts_of}
+use Rattle.mpm_run.specs.ListenInside.{AsksFor, Follows, HandsOutEach, IsArrival, IsInStep, IsKnownOfFront, KeepsStep, ListensAsServed, OnlyReads, OnlyReadsAndTakes, OnlyTakes, TellsAlike, contacts, contacts_of}
 use Rattle.mpm_run.specs.Outside.{clients_told, comings_told}
 use Rattle.mpm_run.specs.Stops.{HasFailedLast, HasGivenAll}
 use Rattle.mpm_run.specs.Times.{IsInTime, waits_of}
@@ -38,18 +38,18 @@ pub follows-same : (a : FrontSeen) → Follows a a
 follows-same a = record { script = refl; clients = refl; comings = refl; faults = omega arith; ends = omega arith; commands = omega arith }
 
 -- a part that a change keeps
-mapped-part : {X : Type 0} (part : FrontTold → X) (change : FrontTold → FrontTold) (told told' : Option FrontTold)
+pub mapped-part : {X : Type 0} (part : FrontTold → X) (change : FrontTold → FrontTold) (told told' : Option FrontTold)
     → ((t : FrontTold) → part (change t) ≡ part t) → told' ≡ option_map change told → option_map part told' ≡ option_map part told
 mapped-part part change None told' keeps is = ap (option_map part) is
 mapped-part part change (Some t) told' keeps is = ap (option_map part) is ∙ ap (λ (x : _). Some x) (keeps t)
 
 -- its clients stay in a change that keeps them
-clients-mapped : (told told' : Option FrontTold) (change : FrontTold → FrontTold) → ((t : FrontTold) → (change t).clients ≡ t.clients)
+pub clients-mapped : (told told' : Option FrontTold) (change : FrontTold → FrontTold) → ((t : FrontTold) → (change t).clients ≡ t.clients)
     → told' ≡ option_map change told → clients_told told' ≡ clients_told told
 clients-mapped told told' change keeps is = mapped-part (λ (t : FrontTold). t.clients) change told told' keeps is
 
 -- so does when something comes by itself
-comings-mapped : (told told' : Option FrontTold) (change : FrontTold → FrontTold) → ((t : FrontTold) → (change t).comings ≡ t.comings)
+pub comings-mapped : (told told' : Option FrontTold) (change : FrontTold → FrontTold) → ((t : FrontTold) → (change t).comings ≡ t.comings)
     → told' ≡ option_map change told → comings_told told' ≡ comings_told told
 comings-mapped told told' change keeps is = mapped-part (λ (t : FrontTold). t.comings) change told told' keeps is
 
@@ -155,15 +155,15 @@ takes-also : (t t' : FrontTold) → OnlyTakes t t' → OnlyReadsAndTakes t t'
 takes-also t t' only = record {
   rest =
       only.rest
-      ∙ ap (λ (read : ℕ). record t { accepted = t'.accepted; watches = t'.watches; turned_away = t'.turned_away; read = read; failed = t'.failed })
-      (sym (ap (λ (x : FrontTold). x.read) only.rest));
+      ∙ ap (λ (x : FrontTold). record t { accepted = t'.accepted; watches = t'.watches; turned_away = t'.turned_away; read = x.read; hushed = x.hushed; failed = t'.failed })
+      (sym only.rest);
 }
 
 reads-also : (t t' : FrontTold) → OnlyReads t t' → OnlyReadsAndTakes t t'
 reads-also t t' only = record {
   rest =
       only.rest
-      ∙ ap (λ (x : FrontTold). record t { accepted = x.accepted; watches = x.watches; turned_away = x.turned_away; read = t'.read; failed = x.failed })
+      ∙ ap (λ (x : FrontTold). record t { accepted = x.accepted; watches = x.watches; turned_away = x.turned_away; read = t'.read; hushed = t'.hushed; failed = x.failed })
       (sym only.rest);
 }
 
@@ -172,8 +172,8 @@ reads-takes a b c first second = record {
   rest =
       second.rest
       ∙ ap (λ (x : FrontTold). record x { accepted = c.accepted; watches = c.watches; turned_away = c.turned_away; failed = c.failed }) first.rest
-      ∙ ap (λ (read : ℕ). record a { accepted = c.accepted; watches = c.watches; turned_away = c.turned_away; read = read; failed = c.failed })
-      (sym (ap (λ (x : FrontTold). x.read) second.rest));
+      ∙ ap (λ (x : FrontTold). record a { accepted = c.accepted; watches = c.watches; turned_away = c.turned_away; read = x.read; hushed = x.hushed; failed = c.failed })
+      (sym second.rest);
 }
 
 tells-weaker : (P Q : FrontTold → FrontTold → Type 0) → ((t t' : FrontTold) → P t t' → Q t t') → (told told' : Option FrontTold) → TellsOn P told told'
@@ -309,10 +309,30 @@ time-kept waits waits' calls same time = subst (λ (o : Option (List WaitTold)).
 
 -- ## The table is in step with the front
 
--- where it took no connection
-pub step-kept : (told : Option FrontTold) (s s' : State) → s'.accepted ≡ s.accepted → IsInStep told s → IsInStep told s'
-step-kept None s s' same step = tt
-step-kept (Some t) s s' same step = record { listens = step.listens; taken = record { accepted = step.taken.accepted ∙ sym same; none = step.taken.none } }
+-- a front listens as it did where the server goes on as it did
+listens-on : (t t' : FrontTold) (s s' : State) → t'.hushed ≡ t.hushed → s'.going ≡ s.going → ListensAsServed s t → ListensAsServed s' t'
+listens-on t t' s s' hushed going listens = hushed ∙ listens ∙ ap (λ (g : Going). not (is_serving g)) (sym going)
+
+-- where it took no connection, and the server goes on as it did
+pub step-kept : (told : Option FrontTold) (s s' : State) → s'.accepted ≡ s.accepted → s'.going ≡ s.going → IsInStep told s → IsInStep told s'
+step-kept None s s' same going step = tt
+step-kept (Some t) s s' same going step = record {
+  listens = listens-on t t s s' refl going step.listens;
+  taken = record { accepted = step.taken.accepted ∙ sym same; none = step.taken.none };
+}
+
+-- then the front listens as the server goes on
+pub step-listens : (told : Option FrontTold) (s : State) → IsInStep told s → IfSome told (ListensAsServed s)
+step-listens None s step = tt
+step-listens (Some t) s step = step.listens
+
+-- and so it does behind links that were taken
+pub listens-takes : (told told' : Option FrontTold) (s s' : State) → TellsOn OnlyTakes told told' → s'.going ≡ s.going → IfSome told (ListensAsServed s)
+    → IfSome told' (ListensAsServed s')
+listens-takes None told' s s' takes going listens = subst (λ (o : Option FrontTold). IfSome o (ListensAsServed s')) (sym takes) tt
+listens-takes (Some t) told' s s' takes going listens =
+    subst (λ (o : Option FrontTold). IfSome o (ListensAsServed s')) (sym takes.1)
+    (listens-on t takes.0 s s' (ap (λ (x : FrontTold). x.hushed) takes.2.rest) going listens)
 
 waits-step : (until : Option ℕ) (quiet : Bool) (answer : Woke) (ready : List ℕ) (t t' : FrontTold) (s : State) → GoesForward until quiet answer ready t t'
     → KeepsStep s t → KeepsStep s t'
@@ -330,11 +350,11 @@ step-wait until quiet answer ready (Some t) told' s tells step =
 
 -- after an accept that handed a link out, whose connection the table took
 pub step-taken : {L : Type 0} (link : L) (told told' : Option FrontTold) (s s' : State) → told' ≡ option_map (after_accept (arrival.Some link)) told
-    → s'.accepted ≡ next_count s.accepted → IsInStep told s → IsInStep told' s'
-step-taken link None told' s s' is taken step = subst (λ (o : Option FrontTold). IsInStep o s') (sym is) tt
-step-taken link (Some t) told' s s' is taken step =
+    → s'.accepted ≡ next_count s.accepted → s'.going ≡ s.going → IsInStep told s → IsInStep told' s'
+step-taken link None told' s s' is taken going step = subst (λ (o : Option FrontTold). IsInStep o s') (sym is) tt
+step-taken link (Some t) told' s s' is taken going step =
     subst (λ (o : Option FrontTold). IsInStep o s') (sym is)
-    (record { listens = step.listens; taken = record { accepted = ap next_count step.taken.accepted ∙ sym taken; none = step.taken.none } })
+    (record { listens = listens-on t (after_accept (arrival.Some link) t) s s' refl going step.listens; taken = record { accepted = ap next_count step.taken.accepted ∙ sym taken; none = step.taken.none } })
 
 -- after one that handed none out
 step-unhanded : {L : Type 0} (answer : Arrival L) (t : FrontTold) (s : State) → (answer ≡ arrival.None) ⊎ (answer ≡ arrival.Failed) → KeepsStep s t
@@ -349,17 +369,17 @@ pub step-none : {L : Type 0} (told told' : Option FrontTold) (answer : Arrival L
 step-none None told' answer s none is step = subst (λ (o : Option FrontTold). IsInStep o s) (sym is) tt
 step-none (Some t) told' answer s none is step = subst (λ (o : Option FrontTold). IsInStep o s) (sym is) (step-unhanded answer t s none step)
 
--- where listening goes on each connection was handed out
 given-all : (s : State) (t : FrontTold) → HasAllTaken t → KeepsStep s t → HasGivenAll s t
-given-all s t all step = record {
-  left = all.left;
-  read = all.read;
-  given = elim all.accepted [
-    | inl given ↦ given.1
-    | inr hushed ↦ let listens = step.listens in absurd (cc (hushed, listens))
-  ];
-  taken = step.taken.accepted;
-}
+given-all s t all step = record { left = all.left; read = all.read; taken = step.taken.accepted }
+
+-- while the server takes connections the front listens, so each connection was handed out
+handed-each : (s : State) (t : FrontTold) → HasAllTaken t → KeepsStep s t → HandsOutEach s t
+handed-each s t all step serving = elim all.accepted [
+  | inl given ↦ given.1
+  | inr hushed ↦
+      let listens : true ≡ false = sym hushed ∙ step.listens ∙ ap not serving in
+      absurd (cc)
+]
 
 -- after a wait that answered Ended all was taken
 pub all-taken : (until : Option ℕ) (quiet : Bool) (ready : List ℕ) (told told' : Option FrontTold) (s : State)
@@ -368,6 +388,14 @@ all-taken until quiet ready None told' s tells step = subst (λ (o : Option Fron
 all-taken until quiet ready (Some t) told' s tells step =
     subst (λ (o : Option FrontTold). IfSome o (HasGivenAll s)) (sym tells.1)
     (given-all s tells.0 tells.2.answers (waits-step until quiet woke.Ended ready t tells.0 s tells.2 step))
+
+-- and while the server takes connections each was handed out
+pub each-handed : (until : Option ℕ) (quiet : Bool) (ready : List ℕ) (told told' : Option FrontTold) (s : State)
+    → TellsOn (GoesForward until quiet woke.Ended ready) told told' → IsInStep told s → IfSome told' (HandsOutEach s)
+each-handed until quiet ready None told' s tells step = subst (λ (o : Option FrontTold). IfSome o (HandsOutEach s)) (sym tells) tt
+each-handed until quiet ready (Some t) told' s tells step =
+    subst (λ (o : Option FrontTold). IfSome o (HandsOutEach s)) (sym tells.1)
+    (handed-each s tells.0 tells.2.answers (waits-step until quiet woke.Ended ready t tells.0 s tells.2 step))
 
 -- ## The link that is handed out
 
@@ -424,186 +452,3 @@ pub alike-mapped : (change : FrontTold → FrontTold) (told told' : Option Front
     → TellsAlike told link → TellsAlike told' link
 alike-mapped change None told' link is alike = subst (λ (o : Option FrontTold). TellsAlike o link) (sym is) tt
 alike-mapped change (Some t) told' link is alike = subst (λ (o : Option FrontTold). TellsAlike o link) (sym is) alike
-
--- ## A watch
-
-after_watch-clients : (name : ConnName) (answer : Bool) (link : Option LinkTold) (t : FrontTold) → (after_watch name answer link t).clients ≡ t.clients
-after_watch-clients name answer None t = refl
-after_watch-clients name answer (Some l) t = refl
-
-after_watch-comings : (name : ConnName) (answer : Bool) (link : Option LinkTold) (t : FrontTold) → (after_watch name answer link t).comings ≡ t.comings
-after_watch-comings name answer None t = refl
-after_watch-comings name answer (Some l) t = refl
-
-after_watch-step : (name : ConnName) (answer : Bool) (link : Option LinkTold) (t : FrontTold) (s : State) → KeepsStep s t
-    → KeepsStep s (after_watch name answer link t)
-after_watch-step name answer None t s step = step
-after_watch-step name answer (Some l) t s step =
-    record { listens = step.listens; taken = record { accepted = step.taken.accepted; none = step.taken.none } }
-
--- after it the front is still the one that it was
-pub follows-watch : (old new : FrontSeen) (name : ConnName) (answer : Bool) (link : Option LinkTold) → new ≡ front_after_watch name answer link old
-    → Follows old new
-follows-watch old new name answer link is = record {
-  script = ap (λ (f : FrontSeen). f.script) is;
-  clients =
-      clients-mapped old.told new.told (after_watch name answer link) (after_watch-clients name answer link) (ap (λ (f : FrontSeen). f.told) is);
-  comings =
-      comings-mapped old.told new.told (after_watch name answer link) (after_watch-comings name answer link) (ap (λ (f : FrontSeen). f.told) is);
-  faults = omega (arith, ap (λ (f : FrontSeen). f.counts.faults) is);
-  ends = omega (arith, ap (λ (f : FrontSeen). f.counts.ends) is);
-  commands = omega (arith, ap (λ (f : FrontSeen). f.counts.commands) is);
-}
-
--- and the table in step with it
-pub step-watch : (told told' : Option FrontTold) (name : ConnName) (answer : Bool) (link : Option LinkTold) (s : State)
-    → told' ≡ option_map (after_watch name answer link) told → IsInStep told s → IsInStep told' s
-step-watch None told' name answer link s is step = subst (λ (o : Option FrontTold). IsInStep o s) (sym is) tt
-step-watch (Some t) told' name answer link s is step = subst (λ (o : Option FrontTold). IsInStep o s) (sym is) (after_watch-step name answer link t s step)
-
--- ## A link that is turned away
-
-after_turning_away-clients : (link : Option LinkTold) (t : FrontTold) → (after_turning_away link t).clients ≡ t.clients
-after_turning_away-clients None t = refl
-after_turning_away-clients (Some l) t = refl
-
-after_turning_away-comings : (link : Option LinkTold) (t : FrontTold) → (after_turning_away link t).comings ≡ t.comings
-after_turning_away-comings None t = refl
-after_turning_away-comings (Some l) t = refl
-
--- the front is still the one that it was
-pub follows-turned : (old new : FrontSeen) (link : Option LinkTold) → new ≡ front_after_turning_away link old → Follows old new
-follows-turned old new link is = record {
-  script = ap (λ (f : FrontSeen). f.script) is;
-  clients =
-      clients-mapped old.told new.told (after_turning_away link) (after_turning_away-clients link) (ap (λ (f : FrontSeen). f.told) is);
-  comings =
-      comings-mapped old.told new.told (after_turning_away link) (after_turning_away-comings link) (ap (λ (f : FrontSeen). f.told) is);
-  faults = omega (arith, ap (λ (f : FrontSeen). f.counts.faults) is);
-  ends = omega (arith, ap (λ (f : FrontSeen). f.counts.ends) is);
-  commands = omega (arith, ap (λ (f : FrontSeen). f.counts.commands) is);
-}
-
--- ## The end of listening
-
--- the front is still the one that it was
-pub follows-hushed : (old new : FrontSeen) → new ≡ after_hush old → Follows old new
-follows-hushed old new is = record {
-  script = ap (λ (f : FrontSeen). f.script) is;
-  clients = clients-mapped old.told new.told hushed_front (λ t. refl) (ap (λ (f : FrontSeen). f.told) is);
-  comings = comings-mapped old.told new.told hushed_front (λ t. refl) (ap (λ (f : FrontSeen). f.told) is);
-  faults = omega (arith, ap (λ (f : FrontSeen). f.counts.faults) is);
-  ends = omega (arith, ap (λ (f : FrontSeen). f.counts.ends) is);
-  commands = omega (arith, ap (λ (f : FrontSeen). f.counts.commands) is);
-}
-
-hushed-part : {X : Type 0} (part : FrontTold → X) (told told' : Option FrontTold) → ((t : FrontTold) → part (hushed_front t) ≡ part t)
-    → told' ≡ option_map hushed_front told → option_map part told' ≡ option_map part told
-hushed-part part None told' keeps is = ap (option_map part) is
-hushed-part part (Some t) told' keeps is = ap (option_map part) is ∙ ap (λ (x : _). Some x) (keeps t)
-
--- its waits are as they were
-pub waits-hushed : (old new : FrontSeen) → new ≡ after_hush old → waits_of new.told ≡ waits_of old.told
-waits-hushed old new is = hushed-part (λ (t : FrontTold). t.waits) old.told new.told (λ t. refl) (ap (λ (f : FrontSeen). f.told) is)
-
--- and what it was bound to, and its dials
-pub contacts-hushed : (old new : FrontSeen) → new ≡ after_hush old → contacts_of new.told ≡ contacts_of old.told
-contacts-hushed old new is = hushed-part contacts old.told new.told (λ t. refl) (ap (λ (f : FrontSeen). f.told) is)
-
--- and the last wait failed still
-pub failed-hushed : (told told' : Option FrontTold) → told' ≡ option_map hushed_front told → IfSome told HasFailedLast → IfSome told' HasFailedLast
-failed-hushed None told' is failed = subst (λ (o : Option FrontTold). IfSome o HasFailedLast) (sym is) tt
-failed-hushed (Some t) told' is failed =
-    subst (λ (o : Option FrontTold). IfSome o HasFailedLast) (sym is)
-    (record { before = failed.before; last = failed.last; waits = failed.waits; failed = failed.failed })
-
--- it takes no further connection
-pub is-hushed : (told told' : Option FrontTold) → told' ≡ option_map hushed_front told → IfSome told' IsHushed
-is-hushed None told' is = subst (λ (o : Option FrontTold). IfSome o IsHushed) (sym is) tt
-is-hushed (Some t) told' is = subst (λ (o : Option FrontTold). IfSome o IsHushed) (sym is) refl
-
--- and had given all that it has, as the table took it
-pub given-hushed : (s s' : State) (told told' : Option FrontTold) → told' ≡ option_map hushed_front told → s'.accepted ≡ s.accepted
-    → IfSome told (HasGivenAll s) → IfSome told' (HasGivenAll s')
-given-hushed s s' None told' is same given = subst (λ (o : Option FrontTold). IfSome o (HasGivenAll s')) (sym is) tt
-given-hushed s s' (Some t) told' is same given =
-    subst (λ (o : Option FrontTold). IfSome o (HasGivenAll s')) (sym is)
-    (record { left = given.left; read = given.read; given = given.given; taken = given.taken ∙ sym same })
-
--- ## A bind
-
-after_bind-clients : (answer : Bool) (listen : Addr) (control : Option ℕ) (t : FrontTold) → (after_bind answer listen control t).clients ≡ t.clients
-after_bind-clients true listen control t = refl
-after_bind-clients false listen control t = refl
-
-after_bind-comings : (answer : Bool) (listen : Addr) (control : Option ℕ) (t : FrontTold) → (after_bind answer listen control t).comings ≡ t.comings
-after_bind-comings true listen control t = refl
-after_bind-comings false listen control t = refl
-
--- after it the front is still the one that it was
-pub follows-bind : (old new : FrontSeen) (listen : Addr) (control : Option ℕ) (answer : Bool) → Binds old new listen control answer → Follows old new
-follows-bind old new listen control answer binds = record {
-  script = binds.script;
-  clients =
-      clients-mapped old.told new.told (after_bind answer listen control) (after_bind-clients answer listen control) binds.told_is;
-  comings =
-      comings-mapped old.told new.told (after_bind answer listen control) (after_bind-comings answer listen control) binds.told_is;
-  faults = where-stays (not answer) old.counts.faults new.counts.faults binds.faults;
-  ends = omega (arith, binds.ends);
-  commands = omega (arith, binds.commands);
-}
-
--- ## Command lines
-
-after_command-clients : (given : Bool) (t : FrontTold) → (after_command given t).clients ≡ t.clients
-after_command-clients true t = refl
-after_command-clients false t = refl
-
-after_command-comings : (given : Bool) (t : FrontTold) → (after_command given t).comings ≡ t.comings
-after_command-comings true t = refl
-after_command-comings false t = refl
-
--- after a call for one the front is still the one that it was
-pub follows-command : (old new : FrontSeen) (answer : Option (List ℕ)) → Commands old new answer → Follows old new
-follows-command old new answer commands = record {
-  script = commands.script;
-  clients = clients-mapped old.told new.told (after_command (is_some answer)) (after_command-clients (is_some answer)) commands.told_is;
-  comings = comings-mapped old.told new.told (after_command (is_some answer)) (after_command-comings (is_some answer)) commands.told_is;
-  faults = omega (arith, commands.faults);
-  ends = omega (arith, commands.ends);
-  commands = exactly-stays (is_some answer) old.counts.commands new.counts.commands commands.commands;
-}
-
-after_command-only : (given : Bool) (t : FrontTold) → OnlyReads t (after_command given t)
-after_command-only true t = record { rest = refl }
-after_command-only false t = record { rest = refl }
-
--- and only read one
-pub reads-command : (answer : Option (List ℕ)) (told told' : Option FrontTold) → told' ≡ option_map (after_command (is_some answer)) told
-    → TellsOn OnlyReads told told'
-reads-command answer None told' is = is
-reads-command answer (Some t) told' is = (after_command (is_some answer) t, is, after_command-only (is_some answer) t)
-
-pub reads-same : (told : Option FrontTold) → TellsOn OnlyReads told told
-reads-same None = refl
-reads-same (Some t) = (t, refl, record { rest = refl })
-
-pub reads-trans : (a b c : Option FrontTold) → TellsOn OnlyReads a b → TellsOn OnlyReads b c → TellsOn OnlyReads a c
-reads-trans None b c first second = subst (λ (o : Option FrontTold). TellsOn OnlyReads o c) first second
-reads-trans (Some t) b c first second =
-    let later = subst (λ (o : Option FrontTold). TellsOn OnlyReads o c) first.1 second in
-    (later.0, later.1, record { rest = later.2.rest ∙ ap (λ (x : FrontTold). record x { read = later.0.read }) first.2.rest })
-
--- the table is in step with it
-pub step-reads : (told told' : Option FrontTold) (s : State) → TellsOn OnlyReads told told' → IsInStep told s → IsInStep told' s
-step-reads None told' s reads step = subst (λ (o : Option FrontTold). IsInStep o s) (sym reads) tt
-step-reads (Some t) told' s reads step =
-    subst (λ (o : Option FrontTold). IsInStep o s) (sym reads.1)
-    (record {
-      listens = ap (λ (x : FrontTold). x.hushed) reads.2.rest ∙ step.listens;
-      taken =
-          record {
-            accepted = ap (λ (x : FrontTold). x.accepted) reads.2.rest ∙ step.taken.accepted;
-            none = ap (λ (x : FrontTold). x.turned_away) reads.2.rest ∙ step.taken.none;
-          };
-    })

@@ -17,7 +17,7 @@ use Rattle.conn_machine.specs.declared.row.Place.TheVariants.{Vacant, Spent, Hel
 use Rattle.conn_machine.specs.declared.row.Row.{Row}
 use Rattle.conn_machine.specs.declared.event.Event.TheVariants as event
 use Rattle.conn_machine.specs.declared.state.State.{State}
-use Rattle.conn_machine.specs.Rows.{is_linger_kind, is_lingering, is_parked, live_row}
+use Rattle.conn_machine.specs.Rows.{is_linger_kind, is_lingering, live_row}
 use Rattle.conn_machine.specs.States.{is_halted, is_signalled}
 use Rattle.conn_machine.specs.Table.{end_fits, held_row, is_allowed, linger_cause_fits, linger_tail_fits, may_wait, next}
 use Rattle.conn_machine.specs.Sound.{IsSound, KindFits, WaitsFor}

@@ -16,11 +16,12 @@ use Rattle.board.specs.declared.faults.BoardFault.{BoardFault}
 use Rattle.board.specs.Book.{SeenBook}
 use Rattle.worker_group.specs.Acts.{Acts, ActsInSteps, events_of}
 use Rattle.mpm_run.specs.ListenInside.{AsksFor}
-use Rattle.mpm_run.specs.RoundInside.{BreaksOff, GoesRound}
-use Rattle.mpm_run.specs.Times.{AreBehind, IsInformed, IsInformedSoFar, LacksOne, SignalsAre, SignalsBegin, TicksAre, TicksBegin, answers_of, given_slots, known_slots, latest, moment_for, rises, signals_in, signals_of, ticks_in, ticks_of, ticks_to}
+use Rattle.mpm_run.specs.RoundInside.{BreaksOff, GoesRound, PassesTime}
+use Rattle.mpm_run.specs.Times.{AreBehind, IsInformed, IsInformedOfTime, IsInformedSoFar, LacksOne, SignalsAre, SignalsBegin, TicksAre, TicksBegin, answers_of, given_slots, known_slots, latest, moment_for, rises, signals_in, signals_of, ticks_in, ticks_of, ticks_to}
 use Rattle.mpm_run.proofs.BrokenLemmas.{ends-silently}
 use Rattle.mpm_run.proofs.FrontLemmas.{WaitsMore}
 use Rattle.mpm_run.proofs.EventLemmas.{AreSilent, ticks-acts, signals-acts, ticks-kept, signals-kept, ticks-round, signals-round}
+use Rattle.mpm_run.proofs.TimedRoundLemmas.{timed-acts, timed_round}
 
 -- ## One answer more
 
@@ -162,6 +163,13 @@ informed-as waits calls a b alike moment informed = record {
   signals = if-some waits (λ ws. SignalsAre ws a) (λ ws. SignalsAre ws b) (λ ws are. signals-as ws a b alike are) informed.signals;
 }
 
+signals-begun : (waits : List WaitTold) (a b : SeenBook) → TellsAs a b → SignalsBegin waits a → SignalsBegin waits b
+signals-begun waits a b alike begun = record {
+  done = begun.done;
+  signals = behind-as a.folded.readies b.folded.readies begun.done _ _ (ap (λ (f : Folded). f.readies) alike.folded) alike.signals begun.signals;
+  begin = subst (λ (s : State). IsFrontOf (given_slots (length s.rows) waits) begun.done) (sym alike.base) begun.begin;
+}
+
 -- and so far as before
 pub so_far-as : (waits : Option (List WaitTold)) (calls : Option (List (ℕ × ℕ))) (a b : SeenBook) → TellsAs a b → IsInformedSoFar waits calls a
     → IsInformedSoFar waits calls b
@@ -174,12 +182,16 @@ so_far-as waits calls a b alike informed = record {
         lacks = begun.lacks;
       }) informed.ticks;
   signals =
-      if-some waits (λ ws. SignalsBegin ws a) (λ ws. SignalsBegin ws b)
-      (λ ws begun. record {
-        done = begun.done;
-        signals = behind-as a.folded.readies b.folded.readies begun.done _ _ (ap (λ (f : Folded). f.readies) alike.folded) alike.signals begun.signals;
-        begin = subst (λ (s : State). IsFrontOf (given_slots (length s.rows) ws) begun.done) (sym alike.base) begun.begin;
-      }) informed.signals;
+      if-some waits (λ ws. SignalsBegin ws a) (λ ws. SignalsBegin ws b) (λ ws begun. signals-begun ws a b alike begun) informed.signals;
+}
+
+-- and of time as before
+pub of_time-as : (waits : Option (List WaitTold)) (calls : Option (List (ℕ × ℕ))) (a b : SeenBook) → TellsAs a b → b.state.moment ≡ a.state.moment
+    → IsInformedOfTime waits calls a → IsInformedOfTime waits calls b
+of_time-as waits calls a b alike moment informed = record {
+  ticks = if-some calls (λ cs. TicksAre cs a) (λ cs. TicksAre cs b) (λ cs are. ticks-as cs a b alike moment are) informed.ticks;
+  signals =
+      if-some waits (λ ws. SignalsBegin ws a) (λ ws. SignalsBegin ws b) (λ ws begun. signals-begun ws a b alike begun) informed.signals;
 }
 
 front-whole : (xs : List ℕ) → IsFrontOf xs xs
@@ -321,6 +333,25 @@ informed-round answer moment ready waits waits' calls calls' a b informed is ask
     record {
       ticks = clock-round answer moment calls calls' _ a b asks grows later informed.ticks;
       signals = front-round answer ready _ waits waits' a b is grows informed.signals;
+    }
+
+-- so does one in which nothing was done but that time passed, of time
+pub informed-timed : (answer : Woke) (moment : ℕ) (ready : List ℕ) (waits waits' : Option (List WaitTold)) (calls calls' : Option (List (ℕ × ℕ)))
+    (a b : SeenBook) → IsInformed waits calls a → WaitsMore ready answer waits waits' → AsksFor answer a.state.moment calls calls' moment
+    → PassesTime (moment_for moment) a b → b.state.moment ≡ max a.state.moment (moment_for moment) → IsInformedOfTime waits' calls' b
+informed-timed answer moment ready waits waits' calls calls' a b informed is asks passes later =
+    let round = timed_round (moment_for moment) a b passes in
+    let acts = timed-acts (moment_for moment) a b passes in
+    let grows : GrowsBy (ticks_to a.state.moment (moment_for moment)) [] a b =
+    record {
+      base = acts.base;
+      folded = acts.folded;
+      ticks_are = ticks-acts _ a b acts ∙ ap (λ (xs : List ℕ). ticks_of a.history ++ xs) (ticks-round round);
+      signals_are = signals-acts _ a b acts ∙ ap (λ (xs : List ℕ). signals_of a.history ++ xs) (signals-round round);
+    } in
+    record {
+      ticks = clock-round answer moment calls calls' [] a b asks grows later informed.ticks;
+      signals = front-broken answer ready _ [] waits waits' a b is grows (_, refl) informed.signals;
     }
 
 -- so does one that was broken off, so far

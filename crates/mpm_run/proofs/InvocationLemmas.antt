@@ -1,7 +1,7 @@
 -- What words that have one of the forms name and do.
-use Rattle.std.proofs.Common.{ℕ, ◌≤◌, List, inl, inr}
+use Rattle.std.proofs.Common.{ℕ, List, inl, inr}
 use Rattle.mpm_base.specs.declared.script_line.CommandWord.{CommandWord}
-use Rattle.command_words.specs.Invocations.{CallsFront, IsLoadWords, IsScriptWords, IsSendWords, IsServeWords, IsTestWords, NamesConfig, NamesFile}
+use Rattle.command_words.specs.Invocations.{IsScriptWords, IsSendWords, IsServeWords, IsTestWords, NamesConfig, NamesFile}
 
 pub serve-config : (words : List (List ℕ)) (name : List ℕ) → IsServeWords words name → NamesConfig words name
 serve-config words name is = inl is

@@ -62,10 +62,11 @@ turned-handed link told told' told'' (Some l) s s' handed step is same turned = 
 
 -- a connection was taken and given up, or its link was turned away
 pub hands-ended : {L : Type 0} (link : L) (l : Option LinkTold) (told told' told'' : Option FrontTold) (s a b : State) → IsHandedOut told l → IsInStep told s
-    → told' ≡ option_map (after_accept (arrival.Some link)) told → a.accepted ≡ s.accepted → EndsTaking l told' told'' a b → HandsOut told'' b
-hands-ended link l told told' told'' s a b handed step is same (inl taken) =
-    hands-step told'' b (taken.step (step-taken link told told' s b is (taken.accepted ∙ ap next_count same) step))
-hands-ended link l told told' told'' s a b handed step is same (inr refused) =
+    → told' ≡ option_map (after_accept (arrival.Some link)) told → a.accepted ≡ s.accepted → b.going ≡ s.going → EndsTaking l told' told'' a b
+    → HandsOut told'' b
+hands-ended link l told told' told'' s a b handed step is same going (inl taken) =
+    hands-step told'' b (taken.step (step-taken link told told' s b is (taken.accepted ∙ ap next_count same) going step))
+hands-ended link l told told' told'' s a b handed step is same going (inr refused) =
     turned-handed link told told' told'' l s b handed step is (refused.accepted ∙ same) refused.told_is
 
 -- ## Where nothing was taken
@@ -91,7 +92,7 @@ takes-links : (t : FrontTold) (s : State) → HandsOutTaken s t ⊎ TurnsOneAway
 takes-links t s (inl taken) stopped = inl taken
 takes-links t s (inr one) stopped = inr (stopped, one)
 
-handed-down : (turns : Result End BoardFault) (told : Option FrontTold) (s s' : State) → HaltsAs turns s'.going → s'.accepted ≡ s.accepted
+handed-down : (turns : Result End BoardFault) (told : Option FrontTold) (s s' : State) → HaltsAs turns s.going s'.going → s'.accepted ≡ s.accepted
     → OnOk turns (IsInStep told s) → OnErr turns (IfSome told (λ t. HandsOutTaken s t ⊎ TurnsOneAway s t))
     → IfSome (option_map hushed_front told) (TakesLinks s')
 handed-down turns None s s' halts same step links = tt
@@ -101,7 +102,7 @@ handed-down (Err fault) (Some t) s s' halts same step links =
     takes-links (hushed_front t) s' (still-handed t (hushed_front t) s s' refl refl refl same links) halts
 
 -- what became of the links once the server has stopped
-pub handed-out : (turns : Result End BoardFault) (told told' : Option FrontTold) (s s' : State) → HaltsAs turns s'.going → s'.accepted ≡ s.accepted
+pub handed-out : (turns : Result End BoardFault) (told told' : Option FrontTold) (s s' : State) → HaltsAs turns s.going s'.going → s'.accepted ≡ s.accepted
     → told' ≡ option_map hushed_front told → OnOk turns (IsInStep told s) → OnErr turns (HandsOut told s) → HandedOut told' s'
 handed-out turns told told' s s' halts same is step links =
     subst (λ (o : Option FrontTold). IfSome o (TakesLinks s')) (sym is) (handed-down turns told s s' halts same step links)

@@ -1,6 +1,6 @@
 -- When the turns of the listener are over, and how one goes on to the next.
-use Rattle.std.proofs.Common.{◌≡◌, inl, inr, IfSome, IsErrAnd, OnErr, OnOk, Option, None, Result, Ok, Err, [], is_some, ap, sym, subst, ◌∙◌}
-use Rattle.mpm_base.specs.Count.{Rises, RisesExactlyWhere, RisesWhere}
+use Rattle.std.proofs.Common.{◌≡◌, inl, inr, IfSome, IsErrAnd, OnErr, OnOk, Option, None, Some, Result, Ok, Err, [], is_some, ap, sym, subst, ◌∙◌}
+use Rattle.mpm_base.specs.Count.{RisesExactlyWhere, RisesWhere}
 use Rattle.mpm_base.specs.Front.{GoesForward, TellsOn, is_ended, moments_in, wait_failed}
 use Rattle.mpm_base.specs.declared.front.Woke.{Woke}
 use Rattle.mpm_base.specs.declared.front.Woke.TheVariants as woke
@@ -8,6 +8,7 @@ use Rattle.conn_machine.specs.declared.folded.Folded.{Folded}
 use Rattle.conn_state.specs.Known.{KnownOutside}
 use Rattle.board.specs.declared.faults.BoardFault.{BoardFault}
 use Rattle.board.specs.Board.{SeenBoard}
+use Rattle.board.specs.Editions.{GenerationsKeepTheirEditions}
 use Rattle.board.specs.Finds.{next_deadline_of}
 use Rattle.worker_group.specs.Acts.{ActsInSteps}
 use Rattle.worker_group.specs.Service.{IsUp, RefusalLasts}
@@ -15,24 +16,25 @@ use Rattle.mpm_run.specs.declared.listen.End.{End}
 use Rattle.mpm_run.specs.declared.listen.End.TheVariants as end
 use Rattle.mpm_run.specs.declared.listen.Pause.{Pause}
 use Rattle.mpm_run.specs.declared.listen.Rest.{Rest}
-use Rattle.mpm_run.specs.FoldsInside.{FoldsOn}
 use Rattle.mpm_run.specs.Listen.{HasNoLive}
-use Rattle.mpm_run.specs.ListenInside.{Follows, HandsOut, HasNoneToHeed, HasOneToHeed, HasReadAll, HasStarted, HeedsUntil, IsAtStart, IsInStep, IsOpening, IsRestful, TookAll, TurnsEnd, asked_children, contacts_of}
-use Rattle.mpm_run.specs.RoundInside.{NoneHas, StartsAsAsked, StartsSome}
+use Rattle.mpm_run.specs.ListenInside.{Follows, HandsOut, HandsOutEach, HasNoneToHeed, HasReadAll, HasStarted, HeedsUntil, IsAtStart, IsInStep, IsOpening, IsRestful, ListensAsServed, TakesInTo, TookAll, TurnsEnd, TurnsInform, asked_children, contacts_of}
+use Rattle.mpm_run.specs.RoundInside.{GoesRound, NoneHas, StartsAsAsked, StartsSome}
+use Rattle.mpm_run.specs.Standing.{TurnsStand, owed_at}
 use Rattle.mpm_run.specs.Started.{BeginsWithStarts}
 use Rattle.mpm_run.specs.Stops.{HasGivenAll}
-use Rattle.mpm_run.specs.Times.{IsInformed, IsInformedSoFar, waits_of}
+use Rattle.mpm_run.specs.Times.{IsInformed, moment_for, waits_of}
 use Rattle.mpm_run.proofs.BrokenLemmas.{ends-silently}
 use Rattle.mpm_run.proofs.ChildrenLemmas.{begins-broken, begins-more, begins-round, begins-waited}
 use Rattle.mpm_run.proofs.ClosingLemmas.{GoesOnFrom}
-use Rattle.mpm_run.proofs.CommandLemmas.{heeded-wait, heeds-asked, heeds-ended, heeds-failed, heeds-none}
+use Rattle.mpm_run.proofs.CommandLemmas.{heeded-wait, heeds-asked, heeds-ended, heeds-failed, heeds-gone, heeds-none, heeds-overdue}
 use Rattle.mpm_run.proofs.CountLemmas.{rises-behind}
-use Rattle.mpm_run.proofs.FrontLemmas.{all-taken, failed-last, only-takes, takes-same}
+use Rattle.mpm_run.proofs.FrontLemmas.{all-taken, each-handed, failed-last, only-takes, step-listens, takes-same}
 use Rattle.mpm_run.proofs.LinkLemmas.{hands-step}
-use Rattle.mpm_run.proofs.PaceLemmas.{HasPatience, IsAfter, KeepsPace, abreast-round, pace-broken, pace-round, pace-served, pace-started, patience-started, patience-waited, served-patience}
+use Rattle.mpm_run.proofs.PaceLemmas.{HasPatience, IsAfter, KeepsPace, abreast-round, pace-broken, pace-round, pace-served, pace-started, pace-timed, patience-started, patience-waited, served-patience}
 use Rattle.mpm_run.proofs.PassLemmas.{serves-acts}
-use Rattle.mpm_run.proofs.TurnLemmas.{HasBroken, HasBrokenOff, HasGoneRound, HasServedRows, InTime, IsBetween, Watching, between-idle, between-round, between-served, broken-between, broken-round, kept-waited}
-use Rattle.mpm_run.proofs.WaitLemmas.{HasWaited, SeenListener}
+use Rattle.mpm_run.proofs.StandingTurnLemmas.{StandsFrom}
+use Rattle.mpm_run.proofs.TurnLemmas.{HasBroken, HasBrokenOff, HasGoneRound, HasKept, HasServedRows, InTime, IsBetween, Watching, between-idle, between-round, between-served, broken-between, broken-round, did-some, informed-gone, informed-passed, kept-round, kept-waited, stands-round}
+use Rattle.mpm_run.proofs.WaitLemmas.{HasWaited, SeenListener, stands_at}
 
 -- ## What is said of them
 
@@ -49,7 +51,7 @@ pub record IsBeforeTurn (known : Option KnownOutside) (first : SeenListener) (re
 abbrev pub AreOver : Option KnownOutside → Result End BoardFault → SeenListener → SeenListener → Type 0
 AreOver known turns first now =
     record {
-      folded : FoldsOn known first.board.book now.board.book;
+      stands : TurnsStand known first.config turns (stands_at first) (stands_at now);
       asked : StartsAsAsked first.board.book now.board.book;
       passes : now.board.book.passes ≡ first.board.book.passes;
       free : NoneHas now.board.book;
@@ -60,38 +62,46 @@ AreOver known turns first now =
       started : IsOpening first.board.book → HasStarted (waits_of first.front.told) (waits_of now.front.told) first.board.book now.board.book;
       watched : Watching first → Watching now;
       step : OnOk turns (IsInStep now.front.told now.board.book.state);
+      listens : IfSome now.front.told (ListensAsServed now.board.book.state);
       links : OnErr turns (HandsOut now.front.told now.board.book.state);
       clock : is_some now.calls ≡ is_some first.calls;
       time : InTime first → InTime now;
       patient : IsAtStart first.front.told first.board.book → HasPatience now;
       ends : TurnsEnd turns first.front now.front now.board.book;
-      informed : OnOk turns (IsInformed (waits_of now.front.told) now.calls now.board.book);
-      begun : OnErr turns (IsInformedSoFar (waits_of now.front.told) now.calls now.board.book);
+      informed : TurnsInform turns (waits_of now.front.told) now.calls now.board.book;
     }
 
+-- what holds of a listener whose turns came to this end
+record HasCome (known : Option KnownOutside) (e : End) (first now : SeenListener) : Type 0 where
+  kept : HasKept first now
+  stands : StandsFrom known [] (owed_at (Some e)) first now
+  step : IsInStep now.front.told now.board.book.state
+  informed : TurnsInform (Ok e) (waits_of now.front.told) now.calls now.board.book
+
 -- those that came to an end
-over-ok : (known : Option KnownOutside) (e : End) (first now : SeenListener) → IsBetween known first now → is_some now.calls ≡ is_some first.calls → IfSome now.front.told (HeedsUntil (Ok e))
+over-ok : (known : Option KnownOutside) (e : End) (first now : SeenListener) → HasCome known e first now → is_some now.calls ≡ is_some first.calls
+    → IfSome now.front.told (HeedsUntil (Ok e))
     → (IsOpening first.board.book → now.board.book.folded.entries ≡ 0 → BeginsWithStarts (asked_children first.board.book.base) now.board.book.history)
     → (IsAtStart first.front.told first.board.book → HasPatience now) → TurnsEnd (Ok e) first.front now.front now.board.book → AreOver known (Ok e) first now
-over-ok known e first now between clock heeded started patient ends = record {
-  folded = between.kept.folded;
-  asked = between.kept.asked;
-  passes = between.kept.passes;
-  free = between.kept.free;
-  up = between.kept.up;
-  follows = between.kept.follows;
-  contacts = between.kept.contacts;
+over-ok known e first now come clock heeded started patient ends = record {
+  stands = come.stands;
+  asked = come.kept.asked;
+  passes = come.kept.passes;
+  free = come.kept.free;
+  up = come.kept.up;
+  follows = come.kept.follows;
+  contacts = come.kept.contacts;
   heeded = heeded;
   started = λ opening none. inr (started opening none);
-  watched = between.kept.watched;
-  step = between.step;
+  watched = come.kept.watched;
+  step = come.step;
+  listens = step-listens now.front.told now.board.book.state come.step;
   links = tt;
   clock = clock;
-  time = between.kept.time;
+  time = come.kept.time;
   patient = patient;
   ends = ends;
-  informed = between.informed;
-  begun = tt;
+  informed = come.informed;
 }
 
 -- those that were broken off for the fault
@@ -103,7 +113,7 @@ over-err : (known : Option KnownOutside) (turns : Result End BoardFault) (fault 
     → AreOver known turns first now
 over-err known (Ok e) fault first now is broken clock heeded started patient links lasts = absurd is
 over-err known (Err f) fault first now is broken clock heeded started patient links lasts = record {
-  folded = broken.kept.folded;
+  stands = broken.stands;
   asked = broken.kept.asked;
   passes = broken.kept.passes;
   free = broken.kept.free;
@@ -114,13 +124,13 @@ over-err known (Err f) fault first now is broken clock heeded started patient li
   started = started;
   watched = broken.kept.watched;
   step = tt;
+  listens = broken.listens;
   links = links;
   clock = clock;
   time = broken.kept.time;
   patient = patient;
   ends = subst (λ (x : BoardFault). RefusalLasts x now.board.book) (sym is) lasts;
-  informed = tt;
-  begun = broken.so_far;
+  informed = broken.so_far;
 }
 
 -- ## The start
@@ -160,10 +170,11 @@ module _ (steps : ActsInSteps) (known : Option KnownOutside) (rest : Rest) (paus
   waited-entries : w.board.book.folded.entries ≡ 0 → a.board.book.folded.entries ≡ 0
   waited-entries none = subst (λ (b : SeenBoard). b.book.folded.entries ≡ 0) waited.board none
 
-  idle-over : (e : End) → moments_in pause.woke ≡ [] → IfSome w.front.told (HeedsUntil (Ok e)) → TurnsEnd (Ok e) first.front w.front w.board.book
+  -- a turn that is over behind a wait which gave no moment
+  idle-over : (e : End) → HasCome known e first w → IfSome w.front.told (HeedsUntil (Ok e)) → TurnsEnd (Ok e) first.front w.front w.board.book
       → AreOver known (Ok e) first w
-  idle-over e none heeded ends =
-      over-ok known e first w (between-idle rest pause a w steps known first before.between waited none) (waited.clock ∙ before.clock) heeded
+  idle-over e come heeded ends =
+      over-ok known e first w come (waited.clock ∙ before.clock) heeded
       (λ opening none. begins-waited _ rest pause a w waited (before.started opening (waited-entries none)))
       (λ start. patience-waited rest pause a w (before.paced start).patient waited (only-takes _ _ (takes-same _))) ends
 
@@ -174,7 +185,9 @@ module _ (steps : ActsInSteps) (known : Option KnownOutside) (rest : Rest) (paus
   pub over-ended : pause.woke ≡ woke.Ended → HasNoLive w.board.book.state → AreOver known (Ok end.Ended) first w
   over-ended is live =
       let forward = subst (λ (x : Woke). TellsOn (GoesForward rest.until rest.quiet x w.ready) a.front.told w.front.told) is waited.waits.tells in
-      idle-over end.Ended (ap moments_in is) (heeds-ended w.front.told heeded-then)
+      let between = between-idle rest pause a w steps known first before.between waited before.heeded (ap moments_in is) in
+      idle-over end.Ended (record { kept = between.kept; stands = between.stands; step = between.step; informed = between.informed })
+      (heeds-ended w.front.told heeded-then)
       (record {
         going = going-then;
         live = live;
@@ -187,13 +200,18 @@ module _ (steps : ActsInSteps) (known : Option KnownOutside) (rest : Rest) (paus
                   subst (λ (b : SeenBoard). IfSome w.front.told (HasGivenAll b.book.state)) (sym waited.board)
                   (all-taken rest.until rest.quiet w.ready a.front.told w.front.told a.board.book.state forward before.between.step);
             };
+        each =
+            subst (λ (b : SeenBoard). IfSome w.front.told (HandsOutEach b.book.state)) (sym waited.board)
+            (each-handed rest.until rest.quiet w.ready a.front.told w.front.told a.board.book.state forward before.between.step);
       })
 
   -- one failed
   pub over-failed : pause.woke ≡ woke.Failed → AreOver known (Ok end.Failed) first w
   over-failed is =
       let forward = subst (λ (x : Woke). TellsOn (GoesForward rest.until rest.quiet x w.ready) a.front.told w.front.told) is waited.waits.tells in
-      idle-over end.Failed (ap moments_in is) (heeds-failed w.front.told heeded-then) (
+      let between = between-idle rest pause a w steps known first before.between waited before.heeded (ap moments_in is) in
+      idle-over end.Failed (record { kept = between.kept; stands = between.stands; step = between.step; informed = between.informed })
+      (heeds-failed w.front.told heeded-then) (
         going-then,
         rises-behind first.front.counts.faults a.front.counts.faults w.front.counts.faults before.between.kept.follows.faults
             (subst (λ (x : Woke). RisesWhere (wait_failed x) a.front.counts.faults w.front.counts.faults) is waited.waits.faults),
@@ -201,70 +219,110 @@ module _ (steps : ActsInSteps) (known : Option KnownOutside) (rest : Rest) (paus
       )
 
   -- a round was broken off for the fault
-  pub over-broken : (turns : Result End BoardFault) (fault : BoardFault) (b : SeenListener) → IsErrAnd turns (λ f. f ≡ fault) → HasBrokenOff fault pause w b
+  pub over-broken : (turns : Result End BoardFault) (fault : BoardFault) (b : SeenListener) → IsErrAnd turns (λ f. f ≡ fault) → HasBrokenOff known fault pause w b
       → IfSome b.front.told HasNoneToHeed → HandsOut b.front.told b.board.book.state → RefusalLasts fault b.board.book → AreOver known turns first b
   over-broken turns fault b is broken heeded links lasts =
       let ends = ends-silently steps fault broken.round.book b.board.book broken.round.acts.row broken.round.last in
-      over-err known turns fault first b is (broken-round steps known fault rest pause first a w b before.between waited broken)
+      over-err known turns fault first b is (broken-round steps known fault rest pause first a w b before.between waited before.heeded broken)
       (ap is_some broken.took.calls ∙ waited.clock ∙ before.clock) heeded
       (λ opening none. inr (begins-broken steps _ fault _ _ rest pause a w b waited broken.round
       (before.started opening (waited-entries (ap (λ (f : Folded). f.entries) (sym (ends.acts.folded ∙ broken.round.acts.folded)) ∙ none)))))
       (λ start. pace-broken steps fault rest pause a w b (before.paced start) waited before.between.step broken.round broken.took.front broken.took.calls)
       links lasts
 
-  module _ (b : SeenListener) (gone : HasGoneRound pause w b) where
-    -- what holds behind a round that came to its end
+  -- what holds behind a round that came to its end
+  clock-then : (ended : Option End) (b : SeenListener) → HasGoneRound known ended pause w b → is_some b.calls ≡ is_some first.calls
+  clock-then ended b gone = ap is_some gone.took.calls ∙ waited.clock ∙ before.clock
+
+  started-then : (ended : Option End) (b : SeenListener) → HasGoneRound known ended pause w b → IsOpening first.board.book → b.board.book.folded.entries ≡ 0
+      → BeginsWithStarts (asked_children first.board.book.base) b.board.book.history
+  started-then ended b gone opening none =
+      let did = did-some ended (moment_for pause.moment) w.ready w.board.book b.board.book gone.round in
+      begins-round _ rest pause a w b _ waited did.acts
+      (before.started opening (waited-entries (ap (λ (f : Folded). f.entries) (sym did.acts.folded) ∙ none)))
+
+  patient-then : (b : SeenListener) → GoesRound (moment_for pause.moment) w.ready w.board.book b.board.book → (ended : Option End) → HasGoneRound known ended pause w b
+      → IsAtStart first.front.told first.board.book → HasPatience b
+  patient-then b round ended gone start =
+      pace-round rest pause a w b (before.paced start) waited before.between.step round gone.took.front gone.took.calls
+
+  -- it ended the turns
+  over-gone : (e : End) (b : SeenListener) (gone : HasGoneRound known (Some e) pause w b) → TurnsInform (Ok e) (waits_of b.front.told) b.calls b.board.book
+      → IfSome b.front.told (HeedsUntil (Ok e)) → (IsAtStart first.front.told first.board.book → HasPatience b)
+      → TurnsEnd (Ok e) first.front b.front b.board.book → AreOver known (Ok e) first b
+  over-gone e b gone informed heeded patient ends =
+      over-ok known e first b
+      (record {
+        kept = kept-round steps known (Some e) rest pause first a w b before.between waited gone;
+        stands = stands-round steps known (Some e) rest pause first a w b before.between waited before.heeded gone;
+        step = gone.step;
+        informed = informed;
+      })
+      (clock-then (Some e) b gone) heeded (started-then (Some e) b gone) patient ends
+
+  informed-then : (b : SeenListener) → GoesRound (moment_for pause.moment) w.ready w.board.book b.board.book → (ended : Option End) → HasGoneRound known ended pause w b
+      → IsInformed (waits_of b.front.told) b.calls b.board.book
+  informed-then b round ended gone = informed-gone known rest pause first a w b before.between waited gone.took round gone.moment
+
+  -- a command line asked to stop, or a graceful stop was out of time, or at its end
+  over-taken : (e : End) (b : SeenListener) → HasGoneRound known (Some e) pause w b → TakesInTo (Some e) w.front b.front b.board.book.state
+      → AreOver known (Ok e) first b
+  over-taken end.Asked b gone ends =
+      over-gone end.Asked b gone (informed-then b gone.round (Some end.Asked) gone) (heeds-asked b.front.told ends.2)
+      (patient-then b gone.round (Some end.Asked) gone) (
+        ends.0,
+        rises-behind first.front.counts.commands w.front.counts.commands b.front.counts.commands
+            (kept-waited rest pause a w steps first before.between.kept waited).follows.commands ends.1,
+      )
+  over-taken end.Overdue b gone ends =
+      over-gone end.Overdue b gone (informed-passed known rest pause first a w b before.between waited gone.took gone.round gone.moment)
+      (heeds-overdue b.front.told ends.1)
+      (λ start. pace-timed rest pause a w b (before.paced start) waited before.between.step gone.round gone.took.front gone.took.calls) ends.0
+  over-taken end.Gone b gone ends =
+      over-gone end.Gone b gone (informed-then b gone.round (Some end.Gone) gone) (heeds-gone b.front.told ends.1)
+      (patient-then b gone.round (Some end.Gone) gone) ends.0
+  over-taken end.Ended b gone ends = absurd ends
+  over-taken end.Failed b gone ends = absurd ends
+
+  pub over-ended_for : (ended : Option End) (e : End) (b : SeenListener) → ended ≡ Some e → HasGoneRound known ended pause w b
+      → TakesInTo ended w.front b.front b.board.book.state → AreOver known (Ok e) first b
+  over-ended_for ended e b is gone ends =
+      over-taken e b (subst (λ (o : Option End). HasGoneRound known o pause w b) is gone)
+      (subst (λ (o : Option End). TakesInTo o w.front b.front b.board.book.state) is ends)
+
+  module _ (b : SeenListener) (gone : HasGoneRound known None pause w b) where
+    -- what holds behind a round that didn't end the turns
     between-then : IsBetween known first b
-    between-then = between-round steps known rest pause first a w b before.between waited gone
-
-    clock-then : is_some b.calls ≡ is_some first.calls
-    clock-then = ap is_some gone.took.calls ∙ waited.clock ∙ before.clock
-
-    started-then : IsOpening first.board.book → b.board.book.folded.entries ≡ 0 → BeginsWithStarts (asked_children first.board.book.base) b.board.book.history
-    started-then opening none =
-        begins-round _ rest pause a w b _ waited gone.round.acts
-        (before.started opening (waited-entries (ap (λ (f : Folded). f.entries) (sym gone.round.acts.folded) ∙ none)))
-
-    patient-then : IsAtStart first.front.told first.board.book → HasPatience b
-    patient-then start = pace-round rest pause a w b (before.paced start) waited before.between.step gone.round gone.took.front gone.took.calls
-
-    -- a command line asked to stop
-    pub over-asked : Rises w.front.counts.commands b.front.counts.commands → IfSome b.front.told HasOneToHeed → AreOver known (Ok end.Asked) first b
-    over-asked rose heeded =
-        over-ok known end.Asked first b between-then clock-then (heeds-asked b.front.told heeded) started-then patient-then (
-          gone.took.up,
-          rises-behind first.front.counts.commands w.front.counts.commands b.front.counts.commands
-              (kept-waited rest pause a w steps known first before.between.kept waited).follows.commands rose,
-        )
+    between-then = between-round steps known rest pause first a w b before.between waited before.heeded gone
 
     started-served : (d : SeenListener) → HasServedRows b d → IsOpening first.board.book → d.board.book.folded.entries ≡ 0
         → BeginsWithStarts (asked_children first.board.book.base) d.board.book.history
     started-served d served opening none =
         let did = serves-acts steps b.board d.board served.serves in
         begins-more 1 did.events None _ b.board.book d.board.book did.acts
-        (started-then opening (ap (λ (f : Folded). f.entries) (sym did.acts.folded) ∙ none))
+        (started-then None b gone opening (ap (λ (f : Folded). f.entries) (sym did.acts.folded) ∙ none))
 
     -- a call was refused in the service for the fault
-    pub over-served : (turns : Result End BoardFault) (fault : BoardFault) (d : SeenListener) → IsErrAnd turns (λ f. f ≡ fault) → HasServedRows b d
+    pub over-served : GenerationsKeepTheirEditions → (turns : Result End BoardFault) (fault : BoardFault) (d : SeenListener) → IsErrAnd turns (λ f. f ≡ fault) → HasServedRows b d
         → IfSome b.front.told HasNoneToHeed → RefusalLasts fault d.board.book → AreOver known turns first d
-    over-served turns fault d is served heeded lasts =
-        let between = between-served steps known first b d between-then served in
-        over-err known turns fault first d is (broken-between known first d between) (ap (λ (x : SeenListener). is_some x.calls) served.others ∙ clock-then)
+    over-served keep turns fault d is served heeded lasts =
+        let between = between-served keep steps known first b d between-then served in
+        over-err known turns fault first d is (broken-between known first d between) (ap (λ (x : SeenListener). is_some x.calls) served.others ∙ clock-then None b gone)
         (subst (λ (x : SeenListener). IfSome x.front.told HasNoneToHeed) (sym served.others) heeded)
-        (λ opening none. inr (started-served d served opening none)) (λ start. served-patience steps b d (patient-then start) served)
-        (hands-step d.front.told d.board.book.state between.step) lasts
+        (λ opening none. inr (started-served d served opening none))
+        (λ start. served-patience steps b d (patient-then b gone.round None gone start) served) (hands-step d.front.told d.board.book.state between.step) lasts
 
     -- before the next turn
-    pub turn-served : GoesOnFrom → (rest' : Rest) (d : SeenListener) → IsAfter b → IsAfter d → HasServedRows b d → IfSome b.front.told HasNoneToHeed
-        → TookAll b.front.told b.board.book.state → HasReadAll b.front.told → rest'.until ≡ next_deadline_of b.board.book.state
+    pub turn-served : GenerationsKeepTheirEditions → GoesOnFrom → (rest' : Rest) (d : SeenListener) → IsAfter b → IsAfter d → HasServedRows b d
+        → IfSome b.front.told HasNoneToHeed → TookAll b.front.told b.board.book.state → HasReadAll b.front.told → rest'.until ≡ next_deadline_of b.board.book.state
         → IsRestful rest'.quiet b.board.book.state → IsBeforeTurn known first rest' d
-    turn-served law rest' d here there served heeded took read until quiet = record {
-      between = between-served steps known first b d between-then served;
-      clock = ap (λ (x : SeenListener). is_some x.calls) served.others ∙ clock-then;
+    turn-served keep law rest' d here there served heeded took read until quiet = record {
+      between = between-served keep steps known first b d between-then served;
+      clock = ap (λ (x : SeenListener). is_some x.calls) served.others ∙ clock-then None b gone;
       heeded = subst (λ (x : SeenListener). IfSome x.front.told HasNoneToHeed) (sym served.others) heeded;
       started = started-served d served;
       paced =
           λ start. pace-served steps law rest' b d here there
-          (abreast-round rest pause a w b (before.paced start).abreast waited gone.moment gone.took.front gone.took.calls) (patient-then start) took read served
-          until quiet;
+          (abreast-round rest pause a w b (before.paced start).abreast waited gone.moment gone.took.front gone.took.calls)
+          (patient-then b gone.round None gone start) took read served until quiet;
     }

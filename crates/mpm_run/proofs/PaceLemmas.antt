@@ -1,16 +1,19 @@
 -- That the listener keeps pace with a patient front, and lets time pass only where nothing is left to be done.
-use Rattle.std.proofs.Common.{◌≡◌, ◌≢◌, ◌⊎◌, ◌<◌, ◌≤◌, ◌-◌, inl, inr, ℕ, Bool, true, false, cond, if◌then◌else◌, List, [], ◌∷◌, ◌++◌, find, length, max, min, nat_le, nat_lt, Option, None, Some, is_some, option_map, IfSome, Contains, Result, refl, sym, ap, subst, ◌∙◌, append-nil, arith}
+use Rattle.std.proofs.Common.{◌≡◌, ◌≢◌, ◌⊎◌, ◌<◌, ◌≤◌, ◌-◌, inl, inr, ℕ, Bool, true, false, not, ◌&&◌, cond, if◌then◌else◌, List, [], ◌∷◌, ◌++◌, find, length, max, min, nat_le, nat_lt, Option, None, Some, is_some, option_map, IfSome, Contains, Result, refl, sym, ap, subst, ◌∙◌, append-nil, arith}
 use Rattle.std.proofs.lemmas.Bool.Decides.{nat_tests}
 use Rattle.std.proofs.lemmas.List.Elements.{Contains-append_left, Contains-append_right}
-use Rattle.std.specs.List.{flat_map}
+use Rattle.std.specs.List.{flat_map, list_any}
 use Rattle.mpm_base.specs.Front.{FrontSeen, FrontTold, GoesForward, HasNoneToTake, IsAnswerOf, IsPatient, LetsTimePass, TellsOn, WaitTold, Backlog, after_hush, earlier, hushed_front, next_coming}
 use Rattle.mpm_base.specs.declared.front.Woke.{Woke}
 use Rattle.mpm_base.specs.declared.front.Woke.TheVariants as woke
 use Rattle.mpm_base.specs.declared.conn.ConnName.{ConnName}
 use Rattle.conn_machine.specs.declared.event.Event.{Event}
+use Rattle.conn_machine.specs.declared.row.Row.{Row}
 use Rattle.conn_machine.specs.declared.state.State.{State}
+use Rattle.conn_machine.specs.Rows.{is_vacant}
 use Rattle.conn_machine.specs.Runs.{after}
 use Rattle.conn_machine.specs.Sound.{IsSound}
+use Rattle.conn_machine.specs.States.{is_serving, pick_child}
 use Rattle.conn_state.specs.Conn.{IsFrontOf}
 use Rattle.board.specs.declared.faults.BoardFault.{BoardFault}
 use Rattle.board.specs.Board.{SeenBoard}
@@ -20,15 +23,15 @@ use Rattle.worker_group.specs.Acts.{Acts, ActsInSteps}
 use Rattle.mpm_run.specs.declared.listen.End.{End}
 use Rattle.mpm_run.specs.declared.listen.Pause.{Pause}
 use Rattle.mpm_run.specs.declared.listen.Rest.{Rest}
-use Rattle.mpm_run.specs.ClosingInside.{IsHaltedWay, LetsGo}
 use Rattle.mpm_run.specs.ListenInside.{HasReadAll, IsAtStart, IsInStep, IsRestful, KeepsStep, NoneOverdue, OnlyReadsAndTakes, TookAll}
 use Rattle.mpm_run.specs.Patient.{ArePatient, IsAtRest, IsPatientRun, IsSteady, PassesPatiently}
-use Rattle.mpm_run.specs.RoundInside.{AreServed, BreaksOff, GoesRound, RetiresSome, Round, StartsSome, halt_events, round_events}
+use Rattle.mpm_run.specs.RoundInside.{AreServed, BreaksOff, GoesDown, GoesRound, PassesTime, Round, StartsSome, round_events}
 use Rattle.mpm_run.specs.Times.{moment_for, ticks_in, ticks_to}
 use Rattle.mpm_run.proofs.BrokenLemmas.{ends-silently}
 use Rattle.mpm_run.proofs.ClosingLemmas.{GoesOnFrom, acts-state}
 use Rattle.mpm_run.proofs.EventLemmas.{silent-gone, silent-halts, silent-retires, silent-starts, ticks-round}
 use Rattle.mpm_run.proofs.PassLemmas.{serves-acts}
+use Rattle.mpm_run.proofs.TimedRoundLemmas.{timed-acts, timed_round}
 use Rattle.mpm_run.proofs.TurnLemmas.{HasServedRows}
 use Rattle.mpm_run.proofs.UnsignalledLemmas.{none-signalled}
 use Rattle.mpm_run.proofs.PatientLemmas.{MomentOf, echoed-before, none-late-then, patient-round, patient-served, patient-silent, patient-weaker, told-before}
@@ -171,6 +174,14 @@ patience-before rest pause a w b steady patient u =
 
 -- ## Time that passes
 
+not-true : (b : Bool) → not b ≡ true → b ≡ false
+not-true true is = absurd (cc is)
+not-true false is = refl
+
+-- a server that takes no connections has no child for one
+unaccepting : (s : State) → is_serving s.going ≡ false → acceptable s ≡ None
+unaccepting s off = ap (λ (b : Bool). if b && list_any (λ (r : Row). is_vacant r.place) s.rows then pick_child s else None) off
+
 none-waits : (told : Option FrontTold) (t : FrontTold) (s : State) → told ≡ Some t → IsInStep told s → t.failed ≡ false → TookAll told s
     → 0 < t.arrived - t.accepted → acceptable s ≡ None
 none-waits told t s is step steady (inl none) waits = none
@@ -179,7 +190,7 @@ none-waits told t s is step steady (inr (inl nothing)) waits =
     let none : HasNoneToTake t = subst (λ (o : Option FrontTold). IfSome o HasNoneToTake) is nothing in
     elim none [
       | inl all ↦ absurd (omega (arith, all, waits))
-      | inr hushed ↦ let open_still = listens.listens in absurd (cc (hushed, open_still))
+      | inr hushed ↦ unaccepting s (not-true (is_serving s.going) (sym listens.listens ∙ hushed))
     ]
 none-waits told t s is step steady (inr (inr failed)) waits =
     let has : t.failed ≡ true = subst (λ (o : Option FrontTold). IfSome o (λ x. x.failed ≡ true)) is failed in
@@ -280,6 +291,16 @@ pace-round rest pause a w b paced waited step round takes calls =
     let here : GoesRound (moment_for pause.moment) w.ready a.board.book b.board.book =
     subst (λ (v : SeenBoard). GoesRound (moment_for pause.moment) w.ready v.book b.board.book) waited.board round in
     patience rest pause a w b here.round paced waited step here.acts ([], here-front here.round (moment_for pause.moment) a.board.book here.ticks) (inr here.soon) takes calls
+
+-- or nothing was done but that time passed
+pub pace-timed : (rest : Rest) (pause : Pause) (a w b : SeenListener) → KeepsPace rest a → HasWaited rest pause a w → IsInStep a.front.told a.board.book.state
+    → PassesTime (moment_for pause.moment) w.board.book b.board.book → TellsOn OnlyReadsAndTakes w.front.told b.front.told → b.calls ≡ w.calls → HasPatience b
+pace-timed rest pause a w b paced waited step passes takes calls =
+    let to = moment_for pause.moment in
+    let here : PassesTime to a.board.book b.board.book =
+    subst (λ (v : SeenBoard). PassesTime to v.book b.board.book) waited.board passes in
+    let round = timed_round to a.board.book b.board.book here in
+    patience rest pause a w b round paced waited step (timed-acts to a.board.book b.board.book here) ([], here-front round to a.board.book refl) (inr here.soon) takes calls
 
 -- behind a round the table stands at the moment of the front
 pub abreast-round : (rest : Rest) (pause : Pause) (a w b : SeenListener) → Abreast a → HasWaited rest pause a w
@@ -421,11 +442,10 @@ unhushed (Some t) told' calls b is patient steady =
     subst (λ (ws : List WaitTold). ArePatient steady.comings ws b.base b.history) (ap (λ (x : FrontTold). x.waits) front) (patient before)
 
 -- the server was stopped, each connection that waited closed, and each child let go of
-pub patience-down : (turns : Result End BoardFault) (old new : FrontSeen) (calls : Option (List (ℕ × ℕ))) (a b c d : SeenBook)
-    → Acts 0 (halt_events turns) None a b → LetsGo IsHaltedWay b c → RetiresSome c d → new ≡ after_hush old
-    → IsPatientRun old.told calls a → IsPatientRun new.told calls d
-patience-down turns old new calls a b c d halts closes retires is patient =
+pub patience-down : (turns : Result End BoardFault) (old new : FrontSeen) (calls : Option (List (ℕ × ℕ))) (a d : SeenBook)
+    → GoesDown turns a d → new ≡ after_hush old → IsPatientRun old.told calls a → IsPatientRun new.told calls d
+patience-down turns old new calls a d down is patient =
     unhushed old.told new.told calls d (ap (λ (f : FrontSeen). f.told) is)
-    (patience-silent 0 _ None old.told calls c d retires.acts (silent-retires retires.children).ticks
-    (patience-silent 0 _ None old.told calls b c closes.acts (silent-gone closes.gone).ticks
-    (patience-silent 0 _ None old.told calls a b halts (silent-halts turns).ticks patient)))
+    (patience-silent 0 _ None old.told calls down.closed d down.retires.acts (silent-retires down.retires.children).ticks
+    (patience-silent 0 _ None old.told calls down.halted down.closed down.closes.acts (silent-gone down.closes.gone).ticks
+    (patience-silent 0 _ None old.told calls a down.halted down.halts (silent-halts turns).ticks patient)))

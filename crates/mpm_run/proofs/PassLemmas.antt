@@ -14,7 +14,6 @@ use Rattle.conn_machine.specs.Passes.{HasNoneInHand, OnlyServes, asking_count}
 use Rattle.conn_machine.specs.Sizes.{HasSizesOf}
 use Rattle.conn_machine.specs.Rows.{is_live, is_parked, is_unused, is_with_a_pass}
 use Rattle.conn_machine.specs.Runs.{Adds, after}
-use Rattle.conn_machine.specs.States.{is_halted}
 use Rattle.board.specs.Book.{SeenBook}
 use Rattle.board.specs.Board.{SeenBoard}
 use Rattle.worker_group.specs.Acts.{Acts, ActsInSteps, events_of}
@@ -40,12 +39,12 @@ only-serves who es has a b other here there acts law =
     subst (λ (s : State). OnlyServes a.state s) late
     (subst (λ (s : State). OnlyServes s (after a.base b.history)) here (law who a.base a.folded a.history b.history other acts.entries))
 
--- so the moment stands, no connection was taken, and the server didn't stop
+-- so the moment stands, no connection was taken, no generation began, and the server goes on as it did
 pub serves-rest : (who : ℕ) (es : List Event) (has : Option ConnName) (a b : SeenBook) → who ≢ 0 → after a.base a.history ≡ a.state
     → after b.base b.history ≡ b.state → Acts who es has a b → LeavesAlone → LeavesRest a b
 serves-rest who es has a b other here there acts law =
     let serves = only-serves who es has a b other here there acts law in
-    record { moment = serves.moment; accepted = serves.accepted; up = λ up. ap is_halted serves.going ∙ up }
+    record { moment = serves.moment; accepted = serves.accepted; newest = serves.newest; going = serves.going }
 
 -- what the service of a connection added
 pub service-acts : ActsInSteps → (who : ℕ) (name : ConnName) (a b : SeenBoard) → (served : HasServed who name a b)

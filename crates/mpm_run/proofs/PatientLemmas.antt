@@ -165,8 +165,8 @@ tick-first comings waits s m rest (e ∷ entries) is none passes =
 begins-round : (m : ℕ) (r : Round) → r.early ≡ [] → r.ticks ≡ m ∷ [] → BeginsWith m (round_events r)
 begins-round m r early ticks =
     let rest =
-    gone_events r.late ++ map event.Ready r.signals ++ departures_events r.departures ++ map event.Retire r.retired ++ map event.StartChild r.starts
-    ++ flat_map intake_events r.takes in
+    gone_events r.late ++ map event.Ready r.signals ++ departures_events r.departures ++ map event.Command r.orders ++ map event.Retire r.retired
+    ++ map event.StartChild r.starts ++ flat_map intake_events r.takes in
     let is : round_events r ≡ event.Tick m ∷ rest = rw (early, ticks) refl in
     let all : m ∷ flat_map ticks_in rest ≡ m ∷ [] = sym (ap (flat_map ticks_in) is) ∙ ticks-round r ∙ ticks in
     record { rest = rest; is = is; none = cc all }

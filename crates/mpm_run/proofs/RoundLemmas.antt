@@ -19,9 +19,9 @@ use Rattle.board.specs.Events.{with_recorded}
 use Rattle.worker_group.specs.Acts.{Acts, ActsInSteps}
 use Rattle.worker_group.specs.Service.{LeavesRest, left_events}
 use Rattle.mpm_run.specs.ClosingInside.{DrainsUntil, IsDrainedWay, IsLateWay, IsRetiringWay, LetsGo, NoneEarly}
-use Rattle.mpm_run.specs.RoundInside.{AllLeft, BreaksOff, EndsRound, GoesRound, IsLeftAsWatched, LetsGoOfConns, LetsGoUntil, NoneHas, PassesTime, RetiresSome, Round, SignalsFirst, StartsAsAsked, StartsSome, Intake, TakesSome, gone_events, round_events, signal_events, intake_events, time_events}
+use Rattle.mpm_run.specs.RoundInside.{AllLeft, BreaksOff, DoesOrders, EndsRound, GoesRound, IsLeftAsWatched, LetsGoOfConns, LetsGoUntil, NoneHas, PassesTime, RetiresSome, Round, SignalsFirst, StartsAsAsked, StartsSome, Intake, TakesSome, gone_events, round_events, signal_events, intake_events, time_events}
 use Rattle.mpm_run.specs.Times.{known_slots, ticks_to}
-use Rattle.mpm_run.proofs.AskedLemmas.{AreStartless, asked-silent, startless-departures, startless-gone, startless-readies, startless-retires, startless-takes, startless-time}
+use Rattle.mpm_run.proofs.AskedLemmas.{AreStartless, asked-silent, startless-departures, startless-gone, startless-orders, startless-readies, startless-retires, startless-takes, startless-time}
 
 -- ## No pass has a connection
 
@@ -152,6 +152,10 @@ pub lets-go-until : ActsInSteps → (fault : BoardFault) (a b c d : SeenBook) �
 lets-go-until steps fault a b c d retiring cut until =
     record { book = until.book; lets = lets-go-conns steps a b c until.book retiring cut until.drains; last = until.last }
 
+-- no command was done
+pub does-none : ActsInSteps → (b : SeenBook) → row_in 0 b ≡ None → DoesOrders b b
+does-none steps b row = record { orders = []; none = tt; acts = steps.none 0 None b row }
+
 -- nothing was let go of
 pub lets-go-none : ActsInSteps → (b : SeenBook) → row_in 0 b ≡ None → LetsGoOfConns b b
 lets-go-none steps b row = record {
@@ -161,18 +165,20 @@ lets-go-none steps b row = record {
 }
 
 -- where each child was asked for that a part of them started
-asked-along : {es fs gs hs ks : List Event} (a b c d e f h : SeenBook) → Acts 0 es None a b → Acts 0 fs None b c → Acts 0 gs None c d → Acts 0 hs None d e
-    → Acts 0 ks None f h → AreStartless es → AreStartless fs → AreStartless gs → AreStartless hs → StartsAsAsked e f → AreStartless ks → StartsAsAsked a h
-asked-along {es} {fs} {gs} {hs} {ks} a b c d e f h time signals lets retires takes no_time no_signals no_lets no_retires started no_takes before =
-    asked-silent 0 ks None f h takes no_takes
+asked-along : {es fs gs os hs ks : List Event} (a b c d e f h i : SeenBook) → Acts 0 es None a b → Acts 0 fs None b c → Acts 0 gs None c d → Acts 0 os None d e
+    → Acts 0 hs None e f → Acts 0 ks None h i → AreStartless es → AreStartless fs → AreStartless gs → AreStartless os → AreStartless hs → StartsAsAsked f h
+    → AreStartless ks → StartsAsAsked a i
+asked-along {es} {fs} {gs} {os} {hs} {ks} a b c d e f h i time signals lets does retires takes no_time no_signals no_lets no_orders no_retires started no_takes before =
+    asked-silent 0 ks None h i takes no_takes
     (started
-    (asked-silent 0 hs None d e retires no_retires
-    (asked-silent 0 gs None c d lets no_lets (asked-silent 0 fs None b c signals no_signals (asked-silent 0 es None a b time no_time before)))))
+    (asked-silent 0 hs None e f retires no_retires
+    (asked-silent 0 os None d e does no_orders
+    (asked-silent 0 gs None c d lets no_lets (asked-silent 0 fs None b c signals no_signals (asked-silent 0 es None a b time no_time before))))))
 
 -- the parts of a round
-pub goes-round : ActsInSteps → (to : ℕ) (slots : List ℕ) (a b c d e f h : SeenBook) → PassesTime to a b → Acts 0 (signal_events b slots) None b c
-    → LetsGoOfConns c d → RetiresSome d e → StartsSome e f → TakesSome f h → GoesRound to slots a h
-goes-round steps to slots a b c d e f h time signals lets retires starts takes = record {
+pub goes-round : ActsInSteps → (to : ℕ) (slots : List ℕ) (a b c d e f h i : SeenBook) → PassesTime to a b → Acts 0 (signal_events b slots) None b c
+    → LetsGoOfConns c d → DoesOrders d e → RetiresSome e f → StartsSome f h → TakesSome h i → GoesRound to slots a i
+goes-round steps to slots a b c d e f h i time signals lets does retires starts takes = record {
   round =
       record {
         early = time.early;
@@ -180,6 +186,7 @@ goes-round steps to slots a b c d e f h time signals lets retires starts takes =
         late = time.late;
         signals = known_slots (length b.base.rows) slots;
         departures = lets.departures;
+        orders = does.orders;
         retired = retires.children;
         starts = starts.children;
         takes = takes.takes;
@@ -187,23 +194,25 @@ goes-round steps to slots a b c d e f h time signals lets retires starts takes =
   soon = time.soon;
   ticks = refl;
   signals = ap (λ (s : _). known_slots (length s.rows) slots) time.acts.base;
-  ways = record { early = time.early_ways; late = time.late_ways; departures = lets.ways };
+  ways = record { early = time.early_ways; late = time.late_ways; departures = lets.ways; orders = does.none };
   left = takes.left;
   acts =
-      steps.more 0 _ _ None None a f h
+      steps.more 0 _ _ None None a h i
+      (steps.more 0 _ _ None None a f h
       (steps.more 0 _ _ None None a e f
       (steps.more 0 _ _ None None a d e
-      (steps.more 0 _ _ None None a c d (steps.more 0 _ _ None None a b c time.acts signals) lets.acts) retires.acts) starts.acts) takes.acts;
+      (steps.more 0 _ _ None None a c d (steps.more 0 _ _ None None a b c time.acts signals) lets.acts) does.acts) retires.acts) starts.acts) takes.acts;
   asked =
-      asked-along a b c d e f h time.acts signals lets.acts retires.acts takes.acts (startless-time time.early (ticks_to a.state.moment to) time.late)
-      (startless-readies (known_slots (length b.base.rows) slots)) (startless-departures lets.departures) (startless-retires retires.children)
-      starts.asked (startless-takes takes.takes);
+      asked-along a b c d e f h i time.acts signals lets.acts does.acts retires.acts takes.acts
+      (startless-time time.early (ticks_to a.state.moment to) time.late) (startless-readies (known_slots (length b.base.rows) slots))
+      (startless-departures lets.departures) (startless-orders does.orders) (startless-retires retires.children) starts.asked
+      (startless-takes takes.takes);
 }
 
 -- and of one that was broken off behind the time
-pub breaks-behind : ActsInSteps → (fault : BoardFault) (to : ℕ) (slots : List ℕ) (a b c d e f h x : SeenBook) → PassesTime to a b → SignalsFirst slots b c
-    → LetsGoOfConns c d → RetiresSome d e → StartsSome e f → TakesSome f h → EndsRound fault h x → BreaksOff fault to slots a x
-breaks-behind steps fault to slots a b c d e f h x time signals lets retires starts takes last = record {
+pub breaks-behind : ActsInSteps → (fault : BoardFault) (to : ℕ) (slots : List ℕ) (a b c d e f h i x : SeenBook) → PassesTime to a b → SignalsFirst slots b c
+    → LetsGoOfConns c d → DoesOrders d e → RetiresSome e f → StartsSome f h → TakesSome h i → EndsRound fault i x → BreaksOff fault to slots a x
+breaks-behind steps fault to slots a b c d e f h i x time signals lets does retires starts takes last = record {
   round =
       record {
         early = time.early;
@@ -211,6 +220,7 @@ breaks-behind steps fault to slots a b c d e f h x time signals lets retires sta
         late = time.late;
         signals = signals.first;
         departures = lets.departures;
+        orders = does.orders;
         retired = retires.children;
         starts = starts.children;
         takes = takes.takes;
@@ -218,18 +228,19 @@ breaks-behind steps fault to slots a b c d e f h x time signals lets retires sta
   soon = inr time.soon;
   ticks = ([], sym (append-nil (ticks_to a.state.moment to)));
   signals = (signals.front.0, ap (λ (s : _). known_slots (length s.rows) slots) (sym time.acts.base) ∙ signals.front.1);
-  ways = record { early = time.early_ways; late = time.late_ways; departures = lets.ways };
+  ways = record { early = time.early_ways; late = time.late_ways; departures = lets.ways; orders = does.none };
   left = takes.left;
-  book = h;
+  book = i;
   acts =
-      steps.more 0 _ _ None None a f h
+      steps.more 0 _ _ None None a h i
+      (steps.more 0 _ _ None None a f h
       (steps.more 0 _ _ None None a e f
       (steps.more 0 _ _ None None a d e
-      (steps.more 0 _ _ None None a c d (steps.more 0 _ _ None None a b c time.acts signals.acts) lets.acts) retires.acts) starts.acts) takes.acts;
+      (steps.more 0 _ _ None None a c d (steps.more 0 _ _ None None a b c time.acts signals.acts) lets.acts) does.acts) retires.acts) starts.acts) takes.acts;
   asked =
-      asked-along a b c d e f h time.acts signals.acts lets.acts retires.acts takes.acts (startless-time time.early (ticks_to a.state.moment to) time.late)
-      (startless-readies signals.first) (startless-departures lets.departures) (startless-retires retires.children) starts.asked
-      (startless-takes takes.takes);
+      asked-along a b c d e f h i time.acts signals.acts lets.acts does.acts retires.acts takes.acts
+      (startless-time time.early (ticks_to a.state.moment to) time.late) (startless-readies signals.first) (startless-departures lets.departures)
+      (startless-orders does.orders) (startless-retires retires.children) starts.asked (startless-takes takes.takes);
   last = last;
 }
 
@@ -246,6 +257,7 @@ breaks-early fault to slots a b early why =
       late = [];
       signals = [];
       departures = record { retiring = []; cut = []; drained = [] };
+      orders = [];
       retired = [];
       starts = [];
       takes = [];
@@ -255,7 +267,7 @@ breaks-early fault to slots a b early why =
       soon = inl refl;
       ticks = (ticks_to a.state.moment to, refl);
       signals = (known_slots (length a.base.rows) slots, refl);
-      ways = record { early = early.ways; late = tt; departures = record { retiring = tt; cut = tt; drained = tt } };
+      ways = record { early = early.ways; late = tt; departures = record { retiring = tt; cut = tt; drained = tt }; orders = tt };
       left = tt;
       book = b;
       acts = acts-spelled _ (round_events only) a b early.acts (simp append-nil);
@@ -271,14 +283,14 @@ pub rest_added : (e : Event) (b b' : SeenBoard) → b' ≡ with_recorded 0 e b
 rest_added e b b' is rest = subst (λ (v : SeenBoard). LeavesRest b.book v.book) (sym is) rest
 
 pub rest_start : (k : ℕ) (b b' : SeenBoard) → b' ≡ with_recorded 0 (event.StartChild k) b → LeavesRest b.book b'.book
-rest_start k b b' is = rest_added (event.StartChild k) b b' is (record { moment = refl; accepted = refl; up = λ up. up })
+rest_start k b b' is = rest_added (event.StartChild k) b b' is (record { moment = refl; accepted = refl; newest = refl; going = refl })
 
 pub rest_retire : (k : ℕ) (b b' : SeenBoard) → b' ≡ with_recorded 0 (event.Retire k) b → LeavesRest b.book b'.book
-rest_retire k b b' is = rest_added (event.Retire k) b b' is (record { moment = refl; accepted = refl; up = λ up. up })
+rest_retire k b b' is = rest_added (event.Retire k) b b' is (record { moment = refl; accepted = refl; newest = refl; going = refl })
 
 -- so does what left the book as it was
 pub rest_same : (b b' : SeenBook) → b' ≡ b → LeavesRest b b'
-rest_same b b' same = subst (LeavesRest b) (sym same) (record { moment = refl; accepted = refl; up = λ up. up })
+rest_same b b' same = subst (LeavesRest b) (sym same) (record { moment = refl; accepted = refl; newest = refl; going = refl })
 
 -- ## Signals
 

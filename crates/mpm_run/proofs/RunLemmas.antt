@@ -20,7 +20,7 @@ use Rattle.conn_machine.specs.Events.{count_events, is_accept, is_close}
 use Rattle.conn_machine.specs.Laws.{StaysSound}
 use Rattle.conn_state.specs.Answered.{SeenEnded, IsAnswered, IsEnded}
 use Rattle.conn_state.specs.Known.{KnownOutside, TellsFrom}
-use Rattle.board.specs.Book.{folded_book}
+use Rattle.board.specs.Book.{SeenBook, folded_book}
 use Rattle.board.specs.Board.{SeenBoard, Agrees, AreEnded, EndedOfOutside}
 use Rattle.board.specs.Ranks.{AllTell, has_rank}
 use Rattle.board.specs.ReportLine.{line_of}
@@ -105,30 +105,36 @@ client-of : (known : Option (List (List ℕ))) (clients : List (List ℕ)) (told
 client-of known clients told is client = subst (λ (o : Option (List (List ℕ))). IfSome o (λ all. TellsFrom all told)) is client
 
 -- so did each
-pub all-receive : (k : KnownOutside) (clients : List (List ℕ)) (ended : List SeenEnded) → k.clients ≡ Some clients → AreEnded ended
-    → EndedOfOutside (Some k) ended → AllReceive clients ended
-all-receive k clients [] is are ends = tt
-all-receive k clients (e ∷ ended) is are ends =
-    (receives clients e (client-of k.clients clients e.told is ends.0.client) are.0, all-receive k clients ended is are.1 ends.1)
+pub all-receive : (k : KnownOutside) (clients : List (List ℕ)) (book : SeenBook) (ended : List SeenEnded) → k.clients ≡ Some clients → AreEnded ended
+    → EndedOfOutside (Some k) book ended → AllReceive clients ended
+all-receive k clients book [] is are ends = tt
+all-receive k clients book (e ∷ ended) is are ends =
+    (receives clients e (client-of k.clients clients e.told is ends.0.client) are.0, all-receive k clients book ended is are.1 ends.1)
 
 -- ## The links of ended connections
 
 -- each is that of a client, and tells, where the type knows the clients
-all-tell : (k : KnownOutside) (clients : List (List ℕ)) (ended : List SeenEnded) → k.clients ≡ Some clients → EndedOfOutside (Some k) ended → AllTell ended
-all-tell k clients [] is ends = tt
-all-tell k clients (e ∷ ended) is ends =
+all-tell : (k : KnownOutside) (clients : List (List ℕ)) (book : SeenBook) (ended : List SeenEnded) → k.clients ≡ Some clients
+    → EndedOfOutside (Some k) book ended → AllTell ended
+all-tell k clients book [] is ends = tt
+all-tell k clients book (e ∷ ended) is ends =
     let tells = client-of k.clients clients e.told is ends.0.client in
-    ((tells.t, tells.told_is), all-tell k clients ended is ends.1)
+    ((tells.t, tells.told_is), all-tell k clients book ended is ends.1)
 
-pub known-tell : (known : Option KnownOutside) (clients : List (List ℕ)) (ended : List SeenEnded) → clients_known known ≡ Some clients
-    → EndedOfOutside known ended → AllTell ended
-known-tell None clients ended is ends = absurd (cc is)
-known-tell (Some k) clients ended is ends = all-tell k clients ended is ends
+pub known-tell : (known : Option KnownOutside) (clients : List (List ℕ)) (book : SeenBook) (ended : List SeenEnded) → clients_known known ≡ Some clients
+    → EndedOfOutside known book ended → AllTell ended
+known-tell None clients book ended is ends = absurd (cc is)
+known-tell (Some k) clients book ended is ends = all-tell k clients book ended is ends
 
-pub known-receive : (known : Option KnownOutside) (clients : List (List ℕ)) (ended : List SeenEnded) → clients_known known ≡ Some clients
-    → AreEnded ended → EndedOfOutside known ended → AllReceive clients ended
-known-receive None clients ended is are ends = absurd (cc is)
-known-receive (Some k) clients ended is are ends = all-receive k clients ended is are ends
+-- those of both lists do
+tell-both : (ended ended' : List SeenEnded) → AllTell ended → AllTell ended' → AllTell (ended ++ ended')
+tell-both [] ended' first second = second
+tell-both (e ∷ ended) ended' first second = (first.0, tell-both ended ended' first.1 second)
+
+pub known-receive : (known : Option KnownOutside) (clients : List (List ℕ)) (book : SeenBook) (ended : List SeenEnded) → clients_known known ≡ Some clients
+    → AreEnded ended → EndedOfOutside known book ended → AllReceive clients ended
+known-receive None clients book ended is are ends = absurd (cc is)
+known-receive (Some k) clients book ended is are ends = all-receive k clients book ended is are ends
 
 -- what is 1 below a bound and 0 from there on is 1 at most
 at-most-one : (number bound count : ℕ) → (number < bound → count ≡ 1) → (bound ≤ number → count ≡ 0) → count ≤ 1
@@ -153,10 +159,12 @@ pub ends-links : (known : Option KnownOutside) (clients : List (List ℕ)) (n : 
     → ((number : ℕ) → AllTell run.whole.ended → (after (opened_by n) run.whole.entries).accepted < greatest_count
     → (after (opened_by n) run.whole.entries).accepted ≤ number → count_by (has_rank number) run.whole.ended ≡ 0)
     → (after (opened_by n) run.whole.entries).accepted ≡ min (count_events is_accept run.whole.entries) greatest_count
-    → after b.book.base b.book.history ≡ b.book.state → EndedOfOutside known b.ended → HasClosedAll b → EndsLinks b
+    → after b.book.base b.book.history ≡ b.book.state → EndedOfOutside known b.book b.ended → HasClosedAll b → EndsLinks b
 ends-links known clients n b knows run once no_other counted state outside closed few =
     let whole = run.whole in
-    let all_tell = known-tell known clients whole.ended knows run.outside in
+    let all_tell : AllTell whole.ended =
+    subst AllTell (sym run.ended_is)
+    (tell-both run.before b.ended (known-tell known clients run.book run.before knows run.outside) (known-tell known clients b.book b.ended knows outside)) in
     let same : b.book.state ≡ after (opened_by n) whole.entries = sym state ∙ whole.base_is in
     let accepted : b.book.state.accepted ≡ (after (opened_by n) whole.entries).accepted = ap (λ (s : State). s.accepted) same in
     let few' : (after (opened_by n) whole.entries).accepted < greatest_count = omega (arith, few, accepted) in
@@ -170,7 +178,7 @@ ends-links known clients n b knows run once no_other counted state outside close
     let taken : b.book.folded.accepted + count_events is_accept b.book.history ≡ 0 + count_events is_accept whole.entries =
     ap (λ (f : Folded). f.accepted) whole.record_is in
     record {
-      tell = known-tell known clients b.ended knows outside;
+      tell = known-tell known clients b.book b.ended knows outside;
       once =
           λ number. let at_most = at-most-one number b.book.state.accepted (count_by (has_rank number) whole.ended) (one number) (none number) in
           omega (arith, at_most, fewer number);

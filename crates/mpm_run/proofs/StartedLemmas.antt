@@ -1,10 +1,11 @@
 -- A server that has just opened.
-use Rattle.std.proofs.Common.{◌≡◌, inl, inr, ℕ, Bool, true, List, [], ◌∷◌, ◌++◌, length, map, take, Option, None, Some, option_map, IfSome, refl, sym, ap, subst, ◌∙◌, arith}
+use Rattle.std.proofs.Common.{◌≡◌, inl, inr, ℕ, Bool, true, not, List, [], ◌∷◌, ◌++◌, length, map, take, Option, None, Some, option_map, IfSome, refl, sym, ap, subst, ◌∙◌, arith}
 use Rattle.mpm_base.specs.Clock.{asked_at}
 use Rattle.mpm_base.specs.Front.{Binds, BoundTold, DialTold, FrontSeen, FrontTold, WaitTold, WatchTold, after_bind, moments_of}
 use Rattle.mpm_run.specs.Unused.{IsUnused}
 use Rattle.mpm_base.specs.declared.addr.Addr.{Addr}
 use Rattle.conn_machine.specs.Made.{IsOpened}
+use Rattle.conn_machine.specs.States.{is_serving}
 use Rattle.conn_machine.specs.declared.state.State.{State}
 use Rattle.board.specs.Board.{SeenBoard}
 use Rattle.board.specs.Book.{SeenBook}
@@ -67,7 +68,7 @@ pub step-opened : (n : RunNumbers) (told : Option FrontTold) (calls : Option (Li
     → IsInStep told b.state
 step-opened n None calls b opened starting = tt
 step-opened n (Some t) calls b opened starting = record {
-  listens = starting.front.hushed;
+  listens = starting.front.hushed ∙ sym (ap (λ (x : SeenBook). not (is_serving x.state.going)) opened);
   taken = record { accepted = starting.front.accepted ∙ sym (ap (λ (x : SeenBook). x.state.accepted) opened); none = starting.front.turned_away };
 }
 
@@ -156,7 +157,7 @@ stopped-before old bound new s follows stopped = record {
           failed = rises-behind old.counts.faults bound.counts.faults new.counts.faults follows.faults failed.failed;
           last = failed.last;
         })))
-        | inr (inr (inr broken)) ↦ inr (inr (inr broken))
+        | inr (inr (inr rest)) ↦ inr (inr (inr rest))
       ];
 }
 

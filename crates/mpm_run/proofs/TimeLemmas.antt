@@ -1,19 +1,17 @@
 -- Time that passes, and the connections that are late.
-use Rattle.std.proofs.Common.{◌≡◌, ◌||◌, ℕ, zero, suc, ◌<◌, ◌≤◌, Bool, true, false, List, [], ◌∷◌, nat_lt, nat_le, None, Some, slice_get, refl, arith}
+use Rattle.std.proofs.Common.{◌≡◌, ◌||◌, ℕ, zero, suc, Bool, true, false, List, [], ◌∷◌, nat_le, None, Some, slice_get, refl}
 use Rattle.std.proofs.lemmas.Bool.{and_parts}
-use Rattle.std.proofs.lemmas.Bool.Decides.{nat_tests}
 use Rattle.std.specs.List.{list_any}
 use Rattle.mpm_base.specs.declared.conn.ConnName.{ConnName}
 use Rattle.conn_machine.specs.declared.row.Row.{Row}
 use Rattle.conn_machine.specs.declared.event.Event.TheVariants as event
 use Rattle.conn_machine.specs.declared.state.State.{State}
 use Rattle.conn_machine.specs.Rows.{is_parked}
-use Rattle.conn_machine.specs.States.{is_halted, is_overdue, is_signalled}
-use Rattle.mpm_base.specs.Moment.{greatest_moment}
+use Rattle.conn_machine.specs.States.{is_overdue, is_signalled}
 use Rattle.conn_machine.specs.Table.{is_allowed, may_be_held}
 use Rattle.board.specs.Finds.{FindsRow, is_late}
 use Rattle.mpm_run.specs.ListenInside.{NoneOverdue}
-use Rattle.mpm_run.proofs.FoundLemmas.{Lives, found-at, lives, passes-found}
+use Rattle.mpm_run.proofs.FoundLemmas.{Lives, lives, passes-found}
 
 -- ## A connection that is late
 

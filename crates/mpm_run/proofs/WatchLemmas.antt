@@ -16,10 +16,12 @@ use Rattle.mpm_base.specs.declared.conn.Tail.TheVariants.{Direct}
 use Rattle.mpm_base.specs.declared.front.Arrival.{Arrival}
 use Rattle.mpm_base.specs.declared.front.Arrival.TheVariants as arrival
 use Rattle.mpm_base.specs.declared.front.Woke.{Woke}
+use Rattle.conn_machine.specs.declared.event.Commanded.{Commanded}
 use Rattle.conn_machine.specs.declared.event.Entry.{Entry}
 use Rattle.conn_machine.specs.declared.event.Event.{Event}
 use Rattle.conn_machine.specs.declared.event.Event.TheVariants as event
 use Rattle.conn_machine.specs.declared.event.Reply.{Reply}
+use Rattle.conn_machine.specs.declared.event.Why.{Why}
 use Rattle.conn_machine.specs.declared.folded.Folded.{Folded}
 use Rattle.conn_machine.specs.declared.state.State.{State}
 use Rattle.conn_machine.specs.Runs.{AreEntriesOf, entries_of, has_after, is_of_pass, may_make, taken_name, row_from}
@@ -28,11 +30,11 @@ use Rattle.board.specs.Book.{SeenBook}
 use Rattle.worker_group.specs.declared.service.Exit.{Exit}
 use Rattle.worker_group.specs.declared.service.Exit.TheVariants as exit
 use Rattle.worker_group.specs.Acts.{Acts}
-use Rattle.mpm_run.specs.ListenInside.{IsArrival, OnlyReads, TellsAlike, WatchesAll, number_after}
+use Rattle.mpm_run.specs.ListenInside.{IsArrival, OnlyReads, TellsAlike, WatchesAll, number_after, why_of}
 use Rattle.mpm_run.specs.declared.listen.End.{End}
 use Rattle.worker_group.specs.Service.{left_events}
 use Rattle.mpm_run.specs.ClosingInside.{IsHaltedWay, LetsGo, Departure, departure_events, lingering_give_up_events}
-use Rattle.mpm_run.specs.RoundInside.{GivesUp, LetsGoOfConns, LetsGoUntil, Departures, PassesTime, RetiresSome, StartsSome, gone_events, halt_events, departures_events, signal_events, way_of}
+use Rattle.mpm_run.specs.RoundInside.{DoesOrders, GivesUp, LetsGoOfConns, LetsGoUntil, Departures, PassesTime, RetiresSome, StartsSome, gone_events, halt_events, halts_for, departures_events, signal_events, way_of}
 use Rattle.mpm_run.specs.Times.{known_slots, ticks_to}
 use Rattle.mpm_run.specs.Watched.{AreClosedAtOnce, AreOfFirstLinks, IsClosedAtOnce, accepted_names, link_watched, links_from, names_taken, names_given}
 use Rattle.mpm_run.proofs.AddedLemmas.{added-events, added-own, events_in}
@@ -70,6 +72,10 @@ none-starts (k ∷ children) = none-starts children
 pub none-retires : (children : List ℕ) → TakesNone (map event.Retire children)
 none-retires [] = refl
 none-retires (k ∷ children) = none-retires children
+
+pub none-orders : (orders : List Commanded) → TakesNone (map event.Command orders)
+none-orders [] = refl
+none-orders (c ∷ orders) = none-orders orders
 
 pub none-ticks : (ms : List ℕ) → TakesNone (map event.Tick ms)
 none-ticks [] = refl
@@ -523,20 +529,33 @@ nobody-signalled slots a b signals = nobody-acts 0 _ None a b signals (none-sign
 pub nobody-started : (a b : SeenBook) → StartsSome a b → TakesNobody a b
 nobody-started a b starts = nobody-acts 0 _ None a b starts.acts (none-starts starts.children)
 
--- nor does any part of a round before connections are taken
-pub nobody-before-takes : (a b c d e f : SeenBook) (to : ℕ) (slots : List ℕ) → PassesTime to a b → Acts 0 (signal_events b slots) None b c
-    → LetsGoOfConns c d → RetiresSome d e → StartsSome e f → TakesNobody a f
-nobody-before-takes a b c d e f to slots passes signals lets retires starts =
-    nobody-more a e f
-    (nobody-more a d e
-    (nobody-more a c d
-    (nobody-more a b c (nobody-passed to a b passes) (nobody-signalled slots b c signals)) (nobody-let_go c d lets)) (nobody-retired d e retires))
-    (nobody-started e f starts)
+-- nor do commands
+pub nobody-ordered : (a b : SeenBook) → DoesOrders a b → TakesNobody a b
+nobody-ordered a b does = nobody-acts 0 _ None a b does.acts (none-orders does.orders)
+
+-- nor does any part of a round before its commands
+pub nobody-before-orders : (a b c d : SeenBook) (to : ℕ) (slots : List ℕ) → PassesTime to a b → Acts 0 (signal_events b slots) None b c
+    → LetsGoOfConns c d → TakesNobody a d
+nobody-before-orders a b c d to slots passes signals lets =
+    nobody-more a c d (nobody-more a b c (nobody-passed to a b passes) (nobody-signalled slots b c signals)) (nobody-let_go c d lets)
+
+-- nor does any part of it before connections are taken
+pub nobody-before-takes : (a b c d e f h : SeenBook) (to : ℕ) (slots : List ℕ) → PassesTime to a b → Acts 0 (signal_events b slots) None b c
+    → LetsGoOfConns c d → DoesOrders d e → RetiresSome e f → StartsSome f h → TakesNobody a h
+nobody-before-takes a b c d e f h to slots passes signals lets does retires starts =
+    nobody-more a f h
+    (nobody-more a e f
+    (nobody-more a d e (nobody-before-orders a b c d to slots passes signals lets) (nobody-ordered d e does)) (nobody-retired e f retires))
+    (nobody-started f h starts)
 
 -- ## The stop
 
+none-halting : (o : Option Why) → TakesNone (halts_for o)
+none-halting None = refl
+none-halting (Some why) = refl
+
 none-halts : (turns : Result End BoardFault) → TakesNone (halt_events turns)
-none-halts (Ok end) = refl
+none-halts (Ok end) = none-halting (why_of end)
 none-halts (Err fault) = refl
 
 -- the server was stopped, each connection that waited closed, and each child let go of

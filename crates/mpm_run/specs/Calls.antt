@@ -98,6 +98,12 @@ pub record HasAccepted (call : Call) (name : List ℕ) (c : Configuration) : Typ
   pub has : HasFile most_config call name bytes
   pub accepted : Configures bytes c
 
+-- the same of the store as it was before the call, whatever became of its files since
+pub record HadAccepted (call : Call) (name : List ℕ) (c : Configuration) : Type 0 where
+  pub bytes : List ℕ
+  pub file : IfSome call.store.told (λ t. bytes_of name t.files ≡ Some bytes)
+  pub accepted : Configures bytes c
+
 -- the site is within its limits, and where the store tells its files it is what they make of it by the configuration
 pub record LoadsSite (call : Call) (c : Configuration) (site : SeenSite) : Type 0 where
   pub within : IsWithinLimits site

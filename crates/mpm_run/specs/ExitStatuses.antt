@@ -1,8 +1,9 @@
 -- Why a run ends with its exit status, and what it leaves of the output.
-use Rattle.std.specs.Prelude.{◌≡◌, ◌≢◌, ℕ, ◌≤◌, ◌<◌, ◌⊎◌, Bool, true, false, List, ◌++◌, length, map, Option, Some, None, option_map, IsSome, IsSomeAnd, Err}
+use Rattle.std.specs.Prelude.{◌≡◌, ◌≢◌, ℕ, ◌≤◌, ◌<◌, ◌⊎◌, Bool, true, false, List, ◌++◌, length, map, Option, Some, None, option_map, IfSome, IsSome, IsSomeAnd, Err}
 use Rattle.mpm_base.specs.CommandWord.{command_word}
 use Rattle.mpm_base.specs.Count.{Rises}
-use Rattle.mpm_base.specs.Front.{Binds, Dials, FrontSeen, moments_of}
+use Rattle.mpm_base.specs.Front.{Binds, Dials, FrontSeen, FrontTold, moments_of}
+use Rattle.mpm_base.specs.Store.{StoreSeen, telling_store}
 use Rattle.mpm_base.specs.Sink.{SinkSeen}
 use Rattle.mpm_base.specs.declared.script_line.CommandWord.{CommandWord}
 use Rattle.mpm_base.specs.declared.script_line.ScriptLine.{ScriptLine}
@@ -11,22 +12,32 @@ use Rattle.mpm_script.specs.Script.{ScriptIs}
 use Rattle.mpm_script.specs.declared.script.ScriptFault.{ScriptFault}
 use Rattle.mpm_script.specs.declared.script.ScriptFault.TheVariants as script
 use Rattle.script_front.specs.ScriptClock.{echo}
-use Rattle.script_front.specs.ScriptFront.{SeenFront, comings_of}
+use Rattle.script_front.specs.Editions.{conf_name, editions_of}
+use Rattle.script_front.specs.ScriptFront.{SeenFront, comings_of, front_seen, new_front}
+use Rattle.stand_ins.specs.PlainStore.{SeenStore, no_store_counts}
 use Rattle.conn_machine.specs.declared.event.Why.TheVariants as why
 use Rattle.conn_machine.specs.declared.state.Going.{Going}
-use Rattle.conn_machine.specs.declared.state.Going.TheVariants.{Halted}
+use Rattle.conn_machine.specs.declared.event.Entry.{Entry}
+use Rattle.conn_machine.specs.declared.state.Going.TheVariants.{Ending, Halted}
+use Rattle.conn_machine.specs.Events.{count_events}
 use Rattle.board.specs.Board.{SeenBoard}
 use Rattle.mpm_config.specs.Config.{Configuration}
 use Rattle.file_table.specs.Site.{SeenSite}
-use Rattle.mpm_run.specs.Calls.{Call, HasAccepted, HasFile, HasScript, IsRefusedAsLarge, IsUnread, KeepsFiles, LacksSite, LoadsSite, PlaysLines, StoreFailed, WritesText, most_script}
+use Rattle.mpm_run.specs.Calls.{Call, HadAccepted, HasAccepted, HasFile, HasScript, IsRefusedAsLarge, IsUnread, KeepsFiles, LacksSite, LoadsSite, PlaysLines, StoreFailed, WritesText, most_script}
 use Rattle.mpm_run.specs.Configured.{Configures, HasConfig, IsNoConfig, IsRefused, most_config, warnings_of}
-use Rattle.mpm_run.specs.FirstNumbers.{numbers_of}
+use Rattle.mpm_run.specs.Commands.{DoesLines, GivesLines, is_graceful_stop}
+use Rattle.mpm_run.specs.FirstNumbers.{numbers_of, opened_by}
+use Rattle.mpm_run.specs.Generations.{Opening}
 use Rattle.command_words.specs.Invocations.{IsNoInvocation, IsScriptWords, IsSendWords, IsServeWords, IsTestWords, NamesConfig, NamesFile}
 use Rattle.mpm_run.specs.Listen.{HasClosedAll, HasFolded, IsRunFrom}
 use Rattle.mpm_run.specs.Outside.{KeepsOutside}
 use Rattle.mpm_run.specs.Patient.{ArePatient}
 use Rattle.mpm_run.specs.Report.{report_of}
-use Rattle.mpm_run.specs.Sites.{AllServedBy, HasSite, IsSiteRefused, head_limits_of}
+use Rattle.mpm_run.specs.Orders.{AreOrdered}
+use Rattle.mpm_run.specs.Served.{ServesByEditions, all_entries}
+use Rattle.mpm_run.specs.Sites.{HasSite, IsSiteRefused}
+use Rattle.mpm_run.specs.Stops.{HasEndedGracefully, TakesEach}
+use Rattle.mpm_run.specs.Stores.{KeepsStore}
 use Rattle.mpm_run.specs.Tells.{AllReceive}
 use Rattle.mpm_run.specs.Texts.{config_refused, front_fault, no_control_line, script_refused, site_refused, store_fault, syntax_ok, usage}
 use Rattle.mpm_run.specs.Times.{WasInformed}
@@ -34,7 +45,7 @@ use Rattle.mpm_run.specs.declared.outcome.Scripted.{Scripted}
 use Rattle.mpm_run.specs.declared.texts.ConfigRefusal.{ConfigRefusal}
 use Rattle.mpm_run.specs.declared.texts.ConfigRefusal.TheVariants.{BadValue}
 use Rattle.mpm_run.specs.declared.texts.ScriptRefusal.{ScriptRefusal}
-use Rattle.mpm_run.specs.declared.texts.ScriptRefusal.TheVariants.{BadLine, MomentBackwards, UnknownName, NotYet}
+use Rattle.mpm_run.specs.declared.texts.ScriptRefusal.TheVariants.{BadLine, MomentBackwards, UnknownName}
 
 -- ## Where no run opened
 
@@ -81,7 +92,6 @@ abbrev pub fault_at : ScriptRefusal → ℕ → ScriptFault
 fault_at BadLine line = script.BadLine line
 fault_at MomentBackwards line = script.MomentBackwards line
 fault_at UnknownName line = script.UnknownName line
-fault_at NotYet line = script.NotYet line
 
 -- with exit status 8, for a line
 pub record EndsAtLine (call : Call) : Type 0 where
@@ -281,17 +291,19 @@ run_text c b = warnings_of c ++ board_report b
 abbrev pub Reports : SinkSeen → SinkSeen → Configuration → SeenBoard → Type 0
 Reports old new c b = new.told ≡ option_map (λ written. written ++ run_text c b) old.told
 
--- how a run that stopped so may end: with 6 besides wherever memory lacked for its report
+-- how a run that stopped so, or ended gracefully, may end: with 6 besides wherever memory lacked for its report
 abbrev pub MayEndWith : Going → ℕ → Type 0
+MayEndWith (Ending until) status = (status ≡ 0) ⊎ (status ≡ 5) ⊎ (status ≡ 6)
+MayEndWith (Halted why.Overdue) status = (status ≡ 0) ⊎ (status ≡ 5) ⊎ (status ≡ 6)
 MayEndWith (Halted why.FrontEnded) status = (status ≡ 0) ⊎ (status ≡ 5) ⊎ (status ≡ 6)
 MayEndWith (Halted why.Asked) status = (status ≡ 0) ⊎ (status ≡ 5) ⊎ (status ≡ 6)
 MayEndWith (Halted why.FrontFailed) status = (status ≡ 4) ⊎ (status ≡ 6)
 MayEndWith (Halted why.NoMemory) status = status ≡ 6
 MayEndWith other status = ⊥
 
--- the server stopped because nothing more could come, or because it was asked to
+-- the server stopped because nothing more could come, or because it was asked to, or ended gracefully
 abbrev pub IsGoodEnd : Going → Type 0
-IsGoodEnd going = (going ≡ Halted why.FrontEnded) ⊎ (going ≡ Halted why.Asked)
+IsGoodEnd going = (going ≡ Halted why.FrontEnded) ⊎ (going ≡ Halted why.Asked) ⊎ HasEndedGracefully going
 
 -- with exit status 0, of a run: it stopped so, and the warnings and the report were written
 pub record EndsWell (sink sink' : SinkSeen) (c : Configuration) (b : SeenBoard) : Type 0 where
@@ -322,22 +334,43 @@ pub record EndsAs (sink sink' : SinkSeen) (c : Configuration) (b : SeenBoard) (s
   pub unwritten : status ≡ 5 → EndsUnwritten sink sink' b
   pub lacking : status ≡ 6 → EndsLacking sink sink' c b
 
--- what is left of a run of this configuration and this site: its history, and what was folded before; it closed each connection that it
--- took, each child is gone, and each connection was served by the limits of the configuration and the site, and so were ones that the folded
--- entries close
-pub record HasRun (c : Configuration) (site : SeenSite) (b : SeenBoard) : Type 0 where
-  pub run : IsRunFrom (numbers_of c) b
-  pub folded : HasFolded (numbers_of c) b.book
+-- what is left of a run that opened so: its history, and what was folded before; it closed each connection that it took, and each child is
+-- gone; of all its entries, each command was done as its edition says, and each connection, folded ones too, was served by the edition of its
+-- generation
+pub record HasRun (o : Opening) (b : SeenBoard) : Type 0 where
+  pub run : IsRunFrom (numbers_of o.config) b
+  pub folded : HasFolded (numbers_of o.config) b.book
   pub closed : HasClosedAll b
-  pub served : AllServedBy (head_limits_of c) site b.ended
-  pub served_before : AllServedBy (head_limits_of c) site folded.ended
+  pub ordered : AreOrdered o 0 0 (opened_by (numbers_of o.config)) (all_entries (numbers_of o.config) b.book folded)
+  pub served : ServesByEditions o (numbers_of o.config) b folded
+
+-- all entries of the run
+abbrev pub entries_of_run : (o : Opening) (b : SeenBoard) → HasRun o b → List Entry
+entries_of_run o b run = all_entries (numbers_of o.config) b.book run.folded
+
+-- what a run that opened so did with a front that tells: it did what the command lines ask for, each once and in order; and where nothing
+-- more could come, and no graceful stop was begun, each connection was taken
+pub record KeepsLines (history : List Entry) (b : SeenBoard) (t : FrontTold) : Type 0 where
+  pub done : DoesLines b.book.state.going history t
+  pub each : TakesEach b.book.state.going history t
 
 -- ## Of a script
 
--- a script was played, and what is left is of a run of it by its configuration and its site: a board, and the front that played the
--- script; each connection received a front of what its client sends, and all of it where the client had done, and so did ones that the
--- folded entries close
-pub record HasPlayed (call : Call) (c : Configuration) (b : SeenBoard) (f : SeenFront) : Type 0 where
+-- what is seen of a script's store before its run
+abbrev pub opening_store : List ScriptLine → StoreSeen
+opening_store lines = telling_store (editions_of lines) no_store_counts
+
+-- how the run of a script opened by this configuration and this site: with the editions that the script's lines make
+abbrev pub script_opening : List ScriptLine → Configuration → SeenSite → Opening
+script_opening lines c site =
+    record { name = conf_name; config = c; site = site; store = opening_store lines; front = front_seen (new_front lines) }
+
+-- a script was played, and what is left is of a run of it by its configuration and its site, and then by its editions: a board, the front
+-- that played the script, and its store; each connection received a front of what its client sends, and all of it where the client had done,
+-- and so did ones that the folded entries close; where nothing more could come each connection of the script was taken, unless a graceful
+-- stop was begun; it did what the command lines ask for; and its store was renewed at each order. Where its server stopped for want of memory
+-- the last line may not have been done, and the store may have been renewed once more
+pub record HasPlayed (call : Call) (c : Configuration) (b : SeenBoard) (f : SeenFront) (store : SeenStore) : Type 0 where
   pub config : List ℕ
   pub site : SeenSite
   pub plays : PlaysLines call f.script
@@ -345,9 +378,12 @@ pub record HasPlayed (call : Call) (c : Configuration) (b : SeenBoard) (f : Seen
   pub accepted : Configures config c
   pub site_is : HasSite f.script c site
   pub shows : call.shown ≡ None
-  pub has_run : HasRun c site b
+  pub has_run : HasRun (script_opening f.script c site) b
   pub receive : AllReceive (clients_of f.script) b.ended
   pub receive_before : AllReceive (clients_of f.script) has_run.folded.ended
+  pub taken : b.book.state.going ≡ Halted why.FrontEnded → count_events is_graceful_stop (entries_of_run (script_opening f.script c site) b has_run) ≡ 0 → b.book.state.accepted ≡ length (names_of f.script)
+  pub lines : KeepsLines (entries_of_run (script_opening f.script c site) b has_run) b f.told
+  pub store_is : KeepsStore b.book.state.going (entries_of_run (script_opening f.script c site) b has_run) (opening_store f.script) (telling_store store.told store.counts)
 
 -- the clock was told exactly the moments that the waits of the front gave, in order, and answered each; and the history's ticks
 -- and signals come from them, behind those that were folded
@@ -360,26 +396,36 @@ pub record KeepsTime (b : SeenBoard) (f : SeenFront) (calls : List (ℕ × ℕ))
 abbrev pub KeepsPatience : SeenBoard → SeenFront → Type 0
 KeepsPatience b f = ArePatient (comings_of f.script) f.told.waits b.book.base b.book.history
 
--- the script was played to its end: a wait answered Ended, all lines have happened, and each connection of the script was taken
+-- the script was played to its end: a wait answered Ended, all lines have happened, each command line was read, and the table took each
+-- connection that was handed out
 pub record HasEnd (b : SeenBoard) (f : SeenFront) : Type 0 where
   pub answered : 0 < f.ends
   pub happened : f.happened ≡ length f.script
-  pub taken : b.book.state.accepted ≡ length (names_of f.script)
+  pub read : f.told.read ≡ length f.told.lines
+  pub taken : b.book.state.accepted ≡ f.told.accepted
 
 -- ## Of a server
 
+-- how a server opened by the configuration of that name, and by this site
+abbrev pub server_opening : Call → FrontSeen → List ℕ → Configuration → SeenSite → Opening
+server_opening call f name c site = record { name = name; config = c; site = site; store = call.store; front = f }
+
 -- a server was run over the front and the clock, and what is left is of a run by the configuration of the file that the words name and
--- by the site of the store; it is tied to the front and the clock, and ended as its exit status says
+-- by the site of the store, and then by the store's editions; it is tied to the front, the clock and the store, and ended as its exit status
+-- says
 pub record HasRunServer (call : Call) (f f' : FrontSeen) (calls : Option (List (ℕ × ℕ))) (status : ℕ) (b : SeenBoard) : Type 0 where
   pub name : List ℕ
   pub config : Configuration
   pub site : SeenSite
   pub command : IsServeWords call.words name
-  pub accepted : HasAccepted call name config
+  pub accepted : HadAccepted call name config
   pub loads : LoadsSite call config site
   pub shows : call.shown ≡ None
-  pub has_run : HasRun config site b
+  pub has_run : HasRun (server_opening call f name config site) b
   pub outside : KeepsOutside (numbers_of config) f f' calls b
+  pub lines : IfSome f'.told (KeepsLines (entries_of_run (server_opening call f name config site) b has_run) b)
+  pub given : GivesLines (entries_of_run (server_opening call f name config site) b has_run) f f'
+  pub store : KeepsStore b.book.state.going (entries_of_run (server_opening call f name config site) b has_run) call.store call.store'
   pub ends : EndsAs call.sink call.sink' config b status
 
 -- ## Of each

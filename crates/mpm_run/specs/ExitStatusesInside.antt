@@ -1,26 +1,31 @@
 -- What the parts of the top call say of the exit status and of what was written.
-use Rattle.std.specs.Prelude.{◌≡◌, ◌≢◌, ◌==◌, ℕ, Bool, true, false, if◌then◌else◌, ◌⊎◌, List, ◌++◌, Option, None, Some, option_map}
+use Rattle.std.specs.Prelude.{◌≡◌, ◌≢◌, ◌==◌, ℕ, Bool, true, false, if◌then◌else◌, ◌⊎◌, List, ◌++◌, length, Option, None, Some, option_map, IfSome}
 use Rattle.mpm_base.specs.Count.{NeverFalls, Rises}
 use Rattle.mpm_base.specs.Front.{Binds, FrontSeen}
 use Rattle.mpm_base.specs.Sink.{SinkSeen}
 use Rattle.mpm_base.specs.declared.script_line.ScriptLine.{ScriptLine}
 use Rattle.mpm_config.specs.Config.{Configuration}
-use Rattle.mpm_script.specs.Clients.{clients_of}
+use Rattle.mpm_script.specs.Clients.{clients_of, names_of}
 use Rattle.mpm_script.specs.declared.script.ScriptFault.{ScriptFault}
-use Rattle.script_front.specs.Editions.{editions_of}
+use Rattle.mpm_base.specs.Store.{StoreSeen, telling_store}
+use Rattle.script_front.specs.ScriptFront.{SeenFront}
+use Rattle.stand_ins.specs.PlainStore.{SeenStore}
 use Rattle.file_table.specs.Site.{SeenSite}
 use Rattle.board.specs.Board.{SeenBoard}
 use Rattle.conn_machine.specs.declared.event.Why.TheVariants as why
 use Rattle.conn_machine.specs.declared.state.Going.{Going}
-use Rattle.conn_machine.specs.declared.state.Going.TheVariants.{Halted}
+use Rattle.conn_machine.specs.declared.state.Going.TheVariants.{Ending, Halted}
+use Rattle.conn_machine.specs.Events.{count_events}
 use Rattle.mpm_run.specs.Configured.{Configures, HasConfig}
 use Rattle.mpm_run.specs.ConfiguredInside.{HasBadConfig}
 use Rattle.mpm_run.specs.Calls.{WritesText}
-use Rattle.mpm_run.specs.Commands.{HeedsLines}
-use Rattle.mpm_run.specs.ExitStatuses.{HasEnd, HasRun, KeepsPatience, KeepsTime, board_report, fault_at}
+use Rattle.mpm_run.specs.Commands.{GivesLines, HeedsLines, is_graceful_stop}
+use Rattle.mpm_run.specs.Generations.{Opening}
+use Rattle.mpm_run.specs.ExitStatuses.{HasEnd, HasRun, KeepsLines, KeepsPatience, KeepsTime, board_report, entries_of_run, fault_at, opening_store, script_opening}
 use Rattle.mpm_run.specs.FirstNumbers.{numbers_of}
 use Rattle.mpm_run.specs.Links.{KeepsLinks}
 use Rattle.mpm_run.specs.Sites.{HasSite}
+use Rattle.mpm_run.specs.Stores.{KeepsStore}
 use Rattle.mpm_run.specs.Started.{IsStartedFirst}
 use Rattle.mpm_run.specs.Tells.{AllReceive}
 use Rattle.mpm_run.specs.Texts.{config_refused, script_refused, store_fault}
@@ -33,8 +38,10 @@ use Rattle.mpm_run.specs.declared.texts.ScriptRefusal.{ScriptRefusal}
 
 -- ## The exit status on the way
 
--- the exit status of a run that stopped so, unless its report is not written
+-- the exit status of a run that stopped so, or ended gracefully, unless its report is not written
 abbrev pub IsExitStatusOf : Going → ℕ → Type 0
+IsExitStatusOf (Ending until) status = status ≡ 0
+IsExitStatusOf (Halted why.Overdue) status = status ≡ 0
 IsExitStatusOf (Halted why.FrontEnded) status = status ≡ 0
 IsExitStatusOf (Halted why.Asked) status = status ≡ 0
 IsExitStatusOf (Halted why.FrontFailed) status = status ≡ 4
@@ -82,7 +89,6 @@ IsSentStatus s = (s ≡ 0) ⊎ (s ≡ 1) ⊎ (s ≡ 3) ⊎ (s ≡ 4) ⊎ (s ≡ 
 
 -- what holds of what is left of each run
 pub record IsLeftOfRun (s : Scripted) : Type 0 where
-  pub site : s.store.told ≡ editions_of s.front.script
   pub front : IsOpenedAndHushed (numbers_of s.config) s.front.told
   pub started : IsStartedFirst (numbers_of s.config) s.board.book s.front.told
   pub watched : AreWatched s.board.book s.front.told
@@ -93,12 +99,25 @@ pub record IsLeftOfRun (s : Scripted) : Type 0 where
   pub ended : s.board.book.state.going ≡ Halted why.FrontEnded → HasEnd s.board s.front
   pub unfailed : s.board.book.state.going ≢ Halted why.FrontFailed
 
--- what is left is of a run by this configuration and this site, in which each connection received a front of what its client of the
--- script sends, and all of it where the client had done, and so did ones that the folded entries close
-pub record HasRunScript (lines : List ScriptLine) (c : Configuration) (site : SeenSite) (b : SeenBoard) : Type 0 where
-  pub has_run : HasRun c site b
+-- what is left is of a run by this configuration and this site, and then by the editions of the script, in which each connection received a
+-- front of what its client of the script sends, and all of it where the client had done, and so did ones that the folded entries close; where
+-- nothing more could come each connection of the script was taken, unless a graceful stop was begun; what the command lines ask for was done;
+-- and the store went on by them
+pub record HasRunScript (lines : List ScriptLine) (c : Configuration) (site : SeenSite) (b : SeenBoard) (f : SeenFront) (store : SeenStore) : Type 0 where
+  pub has_run : HasRun (script_opening lines c site) b
   pub receive : AllReceive (clients_of lines) b.ended
   pub receive_before : AllReceive (clients_of lines) has_run.folded.ended
+  pub taken : b.book.state.going ≡ Halted why.FrontEnded → count_events is_graceful_stop (entries_of_run (script_opening lines c site) b has_run) ≡ 0 → b.book.state.accepted ≡ length (names_of lines)
+  pub done : KeepsLines (entries_of_run (script_opening lines c site) b has_run) b f.told
+  pub store_is : KeepsStore b.book.state.going (entries_of_run (script_opening lines c site) b has_run) (opening_store lines) (telling_store store.told store.counts)
+
+-- what is left is of a run that opened so, over the front and the store that it left so: what the command lines ask for was done, the front
+-- gave a line for each, and the store went on by them
+pub record HasRunBy (o : Opening) (store : StoreSeen) (f : FrontSeen) (b : SeenBoard) : Type 0 where
+  pub has_run : HasRun o b
+  pub done : IfSome f.told (KeepsLines (entries_of_run o b has_run) b)
+  pub given : GivesLines (entries_of_run o b has_run) o.front f
+  pub store_is : KeepsStore b.book.state.going (entries_of_run o b has_run) o.store store
 
 -- what is left is of a run of the script, by the configuration that its lines write, and the site that they have by it
 pub record IsPlayed (lines : List ScriptLine) (s : Scripted) : Type 0 where
@@ -108,7 +127,7 @@ pub record IsPlayed (lines : List ScriptLine) (s : Scripted) : Type 0 where
   pub text_is : HasConfig lines text
   pub accepted : Configures text s.config
   pub site_is : HasSite lines s.config site
-  pub run : HasRunScript lines s.config site s.board
+  pub run : HasRunScript lines s.config site s.board s.front s.store
 
 -- ## What is written on the way
 

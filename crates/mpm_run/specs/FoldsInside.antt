@@ -14,23 +14,14 @@ use Rattle.conn_state.specs.Answered.{SeenEnded}
 use Rattle.conn_state.specs.Known.{KnownOutside}
 use Rattle.board.specs.Board.{Agrees, AreClosed, AreEnded, EndedOfOutside, SeenBoard}
 use Rattle.board.specs.Book.{SeenBook}
-use Rattle.mpm_run.specs.Listen.{HasFolded}
+use Rattle.board.specs.Editions.{IsOfGeneration, KeepsEditions, orders_in}
+use Rattle.file_table.specs.Site.{SeenSite}
+use Rattle.http_read.specs.declared.request.Limits.{Limits}
 use Rattle.mpm_run.specs.ListenInside.{IsWatching}
 use Rattle.mpm_run.specs.Patient.{IsPatientRun}
 use Rattle.mpm_run.specs.RoundInside.{NoneHas, StartsAsAsked}
-use Rattle.mpm_run.specs.Started.{AreAskedFor}
+use Rattle.mpm_run.specs.Standing.{FoldsOn}
 use Rattle.mpm_run.specs.Times.{IsInformed}
-use Rattle.mpm_run.specs.declared.run_numbers.RunNumbers.{RunNumbers}
-
--- what was folded of a run by these numbers, whose connections were of the outside where the type knows it
-pub record IsFoldedOf (known : Option KnownOutside) (n : RunNumbers) (b : SeenBook) : Type 0 where
-  pub passes : b.passes ≡ n.passes
-  pub folded : HasFolded n b
-  pub outside : EndedOfOutside known folded.ended
-
--- so it is of the later book, where it was of this one
-abbrev pub FoldsOn : Option KnownOutside → SeenBook → SeenBook → Type 0
-FoldsOn known old new = (n : RunNumbers) → AreAskedFor old.base old.history → IsFoldedOf known n old → IsFoldedOf known n new
 
 -- the laws of folds, and of histories and connections that ended, as one fact: what a fold counted and what comes behind it are together
 -- what one fold counts of both
@@ -44,7 +35,8 @@ pub record FoldsJoin : Type 0 where
   pub twice : (base : State) (f : Folded) (a b : List Entry) (lines lines' : List (List ℕ)) → HaveBegun base f → length lines ≡ count_events is_close a → fold_of (after base a) b lines' (fold_of base a lines f) ≡ fold_of base (a ++ b) (lines ++ lines') f
   pub closed : (base : State) (a b : List Entry) (ended ended' : List SeenEnded) → AreClosed base a ended → AreClosed (after base a) b ended' → AreClosed base (a ++ b) (ended ++ ended')
   pub answered : (ended ended' : List SeenEnded) → AreEnded ended → AreEnded ended' → AreEnded (ended ++ ended')
-  pub outside : (known : Option KnownOutside) (ended ended' : List SeenEnded) → EndedOfOutside known ended → EndedOfOutside known ended' → EndedOfOutside known (ended ++ ended')
+  pub outside : (known : Option KnownOutside) (b : SeenBook) (ended ended' : List SeenEnded) → EndedOfOutside known b ended → EndedOfOutside known b ended' → EndedOfOutside known b (ended ++ ended')
+  pub outside_stays : (known : Option KnownOutside) (old new : SeenBook) (ended : List SeenEnded) → KeepsEditions old new → EndedOfOutside known old ended → EndedOfOutside known new ended
   pub many : (base : State) (history : List Entry) (ended : List SeenEnded) → AreClosed base history ended → length ended ≡ count_events is_close history
 
 -- what a board shows that a fold goes by
@@ -56,7 +48,7 @@ pub record ShowsForFolds (known : Option KnownOutside) (b : SeenBoard) : Type 0 
   pub few : AreOfPasses b.book.passes b.book.history
   pub state : after b.book.base b.book.history ≡ b.book.state
   pub agrees : Agrees b
-  pub outside : EndedOfOutside known b.ended
+  pub outside : EndedOfOutside known b.book b.ended
 
 -- the listener goes on with the board as it did, though of the history and of the connections that ended no more may be kept than the
 -- record says
@@ -69,4 +61,6 @@ pub record ListensOn (known : Option KnownOutside) (old new : SeenBoard) : Type 
   pub watched : (told : Option FrontTold) → IsWatching told old.book → IsWatching told new.book
   pub patient : (told : Option FrontTold) (calls : Option (List (ℕ × ℕ))) → IsPatientRun told calls old.book → IsPatientRun told calls new.book
   pub folded : FoldsOn known old.book new.book
+  pub orders : orders_in new.book ≡ orders_in old.book
+  pub edition : (limits : Limits) (site : SeenSite) → IsOfGeneration known old.book old.book.state.newest limits site → IsOfGeneration known new.book new.book.state.newest limits site
   pub unfolded : new.book.folded.entries ≡ 0 → new ≡ old

@@ -38,9 +38,9 @@ pub record IsClosedDown (s : State) : Type 0 where
 -- ## A run
 
 -- the history that is kept is one of the machine, from the state before it, in the order of its passes behind what was folded; each
--- entry is one that its pass, one of so many, may make where it stands, each child that was started was asked for, and each command is a
--- stop, which the state tells; before the first entry each pass had a connection of its own, or none, and each one that somebody had was
--- some pass's; each state on its way is sound; and the connections agree with the history
+-- entry is one that its pass, one of so many, may make where it stands, each child that was started was asked for, and each stop is told
+-- by the state; before the first entry each pass had a connection of its own, or none, and each one that somebody had was some pass's; each
+-- state on its way is sound; and the connections agree with the history
 pub record IsRunFrom (n : RunNumbers) (b : SeenBoard) : Type 0 where
   pub run : Run b.book.base b.book.history
   pub order : IsInPassOrderFrom b.book.folded b.book.history
@@ -54,9 +54,9 @@ pub record IsRunFrom (n : RunNumbers) (b : SeenBoard) : Type 0 where
   pub agrees : Agrees b
 
 -- what was folded of a run by these numbers: entries from the state in which it opens, each of which is one that its pass, one of so many,
--- may make where it stands, each child that was started was asked for, and each command is a stop; the connections that ended in them are
--- those that they close, in order, each of which shows what an ended connection shows; the state before the history that is kept is the one
--- behind them; and the record is what one fold makes of them
+-- may make where it stands, and each child that was started was asked for; the connections that ended in them are those that they close, in
+-- order, each of which shows what an ended connection shows; the state before the history that is kept is the one behind them; and the
+-- record is what one fold makes of them
 pub record HasFolded (n : RunNumbers) (b : SeenBook) : Type 0 where
   pub entries : List Entry
   pub ended : List SeenEnded

@@ -1,5 +1,5 @@
 -- What the listener keeps on its way, of its front, its clock and its table, and how its turns end.
-use Rattle.std.specs.Prelude.{◌≡◌, ◌<◌, ℕ, List, Option, IfSome, option_map, is_some, min, ◌⊎◌, ◌↔◌, ◌≤◌, Bool, true, false, [], ◌∷◌, None, Some, slice_get, length, Result, Ok, Err}
+use Rattle.std.specs.Prelude.{◌≡◌, ◌<◌, ℕ, List, Option, IfSome, option_map, is_none, is_some, min, ◌⊎◌, ◌↔◌, ◌≤◌, Bool, true, false, not, [], ◌∷◌, None, Some, slice_get, length, Result, Ok, Err}
 use Rattle.mpm_base.specs.Clock.{Answers}
 use Rattle.mpm_base.specs.Front.{Binds, FrontTold, FrontSeen, BoundTold, DialTold, WaitTold, HasNoneToTake}
 use Rattle.mpm_base.specs.declared.front.Woke.{Woke}
@@ -12,10 +12,10 @@ use Rattle.conn_machine.specs.declared.row.Row.{Row}
 use Rattle.conn_machine.specs.declared.event.Why.{Why}
 use Rattle.conn_machine.specs.declared.event.Why.TheVariants as why
 use Rattle.conn_machine.specs.declared.state.Going.{Going}
-use Rattle.conn_machine.specs.declared.state.Going.TheVariants.{Halted}
+use Rattle.conn_machine.specs.declared.state.Going.TheVariants.{Ending, Halted}
 use Rattle.conn_machine.specs.declared.state.State.{State}
 use Rattle.conn_machine.specs.Rows.{is_held, is_lingering, is_parked, live_row}
-use Rattle.conn_machine.specs.States.{is_halted, is_overdue}
+use Rattle.conn_machine.specs.States.{is_halted, is_over, is_overdue, is_serving}
 use Rattle.conn_machine.specs.Made.{IsOpened}
 use Rattle.conn_state.specs.Conn.{IsFresh}
 use Rattle.conn_state.specs.Known.{KnownOutside}
@@ -34,7 +34,8 @@ use Rattle.mpm_run.specs.Listen.{HasNoLive, IsClosedDown}
 use Rattle.mpm_run.specs.Outside.{clients_told, comings_told}
 use Rattle.mpm_run.specs.Patient.{IsAtRest}
 use Rattle.mpm_run.specs.Started.{BeginsWithStarts}
-use Rattle.mpm_run.specs.Stops.{HasFailedLast, HasTakenAll, StoppedFor}
+use Rattle.mpm_run.specs.Stops.{HasEndedGracefully, HasFailedLast, HasTakenAll, StoppedFor}
+use Rattle.mpm_run.specs.Times.{IsInformed, IsInformedOfTime, IsInformedSoFar}
 use Rattle.mpm_run.specs.Watched.{AreWatched, accepted_names}
 
 -- what a front was bound to, and its dials
@@ -49,13 +50,13 @@ contacts_of told = option_map contacts told
 pub record OnlyTakes (t t' : FrontTold) : Type 0 where
   pub rest : t' ≡ record t { accepted = t'.accepted; watches = t'.watches; turned_away = t'.turned_away; failed = t'.failed }
 
--- command lines were read, and nothing else happened to the front
+-- command lines were read, listening was stopped or not, and nothing else happened to the front
 pub record OnlyReads (t t' : FrontTold) : Type 0 where
-  pub rest : t' ≡ record t { read = t'.read }
+  pub rest : t' ≡ record t { read = t'.read; hushed = t'.hushed }
 
 -- both
 pub record OnlyReadsAndTakes (t t' : FrontTold) : Type 0 where
-  pub rest : t' ≡ record t { accepted = t'.accepted; watches = t'.watches; turned_away = t'.turned_away; read = t'.read; failed = t'.failed }
+  pub rest : t' ≡ record t { accepted = t'.accepted; watches = t'.watches; turned_away = t'.turned_away; read = t'.read; hushed = t'.hushed; failed = t'.failed }
 
 -- no command line that was read stops the server, and none was read that didn't come
 pub record HasNoneToHeed (t : FrontTold) : Type 0 where
@@ -71,6 +72,8 @@ abbrev pub HeedsUntil : Result End BoardFault → FrontTold → Type 0
 HeedsUntil (Ok end.Asked) t = HasOneToHeed t
 HeedsUntil (Ok end.Ended) t = HasNoneToHeed t
 HeedsUntil (Ok end.Failed) t = HasNoneToHeed t
+HeedsUntil (Ok end.Overdue) t = HasNoneToHeed t
+HeedsUntil (Ok end.Gone) t = HasNoneToHeed t
 HeedsUntil (Err fault) t = HasNoneToHeed t
 
 -- where the front tells, so does the link
@@ -112,9 +115,13 @@ pub record Follows (old new : FrontSeen) : Type 0 where
   pub ends : NeverFalls old.counts.ends new.counts.ends
   pub commands : NeverFalls old.counts.commands new.counts.commands
 
--- the front listens, handed out as many links as the table took connections, and turned none away
+-- the front listens exactly while the server takes connections
+abbrev pub ListensAsServed : State → FrontTold → Type 0
+ListensAsServed s t = t.hushed ≡ not (is_serving s.going)
+
+-- the same, and the front handed out as many links as the table took, and turned none away
 pub record KeepsStep (s : State) (t : FrontTold) : Type 0 where
-  pub listens : t.hushed ≡ false
+  pub listens : ListensAsServed s t
   pub taken : HandsOutTaken s t
 
 -- the same of a front that tells
@@ -186,37 +193,91 @@ pub record HasTaken (s : State) (name : ConnName) (child generation arrival : �
   pub arrival_is : row.arrival ≡ arrival
   pub notes : row.notes ≡ []
 
+-- while the server takes connections the front handed out each that its clients made
+abbrev pub HandsOutEach : State → FrontTold → Type 0
+HandsOutEach s t = is_serving s.going ≡ true → t.accepted ≡ length t.clients
+
 -- nothing more can come, and no connection is live
 pub record HasNothingToCome (old new : FrontSeen) (s : State) : Type 0 where
   pub going : is_halted s.going ≡ false
   pub live : HasNoLive s
   pub all : HasTakenAll old new s
+  pub each : IfSome new.told (HandsOutEach s)
 
--- how the listener's turns end: nothing more can come, or the server was asked to stop, or a wait failed, or the server has to stop
+-- the server was asked to end, and is at its end: no connection is live, and each child is gone
+pub record IsGone (s : State) : Type 0 where
+  pub until : Option ℕ
+  pub going : s.going ≡ Ending until
+  pub down : IsClosedDown s
+
+-- how the listener's turns end: nothing more can come, or the server was asked to stop, or a wait failed, or the time of a graceful stop is
+-- over, or all is gone behind one, or the server has to stop
 abbrev pub TurnsEnd : Result End BoardFault → FrontSeen → FrontSeen → SeenBook → Type 0
 TurnsEnd (Ok end.Ended) old new b = HasNothingToCome old new b.state
 TurnsEnd (Ok end.Asked) old new b = (is_halted b.state.going ≡ false) × Rises old.counts.commands new.counts.commands
 TurnsEnd (Ok end.Failed) old new b =
     (is_halted b.state.going ≡ false) × Rises old.counts.faults new.counts.faults × IfSome new.told HasFailedLast
+TurnsEnd (Ok end.Overdue) old new b = is_over b.state.moment b.state.going ≡ true
+TurnsEnd (Ok end.Gone) old new b = IsGone b.state
 TurnsEnd (Err fault) old new b = RefusalLasts fault b
 
--- the server goes on, and no connection is live where nothing more can come; or it has to stop for the fault, or did
+-- what the turns did of all that the waits and the clock gave: where they were broken off the last of it may be missing, and where the time
+-- of a graceful stop is over nothing was signalled any more of what the last wait gave
+abbrev pub TurnsInform : Result End BoardFault → Option (List WaitTold) → Option (List (ℕ × ℕ)) → SeenBook → Type 0
+TurnsInform (Ok end.Ended) waits calls b = IsInformed waits calls b
+TurnsInform (Ok end.Asked) waits calls b = IsInformed waits calls b
+TurnsInform (Ok end.Failed) waits calls b = IsInformed waits calls b
+TurnsInform (Ok end.Overdue) waits calls b = IsInformedOfTime waits calls b
+TurnsInform (Ok end.Gone) waits calls b = IsInformed waits calls b
+TurnsInform (Err fault) waits calls b = IsInformedSoFar waits calls b
+
+-- no further connection is taken: none could be, or a front that tells has none to take, or an accept of it failed
+abbrev pub TookAll : Option FrontTold → State → Type 0
+TookAll told s = (acceptable s ≡ None) ⊎ IfSome told HasNoneToTake ⊎ IfSome told (λ t. t.failed ≡ true)
+
+-- what taking in what has come says, where it ends the turns for this, or doesn't: then each connection was taken that could be, and each
+-- command line was read
+abbrev pub TakesInTo : Option End → FrontSeen → FrontSeen → State → Type 0
+TakesInTo None old new s = TookAll new.told s × HasReadAll new.told × IfSome new.told HasNoneToHeed
+TakesInTo (Some end.Asked) old new s =
+    (is_halted s.going ≡ false) × Rises old.counts.commands new.counts.commands × IfSome new.told HasOneToHeed
+TakesInTo (Some end.Overdue) old new s = (is_over s.moment s.going ≡ true) × IfSome new.told HasNoneToHeed
+TakesInTo (Some end.Gone) old new s = IsGone s × IfSome new.told HasNoneToHeed
+TakesInTo (Some end.Ended) old new s = ⊥
+TakesInTo (Some end.Failed) old new s = ⊥
+
+-- the server goes on, and no connection is live where nothing more can come; or its time is over, or it is at its end; or it has to stop for
+-- the fault, or did
 abbrev pub MustHalt : Result End BoardFault → SeenBook → Type 0
 MustHalt (Ok end.Ended) b = (is_halted b.state.going ≡ false) × HasNoLive b.state
 MustHalt (Ok end.Asked) b = is_halted b.state.going ≡ false
 MustHalt (Ok end.Failed) b = is_halted b.state.going ≡ false
+MustHalt (Ok end.Overdue) b = is_over b.state.moment b.state.going ≡ true
+MustHalt (Ok end.Gone) b = IsGone b.state
 MustHalt (Err fault) b = RefusalLasts fault b
 
--- why the server stops at the end of the turns
-abbrev pub why_of : End → Why
-why_of end.Ended = why.FrontEnded
-why_of end.Asked = why.Asked
-why_of end.Failed = why.FrontFailed
+-- why the server is stopped at the end of the turns; behind a graceful stop that is at its end it isn't
+abbrev pub why_of : End → Option Why
+why_of end.Ended = Some why.FrontEnded
+why_of end.Asked = Some why.Asked
+why_of end.Failed = Some why.FrontFailed
+why_of end.Overdue = Some why.Overdue
+why_of end.Gone = None
+
+-- the turns end behind a graceful stop that is at its end
+abbrev pub is_at_end : Result End BoardFault → Bool
+is_at_end (Ok e) = is_none (why_of e)
+is_at_end (Err fault) = false
+
+-- how the server goes on that is stopped for this, or for nothing
+abbrev pub HaltsFor : Option Why → Going → Going → Type 0
+HaltsFor None old new = new ≡ old
+HaltsFor (Some why) old new = new ≡ Halted why
 
 -- how the server stops behind them
-abbrev pub HaltsAs : Result End BoardFault → Going → Type 0
-HaltsAs (Ok end) going = going ≡ Halted (why_of end)
-HaltsAs (Err fault) going = going ≡ Halted why.NoMemory
+abbrev pub HaltsAs : Result End BoardFault → Going → Going → Type 0
+HaltsAs (Ok end) old new = HaltsFor (why_of end) old new
+HaltsAs (Err fault) old new = new ≡ Halted why.NoMemory
 
 -- no connection is late
 abbrev pub NoneOverdue : State → Type 0
@@ -226,18 +287,15 @@ NoneOverdue s = list_any (is_overdue s.moment) s.rows ≡ false
 abbrev pub NoneParked : State → Type 0
 NoneParked s = (slot : ℕ) (r : Row) → slice_get s.rows slot ≡ Some r → is_parked r.place ≡ false
 
--- no further connection is taken: none could be, or a front that tells has none to take, or an accept of it failed
-abbrev pub TookAll : Option FrontTold → State → Type 0
-TookAll told s = (acceptable s ≡ None) ⊎ IfSome told HasNoneToTake ⊎ IfSome told (λ t. t.failed ≡ true)
-
 -- the next wait may let time pass exactly where nothing is left to be done
 abbrev pub IsRestful : Bool → State → Type 0
 IsRestful quiet s = (quiet ≡ true) ↔ IsAtRest s
 
--- the server stopped for one of these
+-- the server stopped for one of these, or ended
 abbrev pub IsEnd : Going → Type 0
 IsEnd going =
     (going ≡ Halted why.FrontEnded) ⊎ (going ≡ Halted why.Asked) ⊎ (going ≡ Halted why.FrontFailed) ⊎ (going ≡ Halted why.NoMemory)
+    ⊎ HasEndedGracefully going
 
 -- it stopped for one of these, and closed down
 pub record HasStopped (old new : FrontSeen) (s : State) : Type 0 where

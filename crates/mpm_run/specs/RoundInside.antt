@@ -8,9 +8,12 @@ use Rattle.mpm_base.specs.declared.conn.ConnName.{ConnName}
 use Rattle.mpm_base.specs.declared.conn.Cause.TheVariants as cause
 use Rattle.mpm_base.specs.declared.conn.Kind.TheVariants.{Reading}
 use Rattle.mpm_base.specs.declared.conn.Tail.TheVariants.{Direct}
+use Rattle.conn_machine.specs.declared.event.Commanded.{Commanded}
+use Rattle.conn_machine.specs.declared.event.Commanded.TheVariants as commanded
 use Rattle.conn_machine.specs.declared.event.Commanded.TheVariants.{Stop}
 use Rattle.conn_machine.specs.declared.event.Event.{Event}
 use Rattle.conn_machine.specs.declared.event.Event.TheVariants as event
+use Rattle.conn_machine.specs.declared.event.Why.{Why}
 use Rattle.conn_machine.specs.declared.event.Why.TheVariants as why
 use Rattle.conn_machine.specs.declared.state.State.{State}
 use Rattle.conn_machine.specs.Runs.{after}
@@ -23,10 +26,12 @@ use Rattle.worker_group.specs.declared.service.Exit.{Exit}
 use Rattle.worker_group.specs.declared.service.Exit.TheVariants as exit
 use Rattle.worker_group.specs.Acts.{Acts}
 use Rattle.worker_group.specs.Service.{HasServed, give_up_events, left_events}
-use Rattle.mpm_run.specs.ClosingInside.{AllLeftBy, GivesUpDrained, IsDrainedWay, IsLateWay, IsRetiringWay, Departure, NoneEarly, departure_events}
-use Rattle.mpm_run.specs.ListenInside.{IsInStep, why_of}
+use Rattle.mpm_run.specs.ClosingInside.{AllLeftBy, GivesUpDrained, IsDrainedWay, IsHaltedWay, IsLateWay, IsRetiringWay, Departure, LetsGo, NoneEarly, departure_events}
+use Rattle.mpm_run.specs.Listen.{IsClosedDown}
+use Rattle.mpm_run.specs.ListenInside.{HaltsAs, IsInStep, why_of}
 use Rattle.mpm_run.specs.Patient.{NoneDue}
 use Rattle.mpm_run.specs.declared.listen.End.{End}
+use Rattle.mpm_run.specs.declared.listen.End.TheVariants as end
 use Rattle.mpm_run.specs.Started.{AreAskedFor}
 use Rattle.mpm_run.specs.Times.{known_slots, ticks_to}
 
@@ -161,14 +166,15 @@ pub record Departures : Type 0 where
   pub drained : List Departure
 
 -- what a round did: the late connections that it let go of before and after time passed, the moment to which it passed, the slots
--- that it signalled, the connections that it let go of then, the children that it let go of, those that it started, and the
--- connections that it took
+-- that it signalled, the connections that it let go of then, the commands that it did, the children that it let go of, those that it
+-- started, and the connections that it took
 pub record Round : Type 0 where
   pub early : List Departure
   pub ticks : List ℕ
   pub late : List Departure
   pub signals : List ℕ
   pub departures : Departures
+  pub orders : List Commanded
   pub retired : List ℕ
   pub starts : List ℕ
   pub takes : List Intake
@@ -189,7 +195,7 @@ departures_events l = gone_events l.retiring ++ gone_events l.cut ++ gone_events
 abbrev pub round_events : Round → List Event
 round_events r =
     time_events r.early r.ticks r.late ++ map event.Ready r.signals ++ departures_events r.departures
-    ++ map event.Retire r.retired ++ map event.StartChild r.starts ++ flat_map intake_events r.takes
+    ++ map event.Command r.orders ++ map event.Retire r.retired ++ map event.StartChild r.starts ++ flat_map intake_events r.takes
 
 -- each of the connections was left in a way that its part allows
 pub record AreLetGo (l : Departures) : Type 0 where
@@ -197,11 +203,31 @@ pub record AreLetGo (l : Departures) : Type 0 where
   pub cut : AllLeftBy IsLateWay l.cut
   pub drained : AllLeftBy IsDrainedWay l.drained
 
--- the same of a round
+-- none of the commands stops the server
+abbrev pub NoneHalts : List Commanded → Type 0
+NoneHalts [] = ⊤
+NoneHalts (commanded.Graceful shape ∷ orders) = NoneHalts orders
+NoneHalts (commanded.Refused reason ∷ orders) = NoneHalts orders
+NoneHalts (commanded.GracefulStop until ∷ orders) = NoneHalts orders
+NoneHalts (commanded.Stop reason ∷ orders) = ⊥
+
+-- the same of a round, and none of its commands stops the server
 pub record AreWays (r : Round) : Type 0 where
   pub early : AllLeftBy IsLateWay r.early
   pub late : AllLeftBy IsLateWay r.late
   pub departures : AreLetGo r.departures
+  pub orders : NoneHalts r.orders
+
+-- command lines were done, none of which stops the server, and nothing else was done
+pub record DoesOrders (old new : SeenBook) : Type 0 where
+  pub orders : List Commanded
+  pub none : NoneHalts orders
+  pub acts : Acts 0 (map event.Command orders) None old new
+
+-- the same, which led to this book; then a command was refused there for the fault
+pub record DoesUntil (fault : BoardFault) (old new : SeenBook) : Type 0 where
+  pub does : DoesOrders old new
+  pub why : IsRefusedFor fault new
 
 -- time passed to that moment, where it is later than the one before; late connections were let go of before and after
 pub record PassesTime (to : ℕ) (old new : SeenBook) : Type 0 where
@@ -234,8 +260,8 @@ pub record SignalsFirst (slots : List ℕ) (old new : SeenBook) : Type 0 where
   pub front : IsFrontOf (known_slots (length old.base.rows) slots) first
   pub acts : Acts 0 (map event.Ready first) None old new
 
--- a round let time pass to the given moment, signalled each of the given slots that the table has, let go of connections and
--- children, started children that were asked for, and took connections
+-- a round let time pass to the given moment, signalled each of the given slots that the table has, let go of connections, did what
+-- command lines ask for, let go of children, started children that were asked for, and took connections
 pub record GoesRound (to : ℕ) (slots : List ℕ) (old new : SeenBook) : Type 0 where
   pub round : Round
   pub soon : NoneEarly old round.early
@@ -263,9 +289,33 @@ pub record BreaksOff (fault : BoardFault) (to : ℕ) (slots : List ℕ) (old new
   pub asked : StartsAsAsked old book
   pub last : EndsRound fault book new
 
+-- a round that ended the turns, or didn't: where the time of a graceful stop is over nothing was done but that time passed, and late
+-- connections were let go of
+abbrev pub RoundEnds : Option End → ℕ → List ℕ → SeenBook → SeenBook → Type 0
+RoundEnds (Some end.Overdue) to slots old new = PassesTime to old new
+RoundEnds other to slots old new = GoesRound to slots old new
+
 -- ## The end
+
+-- the event that stops the server for this, where there is one
+abbrev pub halts_for : Option Why → List Event
+halts_for None = []
+halts_for (Some why) = event.Command (Stop why) ∷ []
 
 -- the event by which the turns' end stops the server: where they were broken off it is for want of memory, as nothing else stopped it
 abbrev pub halt_events : Result End BoardFault → List Event
-halt_events (Ok end) = event.Command (Stop (why_of end)) ∷ []
+halt_events (Ok end) = halts_for (why_of end)
 halt_events (Err fault) = event.Command (Stop why.NoMemory) ∷ []
+
+-- the server was stopped for what ended the turns, each connection that waited was closed, and each child was let go of. Behind a graceful
+-- stop that is at its end nothing was left to be done
+pub record GoesDown (turns : Result End BoardFault) (old new : SeenBook) : Type 0 where
+  pub halted : SeenBook
+  pub closed : SeenBook
+  pub halts : Acts 0 (halt_events turns) None old halted
+  pub closes : LetsGo IsHaltedWay halted closed
+  pub retires : RetiresSome closed new
+  pub moment : new.state.moment ≡ old.state.moment
+  pub accepted : new.state.accepted ≡ old.state.accepted
+  pub going : HaltsAs turns old.state.going new.state.going
+  pub down : IsClosedDown new.state

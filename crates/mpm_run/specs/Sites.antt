@@ -1,6 +1,6 @@
 -- The site that a run serves: the files of the script's first edition under the DocumentRoot of its configuration. And why it has
 -- none.
-use Rattle.std.specs.Prelude.{◌≡◌, ◌⊎◌, ℕ, List, [], ◌∷◌, Err, ⊤}
+use Rattle.std.specs.Prelude.{◌≡◌, ◌⊎◌, ℕ, List, Err}
 use Rattle.mpm_base.specs.declared.script_line.ScriptLine.{ScriptLine}
 use Rattle.mpm_base.specs.declared.store.File.{File}
 use Rattle.mpm_config.specs.Config.{Configuration}
@@ -10,7 +10,6 @@ use Rattle.file_table.specs.declared.site.SiteOrder.{SiteOrder}
 use Rattle.file_table.specs.Load.{IsWithinLimits, MayLoad}
 use Rattle.file_table.specs.Site.{SeenSite, IsSiteOf}
 use Rattle.script_front.specs.Editions.{editions_of}
-use Rattle.conn_state.specs.Answered.{SeenEnded}
 
 -- ## By the configuration
 
@@ -46,15 +45,3 @@ IsSiteRefusedOf files c name = HasTooMany files c name ⊎ HasTooLarge files c n
 -- so it is of the script's first edition
 abbrev pub IsSiteRefused : List ScriptLine → Configuration → List ℕ → Type 0
 IsSiteRefused script c name = IsSiteRefusedOf (editions_of script).files c name
-
--- ## What connections were served by
-
--- the connection was served by these limits and this site
-pub record IsServedBy (limits : Limits) (site : SeenSite) (e : SeenEnded) : Type 0 where
-  pub limits_are : e.limits ≡ limits
-  pub site_is : e.site ≡ site
-
--- so was each
-abbrev pub AllServedBy : Limits → SeenSite → List SeenEnded → Type 0
-AllServedBy limits site [] = ⊤
-AllServedBy limits site (e ∷ ended) = IsServedBy limits site e × AllServedBy limits site ended

@@ -48,4 +48,4 @@ pub record IsServedRun (lines : List ScriptLine) (c : Configuration) (s : Script
   pub config : s.config ≡ c
   pub site : SeenSite
   pub site_is : HasSite lines c site
-  pub run : HasRunScript lines c site s.board
+  pub run : HasRunScript lines c site s.board s.front s.store

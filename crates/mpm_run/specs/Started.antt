@@ -1,10 +1,7 @@
--- When children are started: those of a server that opens before anything else, and each one only where it is asked for. And which
--- commands a history has.
+-- When children are started: those of a server that opens before anything else, and each one only where it is asked for.
 use Rattle.std.specs.Prelude.{◌≡◌, ◌≢◌, ℕ, List, [], ◌++◌, map, min, Some, ⊤}
 use Rattle.std.specs.List.{range_with_len}
 use Rattle.mpm_base.specs.Front.{FrontTold}
-use Rattle.conn_machine.specs.declared.event.Commanded.{Commanded}
-use Rattle.conn_machine.specs.declared.event.Commanded.TheVariants as commanded
 use Rattle.conn_machine.specs.declared.event.Entry.{Entry}
 use Rattle.conn_machine.specs.declared.event.Event.{Event}
 use Rattle.conn_machine.specs.declared.event.Event.TheVariants as event
@@ -30,15 +27,7 @@ first_children n = min n.shape.target n.children
 abbrev pub IsStartedFirst : RunNumbers → SeenBook → FrontTold → Type 0
 IsStartedFirst n b t = b.folded.entries ≡ 0 → t.waits ≢ [] → BeginsWithStarts (first_children n) b.history
 
--- the command stops the server
-abbrev pub IsStop : Commanded → Type 0
-IsStop (commanded.Graceful shape) = ⊥
-IsStop (commanded.Refused reason) = ⊥
-IsStop (commanded.GracefulStop until) = ⊥
-IsStop (commanded.Stop why) = ⊤
-
--- where the event is that a child is started, fewer ran than should, and it was the lowest one that was gone; and where it is a
--- command, that stops the server
+-- where the event is that a child is started, fewer ran than should, and it was the lowest one that was gone
 abbrev pub IsAskedFor : State → Event → Type 0
 IsAskedFor s (event.Accept slot) = ⊤
 IsAskedFor s (event.Park name kind) = ⊤
@@ -51,9 +40,9 @@ IsAskedFor s (event.Close name cause tail) = ⊤
 IsAskedFor s (event.Ready slot) = ⊤
 IsAskedFor s (event.Tick m) = ⊤
 IsAskedFor s (event.StartChild k) = startable s ≡ Some k
-IsAskedFor s (event.Command c) = IsStop c
+IsAskedFor s (event.Command c) = ⊤
 IsAskedFor s (event.Retire k) = ⊤
 
--- in a history from the state on each child that was started was asked for, and each command stops the server
+-- in a history from the state on each child that was started was asked for
 abbrev pub AreAskedFor : State → List Entry → Type 0
 AreAskedFor s history = AllAt IsAskedFor s history

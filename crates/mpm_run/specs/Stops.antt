@@ -1,20 +1,23 @@
 -- Why a server stopped, as its front shows it.
-use Rattle.std.specs.Prelude.{◌≡◌, ◌⊎◌, List, [], ◌∷◌, ◌++◌, IfSome, length}
+use Rattle.std.specs.Prelude.{◌≡◌, ◌⊎◌, ℕ, List, [], ◌∷◌, ◌++◌, IfSome, Option, length}
 use Rattle.mpm_base.specs.Count.{Rises}
 use Rattle.mpm_base.specs.Front.{FrontSeen, FrontTold, WaitTold}
 use Rattle.mpm_base.specs.declared.front.Woke.TheVariants as woke
 use Rattle.conn_machine.specs.declared.event.Why.TheVariants as why
-use Rattle.conn_machine.specs.declared.state.Going.TheVariants.{Halted}
+use Rattle.conn_machine.specs.declared.event.Entry.{Entry}
+use Rattle.conn_machine.specs.declared.state.Going.{Going}
+use Rattle.conn_machine.specs.declared.state.Going.TheVariants.{Ending, Halted}
 use Rattle.conn_machine.specs.declared.state.State.{State}
+use Rattle.conn_machine.specs.Events.{count_events}
+use Rattle.mpm_run.specs.Commands.{is_graceful_stop}
 
--- all has happened, each command line was read, and each connection was handed out, which the table took
+-- all has happened, each command line was read, and the table took each connection that was handed out
 pub record HasGivenAll (s : State) (t : FrontTold) : Type 0 where
   pub left : t.left ≡ 0
   pub read : t.read ≡ length t.lines
-  pub given : t.accepted ≡ length t.clients
   pub taken : t.accepted ≡ s.accepted
 
--- a wait of the front answered Ended, so that one which tells has handed all out, and the table took them
+-- a wait of the front answered Ended, so that of one which tells all has happened
 pub record HasTakenAll (old new : FrontSeen) (s : State) : Type 0 where
   pub answered : Rises old.counts.ends new.counts.ends
   pub taken : IfSome new.told (HasGivenAll s)
@@ -42,7 +45,18 @@ pub record HasFrontFailed (old new : FrontSeen) (s : State) : Type 0 where
   pub failed : Rises old.counts.faults new.counts.faults
   pub last : IfSome new.told HasFailedLast
 
--- why it stopped: nothing more could come, it was asked to, a wait failed, or memory lacked
+-- the server was asked to end: it ends still, as it has to when all is gone, or its time was over
+abbrev pub HasEndedGracefully : Going → Type 0
+HasEndedGracefully going = ((until : Option ℕ) × (going ≡ Ending until)) ⊎ (going ≡ Halted why.Overdue)
+
+-- why it stopped: nothing more could come, it was asked to, a wait failed, memory lacked, or it ended gracefully
 abbrev pub StoppedFor : FrontSeen → FrontSeen → State → Type 0
 StoppedFor old new s =
     HasEnded old new s ⊎ HasBeenAsked old new s ⊎ HasFrontFailed old new s ⊎ (s.going ≡ Halted why.NoMemory)
+    ⊎ HasEndedGracefully s.going
+
+-- where nothing more could come, and no graceful stop was begun in the history, each connection was handed out that the clients of the
+-- front made
+abbrev pub TakesEach : Going → List Entry → FrontTold → Type 0
+TakesEach going history t =
+    going ≡ Halted why.FrontEnded → count_events is_graceful_stop history ≡ 0 → t.accepted ≡ length t.clients

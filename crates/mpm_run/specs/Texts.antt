@@ -4,7 +4,7 @@ use Rattle.std.specs.Fmt.{decimal}
 use Rattle.mpm_run.specs.declared.texts.ConfigRefusal.{ConfigRefusal}
 use Rattle.mpm_run.specs.declared.texts.ConfigRefusal.TheVariants.{NotText, UnknownDirective, BadValue, BadSection, Unclosed, TooDeep}
 use Rattle.mpm_run.specs.declared.texts.ScriptRefusal.{ScriptRefusal}
-use Rattle.mpm_run.specs.declared.texts.ScriptRefusal.TheVariants.{BadLine, MomentBackwards, UnknownName, NotYet}
+use Rattle.mpm_run.specs.declared.texts.ScriptRefusal.TheVariants.{BadLine, MomentBackwards, UnknownName}
 
 -- how the program is called
 abbrev pub usage : List ℕ
@@ -19,7 +19,6 @@ abbrev pub refusal_word : ScriptRefusal → List ℕ
 refusal_word BadLine = codes "BadLine"
 refusal_word MomentBackwards = codes "MomentBackwards"
 refusal_word UnknownName = codes "UnknownName"
-refusal_word NotYet = codes "NotYet"
 
 -- the script is refused at the line
 abbrev pub script_refused : ℕ → ScriptRefusal → List ℕ

@@ -151,6 +151,17 @@ pub record IsInformedSoFar (waits : Option (List WaitTold)) (calls : Option (Lis
   pub ticks : IfSome calls (λ calls. TicksBegin calls b)
   pub signals : IfSome waits (λ waits. SignalsBegin waits b)
 
--- the same, or where the server stopped for want of memory, so far
+-- the ticks are those that the answers of the clock ask for, and signals may be missing at the end
+pub record IsInformedOfTime (waits : Option (List WaitTold)) (calls : Option (List (ℕ × ℕ))) (b : SeenBook) : Type 0 where
+  pub ticks : IfSome calls (λ calls. TicksAre calls b)
+  pub signals : IfSome waits (λ waits. SignalsBegin waits b)
+
+-- the time of a graceful stop was over, so that nothing was signalled any more of what the last wait gave
+abbrev pub IsOverdue : Going → Type 0
+IsOverdue going = going ≡ Halted why.Overdue
+
+-- a history is informed; or where the server stopped for want of memory, so far, and where the time of a graceful stop was over, of time
 abbrev pub WasInformed : Option (List WaitTold) → Option (List (ℕ × ℕ)) → SeenBook → Type 0
-WasInformed waits calls b = IsInformed waits calls b ⊎ (IsBrokenOff b.state.going × IsInformedSoFar waits calls b)
+WasInformed waits calls b =
+    IsInformed waits calls b ⊎ (IsBrokenOff b.state.going × IsInformedSoFar waits calls b)
+    ⊎ (IsOverdue b.state.going × IsInformedOfTime waits calls b)

@@ -12,17 +12,19 @@ ghost use Rattle.conn_state.specs.declared.turn.LastLinger.TheVariants as linger
 ghost use Rattle.board.specs.Faults.{IsRefusedFor};
 ghost use Rattle.board.specs.Finds.{has_to_be_drained, is_late, is_let_go, is_waiting};
 ghost use Rattle.board.specs.Book.{row_in};
+ghost use Rattle.board.specs.Editions.{IsOfGeneration};
 ghost use Rattle.worker_group.specs.Acts.{Acts};
 ghost use Rattle.worker_group.specs.InHand.{IsInHand};
-ghost use Rattle.worker_group.specs.Service.{LeavesRest, RefusalLasts};
+ghost use Rattle.worker_group.specs.Service.{IsUp, LeavesRest, RefusalLasts};
 ghost use Rattle.mpm_run.specs.ClosingInside.{DrainsSome, DrainsUntil, GivesUpDrained, IsDrainedWay, IsHaltedWay, IsLateWay, IsLingeringFor, IsRetiringWay, LetsGo, LetsGoLate, LetsLinger, LetsOneGo, cause_of_late, late_weight, lingering_give_up_events, parked_count, serving_count, signal_count, tail_of};
 ghost use Rattle.mpm_run.specs.Listen.{HasNoLive};
 ghost use Rattle.mpm_run.specs.Patient.{NoneToDrain, NoneToLetGo};
-ghost use Rattle.mpm_run.specs.ListenInside.{NoneOverdue, NoneParked};
-ghost use Rattle.mpm_run.specs.RoundInside.{NoneHas};
+ghost use Rattle.mpm_run.specs.ListenInside as inside;
+ghost use Rattle.mpm_run.specs.ListenInside.{MustHalt, NoneOverdue, NoneParked};
+ghost use Rattle.mpm_run.specs.RoundInside.{GoesDown, NoneHas};
 
-use crate::listen::LISTENER;
-use crate::round::{show_none_live, show_state};
+use crate::listen::{End, LISTENER};
+use crate::round::{halt, retire_all, show_none_live, show_state};
 use board::{Board, BoardFault};
 use conn_machine::laws_of_runs::{histories_join, rows_change_one_at_a_time};
 use conn_state::laws::{lingering_connections_keep_their_cause, untouched_connections_may_be_late};
@@ -87,6 +89,7 @@ fn cause_of_late(kind: Kind) -> Cause
 fn linger_for<L: Link, N: Known>(board: &mut Board<L, N>, conn: Conn<L, N>, cause: Cause)
     requires passes { 0 < board.old.book.passes }
     requires row { row_in 0 board.old.book ≡ Some conn.name }
+    requires edition { IsOfGeneration N.known board.old.book conn.generation conn.reader.limits conn.site }
     requires hand { IsInHand board.old.book.state conn }
     requires open { conn.linger ≡ linger.Open }
     requires allowed { is_allowed board.old.book.state (event.Linger conn.name cause) ≡ true }
@@ -100,16 +103,19 @@ fn linger_for<L: Link, N: Known>(board: &mut Board<L, N>, conn: Conn<L, N>, caus
     board.show();
 }
 
-/// Lets go of each connection that is kept alive by a child that stops, and for which nothing came: it begins to linger, or is closed
-/// where its half-close fails. Takes no memory.
-pub(crate) fn let_go_retiring<L: Link, N: Known>(board: &mut Board<L, N>)
+/// Lets go of each connection that is kept alive by a child that stops, and for which nothing came, where all signals were given: it
+/// begins to linger, or is closed where its half-close fails. Takes no memory.
+pub(crate) fn let_go_retiring<L: Link, N: Known>(board: &mut Board<L, N>, all_signalled: bool)
     requires passes { 0 < board.old.book.passes }
     requires free { row_in 0 board.old.book ≡ None }
     ensures gone { LetsGo IsRetiringWay board.old.book board.new.book }
-    ensures none { NoneToLetGo board.new.book.state }
+    ensures none { all_signalled ≡ true → NoneToLetGo board.new.book.state }
     ensures rest { LeavesRest board.old.book board.new.book }
 {
     passes_act_in_steps();
+    if !all_signalled {
+        return;
+    }
     while let Some(name) = board.retiring() {
         let_go_retiring_one(board, name);
     }
@@ -201,6 +207,7 @@ fn linger_on<L: Link, N: Known>(
 ) -> Result<(), BoardFault>
     requires passes { 0 < board.old.book.passes }
     requires row { row_in 0 board.old.book ≡ Some conn.name }
+    requires edition { IsOfGeneration N.known board.old.book conn.generation conn.reader.limits conn.site }
     requires lingers { IsLingeringFor cause board.old.book.state conn }
     requires kind { is_linger_kind kind ≡ true }
     requires allowed { is_halted board.old.book.state.going ≡ false → is_allowed board.old.book.state (event.Park conn.name kind) ≡ true }
@@ -232,6 +239,7 @@ fn give_up_lingering<L: Link, N: Known>(
 )
     requires passes { 0 < board.old.book.passes }
     requires row { row_in 0 board.old.book ≡ Some conn.name }
+    requires edition { IsOfGeneration N.known board.old.book conn.generation conn.reader.limits conn.site }
     requires lingers { IsLingeringFor cause board.old.book.state conn }
     requires why { IsRefusedFor fault board.old.book }
     ensures acts { Acts 0 (lingering_give_up_events fault cause conn.name) None board.old.book board.new.book }
@@ -245,8 +253,36 @@ fn give_up_lingering<L: Link, N: Known>(
     }
 }
 
+/// Stops the server for what ended the listener's turns, closes each connection that waits, and lets go of each child. Behind a graceful stop
+/// that is at its end nothing is left to be done. Takes no memory.
+pub(crate) fn close_down<L: Link, N: Known>(board: &mut Board<L, N>, turns: Result<End, BoardFault>)
+    requires passes { 0 < board.old.book.passes }
+    requires free { NoneHas board.old.book }
+    requires must { MustHalt turns board.old.book }
+    requires up { IsUp board.old.book.state.going }
+    ensures { GoesDown turns board.old.book board.new.book }
+{
+    passes_act_in_steps();
+    if is_at_end(turns) {
+        return;
+    }
+    halt(board, turns);
+    close_all(board);
+    retire_all(board);
+}
+
+/// Whether the listener's turns ended behind a graceful stop that is at its end.
+fn is_at_end(turns: Result<End, BoardFault>) -> bool
+    ensures { result ≡ inside.is_at_end turns }
+{
+    match turns {
+        Ok(end) => end.why().is_none(),
+        Err(_) => false,
+    }
+}
+
 /// Closes each connection that waits, once the server has stopped; none is live then where no pass had one. Takes no memory.
-pub(crate) fn close_all<L: Link, N: Known>(board: &mut Board<L, N>)
+fn close_all<L: Link, N: Known>(board: &mut Board<L, N>)
     requires passes { 0 < board.old.book.passes }
     requires free { row_in 0 board.old.book ≡ None }
     requires halted { is_halted board.old.book.state.going ≡ true }

@@ -2,7 +2,7 @@
 ghost use Rattle.mpm_run.specs.FoldsInside.{FoldsJoin, ListensOn, ShowsForFolds};
 
 use board::Board;
-use board::laws::ended_connections_join;
+use board::laws::{ended_connections_join, generations_keep_their_editions};
 use conn_machine::laws_of_runs::{
     folds_are_one_fold, histories_join, histories_keep_sizes, records_go_on_by_folds,
     records_open_with_nothing,
@@ -15,6 +15,7 @@ pub fn fold_history<L: Link, N: Known>(board: &mut Board<L, N>)
     ensures { ListensOn N.known board.old board.new }
 {
     folds_join();
+    generations_keep_their_editions();
     histories_keep_sizes();
     records_go_on_by_folds();
     show_for_folds(board);

@@ -23,6 +23,7 @@ mod edition;
 mod exit_status;
 mod folding;
 mod listen;
+mod orders;
 mod outcome;
 mod refusal;
 mod report;

@@ -1,42 +1,46 @@
-//! The listener: waits for what comes, takes connections, has them served, and stops the server when nothing more can come.
+//! The listener: waits for what comes, does what command lines ask for, takes connections, has them served, and stops the server when
+//! nothing more can come or it was asked to.
 //!
 //! Each part of a round says which events it adds under the listener's pass, in order (`specs/RoundInside.antt`). Of the
-//! state it says no more than where it stands in the end, and what the listener alone changes: the moment, and how many
-//! connections were taken.
-ghost use Rattle.std.specs.Prelude.{◌≡◌, ◌≢◌, ◌<◌, None, true, false, is_some, max, IfOk, IfErr, IfSome, OnErr, OnOk};
-ghost use Rattle.mpm_base.specs.Count.{Rises, next_count};
-ghost use Rattle.mpm_base.specs.Front.{TellsOn, Waits};
+//! state it says no more than where it stands in the end, and what the listener alone changes: the moment, how many connections
+//! were taken, which generation is the newest, and how the server goes on. What all orders did since the run opened goes on from
+//! where it stood (`specs/Standing.antt`).
+ghost use Rattle.std.specs.Prelude.{◌≡◌, ◌≢◌, ◌<◌, [], None, true, false, is_some, max, IfOk, IfErr, IfSome, MatchResult, OnErr, OnOk};
+ghost use Rattle.mpm_base.specs.Count.{next_count};
+ghost use Rattle.mpm_base.specs.Front.{TellsOn, Waits, after_hush};
 ghost use Rattle.conn_machine.specs.Runs.{after};
 ghost use Rattle.conn_machine.specs.Sound.{IsSound};
 ghost use Rattle.conn_machine.specs.States.{is_halted};
-ghost use Rattle.conn_state.specs.Known.{IsOfClient, IsOfEdition};
+ghost use Rattle.conn_state.specs.Known.{IsOfClient};
 ghost use Rattle.board.specs.Finds.{acceptable, next_deadline_of};
 ghost use Rattle.board.specs.Book.{row_in};
 ghost use Rattle.worker_group.specs.Service.{IsUp, LeavesRest, RefusalLasts};
-ghost use Rattle.mpm_run.specs.Commands.{HeedsLines, stop_line};
-ghost use Rattle.mpm_run.specs.ListenInside.{AsksFor, Follows, HandedOut, HandsOut, HasNoneToHeed, HasOneToHeed, HasReadAll, HasStarted, HasStopped, HeedsUntil, IsArrival, IsAtStart, IsInStep, IsKnownOfFront, IsOpening, IsRestful, IsWatching, OnlyReads, OnlyReadsAndTakes, OnlyTakes, TellsAlike, TookAll, TurnsEnd, asked_children, contacts_of, why_of};
+ghost use Rattle.mpm_run.specs.Commands.{HeedsLines};
+ghost use Rattle.mpm_run.specs.ListenInside.{AsksFor, Follows, HandedOut, HandsOut, HasNoneToHeed, HasStarted, HasStopped, HeedsUntil, IsArrival, IsAtStart, IsInStep, IsKnownOfFront, IsOpening, IsRestful, IsWatching, ListensAsServed, OnlyReadsAndTakes, OnlyTakes, TakesInTo, TellsAlike, TookAll, TurnsEnd, TurnsInform, asked_children, contacts_of, why_of};
+ghost use Rattle.mpm_run.specs.OrdersInside.{KnowsComing, ServesNewest};
 ghost use Rattle.mpm_run.specs.Patient.{IsPatientRun};
-ghost use Rattle.mpm_run.specs.RoundInside.{BreaksOff, EndsTaking, FailsTaking, GoesRound, IsTaking, NoneHas, ServesSome, StartsAsAsked, StartsSome, TakesSome, TakesUntil};
-ghost use Rattle.mpm_run.specs.FoldsInside.{FoldsOn};
+ghost use Rattle.mpm_run.specs.RoundInside.{BreaksOff, EndsTaking, FailsTaking, IsTaking, NoneHas, RoundEnds, ServesSome, StartsAsAsked, StartsSome, TakesSome, TakesUntil};
+ghost use Rattle.mpm_run.specs.Standing.{StandsBroken, StandsOn, StandsToEnd, TurnsStand, owed_at, standing};
 ghost use Rattle.mpm_run.specs.Started.{BeginsWithStarts};
-ghost use Rattle.mpm_run.specs.Times.{IsInTime, IsInformed, IsInformedSoFar, WasInformed, moment_for, waits_of};
+ghost use Rattle.mpm_run.specs.Times.{IsInTime, IsInformed, WasInformed, moment_for, waits_of};
 ghost use Rattle.mpm_run.specs.Watched.{IsHushed};
 
-use crate::closing::close_all;
-use crate::edition::{Edition, NamedEdition};
+use crate::closing::close_down;
+use crate::edition::{Edition, NamedConfig};
 use crate::folding::fold_history;
 use crate::round::{
-    accept, find_rest, halt, has_live, let_go_of_conns, moment_of, pass_time, retire_all,
-    serve_all, settle, show_state, signal_all, start_children,
+    accept, find_rest, has_live, is_gone, is_overdue, let_go_of_conns, moment_of, pass_time,
+    retire_all, serve_all, settle, show_state, signal_all, start_children,
 };
+use board::laws::generations_keep_their_editions;
 use board::{Board, BoardFault};
 use conn_machine::Why;
 use conn_machine::laws_of_runs::{histories_go_on_by_one_entry, histories_join};
 use conn_state::{Conn, Known};
-use mpm_base::{Arrival, Bell, Clock, Front, Gate, Line, Link, Moment, Ready, Woke};
-use restart_control::{Command, read_command};
+use file_table::Site;
+use mpm_base::{Arrival, Bell, Clock, Front, Gate, Link, Moment, Ready, Store, Woke};
 use std::alloc::Global;
-use std::sync::Wait;
+use std::sync::{Arc, Wait};
 use worker_group::Hands;
 use worker_group::laws::passes_act_in_steps;
 
@@ -55,17 +59,23 @@ pub enum End {
     Asked,
     /// A wait of the front failed.
     Failed,
+    /// The time of a graceful stop is over.
+    Overdue,
+    /// A graceful stop is at its end: each child is gone.
+    Gone,
 }
 
 impl End {
-    /// Why the server stops then.
-    pub fn why(self) -> Why
+    /// Why the server is stopped then. Behind a graceful stop that is at its end it isn't.
+    pub fn why(self) -> Option<Why>
         ensures { result ≡ why_of self }
     {
         match self {
-            End::Ended => Why::FrontEnded,
-            End::Asked => Why::Asked,
-            End::Failed => Why::FrontFailed,
+            End::Ended => Some(Why::FrontEnded),
+            End::Asked => Some(Why::Asked),
+            End::Failed => Some(Why::FrontFailed),
+            End::Overdue => Some(Why::Overdue),
+            End::Gone => None,
         }
     }
 }
@@ -90,38 +100,43 @@ pub struct Pause {
 
 /// What the listener works on, besides its front and its clock.
 #[derive(Drop)]
-pub struct Listener<'a, L: Link + Send, N: Known, B: Bell, G: Gate> {
+pub struct Listener<'a, 'c, L: Link + Send, N: Known, B: Bell, G: Gate> {
     /// What gives new connections their memory.
     pub alloc: Global,
     /// The table of connections.
     pub board: Board<L, N>,
-    /// What new connections are served by.
-    pub edition: NamedEdition<N>,
+    /// The configuration by which the server opened, and its name.
+    pub config: NamedConfig<'c>,
+    /// What the newest generation works by, and so what new connections are served by.
+    pub edition: Edition,
     /// The slots that the last wait gave.
     pub ready: Ready,
     /// What each service passes and rings.
     pub hands: Hands<'a, B, G>,
 }
 
-impl<'a, L: Link + Send, N: Known, B: Bell, G: Gate> Listener<'a, L, N, B, G> {
-    /// Starts the children, takes the connections that come, has them served, and stops when nothing more can come or a command line
-    /// asks for it. The server stops before that for a wait that failed, and for want of memory where a call that the listener must make
-    /// was refused for that. However it stops, no further connection is taken then, each one that waits is closed, and each child is let
-    /// go of. How it ended is read off the board.
-    pub fn listen<R: Wait, F: Front<L = L>, C: Clock>(
+impl<'a, 'c, L: Link + Send, N: Known, B: Bell, G: Gate> Listener<'a, 'c, L, N, B, G> {
+    /// Starts the children, takes the connections that come, has them served, does what command lines ask for, and stops when nothing
+    /// more can come, a command line asks for it, or a graceful stop is at its end or out of time. The server stops before that for a wait
+    /// that failed, and for want of memory where a call that the listener must make was refused for that. However it stops, no further
+    /// connection is taken then, each one that waits is closed, and each child is let go of. How it ended is read off the board.
+    pub fn listen<R: Wait, D: Store, F: Front<L = L>, C: Clock>(
         &mut self,
         rt: &R,
+        store: &mut D,
         front: &mut F,
         clock: &mut C,
     )
         requires named { IsKnownOfFront N.known (F.seen front.old).told }
         requires passes { 1 < self.old.board.book.passes }
+        requires knows { KnowsComing N.known self.old.board.book self.old.config (D.seen store.old).told }
+        requires serves { ServesNewest N.known self.old.board.book self.old.edition }
         requires free { NoneHas self.old.board.book }
         requires going { is_halted self.old.board.book.state.going ≡ false }
         requires step { IsInStep (F.seen front.old).told self.old.board.book.state }
         requires heeded { IfSome (F.seen front.old).told HasNoneToHeed }
         requires informed { IsInformed (waits_of (F.seen front.old).told) (C.told clock.old) self.old.board.book }
-        ensures folded { FoldsOn N.known self.old.board.book self.new.board.book }
+        ensures stands { StandsToEnd N.known self.old.config (standing self.old.edition.stop_ms (D.seen store.old) (F.seen front.old) self.old.board.book) (standing self.new.edition.stop_ms (D.seen store.new) (F.seen front.new) self.new.board.book) }
         ensures passes { self.new.board.book.passes ≡ self.old.board.book.passes }
         ensures asked { StartsAsAsked self.old.board.book self.new.board.book }
         ensures stopped { HasStopped (F.seen front.old) (F.seen front.new) self.new.board.book.state }
@@ -137,31 +152,42 @@ impl<'a, L: Link + Send, N: Known, B: Bell, G: Gate> Listener<'a, L, N, B, G> {
         ensures patient { IsAtStart (F.seen front.old).told self.old.board.book → IsPatientRun (F.seen front.new).told (C.told clock.new) self.new.board.book }
         ensures informed { WasInformed (waits_of (F.seen front.new).told) (C.told clock.new) self.new.board.book }
     {
-        passes_act_in_steps();
-        let turns = self.take_turns(rt, front, clock);
-        halt(&mut self.board, turns);
-        front.hush();
-        close_all(&mut self.board);
-        retire_all(&mut self.board);
+        let turns = self.take_turns(rt, store, front, clock);
+        self.hush(front);
+        close_down(&mut self.board, turns);
     }
 
-    /// Starts the children, and takes turns with the front until nothing more can come, a wait fails or a command line asks to stop, each
-    /// followed by the service of what is signalled, and by a fold of the history where it may be folded. Err where the server has to stop
-    /// before.
-    fn take_turns<R: Wait, F: Front<L = L>, C: Clock>(
+    /// Stops listening, where the front still listens.
+    fn hush<F: Front<L = L>>(&self, front: &mut F)
+        requires listens { IfSome (F.seen front.old).told (ListensAsServed self.now.board.book.state) }
+        ensures { F.seen front.new ≡ after_hush (F.seen front.old) }
+    {
+        if !self.board.state().going.is_serving() {
+            return;
+        }
+        front.hush();
+    }
+
+    /// Starts the children, and takes turns with the front until nothing more can come, a wait fails, a command line asks to stop, or a
+    /// graceful stop ends, each followed by the service of what is signalled, and by a fold of the history where it may be folded. Err where
+    /// the server has to stop before.
+    fn take_turns<R: Wait, D: Store, F: Front<L = L>, C: Clock>(
         &mut self,
         rt: &R,
+        store: &mut D,
         front: &mut F,
         clock: &mut C,
     ) -> Result<End, BoardFault>
         requires named { IsKnownOfFront N.known (F.seen front.old).told }
         requires passes { 1 < self.old.board.book.passes }
+        requires knows { KnowsComing N.known self.old.board.book self.old.config (D.seen store.old).told }
+        requires serves { ServesNewest N.known self.old.board.book self.old.edition }
         requires free { NoneHas self.old.board.book }
         requires going { is_halted self.old.board.book.state.going ≡ false }
         requires step { IsInStep (F.seen front.old).told self.old.board.book.state }
         requires heeded { IfSome (F.seen front.old).told HasNoneToHeed }
         requires informed { IsInformed (waits_of (F.seen front.old).told) (C.told clock.old) self.old.board.book }
-        ensures folded { FoldsOn N.known self.old.board.book self.new.board.book }
+        ensures stands { TurnsStand N.known self.old.config result (standing self.old.edition.stop_ms (D.seen store.old) (F.seen front.old) self.old.board.book) (standing self.new.edition.stop_ms (D.seen store.new) (F.seen front.new) self.new.board.book) }
         ensures asked { StartsAsAsked self.old.board.book self.new.board.book }
         ensures passes { self.new.board.book.passes ≡ self.old.board.book.passes }
         ensures free { NoneHas self.new.board.book }
@@ -172,14 +198,15 @@ impl<'a, L: Link + Send, N: Known, B: Bell, G: Gate> Listener<'a, L, N, B, G> {
         ensures started { IsOpening self.old.board.book → HasStarted (waits_of (F.seen front.old).told) (waits_of (F.seen front.new).told) self.old.board.book self.new.board.book }
         ensures watched { IsWatching (F.seen front.old).told self.old.board.book → IsWatching (F.seen front.new).told self.new.board.book }
         ensures step { OnOk result (IsInStep (F.seen front.new).told self.new.board.book.state) }
+        ensures listens { IfSome (F.seen front.new).told (ListensAsServed self.new.board.book.state) }
         ensures links { OnErr result (HandsOut (F.seen front.new).told self.new.board.book.state) }
         ensures clock { is_some (C.told clock.new) ≡ is_some (C.told clock.old) }
         ensures time { IsInTime (waits_of (F.seen front.old).told) (C.told clock.old) → IsInTime (waits_of (F.seen front.new).told) (C.told clock.new) }
         ensures patient { IsAtStart (F.seen front.old).told self.old.board.book → IsPatientRun (F.seen front.new).told (C.told clock.new) self.new.board.book }
         ensures ends { TurnsEnd result (F.seen front.old) (F.seen front.new) self.new.board.book }
-        ensures informed { OnOk result (IsInformed (waits_of (F.seen front.new).told) (C.told clock.new) self.new.board.book) }
-        ensures begun { OnErr result (IsInformedSoFar (waits_of (F.seen front.new).told) (C.told clock.new) self.new.board.book) }
+        ensures informed { TurnsInform result (waits_of (F.seen front.new).told) (C.told clock.new) self.new.board.book }
     {
+        generations_keep_their_editions();
         histories_join();
         passes_act_in_steps();
         let first = self.start()?;
@@ -193,9 +220,10 @@ impl<'a, L: Link + Send, N: Known, B: Bell, G: Gate> Listener<'a, L, N, B, G> {
                 Woke::Failed => return Ok(End::Failed),
                 _ => (),
             }
-            let asked = self.take_in(rt, front, pause.moment)?;
-            if asked {
-                return Ok(End::Asked);
+            let ended = self.take_in(rt, store, front, pause.moment)?;
+            match ended {
+                Some(end) => return Ok(end),
+                None => (),
             }
             self.show();
             rest = self.serve(rt)?;
@@ -224,7 +252,7 @@ impl<'a, L: Link + Send, N: Known, B: Bell, G: Gate> Listener<'a, L, N, B, G> {
     }
 
     /// Shows that the state is that after the history, and sound. Does nothing.
-    fn show(&self)
+    pub(crate) fn show(&self)
         ensures after { after self.now.board.book.base self.now.board.book.history ≡ self.now.board.book.state }
         ensures sound { IsSound self.now.board.book.state }
     {
@@ -259,47 +287,67 @@ impl<'a, L: Link + Send, N: Known, B: Bell, G: Gate> Listener<'a, L, N, B, G> {
         Ok(rest)
     }
 
-    /// Lets time pass to the moment, signals what something came for, reads the command lines, lets go of what retires, lingers or has
-    /// drained, starts children, and takes what has arrived. Whether a command line asks to stop: then nothing is done behind it.
-    fn take_in<R: Wait, F: Front<L = L>>(
+    /// Lets time pass to the moment, signals what something came for, lets go of what retires, lingers or has drained, does what the
+    /// command lines ask for, lets go of children and starts some, and takes what has arrived. Why the turns end here, where they do: then
+    /// nothing is done behind that.
+    ///
+    /// A connection that a restart of this round lets go of is so in the next one, behind a wait that gives what came for it until then. So
+    /// it is served where something had come before the restart.
+    fn take_in<R: Wait, D: Store, F: Front<L = L>>(
         &mut self,
         rt: &R,
+        store: &mut D,
         front: &mut F,
         moment: Moment,
-    ) -> Result<bool, BoardFault>
+    ) -> Result<Option<End>, BoardFault>
         requires named { IsKnownOfFront N.known (F.seen front.old).told }
         requires passes { 0 < self.old.board.book.passes }
+        requires knows { KnowsComing N.known self.old.board.book self.old.config (D.seen store.old).told }
+        requires serves { ServesNewest N.known self.old.board.book self.old.edition }
         requires free { row_in 0 self.old.board.book ≡ None }
         requires up { IsUp self.old.board.book.state.going }
         requires step { IsInStep (F.seen front.old).told self.old.board.book.state }
         requires heeded { IfSome (F.seen front.old).told HasNoneToHeed }
-        ensures round { OnOk result (GoesRound (moment_for moment) self.old.ready self.old.board.book self.new.board.book) }
+        ensures round { IfOk result (λ ended. RoundEnds ended (moment_for moment) self.old.ready self.old.board.book self.new.board.book) }
         ensures broken { IfErr result (λ fault. BreaksOff fault (moment_for moment) self.old.ready self.old.board.book self.new.board.book) }
+        ensures stands { MatchResult result
+            (λ ended. StandsOn N.known self.old.config [] (owed_at ended) (standing self.old.edition.stop_ms (D.seen store.old) (F.seen front.old) self.old.board.book) (standing self.new.edition.stop_ms (D.seen store.new) (F.seen front.new) self.new.board.book))
+            (λ fault. StandsBroken N.known self.old.config (standing self.old.edition.stop_ms (D.seen store.old) (F.seen front.old) self.old.board.book) (standing self.new.edition.stop_ms (D.seen store.new) (F.seen front.new) self.new.board.book)) }
+        ensures knows { OnOk result (KnowsComing N.known self.new.board.book self.new.config (D.seen store.new).told) }
+        ensures serves { OnOk result (ServesNewest N.known self.new.board.book self.new.edition) }
         ensures up { IsUp self.new.board.book.state.going }
         ensures moment { OnOk result (self.new.board.book.state.moment ≡ max self.old.board.book.state.moment (moment_for moment)) }
         ensures step { OnOk result (IsInStep (F.seen front.new).told self.new.board.book.state) }
-        ensures asked { IfOk result (λ asked. asked ≡ true → (is_halted self.new.board.book.state.going ≡ false) × Rises (F.seen front.old).counts.commands (F.seen front.new).counts.commands × IfSome (F.seen front.new).told HasOneToHeed) }
-        ensures taken { IfOk result (λ asked. asked ≡ false → TookAll (F.seen front.new).told self.new.board.book.state × HasReadAll (F.seen front.new).told) }
-        ensures heeded { IfOk result (λ asked. asked ≡ false → IfSome (F.seen front.new).told HasNoneToHeed) }
+        ensures ends { IfOk result (λ ended. TakesInTo ended (F.seen front.old) (F.seen front.new) self.new.board.book.state) }
         ensures unheeded { OnErr result (IfSome (F.seen front.new).told HasNoneToHeed) }
         ensures follows { Follows (F.seen front.old) (F.seen front.new) }
         ensures front { TellsOn OnlyReadsAndTakes (F.seen front.old).told (F.seen front.new).told }
         ensures watched { IsWatching (F.seen front.old).told self.old.board.book → IsWatching (F.seen front.new).told self.new.board.book }
+        ensures listens { IfSome (F.seen front.new).told (ListensAsServed self.new.board.book.state) }
         ensures links { OnErr result (HandsOut (F.seen front.new).told self.new.board.book.state) }
         ensures ready { self.new.ready ≡ self.old.ready }
+        ensures config { self.new.config ≡ self.old.config }
         ensures err { IfErr result (λ fault. RefusalLasts fault self.new.board.book) }
     {
+        generations_keep_their_editions();
         passes_act_in_steps();
         pass_time(&mut self.board, moment)?;
-        signal_all(&mut self.board, self.ready.slots())?;
-        if is_asked_to_stop(rt, front) {
-            return Ok(true);
+        if is_overdue(&self.board) {
+            return Ok(Some(End::Overdue));
         }
-        let_go_of_conns(&mut self.board)?;
+        signal_all(&mut self.board, self.ready.slots())?;
+        let_go_of_conns(&mut self.board, !self.ready.is_full())?;
+        let asked = self.heed(rt, store, front)?;
+        if asked {
+            return Ok(Some(End::Asked));
+        }
         retire_all(&mut self.board);
+        if is_gone(&self.board) {
+            return Ok(Some(End::Gone));
+        }
         start_children(&mut self.board)?;
         self.take_all(rt, front)?;
-        Ok(false)
+        Ok(None)
     }
 
     /// Takes the connections that have arrived, while a child admits one and a slot is vacant. Before the front is asked for one
@@ -312,11 +360,13 @@ impl<'a, L: Link + Send, N: Known, B: Bell, G: Gate> Listener<'a, L, N, B, G> {
         requires named { IsKnownOfFront N.known (F.seen front.old).told }
         requires passes { 0 < self.old.board.book.passes }
         requires free { row_in 0 self.old.board.book ≡ None }
+        requires serves { ServesNewest N.known self.old.board.book self.old.edition }
         requires up { IsUp self.old.board.book.state.going }
         requires step { IsInStep (F.seen front.old).told self.old.board.book.state }
         ensures takes { OnOk result (TakesSome self.old.board.book self.new.board.book) }
         ensures until { IfErr result (λ fault. TakesUntil fault self.old.board.book self.new.board.book) }
-        ensures up { IsUp self.new.board.book.state.going }
+        ensures going { self.new.board.book.state.going ≡ self.old.board.book.state.going }
+        ensures newest { self.new.board.book.state.newest ≡ self.old.board.book.state.newest }
         ensures moment { self.new.board.book.state.moment ≡ self.old.board.book.state.moment }
         ensures step { OnOk result (IsInStep (F.seen front.new).told self.new.board.book.state) }
         ensures taken { OnOk result (TookAll (F.seen front.new).told self.new.board.book.state) }
@@ -324,19 +374,22 @@ impl<'a, L: Link + Send, N: Known, B: Bell, G: Gate> Listener<'a, L, N, B, G> {
         ensures front { TellsOn OnlyTakes (F.seen front.old).told (F.seen front.new).told }
         ensures watched { IsWatching (F.seen front.old).told self.old.board.book → IsWatching (F.seen front.new).told self.new.board.book }
         ensures links { OnErr result (HandsOut (F.seen front.new).told self.new.board.book.state) }
+        ensures edition { self.new.edition ≡ self.old.edition }
         ensures ready { self.new.ready ≡ self.old.ready }
+        ensures config { self.new.config ≡ self.old.config }
         ensures err { IfErr result (λ fault. RefusalLasts fault self.new.board.book) }
     {
+        generations_keep_their_editions();
         passes_act_in_steps();
         for _ in rt.forever() {
             if self.board.can_accept().is_none() {
                 return Ok(());
             }
-            let Ok(edition) = self.edition.share() else {
+            let Ok(site) = self.edition.share() else {
                 return Err(BoardFault::NoMemory);
             };
             match front.accept() {
-                Arrival::Some(link) => self.take(front, link, edition)?,
+                Arrival::Some(link) => self.take(front, link, site)?,
                 Arrival::None | Arrival::Failed => return Ok(()),
             }
         }
@@ -349,7 +402,7 @@ impl<'a, L: Link + Send, N: Known, B: Bell, G: Gate> Listener<'a, L, N, B, G> {
         &mut self,
         front: &mut F,
         link: L,
-        edition: Edition,
+        site: Arc<Site>,
     ) -> Result<(), BoardFault>
         requires passes { 0 < self.old.board.book.passes }
         requires free { row_in 0 self.old.board.book ≡ None }
@@ -358,11 +411,13 @@ impl<'a, L: Link + Send, N: Known, B: Bell, G: Gate> Listener<'a, L, N, B, G> {
         requires arrival { IsArrival self.old.board.book.state.accepted (L.seen link).told }
         requires tells { TellsAlike (F.seen front.old).told (L.seen link).told }
         requires client { IsOfClient N.known (L.seen link).told }
-        requires edition { IsOfEdition N.known edition.limits edition.site.value }
+        requires site { site.value ≡ self.old.edition.site.value }
+        requires serves { ServesNewest N.known self.old.board.book self.old.edition }
         requires healthy { (L.seen link).counts.faults ≡ 0 }
         ensures takes { OnOk result (IsTaking (L.seen link).told (F.seen front.old).told (F.seen front.new).told self.old.board.book self.new.board.book) }
         ensures until { IfErr result (λ fault. FailsTaking fault self.old.board.book self.new.board.book) }
-        ensures up { IsUp self.new.board.book.state.going }
+        ensures going { self.new.board.book.state.going ≡ self.old.board.book.state.going }
+        ensures newest { self.new.board.book.state.newest ≡ self.old.board.book.state.newest }
         ensures moment { self.new.board.book.state.moment ≡ self.old.board.book.state.moment }
         ensures taken { OnOk result (self.new.board.book.state.accepted ≡ next_count self.old.board.book.state.accepted) }
         ensures step { OnOk result (IsInStep (F.seen front.old).told self.new.board.book.state → IsInStep (F.seen front.new).told self.new.board.book.state) }
@@ -370,10 +425,13 @@ impl<'a, L: Link + Send, N: Known, B: Bell, G: Gate> Listener<'a, L, N, B, G> {
         ensures front { TellsOn OnlyTakes (F.seen front.old).told (F.seen front.new).told }
         ensures watched { IsWatching (F.seen front.old).told self.old.board.book → IsWatching (F.seen front.new).told self.new.board.book }
         ensures links { OnErr result (EndsTaking (L.seen link).told (F.seen front.old).told (F.seen front.new).told self.old.board.book.state self.new.board.book.state) }
+        ensures edition { self.new.edition ≡ self.old.edition }
         ensures ready { self.new.ready ≡ self.old.ready }
+        ensures config { self.new.config ≡ self.old.config }
         ensures err { IfErr result (λ fault. RefusalLasts fault self.new.board.book) }
     {
         histories_go_on_by_one_entry();
+        generations_keep_their_editions();
         passes_act_in_steps();
         let mut link = link;
         let taken = match accept(&mut self.board) {
@@ -390,42 +448,12 @@ impl<'a, L: Link + Send, N: Known, B: Bell, G: Gate> Listener<'a, L, N, B, G> {
             taken.name,
             taken.child,
             taken.generation,
-            edition.limits,
-            edition.site,
+            self.edition.limits,
+            site,
             link,
         );
         conn.show();
         settle(&mut self.board, conn, watched)
-    }
-}
-
-/// Reads the command lines that came, up to one that asks to stop. Whether there is one: nothing is read behind it. A line that asks for
-/// something else is dropped.
-fn is_asked_to_stop<R: Wait, F: Front>(rt: &R, front: &mut F) -> bool
-    requires heeded { IfSome (F.seen front.old).told HasNoneToHeed }
-    ensures asked { result ≡ true → Rises (F.seen front.old).counts.commands (F.seen front.new).counts.commands × IfSome (F.seen front.new).told HasOneToHeed }
-    ensures none { result ≡ false → IfSome (F.seen front.new).told HasNoneToHeed × HasReadAll (F.seen front.new).told }
-    ensures follows { Follows (F.seen front.old) (F.seen front.new) }
-    ensures front { TellsOn OnlyReads (F.seen front.old).told (F.seen front.new).told }
-{
-    for _ in rt.forever() {
-        match front.command() {
-            None => return false,
-            Some(line) if stops(&line) => return true,
-            Some(_) => (),
-        }
-    }
-    unreachable!()
-}
-
-/// Whether the command line asks to stop.
-fn stops(line: &Line) -> bool
-    ensures asked { result ≡ true → line.now ≡ stop_line }
-    ensures none { result ≡ false → line.now ≢ stop_line }
-{
-    match read_command(line.as_str()) {
-        Ok(command) => command == Command::Stop,
-        Err(_) => false,
     }
 }
 

@@ -29,13 +29,15 @@ pub fn report_run<L: Link, N: Known, K: Sink>(
     report(alloc, board, written, out, status_of(board.going()))
 }
 
-/// The exit status of a run that stopped so.
+/// The exit status of a run that stopped so, or ended gracefully.
 fn status_of(going: Going) -> u8
     requires { IsEnd going }
     ensures { IsExitStatusOf going result }
 {
     match going {
-        Going::Halted(Why::FrontEnded | Why::Asked) => exit_status::PLAYED,
+        Going::Halted(Why::FrontEnded | Why::Asked | Why::Overdue) | Going::Ending(_) => {
+            exit_status::PLAYED
+        }
         Going::Halted(Why::FrontFailed) => exit_status::FRONT_FAILED,
         Going::Halted(Why::NoMemory) => exit_status::NO_MEMORY,
         _ => unreachable!(),

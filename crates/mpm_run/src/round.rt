@@ -1,15 +1,16 @@
 //! The parts of the listener's round: a connection that comes is taken and waits, time passes, slots are signalled, connections
 //! are let go of and served, children are started and let go of, and the server stops.
-ghost use Rattle.std.specs.Prelude.{◌≡◌, ◌<◌, [], ◌∷◌, None, Some, true, false, is_some, max, IfOk, IfErr, OnErr, OnOk};
+ghost use Rattle.std.specs.Prelude.{◌≡◌, ◌<◌, [], ◌∷◌, None, Some, true, false, not, is_some, max, IfOk, IfErr, OnErr, OnOk};
 ghost use Rattle.std.specs.List.{list_any};
 ghost use Rattle.mpm_base.specs.Count.{next_count};
 ghost use Rattle.mpm_base.specs.declared.conn.Cause.TheVariants as cause;
 ghost use Rattle.mpm_base.specs.declared.conn.Kind.TheVariants.{Reading};
 ghost use Rattle.mpm_base.specs.declared.conn.Tail.TheVariants.{Direct};
+ghost use Rattle.conn_machine.specs.Children.{is_empty};
 ghost use Rattle.conn_machine.specs.Rows.{is_live};
 ghost use Rattle.conn_machine.specs.Runs.{after};
 ghost use Rattle.conn_machine.specs.Sound.{IsSound};
-ghost use Rattle.conn_machine.specs.States.{is_halted};
+ghost use Rattle.conn_machine.specs.States.{is_halted, is_over};
 ghost use Rattle.conn_machine.specs.Table.{is_allowed};
 ghost use Rattle.conn_machine.specs.declared.event.Commanded.TheVariants.{Stop};
 ghost use Rattle.conn_machine.specs.declared.event.Event.TheVariants as event;
@@ -18,12 +19,13 @@ ghost use Rattle.board.specs.Faults.{IsRefusedFor};
 ghost use Rattle.board.specs.Fits.{IsSettled};
 ghost use Rattle.board.specs.Finds.{acceptable, next_deadline_of, startable};
 ghost use Rattle.board.specs.Book.{row_in};
+ghost use Rattle.board.specs.Editions.{IsOfGeneration};
 ghost use Rattle.worker_group.specs.Acts.{Acts};
 ghost use Rattle.worker_group.specs.InHand.{IsClosable, IsInHand};
 ghost use Rattle.worker_group.specs.Service.{IsUp, LeavesRest, RefusalLasts, left_events};
 ghost use Rattle.mpm_run.specs.ClosingInside.{IsLateWay, LetsGo};
 ghost use Rattle.mpm_run.specs.Listen.{HasNoLive, IsClosedDown};
-ghost use Rattle.mpm_run.specs.ListenInside.{AsksFor, HaltsAs, HasTaken, IsOpening, IsRestful, MustHalt, NoneOverdue, NoneParked, asked_children};
+ghost use Rattle.mpm_run.specs.ListenInside.{AsksFor, HaltsAs, HasTaken, IsGone, IsOpening, IsRestful, MustHalt, NoneOverdue, NoneParked, asked_children};
 ghost use Rattle.mpm_run.specs.Patient.{NoneDue};
 ghost use Rattle.mpm_run.specs.RoundInside.{GivesUp, LetsGoOfConns, LetsGoUntil, NoneHas, PassesTime, RetiresSome, ServesSome, SignalsFirst, StartsSome, halt_events, signal_events, way_of};
 ghost use Rattle.mpm_run.specs.Started.{BeginsWithStarts};
@@ -32,11 +34,14 @@ ghost use Rattle.mpm_run.specs.Times.{IsBrokenOff, moment_for};
 use crate::closing::{drain_all, let_go_late, let_go_retiring};
 use crate::listen::{End, LISTENER, Rest, SERVER};
 use board::{AcceptFault, Board, BoardFault, Taken};
-use conn_machine::Why;
-use conn_machine::laws::{each_pass_has_its_own_connection, passes_leave_the_rest_to_the_listener};
+use conn_machine::laws::{
+    connections_go_to_the_chosen_child, each_pass_has_its_own_connection,
+    passes_leave_the_rest_to_the_listener,
+};
 use conn_machine::laws_of_runs::{
     children_change_one_at_a_time, histories_keep_sizes, rows_change_one_at_a_time,
 };
+use conn_machine::{Child, Why};
 use conn_state::{Conn, Known};
 use mpm_base::{Bell, Cause, Clock, GREATEST_MOMENT, Gate, Kind, Link, Moment, Tail, Woke};
 use std::sync::Wait;
@@ -51,6 +56,7 @@ pub fn settle<L: Link, N: Known>(
 ) -> Result<(), BoardFault>
     requires passes { 0 < board.old.book.passes }
     requires row { row_in 0 board.old.book ≡ Some conn.name }
+    requires edition { IsOfGeneration N.known board.old.book conn.generation conn.reader.limits conn.site }
     requires hand { IsInHand board.old.book.state conn }
     requires allowed { is_halted board.old.book.state.going ≡ false → is_allowed board.old.book.state (event.Park conn.name Reading) ≡ true }
     requires settled { watched ≡ true → IsSettled Reading None conn }
@@ -79,12 +85,15 @@ pub fn accept<L: Link, N: Known>(board: &mut Board<L, N>) -> Result<Taken, Board
     ensures refused { OnErr result (board.new ≡ board.old) }
     ensures why { IfErr result (λ fault. IsRefusedFor fault board.old.book) }
     ensures going { board.new.book.state.going ≡ board.old.book.state.going }
+    ensures newest { board.new.book.state.newest ≡ board.old.book.state.newest }
+    ensures generation { IfOk result (λ taken. taken.generation ≡ board.old.book.state.newest) }
     ensures taken { OnOk result (board.new.book.state.accepted ≡ next_count board.old.book.state.accepted) }
     ensures held { IfOk result (λ taken. HasTaken board.new.book.state taken.name taken.child taken.generation board.old.book.state.accepted) }
     ensures moment { board.new.book.state.moment ≡ board.old.book.state.moment }
     ensures err { IfErr result (λ fault. RefusalLasts fault board.new.book) }
 {
     rows_change_one_at_a_time();
+    connections_go_to_the_chosen_child();
     passes_act_in_steps();
     board.show();
     match board.accept(LISTENER) {
@@ -144,7 +153,8 @@ pub fn pass_time<L: Link, N: Known>(
     ensures refused { OnErr result (LetsGo IsLateWay board.old.book board.new.book) }
     ensures why { IfErr result (λ fault. IsRefusedFor fault board.new.book) }
     ensures none { OnOk result (NoneOverdue board.new.book.state) }
-    ensures up { IsUp board.new.book.state.going }
+    ensures going { board.new.book.state.going ≡ board.old.book.state.going }
+    ensures newest { board.new.book.state.newest ≡ board.old.book.state.newest }
     ensures moment { OnOk result (board.new.book.state.moment ≡ max board.old.book.state.moment (moment_for moment)) }
     ensures taken { board.new.book.state.accepted ≡ board.old.book.state.accepted }
     ensures err { IfErr result (λ fault. RefusalLasts fault board.new.book) }
@@ -199,9 +209,12 @@ fn signal<L: Link, N: Known>(board: &mut Board<L, N>, slot: u32) -> Result<(), B
     board.ready(LISTENER, slot)
 }
 
-/// Lets go of each connection that is kept alive by a child that stops, and drains those that linger. One that begins to linger is
-/// late at once where moments end.
-pub fn let_go_of_conns<L: Link, N: Known>(board: &mut Board<L, N>) -> Result<(), BoardFault>
+/// Lets go of each connection that is kept alive by a child that stops, where all signals were given, and drains those that linger. One
+/// that begins to linger is late at once where moments end.
+pub fn let_go_of_conns<L: Link, N: Known>(
+    board: &mut Board<L, N>,
+    all_signalled: bool,
+) -> Result<(), BoardFault>
     requires passes { 0 < board.old.book.passes }
     requires free { row_in 0 board.old.book ≡ None }
     ensures gone { OnOk result (LetsGoOfConns board.old.book board.new.book) }
@@ -210,9 +223,36 @@ pub fn let_go_of_conns<L: Link, N: Known>(board: &mut Board<L, N>) -> Result<(),
     ensures err { IfErr result (λ fault. RefusalLasts fault board.new.book) }
 {
     passes_act_in_steps();
-    let_go_retiring(board);
+    let_go_retiring(board, all_signalled);
     let_go_late(board);
     drain_all(board)
+}
+
+/// Whether the time of a graceful stop is over.
+pub fn is_overdue<L: Link, N: Known>(board: &Board<L, N>) -> bool
+    ensures { result ≡ is_over board.now.book.state.moment board.now.book.state.going }
+{
+    board.going().is_over(board.moment())
+}
+
+/// Whether a graceful stop is at its end: the server takes no connections, and each child is gone.
+pub fn is_gone<L: Link, N: Known>(board: &Board<L, N>) -> bool
+    requires { IsUp board.now.book.state.going }
+    ensures { result ≡ true → IsGone board.now.book.state }
+{
+    board.show();
+    let state = board.state();
+    if state.going.is_serving() {
+        return false;
+    }
+    !has_some(state.children.as_slice())
+}
+
+/// Whether one of the children isn't gone.
+fn has_some(children: &[Child]) -> bool
+    ensures { result ≡ list_any (λ c. not (is_empty c.phase)) children.now }
+{
+    children.iter().any(|child| !child.phase.is_empty())
 }
 
 /// Starts children, while fewer run than should.
@@ -268,13 +308,16 @@ pub fn halt<L: Link, N: Known>(board: &mut Board<L, N>, turns: Result<End, Board
     requires must { MustHalt turns board.old.book }
     requires up { IsUp board.old.book.state.going }
     ensures acts { Acts 0 (halt_events turns) None board.old.book board.new.book }
-    ensures stopped { HaltsAs turns board.new.book.state.going }
+    ensures stopped { HaltsAs turns board.old.book.state.going board.new.book.state.going }
     ensures moment { board.new.book.state.moment ≡ board.old.book.state.moment }
     ensures taken { board.new.book.state.accepted ≡ board.old.book.state.accepted }
 {
     passes_act_in_steps();
     match turns {
-        Ok(end) => board.halt(LISTENER, end.why()),
+        Ok(end) => match end.why() {
+            Some(why) => board.halt(LISTENER, why),
+            None => (),
+        },
         Err(fault) => stop(board, fault),
     }
 }

@@ -14,14 +14,15 @@ ghost use Rattle.mpm_run.specs.Sites.{head_limits_of};
 ghost use Rattle.mpm_run.specs.SitesInside.{IsServedRun, IsSiteRefusalOf, RefusesLoad, RefusesSite};
 
 use crate::config_reading::{MOST_CONFIG, NoConfig, config_from};
-use crate::edition::Edition;
+use crate::edition::{Edition, NamedConfig};
 use crate::outcome::{Ending, Scripted, no_memory};
 use crate::refusal::{refuse_config, refuse_script, refuse_site, refuse_unread};
 use crate::reporting::report_run;
-use crate::run_numbers::{head_limits_of, numbers_of};
+use crate::run_numbers::head_limits_of;
 use crate::server::{OpenFault, ServedRun, run_server};
 use crate::site_loading::load_site;
 use crate::texts::ScriptRefusal;
+use board::laws::{ended_connections_join, generations_keep_their_editions};
 use file_table::LoadFault;
 use mpm_base::{Gate, NoMemory, Octets, Sink, Store, StoreFault};
 use mpm_config::Config;
@@ -47,7 +48,7 @@ pub fn run_script<R: Wait, D: Store, G: Gate, K: Sink>(
     gate: &G,
     out: &mut K,
 ) -> Ending<Scripted>
-    ensures kept { (words : List (List ℕ)) → IsScriptWords words name.now → IfSome result.left (λ s. HasPlayed (seen_call words (D.seen store.old) (D.seen store.new) (K.seen out.old) (K.seen out.new) result.shown) s.config s.board s.front) }
+    ensures kept { (words : List (List ℕ)) → IsScriptWords words name.now → IfSome result.left (λ s. HasPlayed (seen_call words (D.seen store.old) (D.seen store.new) (K.seen out.old) (K.seen out.new) result.shown) s.config s.board s.front s.store) }
     ensures left { IfSome result.left IsLeftOfRun }
     ensures ends { IfSome result.left (λ s. EndsAs (K.seen out.old) (K.seen out.new) s.config s.board result.status) }
     ensures opened { (result.status ≡ 0) ⊎ (result.status ≡ 5) → IsSome result.left }
@@ -118,7 +119,6 @@ fn refusal_at(fault: ScriptFault) -> Option<(u64, ScriptRefusal)>
         ScriptFault::BadLine(line) => Some((line, ScriptRefusal::BadLine)),
         ScriptFault::MomentBackwards(line) => Some((line, ScriptRefusal::MomentBackwards)),
         ScriptFault::UnknownName(line) => Some((line, ScriptRefusal::UnknownName)),
-        ScriptFault::NotYet(line) => Some((line, ScriptRefusal::NotYet)),
         ScriptFault::NoMemory => None,
     }
 }
@@ -183,8 +183,11 @@ fn play_site<R: Wait, G: Gate, K: Sink>(
     let Ok(site) = Arc::new(alloc, site) else {
         return no_memory();
     };
-    let limits = head_limits_of(&config);
-    let edition = Edition { limits, site };
+    let edition = Edition {
+        limits: head_limits_of(&config),
+        site,
+        stop_ms: config.now.stop_ms,
+    };
     serve_script(rt, alloc, script, store, config, edition, told, gate, out)
 }
 
@@ -239,7 +242,7 @@ fn script_config(
     config_from(alloc, answer)
 }
 
-/// Plays the script by the configuration and the edition, and writes the warnings and the report.
+/// Plays the script by the configuration and the edition, over its store, which has its editions, and writes the warnings and the report.
 fn serve_script<R: Wait, G: Gate, K: Sink>(
     rt: &R,
     alloc: Global,
@@ -253,8 +256,10 @@ fn serve_script<R: Wait, G: Gate, K: Sink>(
 ) -> Ending<Scripted>
     requires told { told.now ≡ warnings_of config }
     requires store { store.told ≡ editions_of script }
+    requires faults { store.counts.faults ≡ 0 }
     requires limits { edition.limits ≡ head_limits_of config }
-    ensures kept { IfSome result.left (λ s. HasRunScript script config edition.site.value s.board) }
+    requires timeout { edition.stop_ms ≡ config.current.stop_ms }
+    ensures kept { IfSome result.left (λ s. HasRunScript script config edition.site.value s.board s.front s.store) }
     ensures script { IfSome result.left (λ s. s.front.script ≡ script) }
     ensures config { IfSome result.left (λ s. s.config ≡ config) }
     ensures left { IfSome result.left IsLeftOfRun }
@@ -264,16 +269,20 @@ fn serve_script<R: Wait, G: Gate, K: Sink>(
     ensures known { IsPlayedStatus result.status }
     ensures silent { IsNone result.left → EndsSilently (K.seen out.old) (K.seen out.new) result.shown }
 {
-    let numbers = numbers_of(&config);
+    let mut store = store;
     let Ok(mut front) = ScriptFront::make(alloc, script) else {
         return no_memory();
     };
     let mut clock = ScriptClock::make();
-    let answer = run_server::<R, ScriptLink, ScriptFront, ScriptClock, G, K, Brand>(
+    let answer = run_server::<R, PlainStore, ScriptLink, ScriptFront, ScriptClock, G, K, Brand>(
         rt,
         alloc,
-        numbers,
+        NamedConfig {
+            name: CONF_NAME,
+            config: &config,
+        },
         edition,
+        &mut store,
         &mut front,
         &mut clock,
         gate,
@@ -282,6 +291,8 @@ fn serve_script<R: Wait, G: Gate, K: Sink>(
     );
     front.show();
     clock.show();
+    generations_keep_their_editions();
+    ended_connections_join();
     match answer {
         Ok(served) => {
             let ServedRun { board, written } = served;

@@ -3,10 +3,11 @@ ghost use Rattle.std.specs.Prelude.{◌≡◌, ◌⊎◌, ℕ, List, [], None, f
 ghost use Rattle.mpm_base.specs.Front.{Binds};
 ghost use Rattle.mpm_run.specs.Calls.{seen_call};
 ghost use Rattle.mpm_run.specs.Configured.{warnings_of};
-ghost use Rattle.mpm_run.specs.ExitStatuses.{EndsAs, EndsConfigRefused, EndsSilently, EndsSiteRefused, EndsUnbound, EndsUnread, HasRun, HasRunServer, LeavesOutside};
-ghost use Rattle.mpm_run.specs.ExitStatusesInside.{IsOpenedStatus, IsServedStatus, LeavesUnbound, RefusesRun};
+ghost use Rattle.mpm_run.specs.ExitStatuses.{EndsAs, EndsConfigRefused, EndsSilently, EndsSiteRefused, EndsUnbound, EndsUnread, HasRunServer, LeavesOutside};
+ghost use Rattle.mpm_run.specs.ExitStatusesInside.{HasRunBy, IsOpenedStatus, IsServedStatus, LeavesUnbound, RefusesRun};
 ghost use Rattle.mpm_run.specs.FirstNumbers as opening;
 ghost use Rattle.command_words.specs.Invocations.{IsServeWords};
+ghost use Rattle.mpm_run.specs.OrdersInside.{opening_by};
 ghost use Rattle.mpm_run.specs.Outside.{KeepsOutside, TellsStill};
 ghost use Rattle.mpm_run.specs.Sites.{head_limits_of};
 ghost use Rattle.mpm_run.specs.SitesInside.{RefusesFolder};
@@ -14,14 +15,15 @@ ghost use Rattle.mpm_run.specs.Texts.{front_fault};
 ghost use Rattle.mpm_run.specs.Unused.{IsUnused};
 
 use crate::config_reading::{MOST_CONFIG, config_from};
-use crate::edition::Edition;
+use crate::edition::{Edition, NamedConfig};
 use crate::outcome::{Ending, no_memory};
 use crate::refusal::{refuse_config_of, refuse_front, refuse_site, refuse_unread};
 use crate::reporting::report_run;
-use crate::run_numbers::{head_limits_of, numbers_of};
+use crate::run_numbers::head_limits_of;
 use crate::server::{OpenFault, ServedRun, run_server};
 use crate::site_loading::load_site;
 use board::Board;
+use board::laws::{ended_connections_join, generations_keep_their_editions};
 use conn_state::Nothing;
 use file_table::LoadFault;
 use mpm_base::{Clock, Front, Gate, Octets, Sink, Store};
@@ -67,9 +69,18 @@ pub fn serve_file<R: Wait, D: Store, F: Front, C: Clock, G: Gate, K: Sink>(
     let Ok(site) = Arc::new(alloc, site) else {
         return no_memory();
     };
-    let limits = head_limits_of(&config);
-    let edition = Edition { limits, site };
-    serve_edition(rt, alloc, &config, edition, &told, front, clock, gate, out)
+    let edition = Edition {
+        limits: head_limits_of(&config),
+        site,
+        stop_ms: config.now.stop_ms,
+    };
+    let config = NamedConfig {
+        name,
+        config: &config,
+    };
+    serve_edition(
+        rt, alloc, config, edition, &told, store, front, clock, gate, out,
+    )
 }
 
 /// The end of a run whose site is refused for the fault, or for which memory lacked.
@@ -94,45 +105,50 @@ fn refuse_folder<X, K: Sink>(
 }
 
 /// Serves by the configuration, of which this is told, and the edition, and writes the warnings and the report.
-fn serve_edition<R: Wait, F: Front, C: Clock, G: Gate, K: Sink>(
+fn serve_edition<R: Wait, D: Store, F: Front, C: Clock, G: Gate, K: Sink>(
     rt: &R,
     alloc: Global,
-    config: &Config,
+    config: NamedConfig<'_>,
     edition: Edition,
     told: &Octets,
+    store: &mut D,
     front: &mut F,
     clock: &mut C,
     gate: &G,
     out: &mut K,
 ) -> Ending<Board<F::L, Nothing>>
-    requires told { told.now ≡ warnings_of config.now }
-    requires limits { edition.limits ≡ head_limits_of config.now }
+    requires told { told.now ≡ warnings_of config.config.now }
+    requires limits { edition.limits ≡ head_limits_of config.config.now }
+    requires timeout { edition.stop_ms ≡ config.config.now.current.stop_ms }
     requires unused { IfSome (F.seen front.old).told IsUnused }
     requires unasked { IfSome (C.told clock.old) (λ calls. calls ≡ []) }
-    ensures run { IfSome result.left (HasRun config.entry.now edition.site.value) }
-    ensures outside { IfSome result.left (KeepsOutside (opening.numbers_of config.entry.now) (F.seen front.old) (F.seen front.new) (C.told clock.new)) }
-    ensures ends { IfSome result.left (λ b. EndsAs (K.seen out.old) (K.seen out.new) config.entry.now b result.status) }
+    ensures run { IfSome result.left (λ b. HasRunBy (opening_by config.entry edition (D.seen store.old) (F.seen front.old)) (D.seen store.new) (F.seen front.new) b) }
+    ensures store { IsNone result.left → D.seen store.new ≡ D.seen store.old }
+    ensures outside { IfSome result.left (KeepsOutside (opening.numbers_of config.entry.config.now) (F.seen front.old) (F.seen front.new) (C.told clock.new)) }
+    ensures ends { IfSome result.left (λ b. EndsAs (K.seen out.old) (K.seen out.new) config.entry.config.now b result.status) }
     ensures telling { TellsStill (F.seen front.old) (F.seen front.new) (C.told clock.old) (C.told clock.new) }
     ensures shown { IsSome result.left → result.shown ≡ None }
     ensures known { IsOpenedStatus result.status }
     ensures opened { (result.status ≡ 0) ⊎ (result.status ≡ 5) → IsSome result.left }
-    ensures unbound { result.status ≡ 4 → IsNone result.left → Binds (F.seen front.old) (F.seen front.new) config.entry.now.listen config.entry.now.control false × RefusesRun (K.seen out.old) (K.seen out.new) None front_fault result.shown }
-    ensures front { IsNone result.left → LeavesUnbound (F.seen front.old) (F.seen front.new) config.entry.now result.status }
+    ensures unbound { result.status ≡ 4 → IsNone result.left → Binds (F.seen front.old) (F.seen front.new) config.entry.config.now.listen config.entry.config.now.control false × RefusesRun (K.seen out.old) (K.seen out.new) None front_fault result.shown }
+    ensures front { IsNone result.left → LeavesUnbound (F.seen front.old) (F.seen front.new) config.entry.config.now result.status }
     ensures clock { IsNone result.left → C.told clock.new ≡ C.told clock.old }
     ensures silent { result.status ≡ 6 → IsNone result.left → EndsSilently (K.seen out.old) (K.seen out.new) result.shown }
 {
-    let numbers = numbers_of(config);
-    let answer = run_server::<R, F::L, F, C, G, K, Brand>(
+    let answer = run_server::<R, D, F::L, F, C, G, K, Brand>(
         rt,
         alloc,
-        numbers,
+        config,
         edition,
+        store,
         front,
         clock,
         gate,
         out,
         told.as_slice(),
     );
+    generations_keep_their_editions();
+    ended_connections_join();
     match answer {
         Ok(served) => {
             let ServedRun { board, written } = served;

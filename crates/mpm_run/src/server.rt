@@ -2,29 +2,31 @@
 ghost use Rattle.std.specs.Prelude.{◌≡◌, ℕ, List, [], Some, is_some, IfErr, IfOk, IfSome, OnErr};
 ghost use Rattle.mpm_base.specs.Count.{NeverFalls};
 ghost use Rattle.mpm_run.specs.Unused.{IsUnused};
-ghost use Rattle.conn_state.specs.Known.{IsOfEdition};
 ghost use Rattle.board.specs.Board.{AreOfOutside};
 ghost use Rattle.mpm_run.specs.ExitStatusesInside.{WritesAll};
-ghost use Rattle.mpm_run.specs.FirstNumbersInside.{AreNumbers, opened_book};
-ghost use Rattle.mpm_run.specs.FoldsInside.{IsFoldedOf};
+ghost use Rattle.mpm_run.specs.FirstNumbersInside.{AreNumbers, IsFoldedOf, opened_book};
+ghost use Rattle.mpm_run.specs.FirstNumbers as opening;
+ghost use Rattle.mpm_run.specs.OrdersInside.{known_outside, opening_by};
+ghost use Rattle.mpm_run.specs.Sites.{head_limits_of};
+ghost use Rattle.mpm_run.specs.Standing.{HasStood, standing};
 ghost use Rattle.mpm_run.specs.Links.{EndsLinks};
 ghost use Rattle.mpm_run.specs.Listen.{HasClosedAll, IsClosedDown, IsRunFrom};
-ghost use Rattle.mpm_run.specs.ListenInside.{Follows, IsKnownOfFront, IsUnopened, clients_known};
+ghost use Rattle.mpm_run.specs.ListenInside.{Follows, IsUnopened, clients_known};
 ghost use Rattle.mpm_run.specs.Outside.{KeepsOutside};
 ghost use Rattle.mpm_run.specs.Started.{AreAskedFor};
 ghost use Rattle.mpm_run.specs.Tells.{AllReceive};
 
-use crate::edition::{Edition, NamedEdition};
+use crate::edition::{Edition, NamedConfig};
 use crate::folding::{folds_join, show_for_folds};
 use crate::listen::Listener;
-use crate::run_numbers::RunNumbers;
+use crate::run_numbers::{RunNumbers, numbers_of};
 use crate::writing::write_all;
 use board::Board;
 use board::laws::ended_links_are_of_closed_connections;
 use conn_machine::laws::{accepted_connections_are_closed_or_live, events_keep_states_sound};
 use conn_machine::laws_of_runs::made_histories_are_runs;
 use conn_state::{Known, Nothing};
-use mpm_base::{Clock, Front, Gate, Link, NoMemory, Ready, Sink};
+use mpm_base::{Clock, Front, Gate, Link, NoMemory, Ready, Sink, Store};
 use std::alloc::Global;
 use std::sync::Wait;
 use worker_group::Hands;
@@ -47,40 +49,53 @@ pub enum OpenFault {
     NoMemory,
 }
 
-/// Runs a server by the numbers, over the front and the clock, to its end, and serves by the edition; each service passes the gate. Once
-/// the table is there and the front is bound the text is written; where that fails the server runs all the same.
+/// Runs a server by the configuration, over the store, the front and the clock, to its end, and serves by the edition, and by those that
+/// the store has when a restart asks for them; each service passes the gate. Once the table is there and the front is bound the text is
+/// written; where that fails the server runs all the same.
 ///
-/// The name says what the front tells of its clients, and by which editions connections are served, so that what they received and what
+/// The name says what the front tells of its clients, and what the editions of the store are, so that what connections received and what
 /// they are served by are facts of the board's type.
-pub fn run_server<R: Wait, L: Link + Send, F: Front<L = L>, C: Clock, G: Gate, K: Sink, N: Known>(
+pub fn run_server<
+    R: Wait,
+    D: Store,
+    L: Link + Send,
+    F: Front<L = L>,
+    C: Clock,
+    G: Gate,
+    K: Sink,
+    N: Known,
+>(
     rt: &R,
     alloc: Global,
-    numbers: RunNumbers,
+    config: NamedConfig<'_>,
     edition: Edition,
+    store: &mut D,
     front: &mut F,
     clock: &mut C,
     gate: &G,
     out: &mut K,
     text: &[u8],
 ) -> Result<ServedRun<L>, OpenFault>
-    requires numbers { AreNumbers numbers }
-    requires edition { IsOfEdition N.known edition.limits edition.site.value }
-    requires named { IsKnownOfFront N.known (F.seen front.old).told }
+    requires limits { edition.limits ≡ head_limits_of config.config.now }
+    requires timeout { edition.stop_ms ≡ config.config.now.current.stop_ms }
+    requires named { N.known ≡ Some (known_outside (opening_by config edition (D.seen store.old) (F.seen front.old))) }
     requires unused { IfSome (F.seen front.old).told IsUnused }
     requires unasked { IfSome (C.told clock.old) (λ calls. calls ≡ []) }
-    ensures run { IfOk result (λ s. IsRunFrom numbers s.board) }
-    ensures folded { IfOk result (λ s. IsFoldedOf N.known numbers s.board.book) }
+    ensures run { IfOk result (λ s. IsRunFrom (opening.numbers_of config.entry.config.now) s.board) }
+    ensures stood { IfOk result (λ s. HasStood N.known (opening_by config.entry edition (D.seen store.old) (F.seen front.old)) (opening.numbers_of config.entry.config.now) (standing 0 (D.seen store.new) (F.seen front.new) s.board.book)) }
     ensures closed { IfOk result (λ s. HasClosedAll s.board) }
     ensures edition { IfOk result (λ s. AreOfOutside N.known s.board) }
-    ensures outside { IfOk result (λ s. KeepsOutside numbers (F.seen front.old) (F.seen front.new) (C.told clock.new) s.board) }
+    ensures outside { IfOk result (λ s. KeepsOutside (opening.numbers_of config.entry.config.now) (F.seen front.old) (F.seen front.new) (C.told clock.new) s.board) }
     ensures follows { Follows (F.seen front.old) (F.seen front.new) }
     ensures still { is_some (C.told clock.new) ≡ is_some (C.told clock.old) }
     ensures written { IfOk result (λ s. WritesAll (K.seen out.old) (K.seen out.new) text.now s.written) }
     ensures faults { IfOk result (λ s. NeverFalls (K.seen out.old).faults (K.seen out.new).faults) }
-    ensures unopened { IfErr result (IsUnopened numbers (F.seen front.old) (F.seen front.new)) }
+    ensures unopened { IfErr result (IsUnopened (opening.numbers_of config.entry.config.now) (F.seen front.old) (F.seen front.new)) }
+    ensures store { OnErr result (D.seen store.new ≡ D.seen store.old) }
     ensures clock { OnErr result (C.told clock.new ≡ C.told clock.old) }
     ensures silent { OnErr result (K.seen out.new ≡ K.seen out.old) }
 {
+    let numbers = numbers_of(config.config);
     let Ok(ready) = Ready::make(alloc) else {
         return Err(OpenFault::NoMemory);
     };
@@ -99,14 +114,16 @@ pub fn run_server<R: Wait, L: Link + Send, F: Front<L = L>, C: Clock, G: Gate, K
     let mut listener = Listener {
         alloc,
         board,
-        edition: NamedEdition::of(edition),
+        config,
+        edition,
         ready,
         hands: Hands { bell: &bell, gate },
     };
-    listener.listen(rt, front, clock);
+    listener.listen(rt, store, front, clock);
     let Listener {
         alloc: _,
         board,
+        config: _,
         edition: _,
         ready: _,
         hands: _,

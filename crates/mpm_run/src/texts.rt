@@ -14,8 +14,6 @@ pub enum ScriptRefusal {
     MomentBackwards,
     /// The line names a connection that no earlier line makes.
     UnknownName,
-    /// The line isn't built yet.
-    NotYet,
 }
 
 /// Why a configuration is refused.
@@ -113,7 +111,6 @@ fn refusal_word(why: ScriptRefusal) -> &'static [u8]
         ScriptRefusal::BadLine => b"BadLine",
         ScriptRefusal::MomentBackwards => b"MomentBackwards",
         ScriptRefusal::UnknownName => b"UnknownName",
-        ScriptRefusal::NotYet => b"NotYet",
     }
 }
 

@@ -2,7 +2,6 @@
 ghost use Rattle.std.specs.Prelude.{◌≡◌, ◌≢◌, [], IfSome, IsNone};
 ghost use Rattle.conn_machine.specs.declared.event.Why.TheVariants as why;
 ghost use Rattle.conn_machine.specs.declared.state.Going.TheVariants.{Halted};
-ghost use Rattle.script_front.specs.Editions.{editions_of};
 ghost use Rattle.mpm_run.specs.Calls.{seen_call};
 ghost use Rattle.mpm_run.specs.Commands.{HeedsLines};
 ghost use Rattle.mpm_run.specs.ExitStatuses.{EndsConfigRefused, EndsFrontFault, EndsLacking, EndsRefused, EndsSilently, EndsSiteRefused, EndsUncontrolled, EndsUnknown, EndsUnread, HasEnd, HasPlayed, HasRunServer, IsExitStatus, KeepsPatience, KeepsTime, LacksOutput, LeavesOutside, MayEndWith, Succeeds};
@@ -50,13 +49,16 @@ pub fn run<R: Threads + Wait + Sync, D: Store, F: Front, C: Clock, G: Gate + Syn
     // of watches, links, ticks, signals and time is said of those that are kept, behind as many as the record counts.
 
     // Whatever the exit status, what is left of a script's run is of one of the script that was read or made, by the configuration that
-    // it writes and the site that it has by that: it closed each connection that it took, each child is gone, and each connection was
-    // served by the site, and by the configuration's limits of heads. The record is what one fold makes of entries that lead to the kept
-    // history, and of connections that they close, of which the same holds.
-    ensures kept { IfSome result.scripted (λ s. HasPlayed (seen_call words.now (D.seen store.old) (D.seen store.new) (K.seen out.old) (K.seen out.new) result.shown) s.config s.board s.front) }
-
-    // Its store tells what the lines of the script make of the site.
-    ensures site { IfSome result.scripted (λ s. s.store.told ≡ editions_of s.front.script) }
+    // it writes and the site that it has by that, and then by the editions that its lines make: it closed each connection that it took,
+    // each child is gone, and each connection was served by the files, and by the limits of heads, of its generation's edition. The record
+    // is what one fold makes of entries that lead to the kept history, and of connections that they close, of which the same holds.
+    //
+    // Of all entries, each command line that was read did what it asks for, once and in order: a restart began a generation by the next
+    // edition, or was refused, for what that edition lacks, as it came too late, as the store failed, or as memory lacked; and a graceful
+    // stop set the limit that the newest generation's configuration says. Its store was renewed at each restart. Where its server stopped
+    // for want of memory the last line may not have been done, and the store may have been renewed once more. Where nothing more could
+    // come, and no graceful stop was begun, each connection of the script was taken.
+    ensures kept { IfSome result.scripted (λ s. HasPlayed (seen_call words.now (D.seen store.old) (D.seen store.new) (K.seen out.old) (K.seen out.new) result.shown) s.config s.board s.front s.store) }
 
     // Its front was bound once, to what the configuration says, dialled nothing, and has stopped listening in the end.
     ensures front { IfSome result.scripted (λ s. IsOpenedAndHushed (opening.numbers_of s.config) s.front.told) }
@@ -83,12 +85,15 @@ pub fn run<R: Threads + Wait + Sync, D: Store, F: Front, C: Clock, G: Gate + Syn
     // It was stopped by a command line exactly where one that was read stops it, and read none behind that.
     ensures heeded { IfSome result.scripted (λ s. HeedsLines s.board.book.state.going s.front.told) }
 
-    // Why it stopped: where nothing more could come the whole script was played, whatever the exit status. It never stopped because its front failed.
+    // Why it stopped: where nothing more could come the whole script was played, whatever the exit status. It never stopped because its
+    // front failed.
     ensures ended { IfSome result.scripted (λ s. s.board.book.state.going ≡ Halted why.FrontEnded → HasEnd s.board s.front) }
     ensures unfailed { IfSome result.scripted (λ s. s.board.book.state.going ≢ Halted why.FrontFailed) }
     ensures stopped { IfSome result.scripted (λ s. MayEndWith s.board.book.state.going result.status) }
 
-    // The same of what is left of a server, as far as its front, its clock and its store tell; and how it ended.
+    // The same of what is left of a server, as far as its front, its clock and its store tell: it was run by the configuration and the site
+    // of the store, and then by the editions that the store has at each restart. Over each front, whether it tells or not, it did no more
+    // than command lines were given; and how it ended.
     ensures server { IfSome result.board (λ b. HasRunServer (seen_call words.now (D.seen store.old) (D.seen store.new) (K.seen out.old) (K.seen out.new) result.shown) (F.seen front.old) (F.seen front.new) (C.told clock.new) result.status b) }
 
     // Whatever became of them, a front and a clock that told tell still.

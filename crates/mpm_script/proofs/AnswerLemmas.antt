@@ -2,14 +2,12 @@
 use Rattle.std.proofs.Common.{◌≡◌, ℕ, suc, inl, inr, Bool, true, List, [], ◌∷◌, ◌++◌, length, Result, Ok, Err, refl, sym, ap, subst, ◌∙◌, arith}
 use Rattle.std.proofs.lemmas.Bool.{false≢true}
 use Rattle.std.proofs.lemmas.List.{append-nil}
-use Rattle.mpm_script.specs.BuiltLines.{AreBuilt, FirstUnbuilt}
 use Rattle.mpm_script.specs.Script.{BeginsWithLine, AreLines, AllAgree, agrees, is_repeated, is_backwards, is_unknown, IsScript, IsRefusedAt, IsBadLine, BeginsFailing, ScriptIs, IsSureAnswer}
 use Rattle.mpm_base.specs.declared.script_line.ScriptLine.{ScriptLine}
 use Rattle.mpm_base.specs.declared.script_line.ScriptLine.TheVariants as line
 use Rattle.mpm_script.specs.declared.script.ScriptFault.{ScriptFault}
 use Rattle.mpm_script.specs.declared.script.ScriptFault.TheVariants as fault
 use Rattle.mpm_script.proofs.AgreementLemmas.{agrees_at}
-use Rattle.mpm_script.proofs.BuiltLineLemmas.{no_first_unbuilt, one_place}
 use Rattle.mpm_script.proofs.SequenceLemmas.{OneLine, line_once, line_some, two_sequences}
 
 -- ## How far the bytes are good
@@ -77,11 +75,10 @@ no_next_failing one fails disagrees lines rest failing line behind h agree =
 -- ## What an answer says of the longest good reading
 
 abbrev pub Says : Result (List ScriptLine) ScriptFault → List ScriptLine → List ℕ → Type 0
-Says (Ok script) lines rest = (script ≡ lines) × (rest ≡ []) × AreBuilt lines
+Says (Ok script) lines rest = (script ≡ lines) × (rest ≡ [])
 Says (Err (fault.BadLine n)) lines rest = (n ≡ suc (length lines)) × IsBadLine lines rest
 Says (Err (fault.MomentBackwards n)) lines rest = (n ≡ suc (length lines)) × BeginsFailing is_backwards lines rest
 Says (Err (fault.UnknownName n)) lines rest = (n ≡ suc (length lines)) × BeginsFailing is_unknown lines rest
-Says (Err (fault.NotYet n)) lines rest = (place : ℕ) × (n ≡ suc place) × (rest ≡ []) × FirstUnbuilt lines place
 Says (Err fault.NoMemory) lines rest = ⊥
 
 pub record Reading (bytes : List ℕ) (answer : Result (List ScriptLine) ScriptFault) : Type 0 where
@@ -100,7 +97,7 @@ refused_reading bytes n For h none = record { are_lines = h.are_lines; agree = h
 reading : OneLine → (bytes : List ℕ) (answer : Result (List ScriptLine) ScriptFault) → ScriptIs bytes answer → IsSureAnswer answer
     → Reading bytes answer
 reading one bytes (Ok script) h i =
-    record { lines = script; rest = []; longest = whole_reading bytes script h.0; says = (refl, refl, h.1) }
+    record { lines = script; rest = []; longest = whole_reading bytes script h; says = (refl, refl) }
 reading one bytes (Err (fault.BadLine n)) h i =
     let none = no_next_bad h.lines h.rest h.refused_for in
     record { lines = h.lines; rest = h.rest; longest = refused_reading bytes n IsBadLine h none; says = (h.number_is, h.refused_for) }
@@ -110,8 +107,6 @@ reading one bytes (Err (fault.MomentBackwards n)) h i =
 reading one bytes (Err (fault.UnknownName n)) h i =
     let none = no_next_failing one is_unknown unknown_disagrees h.lines h.rest h.refused_for in
     record { lines = h.lines; rest = h.rest; longest = refused_reading bytes n (BeginsFailing is_unknown) h none; says = (h.number_is, h.refused_for) }
-reading one bytes (Err (fault.NotYet n)) h i =
-    record { lines = h.lines; rest = []; longest = whole_reading bytes h.lines h.is_script; says = (h.place, h.number_is, refl, h.first) }
 reading one bytes (Err fault.NoMemory) h i = absurd i
 
 -- ## One answer
@@ -166,28 +161,18 @@ same_says one lines rest (Ok script) (Ok other) h k = ap (λ s. Ok s) (h.0 ∙ s
 same_says one lines rest (Ok script) (Err (fault.BadLine n)) h k = absurd (bad_some lines rest h.1 k.1)
 same_says one lines rest (Ok script) (Err (fault.MomentBackwards n)) h k = absurd (failing_some is_backwards lines rest h.1 k.1)
 same_says one lines rest (Ok script) (Err (fault.UnknownName n)) h k = absurd (failing_some is_unknown lines rest h.1 k.1)
-same_says one lines rest (Ok script) (Err (fault.NotYet n)) h k = absurd (no_first_unbuilt lines k.0 h.2 k.3)
 same_says one lines rest (Err (fault.BadLine n)) (Ok script) h k = absurd (bad_some lines rest k.1 h.1)
 same_says one lines rest (Err (fault.BadLine n)) (Err (fault.BadLine m)) h k = ap (λ n. Err (fault.BadLine n)) (h.0 ∙ sym k.0)
 same_says one lines rest (Err (fault.BadLine n)) (Err (fault.MomentBackwards m)) h k = absurd (bad_or_backwards lines rest h.1 k.1)
 same_says one lines rest (Err (fault.BadLine n)) (Err (fault.UnknownName m)) h k = absurd (bad_or_unknown lines rest h.1 k.1)
-same_says one lines rest (Err (fault.BadLine n)) (Err (fault.NotYet m)) h k = absurd (bad_some lines rest k.2 h.1)
 same_says one lines rest (Err (fault.MomentBackwards n)) (Ok script) h k = absurd (failing_some is_backwards lines rest k.1 h.1)
 same_says one lines rest (Err (fault.MomentBackwards n)) (Err (fault.BadLine m)) h k = absurd (bad_or_backwards lines rest k.1 h.1)
 same_says one lines rest (Err (fault.MomentBackwards n)) (Err (fault.MomentBackwards m)) h k = ap (λ n. Err (fault.MomentBackwards n)) (h.0 ∙ sym k.0)
 same_says one lines rest (Err (fault.MomentBackwards n)) (Err (fault.UnknownName m)) h k = absurd (failing_twice one lines rest h.1 k.1)
-same_says one lines rest (Err (fault.MomentBackwards n)) (Err (fault.NotYet m)) h k = absurd (failing_some is_backwards lines rest k.2 h.1)
 same_says one lines rest (Err (fault.UnknownName n)) (Ok script) h k = absurd (failing_some is_unknown lines rest k.1 h.1)
 same_says one lines rest (Err (fault.UnknownName n)) (Err (fault.BadLine m)) h k = absurd (bad_or_unknown lines rest k.1 h.1)
 same_says one lines rest (Err (fault.UnknownName n)) (Err (fault.MomentBackwards m)) h k = absurd (failing_twice one lines rest k.1 h.1)
 same_says one lines rest (Err (fault.UnknownName n)) (Err (fault.UnknownName m)) h k = ap (λ n. Err (fault.UnknownName n)) (h.0 ∙ sym k.0)
-same_says one lines rest (Err (fault.UnknownName n)) (Err (fault.NotYet m)) h k = absurd (failing_some is_unknown lines rest k.2 h.1)
-same_says one lines rest (Err (fault.NotYet n)) (Ok script) h k = absurd (no_first_unbuilt lines h.0 k.2 h.3)
-same_says one lines rest (Err (fault.NotYet n)) (Err (fault.BadLine m)) h k = absurd (bad_some lines rest h.2 k.1)
-same_says one lines rest (Err (fault.NotYet n)) (Err (fault.MomentBackwards m)) h k = absurd (failing_some is_backwards lines rest h.2 k.1)
-same_says one lines rest (Err (fault.NotYet n)) (Err (fault.UnknownName m)) h k = absurd (failing_some is_unknown lines rest h.2 k.1)
-same_says one lines rest (Err (fault.NotYet n)) (Err (fault.NotYet m)) h k =
-    ap (λ n. Err (fault.NotYet n)) (h.1 ∙ ap suc (one_place lines h.0 k.0 h.3 k.3) ∙ sym k.1)
 
 pub one_answer : OneLine → (bytes : List ℕ) (answer other : Result (List ScriptLine) ScriptFault)
     → ScriptIs bytes answer → ScriptIs bytes other → IsSureAnswer answer → IsSureAnswer other → answer ≡ other

@@ -1,6 +1,5 @@
 pub mod AgreementLemmas
 pub mod AnswerLemmas
-pub mod BuiltLineLemmas
 pub mod CutLemmas
 pub mod EscapeLemmas
 pub mod FileNameLemmas

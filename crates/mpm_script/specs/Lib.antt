@@ -1,5 +1,3 @@
-pub mod BuiltLines
-pub mod BuiltLinesInside
 pub mod Clients
 pub mod Commands
 pub mod Escapes

@@ -1,7 +1,6 @@
 -- A script: lines, each ended by a line feed, which is 10; and why bytes are none.
 use Rattle.std.specs.Prelude.{◌≡◌, ℕ, suc, ◌<◌, Bool, true, false, ◌||◌, not, ◌==◌, nat_lt, List, [], ◌∷◌, ◌++◌, length, bytes_eq, Result, Ok, Err, ⊤}
 use Rattle.std.specs.List.{AllPass, list_any}
-use Rattle.mpm_script.specs.BuiltLines.{AreBuilt, FirstUnbuilt}
 use Rattle.mpm_script.specs.ScriptLine.{IsLine}
 use Rattle.mpm_script.specs.declared.script.ScriptFault.{ScriptFault}
 use Rattle.mpm_script.specs.declared.script.ScriptFault.TheVariants as fault
@@ -115,23 +114,14 @@ pub record BeginsFailing (fails : List ScriptLine → ScriptLine → Bool) (befo
   pub begins : BeginsWithLine rest line behind
   pub failing : fails before line ≡ true
 
--- the bytes are a script, and its line of that number, from 1, is the first that isn't built yet
-pub record IsNotYetAt (bytes : List ℕ) (number : ℕ) : Type 0 where
-  pub lines : List ScriptLine
-  pub place : ℕ
-  pub is_script : IsScript bytes lines
-  pub first : FirstUnbuilt lines place
-  pub number_is : number ≡ suc place
-
 -- ## The answer
 
 -- the answer says what the bytes are
 abbrev pub ScriptIs : List ℕ → Result (List ScriptLine) ScriptFault → Type 0
-ScriptIs bytes (Ok script) = IsScript bytes script × AreBuilt script
+ScriptIs bytes (Ok script) = IsScript bytes script
 ScriptIs bytes (Err (fault.BadLine n)) = IsRefusedAt bytes n IsBadLine
 ScriptIs bytes (Err (fault.MomentBackwards n)) = IsRefusedAt bytes n (BeginsFailing is_backwards)
 ScriptIs bytes (Err (fault.UnknownName n)) = IsRefusedAt bytes n (BeginsFailing is_unknown)
-ScriptIs bytes (Err (fault.NotYet n)) = IsNotYetAt bytes n
 ScriptIs bytes (Err fault.NoMemory) = ⊤
 
 -- the answer isn't that memory lacked
@@ -140,5 +130,4 @@ IsSureAnswer (Ok script) = ⊤
 IsSureAnswer (Err (fault.BadLine n)) = ⊤
 IsSureAnswer (Err (fault.MomentBackwards n)) = ⊤
 IsSureAnswer (Err (fault.UnknownName n)) = ⊤
-IsSureAnswer (Err (fault.NotYet n)) = ⊤
 IsSureAnswer (Err fault.NoMemory) = ⊥

@@ -1,18 +1,14 @@
 //! Scripts: the lines that say what comes to the server, and when.
 //!
-//! `read_script` reads the bytes of a script exactly where they are one, and else refuses the earliest line that is wrong;
-//! only where there is none it refuses the first line that isn't built yet. `one_answer` says that bytes have one answer as
-//! a script, and `one_line` that a text is one line at most; `file_names_are_texts` says that the files of a script have
-//! UTF-8 names. `NamePlaces` has names in order, and finds each by a map. Which text is which line stands in
-//! `specs/ScriptLine.antt`, which lines are a script in `specs/Script.antt`, what its clients send and which calls of
-//! their links fail in `specs/Clients.antt`, and which command lines it brings in `specs/Commands.antt`. `load_script` makes the
-//! script of a load (`specs/Load.antt`).
-//!
-//! Each line is built but `command graceful` and `command graceful-stop` (`specs/BuiltLines.antt`).
+//! `read_script` reads the bytes of a script exactly where they are one, and else refuses the earliest line that is wrong.
+//! `one_answer` says that bytes have one answer as a script, and `one_line` that a text is one line at most;
+//! `file_names_are_texts` says that the files of a script have UTF-8 names. `NamePlaces` has names in order, and finds each by
+//! a map. Which text is which line stands in `specs/ScriptLine.antt`, which lines are a script in `specs/Script.antt`, what
+//! its clients send and which calls of their links fail in `specs/Clients.antt`, and which command lines it brings in
+//! `specs/Commands.antt`. `load_script` makes the script of a load (`specs/Load.antt`).
 #![tactic(auto)]
 
 mod agreement;
-mod built_lines;
 mod escapes;
 mod line_reader;
 mod line_words;

@@ -1,18 +1,15 @@
 //! The scripts that say what comes to the server, and when.
 //!
 //! A script is a list of lines, each ended by a line feed (`specs/Script.antt`); which text is which line stands in
-//! `specs/ScriptLine.antt`, what a TEXT spells in `specs/Escapes.antt`, and which lines are built so far in
-//! `specs/BuiltLines.antt`.
-ghost use Rattle.std.specs.Prelude.{◌≡◌, ◌≢◌, ℕ, List, [], ◌∷◌, ◌++◌, length, Result, Err, IfSome, IfNone, IfOk, IfErr, MatchOption, OnOk, OnErr};
+//! `specs/ScriptLine.antt`, and what a TEXT spells in `specs/Escapes.antt`.
+ghost use Rattle.std.specs.Prelude.{◌≡◌, ℕ, List, [], ◌∷◌, ◌++◌, length, Result, IfSome, IfNone, IfOk, MatchOption, OnOk, OnErr};
 ghost use Rattle.std.specs.List.{prefix_len};
 ghost use Rattle.mpm_script.specs.FileNames.{HaveTextNames};
 ghost use Rattle.mpm_script.specs.Script.{Begins, BeginsWithLine, IsSureAnswer, IsScript, ScriptIs, is_line_byte};
 ghost use Rattle.mpm_base.specs.declared.script_line.ScriptLine.{ScriptLine as Line};
 ghost use Rattle.mpm_script.specs.declared.script.ScriptFault.{ScriptFault as Fault};
-ghost use Rattle.mpm_script.specs.declared.script.ScriptFault.TheVariants as fault;
 
 use crate::agreement::{add_name, is_backwards, is_repeated, is_unknown, moment_after};
-use crate::built_lines::first_unbuilt;
 use crate::line_reader::{line_of, one_line};
 use crate::name_places::NamePlaces;
 use mpm_base::{NoMemory, ScriptLine};
@@ -76,9 +73,6 @@ pub enum ScriptFault {
     /// The line names a connection that no earlier line makes.
     #[error("line {0} names no connection")]
     UnknownName(u64),
-    /// The script has none of these faults, and this is its first line that isn't built yet.
-    #[error("line {0} is not built yet")]
-    NotYet(u64),
     /// Memory was wanted and not found.
     #[error("out of memory")]
     NoMemory,
@@ -96,7 +90,7 @@ impl From<NoMemory> for ScriptFault {
 }
 
 /// Reads a script. Each line ends with LF, the last one too, and words have one space between them. The earliest line that
-/// is refused is told; only where there is none, the first line that isn't built yet.
+/// is refused is told.
 pub fn read_script(alloc: Global, bytes: &[u8]) -> Result<Script, ScriptFault>
     ensures answer { ScriptIs bytes.now result }
 
@@ -104,32 +98,6 @@ pub fn read_script(alloc: Global, bytes: &[u8]) -> Result<Script, ScriptFault>
     ensures names { IfOk result (λ script. HaveTextNames script) }
 {
     file_names_are_texts();
-    let script = read_lines(alloc, bytes)?;
-    match first_unbuilt(script.lines()) {
-        Some(place) => Err(ScriptFault::NotYet(place as u64 + 1)),
-        None => Ok(script),
-    }
-}
-
-/// A law of scripts: bytes have one answer, unless memory lacks.
-pub fn one_answer()
-    ensures { (bytes : List ℕ) (answer other : Result (List Line) Fault) → ScriptIs bytes answer → ScriptIs bytes other
-        → IsSureAnswer answer → IsSureAnswer other → answer ≡ other }
-{
-    one_line();
-}
-
-/// A law of scripts: the files that their lines set or remove have UTF-8 names.
-pub fn file_names_are_texts()
-    ensures { (bytes : List ℕ) (lines : List Line) → IsScript bytes lines → HaveTextNames lines }
-{}
-
-// The lines of the bytes, or why one of them is refused.
-fn read_lines(alloc: Global, bytes: &[u8]) -> Result<Script, ScriptFault>
-    ensures ok { IfOk result (λ script. IsScript bytes.now script) }
-    ensures err { IfErr result (λ fault. ScriptIs bytes.now (Err fault)) }
-    ensures not_yet { (number : ℕ) → result ≢ Err (fault.NotYet number) }
-{
     one_line();
     let mut script = Script::make(alloc);
     let mut names = NamePlaces::make(alloc);
@@ -156,6 +124,19 @@ fn read_lines(alloc: Global, bytes: &[u8]) -> Result<Script, ScriptFault>
     }
     Ok(script)
 }
+
+/// A law of scripts: bytes have one answer, unless memory lacks.
+pub fn one_answer()
+    ensures { (bytes : List ℕ) (answer other : Result (List Line) Fault) → ScriptIs bytes answer → ScriptIs bytes other
+        → IsSureAnswer answer → IsSureAnswer other → answer ≡ other }
+{
+    one_line();
+}
+
+/// A law of scripts: the files that their lines set or remove have UTF-8 names.
+pub fn file_names_are_texts()
+    ensures { (bytes : List ℕ) (lines : List Line) → IsScript bytes lines → HaveTextNames lines }
+{}
 
 // The line that the bytes begin with, and the bytes behind it; None where they begin with none.
 fn next_line(alloc: Global, bytes: &[u8]) -> Result<Option<(ScriptLine, &[u8])>, NoMemory>

@@ -1,5 +1,5 @@
 -- The calls of the front to which nothing comes.
-use Rattle.std.proofs.Common.{◌≡◌, ◌≤◌, ℕ, Bool, true, false, List, [], length, Option, refl, arith}
+use Rattle.std.proofs.Common.{◌≡◌, ℕ, Bool, false, List, [], Option, refl, arith}
 use Rattle.mpm_base.specs.Count.{Rises}
 use Rattle.mpm_base.specs.Front.{Binds, Dials, Waits}
 use Rattle.mpm_base.specs.declared.addr.Addr.{Addr}

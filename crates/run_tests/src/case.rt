@@ -14,6 +14,8 @@ pub struct View {
     pub report: bool,
     /// How many entries were folded, and how many are kept.
     pub entries: bool,
+    /// Of the history the commands alone.
+    pub commands: bool,
 }
 
 /// What a run is to be over.
@@ -23,7 +25,9 @@ pub struct Case {
     pub words: Words,
     /// The files of the folder, but for the last one.
     pub files: Files,
-    /// The name of the last file.
+    /// The files of the later editions of the folder, but for the last file.
+    pub later: Vec<Files>,
+    /// The name of the last file; empty where an edition has none yet.
     pub name: String,
     /// The bytes of the last file.
     pub file: Octets,
@@ -52,6 +56,7 @@ pub fn case_of(alloc: Global, lines: &str) -> Result<Case, NoMemory> {
     let mut case = Case {
         words: Words::make(alloc),
         files: Files::make(alloc),
+        later: Vec::new(alloc),
         name: String::from_str(alloc, "s")?,
         file: Octets::make(alloc),
         front: None,
@@ -77,6 +82,7 @@ fn take_line(alloc: Global, case: &mut Case, line: &str) -> Result<(), NoMemory>
     match word {
         "words" => add_words(&mut case.words, rest),
         "file" => begin_file(alloc, case, rest),
+        "edition" => begin_edition(alloc, case),
         "front" => {
             case.front = Some(String::from_str(alloc, rest)?);
             Ok(())
@@ -105,6 +111,7 @@ fn take_word(case: &mut Case, word: &str) {
         "moments" => case.view.moments = true,
         "report" => case.view.report = true,
         "entries" => case.view.entries = true,
+        "commands" => case.view.commands = true,
         _ => case.strange = true,
     }
 }
@@ -117,9 +124,24 @@ fn begin_file(alloc: Global, case: &mut Case, name: &str) -> Result<(), NoMemory
     Ok(())
 }
 
-/// Puts the last file to the others.
+/// Puts the last file down, and begins a further edition, without files.
+fn begin_edition(alloc: Global, case: &mut Case) -> Result<(), NoMemory> {
+    begin_file(alloc, case, "")?;
+    match case.later.push(Files::make(alloc)) {
+        Ok(()) => Ok(()),
+        Err(_) => Err(NoMemory),
+    }
+}
+
+/// Puts the last file, where there is one, to the others of the last edition.
 fn put_down_file(case: &mut Case) -> Result<(), NoMemory> {
-    case.files.set(case.name.as_str(), case.file.as_slice())
+    if case.name.is_empty() {
+        return Ok(());
+    }
+    match case.later.last_mut() {
+        Some(files) => files.set(case.name.as_str(), case.file.as_slice()),
+        None => case.files.set(case.name.as_str(), case.file.as_slice()),
+    }
 }
 
 /// Puts the words of the list at the end, where it isn't empty.

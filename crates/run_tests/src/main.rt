@@ -5,7 +5,8 @@
 //! In the input a line that begins with `== ` has the title of a run; the lines behind it say what it is over:
 //!
 //! - `words WORD ..`: the words of the command line.
-//! - `file NAME`: what follows is of the file of that name. What stands before the first such line is of the file `s`.
+//! - `file NAME`: what follows is of the file of that name. What stands before the first such line is of the file `s`. `edition`: what
+//!   follows is of the next edition of the folder, which has no file but those.
 //! - `front NAME`: the front that is handed in plays the script of the file of that name. Without such a line it is one that can't be
 //!   bound, and whose last dial is shown; `undialled`: its dials fail. `wait N`, `accept N`: the wait, the accept of that number of the
 //!   front that plays a script fails.
@@ -13,7 +14,7 @@
 //! - `each N M TEXT`: a line for each number from N up to M, M left out, in which it stands in place of each `#`.
 //! - `store N`, `output N`: the store's, the output's call of that number fails.
 //! - `slow`: the output takes single bytes.
-//! - `history`: the history is shown. `moments`: in place of each connection, how many children were started, and connections taken
+//! - `history`: the history is shown. `commands`: of it the commands alone. `moments`: in place of each connection, how many children were started, and connections taken
 //!   and closed, at each moment. `report`: nothing of the connections is shown but the report. `entries`: how many entries were folded, and
 //!   how many are kept, is shown. Behind a fold a history has what came after it, and connections are shown that ended after it.
 //!

@@ -55,6 +55,7 @@ fn play<R: Print + Threads + Wait + Sync>(rt: &R, alloc: Global, case: Case) -> 
     let Case {
         words,
         files,
+        later,
         front,
         bad_waits,
         bad_accepts,
@@ -70,6 +71,11 @@ fn play<R: Print + Threads + Wait + Sync>(rt: &R, alloc: Global, case: Case) -> 
         None => None,
     };
     let mut store = MemStore::make(alloc, files, bad_reads);
+    for files in later {
+        if store.later(files).is_err() {
+            return Err(out_of_memory());
+        }
+    }
     let mut out = output(alloc, bad_writes, slow);
     match scripted {
         Some(front) => play_over(rt, alloc, &words, &mut store, front, &mut out, view),

@@ -47,8 +47,8 @@ pub fn show_outcome(
     if view.entries {
         show_entries(rt, board)?;
     }
-    if view.history {
-        show_history(rt, board.history())?;
+    if view.history || view.commands {
+        show_history(rt, board.history(), !view.history)?;
     }
     Ok(())
 }
@@ -107,9 +107,12 @@ fn show_bytes(rt: &impl Print, alloc: Global, name: &str, bytes: &[u8]) -> io::R
     println!(rt; "{name} {text:?}")
 }
 
-/// Prints each entry: its pass, its number, its event and its reply.
-pub fn show_history(rt: &impl Print, history: &[Entry]) -> io::Result<()> {
+/// Prints each entry, or the commands alone: its pass, its number, its event and its reply.
+pub fn show_history(rt: &impl Print, history: &[Entry], commands: bool) -> io::Result<()> {
     for entry in history {
+        if commands && !matches!(&entry.event, Event::Command(_)) {
+            continue;
+        }
         println!(rt;
             "{} {} {:?} {:?}",
             entry.pass, entry.ordinal, entry.event, entry.reply
@@ -168,15 +171,15 @@ pub fn shows_want_of_memory(outcome: &Outcome<ScriptLink>, out: &MemSink) -> boo
     };
     let written = match board.going() {
         Going::Halted(Why::NoMemory) => is_report(out.bytes()),
-        Going::Halted(_) => out.bytes().is_empty(),
-        _ => false,
+        Going::Halted(_) | Going::Ending(_) => out.bytes().is_empty(),
+        Going::Serving => false,
     };
     outcome.status == 6 && written && are_closed(board.ended())
 }
 
 /// Whether the bytes begin and end as a report does.
 fn is_report(bytes: &[u8]) -> bool {
-    bytes.starts_with(b"Generation: 0\nAccepted: ") && bytes.ends_with(b"\n")
+    bytes.starts_with(b"Generation: ") && bytes.ends_with(b"\n")
 }
 
 /// Whether each link was closed once.

@@ -1,5 +1,5 @@
-//! Tests of `mpm_script` and `script_front`, by their public calls alone: scripts as they are written, how they are refused, and fronts
-//! that play scripts, call by call. The file `stdin` has what is asked, section by section, and `stdout` what must come of it.
+//! Tests of `mpm_script` and `script_front`, by their public calls alone: scripts as they are written, how they are refused, the files that
+//! they leave, and fronts that play scripts, call by call. The file `stdin` has what is asked, section by section, and `stdout` what must come of it.
 //!
 //! In the input a line that begins with `== ` begins a section: the word up to a colon says what its rows are, and the rest is its
 //! title. In a text `|` stands for a line feed, `^` and a letter for a control byte (`^M` for a carriage return, `^?` for byte 127),
@@ -7,6 +7,8 @@
 //!
 //! - `script`: scripts, of each of which the lines are shown, or why it is refused.
 //! - `load`: numbers, for each of which the script of a load of so many connections is shown.
+//! - `store`: scripts, of each of which is shown what its store has in `httpd.conf` and below `htdocs` at first, and behind each of three
+//!   renewals.
 //! - `front`: a front. Its first row is a script that is made by hand, each of whose lines ends with `|`; it need not be one that is
 //!   read. The others are calls. A link is named by its place among those that were taken and not turned away, from 0.
 //!   - `wait MOMENT WORD`: until the moment, which is `-` for none; the word is `quiet` where no connection is being served.
@@ -23,6 +25,7 @@ mod by_hand;
 mod fronts;
 mod links;
 mod scripts;
+mod stores;
 mod texts;
 
 use std::alloc::Global;
@@ -57,6 +60,7 @@ fn show_rows<R: Print + Wait>(rt: &R, alloc: Global, kind: &str, rows: &str) -> 
     match kind {
         "script" => scripts::show_scripts(rt, alloc, rows),
         "load" => scripts::show_loads(rt, alloc, rows),
+        "store" => stores::show_stores(rt, alloc, rows),
         "failing" => fronts::show_failing_front(rt, alloc, rows),
         _ => fronts::show_front(rt, alloc, rows),
     }

@@ -137,6 +137,21 @@ pub(crate) fn give_slots(events: &Events, marks: &RoomMarks, ready: &mut Ready) 
     noticed
 }
 
+/// Fills the list up with numbers that no slot has.
+pub(crate) fn fill_up(ready: &mut Ready)
+    requires distinct { IsDistinct (λ a b. a == b) ready.old }
+    requires few { length ready.old ≤ 256 }
+    ensures distinct { IsDistinct (λ a b. a == b) ready.new }
+    ensures full { length ready.new ≡ 256 }
+{
+    for number in u32::MAX - 255..=u32::MAX {
+        if ready.is_full() {
+            return;
+        }
+        give(ready, number);
+    }
+}
+
 /// How many milliseconds a wait that begins at the moment lasts at most. It doesn't last where a bell was rung since the last one.
 pub fn longest_wait(now: Moment, until: Option<Moment>, pressed: bool, rung: bool) -> Option<u64>
     ensures { result ≡ longest_wait now until pressed rung }

@@ -108,7 +108,8 @@ impl<'a, R: Net + time::Clock> Front for SocketFront<'a, R> {
 
     /// Lasts no longer than a tenth of a second where an accept since the last wait failed or looked for control connections, or
     /// where one of these may wait of which no event tells again; and not at all where the bell was rung since the last wait.
-    /// `quiet` means nothing to it. No slot is given twice.
+    /// `quiet` means nothing to it. No slot is given twice. Where the system gave as many events as one wait takes, 256, more may have
+    /// come, and of some of these no slot tells: then the list is filled up with numbers that no slot has.
     fn wait<W: Wait>(
         &mut self,
         _rt: &W,

@@ -1,7 +1,7 @@
 //! The sockets of a front, and what the system says of them.
 ghost use Rattle.std.specs.Prelude.{◌≡◌, ◌≢◌, ◌==◌, ◌≤◌, ◌&&◌, IfOk, None, Some, [], is_some, length, not, true, false};
 ghost use Rattle.std.specs.List.{IsDistinct};
-ghost use Rattle.mio.specs.Events.{capacity as events_capacity};
+ghost use Rattle.mio.specs.Events.{capacity as events_capacity, items};
 ghost use Rattle.mpm_base.specs.Front.{Hands};
 ghost use Rattle.mpm_base.specs.Link.{OnlyFaults};
 ghost use Rattle.socket_outside.specs.AskingInside.{asks_again};
@@ -10,7 +10,7 @@ use crate::accepting::{NoStream, accept_next};
 use crate::answers::woke_for;
 use crate::bell::{SharedBell, SocketBell};
 use crate::control::ControlPort;
-use crate::events::{BELL, CONTROL, LISTENER, give_slots};
+use crate::events::{BELL, CONTROL, LISTENER, fill_up, give_slots};
 use crate::link::SocketLink;
 use crate::room::RoomMarks;
 use mio::net::TcpListener;
@@ -210,11 +210,13 @@ impl Sockets {
     }
 
     #[tactic(auto, using(crate::proofs::EventLemmas::distinct_none))]
-    /// Waits so many milliseconds at most, and gives the slots for which something came. False where the wait failed, and None
-    /// where it was interrupted and is asked again.
+    /// Waits so many milliseconds at most, and gives the slots for which something came. Where it took as many events as it can,
+    /// more may have come, and the list is filled up with numbers that no slot has. False where the wait failed, and None where it
+    /// was interrupted and is asked again.
     pub(crate) fn wait(&mut self, longest: Option<u64>, ready: &mut Ready) -> Option<bool>
         ensures none { result ≢ Some true → ready.new ≡ [] }
         ensures few { length ready.new ≤ 256 }
+        ensures full { result ≡ Some true → length (items self.new.events) ≡ 256 → length ready.new ≡ 256 }
         ensures once { IsDistinct (λ a b. a == b) ready.new }
     {
         ready.clear();
@@ -227,6 +229,9 @@ impl Sockets {
             return woke;
         }
         let noticed = give_slots(&self.events, &self.marks, ready);
+        if self.events.iter().as_slice().len() == MOST_EVENTS {
+            fill_up(ready);
+        }
         self.asks = self.asks || noticed.arrivals;
         if noticed.control || self.control.asks() {
             self.control.attend(poll.registry());

@@ -98,18 +98,19 @@ halted-closed who name reason how b b' halted is = ap (λ (v : SeenBook). is_hal
 -- it is as it was after a park
 pub rest_parked : (who : ℕ) (name : ConnName) (kind : Kind) (b b' : SeenBook) → b' ≡ book_with_entry who (event.Park name kind) b → LeavesRest b b'
 rest_parked who name kind b b' is =
-    subst (LeavesRest b) (sym is) (record { moment = refl; accepted = refl; up = λ up. up })
+    subst (LeavesRest b) (sym is) (record { moment = refl; accepted = refl; newest = refl; going = refl })
 
 -- after a close
 pub rest_closed : (who : ℕ) (name : ConnName) (reason : Cause) (how : Tail) (b b' : SeenBook)
     → b' ≡ book_with_entry who (event.Close name reason how) b → LeavesRest b b'
 rest_closed who name reason how b b' is =
-    subst (LeavesRest b) (sym is) (record { moment = refl; accepted = refl; up = λ up. up })
+    subst (LeavesRest b) (sym is) (record { moment = refl; accepted = refl; newest = refl; going = refl })
 
 -- and after two steps that leave it so
 pub rest_more : (a b c : SeenBook) → LeavesRest a b → LeavesRest b c → LeavesRest a c
 rest_more a b c before behind = record {
   moment = behind.moment ∙ before.moment;
   accepted = behind.accepted ∙ before.accepted;
-  up = λ up. behind.up (before.up up);
+  newest = behind.newest ∙ before.newest;
+  going = behind.going ∙ before.going;
 }

@@ -141,12 +141,14 @@ RefusalLasts fault.NoMemory b = ⊤
 abbrev pub IsUp : Going → Type 0
 IsUp going = is_halted going ≡ false
 
--- the moment is as it was, and how many connections were taken, and the server didn't stop. The listener's own calls between two
--- ticks leave this too, though they start and let go of children and signal slots; what another pass leaves is more (`OnlyServes`)
+-- the moment is as it was, how many connections were taken, which generation is the newest, and how the server goes on. The listener's
+-- own calls between two ticks leave this too, but those that take connections or orders, though they start and let go of children and
+-- signal slots; what another pass leaves is more (`OnlyServes`)
 pub record LeavesRest (old new : SeenBook) : Type 0 where
   pub moment : new.state.moment ≡ old.state.moment
   pub accepted : new.state.accepted ≡ old.state.accepted
-  pub up : IsUp old.state.going → IsUp new.state.going
+  pub newest : new.state.newest ≡ old.state.newest
+  pub going : new.state.going ≡ old.state.going
 
 -- ## The events of that
 

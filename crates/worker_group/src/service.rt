@@ -10,6 +10,7 @@ ghost use Rattle.conn_state.specs.Answered.{MayLinger};
 ghost use Rattle.conn_state.specs.Conn.{is_half_closed, is_usable};
 ghost use Rattle.conn_state.specs.Turns.{ShutsOn};
 ghost use Rattle.board.specs.Book.{book_with_entry, row_in};
+ghost use Rattle.board.specs.Editions.{IsOfGeneration};
 ghost use Rattle.board.specs.Faults.{IsRefusedFor};
 ghost use Rattle.board.specs.Fits.{FoundNoMore, IsSettled};
 ghost use Rattle.worker_group.specs.Acts.{Acts};
@@ -19,6 +20,7 @@ ghost use Rattle.worker_group.specs.Service.{EndsOut, ExitsAfter, HasServed, Has
 ghost use Rattle.worker_group.specs.ServiceInside.{MayLeave};
 
 use crate::hands::Hands;
+use board::laws::generations_keep_their_editions;
 use board::{Board, BoardFault};
 use conn_state::{Conn, Known, ReadTurn, WriteTurn};
 use mpm_base::{Ask, Bell, Cause, ConnName, Gate, Kind, Link, NoMemory, Tail};
@@ -53,6 +55,7 @@ pub fn serve<R: Wait, L: Link, N: Known, B: Bell, G: Gate>(
     ensures why { IfErr result (λ fault. IsRefusedFor fault board.old.book) }
     ensures err { OnErr result (board.new ≡ board.old) }
 {
+    generations_keep_their_editions();
     let mut conn = board.queue(who, name)?;
     let _ = board.start(who, name);
     hands.gate.enter(rt, name);
@@ -68,7 +71,9 @@ fn converse<L: Link, N: Known>(board: &mut Board<L, N>, who: u32, conn: &mut Con
     requires who { who < board.old.book.passes }
     requires row { row_in who board.old.book ≡ Some conn.old.name }
     requires served { IsServed board.old.book.state conn.old }
+    requires edition { IsOfGeneration N.known board.old.book conn.old.generation conn.old.reader.limits conn.old.site }
     ensures name { conn.new.name ≡ conn.old.name }
+    ensures edition { IsOfGeneration N.known board.new.book conn.new.generation conn.new.reader.limits conn.new.site }
     ensures acts { (asks : List Ask) × Acts who (answer_events conn.old.name asks) (Some conn.old.name) board.old.book board.new.book }
     ensures may { MayLeave board.new.book conn.new result }
     ensures exits { ExitsAfter conn.new.turn conn.new result }
@@ -91,7 +96,9 @@ fn serve_turn<L: Link, N: Known>(
     requires who { who < board.old.book.passes }
     requires row { row_in who board.old.book ≡ Some conn.old.name }
     requires served { IsServed board.old.book.state conn.old }
+    requires edition { IsOfGeneration N.known board.old.book conn.old.generation conn.old.reader.limits conn.old.site }
     ensures name { conn.new.name ≡ conn.old.name }
+    ensures edition { IsOfGeneration N.known board.new.book conn.new.generation conn.new.reader.limits conn.new.site }
     ensures acts { (asks : List Ask) × Acts who (answer_events conn.old.name asks) (Some conn.old.name) board.old.book board.new.book }
     ensures may { IfSome result (MayLeave board.new.book conn.new) }
     ensures exits { IfSome result (ExitsAfter conn.new.turn conn.new) }
@@ -129,8 +136,10 @@ fn answer<L: Link, N: Known>(
     requires who { who < board.old.book.passes }
     requires row { row_in who board.old.book ≡ Some conn.old.name }
     requires served { IsServed board.old.book.state conn.old }
+    requires edition { IsOfGeneration N.known board.old.book conn.old.generation conn.old.reader.limits conn.old.site }
     requires asked { conn.old.turn ≡ turn.Asked ask }
     ensures name { conn.new.name ≡ conn.old.name }
+    ensures edition { IsOfGeneration N.known board.new.book conn.new.generation conn.new.reader.limits conn.new.site }
     ensures acts { (asks : List Ask) × Acts who (answer_events conn.old.name asks) (Some conn.old.name) board.old.book board.new.book }
     ensures may { IfSome result (MayLeave board.new.book conn.new) }
     ensures exits { IfSome result (ExitsAfter conn.new.turn conn.new) }
@@ -138,6 +147,7 @@ fn answer<L: Link, N: Known>(
     ensures served { IfNone result (IsServed board.new.book.state conn.new) }
     ensures fewer { IfNone result (sends_left board.new.book.state conn.new < sends_left board.old.book.state conn.old) }
 {
+    generations_keep_their_editions();
     board.show();
     conn.show();
     match board.answer(who, conn.name(), ask) {
@@ -168,6 +178,7 @@ fn leave<L: Link, N: Known>(board: &mut Board<L, N>, who: u32, conn: Conn<L, N>,
     requires who { who < board.old.book.passes }
     requires row { row_in who board.old.book ≡ Some conn.name }
     requires may { MayLeave board.old.book conn exit }
+    requires edition { IsOfGeneration N.known board.old.book conn.generation conn.reader.limits conn.site }
     ensures left { IsLeftBy who exit conn board.old.book board.new }
 {
     board.show();
@@ -193,6 +204,7 @@ pub fn park<L: Link, N: Known>(
     requires row { row_in who board.old.book ≡ Some conn.name }
     requires allowed { is_halted board.old.book.state.going ≡ false → is_allowed board.old.book.state (event.Park conn.name kind) ≡ true }
     requires hand { IsInHand board.old.book.state conn }
+    requires edition { IsOfGeneration N.known board.old.book conn.generation conn.reader.limits conn.site }
     requires settled { IsSettled kind None conn }
     requires turned { FoundNoMore kind conn }
     ensures parked { OnOk result (Acts who (event.Park conn.name kind ∷ []) None board.old.book board.new.book) }
@@ -223,6 +235,7 @@ pub fn let_linger<L: Link, N: Known>(
     requires who { who < board.old.book.passes }
     requires row { row_in who board.old.book ≡ Some conn.name }
     requires hand { IsInHand board.old.book.state conn }
+    requires edition { IsOfGeneration N.known board.old.book conn.generation conn.reader.limits conn.site }
     requires open { conn.linger ≡ linger.Open }
     requires allowed { is_allowed board.old.book.state (event.Linger conn.name cause) ≡ true }
     requires shows { MayLinger cause conn }
@@ -249,6 +262,7 @@ pub fn give_up<L: Link, N: Known>(
     requires who { who < board.old.book.passes }
     requires row { row_in who board.old.book ≡ Some conn.name }
     requires hand { IsInHand board.old.book.state conn }
+    requires edition { IsOfGeneration N.known board.old.book conn.generation conn.reader.limits conn.site }
     requires why { IsRefusedFor fault board.old.book }
     ensures acts { Acts who (give_up_events fault conn.name) None board.old.book board.new.book }
     ensures ended { IsGivenUp fault conn board.new }
@@ -272,6 +286,7 @@ pub fn close<L: Link, N: Known>(
     requires who { who < board.old.book.passes }
     requires row { row_in who board.old.book ≡ Some conn.name }
     requires may { IsClosable board.old.book.state cause tail conn }
+    requires edition { IsOfGeneration N.known board.old.book conn.generation conn.reader.limits conn.site }
     ensures closed { board.new.book ≡ book_with_entry who (event.Close conn.name cause tail) board.old.book }
     ensures acts { Acts who (event.Close conn.name cause tail ∷ []) None board.old.book board.new.book }
     ensures last { IsLastEnded conn cause tail board.new.ended }

@@ -13,7 +13,7 @@ known_as-requires g c =
     let item : item_of slots c.args.name ≡ Some c.in-Some.place.now = sym c.get_mut.follows ∙ ap option_copied_mut c.in-Some.is in
     let there : conn_at (conns_in slots) c.args.name.slot ≡ Some c.in-Some-take.conn =
     conn-of-item slots c.args.name c.in-Some.place.now item ∙ sym c.take.ensures.value ∙ c.in-Some-take.is in
-    record { outside = c.requires.clients c.args.name.slot c.in-Some-take.conn there }
+    record { client = c.requires.client c.in-Some-take.conn there }
 
 pub unreachable-requires-in-None : goal.unreachable-requires-in-None
 unreachable-requires-in-None g c =

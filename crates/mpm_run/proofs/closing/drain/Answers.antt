@@ -2,6 +2,7 @@ use Rattle.std.proofs.Common.{◌≡◌, [], ◌∷◌, None, Some, ap, inl, inr
 use Rattle.std.proofs.lemmas.Result.{on_ok_weaker}
 use Rattle.mpm_base.specs.declared.conn.ConnName.{ConnName}
 use Rattle.conn_machine.specs.Rows.{live_row}
+use Rattle.conn_state.specs.Reader.{SeenReader}
 use Rattle.conn_machine.specs.Table.{held_row, next}
 use Rattle.conn_machine.specs.declared.event.Event.TheVariants as event
 use Rattle.board.specs.declared.faults.BoardFault.{BoardFault}
@@ -13,6 +14,7 @@ use Rattle.worker_group.specs.declared.service.Exit.TheVariants as exit
 use Rattle.worker_group.specs.Acts.{Acts}
 use Rattle.mpm_run.specs.ClosingInside.{GivesUpDrained, IsDrainedWay, lingering_give_up_events}
 use Rattle.mpm_run.proofs.ClosingLemmas.{held-acts, let-go, refused-wait}
+use Rattle.mpm_run.proofs.EditionLemmas.{edition-same}
 use Rattle.mpm_run.proofs.HeldLemmas.{closes-turned, held-lingering, holding, lingers-by, lingers-turned, may-wait_on, waited-for, was-at}
 use Rattle.mpm_run.proofs.LeavingLemmas.{row-cause, to-drain}
 use Rattle.mpm_run.proofs.MeasureLemmas.{deadline-later, drained-closed, drained-parked, later-than, none-after_close, none-after_park}
@@ -35,6 +37,18 @@ close-requires-clause-may g c =
     lingers-turned s' why c.hold-conn.result conn' c.linger_turn.result lingering c.linger_turn.ensures
     (c.lingering_connections_keep_their_cause.ensures.linger_turn c.hold-conn.result conn' c.linger_turn.result why c.linger_turn.ensures lingering.shows) in
     closes-turned s' why c.hold-conn.result conn' c.linger_turn.result c.in-Some.tail turned c.linger_turn.ensures (sym c.tail_of.ensures ∙ c.in-Some.is)
+
+pub close-requires-clause-edition : goal.close-requires-clause-edition
+close-requires-clause-edition g c =
+    let turned = c.linger_turn.ensures in
+    edition-same g.N.Known.known c.hold-conn.new.self.book _ _ _ _ _ _ turned.generation (ap (λ (r : SeenReader). r.limits) turned.reader) turned.site
+    c.hold-conn.ensures.edition
+
+pub linger_on-requires-clause-edition : goal.linger_on-requires-clause-edition
+linger_on-requires-clause-edition g c =
+    let turned = c.linger_turn.ensures in
+    edition-same g.N.Known.known c.hold-conn.new.self.book _ _ _ _ _ _ turned.generation (ap (λ (r : SeenReader). r.limits) turned.reader) turned.site
+    c.hold-conn.ensures.edition
 
 pub linger_on-requires-clause-lingers : goal.linger_on-requires-clause-lingers
 linger_on-requires-clause-lingers g c =

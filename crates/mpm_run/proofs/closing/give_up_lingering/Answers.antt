@@ -32,7 +32,7 @@ lasts-for f g b is lasts = subst (λ (x : BoardFault). RefusalLasts x b) (sym is
 
 -- a close leaves what only the listener changes
 rest-after : (name : ConnName) (why : Cause) (how : Tail) (b b' : SeenBook) → b' ≡ book_with_entry 0 (event.Close name why how) b → LeavesRest b b'
-rest-after name why how b b' is = subst (LeavesRest b) (sym is) (record { moment = refl; accepted = refl; up = λ up. up })
+rest-after name why how b b' is = subst (LeavesRest b) (sym is) (record { moment = refl; accepted = refl; newest = refl; going = refl })
 
 pub returns-in-Halted-clause-acts : goal.returns-in-Halted-clause-acts
 returns-in-Halted-clause-acts g c =

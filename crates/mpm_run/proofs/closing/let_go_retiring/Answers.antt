@@ -4,6 +4,12 @@ use Rattle.mpm_run.proofs.ClosingLemmas.{lets-more, lets-none}
 use Rattle.mpm_run.proofs.RoundLemmas.{rest_same}
 use Rattle.mpm_run.proofs.closing.let_go_retiring.Goals as goal
 
+pub returns-then-not-all_signalled-clause-gone : goal.returns-then-not-all_signalled-clause-gone
+returns-then-not-all_signalled-clause-gone g c = lets-none c.passes_act_in_steps.ensures.acts IsRetiringWay c.args.board.now.book c.requires.free
+
+pub returns-then-not-all_signalled-clause-rest : goal.returns-then-not-all_signalled-clause-rest
+returns-then-not-all_signalled-clause-rest g c = rest_same c.args.board.now.book c.args.board.now.book refl
+
 pub loop-name-init : goal.loop-name-init
 loop-name-init g c =
     record { gone = lets-none c.passes_act_in_steps.ensures.acts IsRetiringWay c.args.board.now.book c.requires.free; rest = rest_same c.args.board.now.book c.args.board.now.book refl }

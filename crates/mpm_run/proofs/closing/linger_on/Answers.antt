@@ -4,6 +4,7 @@ use Rattle.conn_state.specs.Conn.{SeenConn}
 use Rattle.board.specs.Board.{SeenBoard}
 use Rattle.board.specs.Faults.{IsRefusedFor}
 use Rattle.board.specs.Book.{row_in}
+use Rattle.board.specs.Editions.{IsOfGeneration}
 use Rattle.worker_group.specs.Acts.{Acts}
 use Rattle.worker_group.specs.Service.{LeavesRest}
 use Rattle.mpm_run.specs.ClosingInside.{IsLingeringFor, lingering_give_up_events}
@@ -27,6 +28,12 @@ give_up_lingering-requires-clause-lingers g c =
     subst (λ (x : SeenConn). IsLingeringFor c.args.cause c.park.new.self.book.state x) (sym c.in-Err.ensures.back)
     (subst (λ (b : SeenBoard). IsLingeringFor c.args.cause b.book.state c.args.conn) (sym c.in-Err.ensures.err) c.requires.lingers)
 
+pub give_up_lingering-requires-clause-edition : goal.give_up_lingering-requires-clause-edition
+give_up_lingering-requires-clause-edition g c =
+    subst (λ (x : SeenConn). IsOfGeneration g.N.Known.known c.park.new.self.book x.generation x.reader.limits x.site) (sym c.in-Err.ensures.back)
+    (subst (λ (b : SeenBoard). IsOfGeneration g.N.Known.known b.book c.args.conn.generation c.args.conn.reader.limits c.args.conn.site) (sym c.in-Err.ensures.err)
+    c.requires.edition)
+
 pub give_up_lingering-requires-clause-why : goal.give_up_lingering-requires-clause-why
 give_up_lingering-requires-clause-why g c =
     subst (λ (b : SeenBoard). IsRefusedFor c.in-Err.fault b.book) (sym c.in-Err.ensures.err) c.in-Err.ensures.why
@@ -42,7 +49,7 @@ returns-in-Ok-clause-state g c = ap (λ (b : SeenBoard). b.book.state) c.in-Ok.e
 pub returns-in-Ok-clause-rest : goal.returns-in-Ok-clause-rest
 returns-in-Ok-clause-rest g c =
     subst (LeavesRest c.args.board.now.book) (ap (λ (b : SeenBoard). b.book) (sym c.in-Ok.ensures.ok.new_is))
-    (record { moment = refl; accepted = refl; up = λ up. up })
+    (record { moment = refl; accepted = refl; newest = refl; going = refl })
 
 pub returns-in-Err-clause-given_up : goal.returns-in-Err-clause-given_up
 returns-in-Err-clause-given_up g c =

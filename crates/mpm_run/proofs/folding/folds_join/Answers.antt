@@ -15,5 +15,6 @@ returns c =
       closed = ended.closed;
       answered = ended.answered;
       outside = ended.outside;
+      outside_stays = ended.outside_stays;
       many = ended.many;
     }

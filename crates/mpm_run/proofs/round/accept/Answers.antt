@@ -1,6 +1,7 @@
 use Rattle.std.proofs.Common.{Some, ap, refl}
 use Rattle.conn_machine.specs.declared.event.Event.TheVariants as event
 use Rattle.board.specs.Board.{SeenBoard}
+use Rattle.mpm_run.proofs.EditionLemmas.{newest-taken}
 use Rattle.mpm_run.proofs.TakeLemmas.{takes-child, takes-slot, accept-allowed, has-taken}
 use Rattle.mpm_run.proofs.RoundLemmas.{acts-added}
 use Rattle.mpm_run.proofs.round.accept.Goals as goal
@@ -22,6 +23,12 @@ returns-in-Ok-clause-held g c =
     (accept-allowed 0 t.name.slot c.args.board.now.book c.accept.new.self.book c.show.ensures.state c.show-in-Ok.ensures.run
     (ap (λ (b : SeenBoard). b.book) c.in-Ok.ensures.ok.new_is))
     (ap (λ (b : SeenBoard). b.book.state) c.in-Ok.ensures.ok.new_is) c.in-Ok.ensures.taken
+
+pub returns-in-Ok-clause-generation : goal.returns-in-Ok-clause-generation
+returns-in-Ok-clause-generation g c =
+    let t = c.in-Ok.taken in
+    newest-taken c.connections_go_to_the_chosen_child.ensures.taken 0 t.name t.child t.generation c.args.board.now.book c.accept.new.self.book
+    c.show.ensures.state c.show-in-Ok.ensures.run (ap (λ (b : SeenBoard). b.book) c.in-Ok.ensures.ok.new_is) c.in-Ok.ensures.taken
 
 pub returns-in-Ok-clause-acts : goal.returns-in-Ok-clause-acts
 returns-in-Ok-clause-acts g c =

@@ -10,4 +10,4 @@ returns-else-watched-clause-left g c = rw c.if-watched.false c.close.ensures.act
 
 pub returns-else-watched-clause-rest : goal.returns-else-watched-clause-rest
 returns-else-watched-clause-rest g c =
-    subst (LeavesRest c.args.board.now.book) (sym c.close.ensures.closed) (record { moment = refl; accepted = refl; up = λ up. up })
+    subst (LeavesRest c.args.board.now.book) (sym c.close.ensures.closed) (record { moment = refl; accepted = refl; newest = refl; going = refl })

@@ -1,21 +1,24 @@
 use Rattle.std.proofs.Common.{◌≡◌, ◌∙◌, ℕ, List, Some, refl, ap, sym, subst}
-use Rattle.script_front.specs.Editions.{editions_of}
+use Rattle.mpm_base.specs.declared.script_line.ScriptLine.{ScriptLine}
+use Rattle.mpm_script.specs.Clients.{clients_of}
 use Rattle.script_front.specs.ScriptFront.{SeenFront, comings_of, front_seen}
 use Rattle.mpm_run.specs.ExitStatusesInside.{WritesAll}
 use Rattle.mpm_run.specs.Patient.{HasNothingCome}
-use Rattle.mpm_run.specs.Started.{IsStartedFirst}
-use Rattle.mpm_run.specs.Watched.{IsOpenedAndHushed}
-use Rattle.mpm_run.specs.declared.run_numbers.RunNumbers.{RunNumbers}
-use Rattle.mpm_run.proofs.EndLemmas.{ends-as, has-end, keeps-time, never-failed, patience-of, stopped-end}
+use Rattle.mpm_run.proofs.EndLemmas.{ends-as, has-end, keeps-time, never-failed, patience-of, played-status, stopped-end}
 use Rattle.mpm_run.proofs.ServeLemmas.{has-run_script}
 use Rattle.mpm_run.proofs.script_run.serve_script.Goals as goal
 
 pub returns-in-Ok-answer-clause-kept : goal.returns-in-Ok-answer-clause-kept
 returns-in-Ok-answer-clause-kept g c =
+    let b = c.in-Ok-answer.served.board in
+    let f = c.run_server-answer.new.front in
     let kept = c.in-Ok-answer.ensures in
-    has-run_script c.args.script c.args.config _ c.args.edition.limits c.args.edition.site.value c.in-Ok.front.told.clients c.in-Ok-answer.served.board
-    (ap (λ (x : SeenFront). x.told.clients) c.in-Ok.ensures) c.numbers_of-numbers.ensures.value c.requires.limits kept.run kept.folded kept.closed
-    kept.edition
+    let script : f.script ≡ c.args.script = cc (kept.follows.script ∙ ap (λ (x : SeenFront). Some x.script) c.in-Ok.ensures) in
+    let ended = has-end (front_seen c.in-Ok.front) (front_seen f) b f kept.outside.stopped refl c.show.ensures.is (ap (λ (x : SeenFront). x.ends) c.in-Ok.ensures) refl in
+    has-run_script c.generations_keep_their_editions.ensures c.ended_connections_join.ensures.outside c.ended_connections_join.ensures.outside_stays c.args.script
+    c.args.config c.args.edition.site.value c.args.store.told c.args.store.counts c.in-Ok.front f b c.run_server-answer.new.store c.requires.store c.requires.faults
+    (ap (λ (x : SeenFront). x.told.clients) c.in-Ok.ensures) (c.show.ensures.is.clients ∙ ap (λ (lines : List ScriptLine). clients_of lines) script)
+    (λ going. (ended going).taken) kept.run kept.stood kept.closed kept.edition
 
 pub returns-in-Ok-answer-clause-left : goal.returns-in-Ok-answer-clause-left
 returns-in-Ok-answer-clause-left g c =
@@ -23,14 +26,11 @@ returns-in-Ok-answer-clause-left g c =
     let f = c.run_server-answer.new.front in
     let kept = c.in-Ok-answer.ensures in
     let front = kept.outside.front in
-    let same = c.numbers_of-numbers.ensures.value in
     let nothing : HasNothingCome c.in-Ok.front.told =
     subst (λ (x : SeenFront). HasNothingCome x.told) (sym c.in-Ok.ensures) (record { arrived = refl; lines = refl; stands = λ patient. refl }) in
-    let script : f.script ≡ c.args.script = cc (kept.follows.script ∙ ap (λ (x : SeenFront). Some x.script) c.in-Ok.ensures) in
     record {
-      site = c.requires.store ∙ ap editions_of (sym script);
-      front = subst (λ (n : RunNumbers). IsOpenedAndHushed n f.told) same front.opened;
-      started = subst (λ (n : RunNumbers). IsStartedFirst n b.book f.told) same front.started;
+      front = front.opened;
+      started = front.started;
       watched = front.watched;
       links = front.links;
       time = keeps-time b f c.run_server-answer.new.clock c.show-2.ensures kept.outside.time kept.outside.informed;
@@ -52,3 +52,15 @@ returns-in-Ok-answer-clause-ends g c =
     (subst (λ (text : List ℕ). WritesAll old mid text served.written) (c.as_slice.ensures ∙ c.requires.told) kept.written) kept.faults
     (stopped-end (front_seen c.in-Ok.front) (front_seen c.run_server-answer.new.front) served.board.book.state kept.outside.stopped)
     c.report_run-status.ensures.stopped c.report_run-status.ensures.report c.report_run-status.ensures.lacking
+
+pub report_run-status-requires : goal.report_run-status-requires
+report_run-status-requires g c =
+    record { stopped = stopped-end (front_seen c.in-Ok.front) (front_seen c.run_server-answer.new.front) c.in-Ok-answer.served.board.book.state c.in-Ok-answer.ensures.outside.stopped }
+
+pub returns-in-Ok-answer-clause-known : goal.returns-in-Ok-answer-clause-known
+returns-in-Ok-answer-clause-known g c =
+    let old = front_seen c.in-Ok.front in
+    let new = front_seen c.run_server-answer.new.front in
+    let s = c.in-Ok-answer.served.board.book.state in
+    let stopped = c.in-Ok-answer.ensures.outside.stopped in
+    played-status s.going c.report_run-status.result (stopped-end old new s stopped) (never-failed old new s stopped refl) c.report_run-status.ensures.stopped

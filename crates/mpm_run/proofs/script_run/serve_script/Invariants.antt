@@ -1,12 +1,11 @@
-use Rattle.std.proofs.Common.{Some, [], ◌∷◌}
+use Rattle.std.proofs.Common.{Some}
+use Rattle.mpm_base.specs.Store.{telling_store}
+use Rattle.script_front.specs.ScriptFront.{front_seen}
+use Rattle.mpm_run.specs.OrdersInside.{known_outside, opening_by}
 use Rattle.mpm_run.proofs.script_run.serve_script.Given as goal
 
--- the type knows what the front tells of its clients, and the one edition by which they are served
+-- the type knows what the front tells of its clients, and what the editions of the store are
 abbrev pub ghosts-run_server : goal.ghosts-run_server
 ghosts-run_server g a = record {
-  known =
-      Some (record {
-        clients = Some a.front.now.told.clients;
-        editions = Some (record { limits = a.edition.limits; site = a.edition.site.value }) ∷ [];
-      });
+  known = Some (known_outside (opening_by a.config a.edition (telling_store a.store.now.told a.store.now.counts) (front_seen a.front.now)));
 }

@@ -39,4 +39,4 @@ returns-clause-links g c clients knows down =
 
 pub returns-clause-receive : goal.returns-clause-receive
 returns-clause-receive g c clients knows =
-    known-receive g.N.Known.known clients c.args.board.now.ended knows c.show.ensures.agrees.answered c.show.ensures.outside.ended
+    known-receive g.N.Known.known clients c.args.board.now.book c.args.board.now.ended knows c.show.ensures.agrees.answered c.show.ensures.outside.ended

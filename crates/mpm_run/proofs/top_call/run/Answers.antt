@@ -60,7 +60,7 @@ returns-in-Ok-Script-clause-lacking g c =
 pub returns-in-Ok-Load-clause-kept : goal.returns-in-Ok-Load-clause-kept
 returns-in-Ok-Load-clause-kept g c =
     let command : IsLoadWords c.args.words.now c.in-Ok-Load.count = subst (λ (i : Invocation). IsInvocation c.args.words.now i) c.in-Ok-Load.field-0-is c.in-Ok-Load.ensures.form in
-    subst (λ (o : Outcome _). IfSome o.scripted (λ s. HasPlayed (seen_call c.args.words.now (g.D.Store.seen c.args.store.now) (g.D.Store.seen c.args.store.now) (g.K.Sink.seen c.args.out.now) (g.K.Sink.seen c.run_load.new.out) o.shown) s.config s.board s.front))
+    subst (λ (o : Outcome _). IfSome o.scripted (λ s. HasPlayed (seen_call c.args.words.now (g.D.Store.seen c.args.store.now) (g.D.Store.seen c.args.store.now) (g.K.Sink.seen c.args.out.now) (g.K.Sink.seen c.run_load.new.out) o.shown) s.config s.board s.front s.store))
     (sym c.scripted_outcome-in-Ok-Load.ensures)
     (played c.run_load.result.left _ (load_lines c.in-Ok-Load.count) (makes-load _ c.in-Ok-Load.count command refl) c.run_load.ensures.shown c.run_load.ensures.kept)
 

@@ -2,12 +2,15 @@ use Rattle.std.proofs.Common.{◌≡◌, ℕ, List, [], ◌∷◌, Some, ap, sym
 use Rattle.mpm_base.specs.declared.conn.Ask.{Ask}
 use Rattle.mpm_base.specs.declared.conn.ConnName.{ConnName}
 use Rattle.conn_machine.specs.declared.event.Event.TheVariants as event
+use Rattle.conn_state.specs.Conn.{SeenConn}
 use Rattle.board.specs.Book.{SeenBook}
 use Rattle.board.specs.Board.{SeenBoard}
+use Rattle.board.specs.Editions.{IsOfGeneration}
 use Rattle.worker_group.specs.Acts.{Acts}
 use Rattle.worker_group.specs.Service.{answer_events}
 use Rattle.worker_group.proofs.ActsLemmas.{acts_recorded, acts_same}
 use Rattle.worker_group.proofs.AnswerLemmas.{asked-open, may-answer, served-answered, closes-unanswered, fewer-answered}
+use Rattle.worker_group.proofs.EditionLemmas.{edition-acts, edition-answered}
 use Rattle.worker_group.proofs.ExitLemmas.{gives-up, ends-unanswered}
 use Rattle.worker_group.proofs.TurnedLemmas.{turned-answered, turned-refused, turned-unanswered}
 use Rattle.worker_group.proofs.service.answer.Goals as goal
@@ -72,3 +75,24 @@ returns-in-Err-answer-clause-turned g c = turned-unanswered c.args.conn.now _ c.
 
 pub returns-in-Err-clause-turned : goal.returns-in-Err-clause-turned
 returns-in-Err-clause-turned g c = turned-refused c.args.conn.now c.args.ask c.requires.asked
+
+pub returns-in-Err-clause-edition : goal.returns-in-Err-clause-edition
+returns-in-Err-clause-edition g c =
+    subst (λ (b : SeenBoard). IsOfGeneration g.N.Known.known b.book c.args.conn.now.generation c.args.conn.now.reader.limits c.args.conn.now.site) (sym c.in-Err.ensures.err)
+    c.requires.edition
+
+pub returns-in-Ok-answer-clause-edition : goal.returns-in-Ok-answer-clause-edition
+returns-in-Ok-answer-clause-edition g c =
+    edition-answered g.N.Known.known c.answer.new.self.book c.args.conn.now _ c.in-Ok.note c.in-Ok-answer.ensures.ok
+    (edition-acts c.generations_keep_their_editions.ensures g.N.Known.known c.args.who (event.Answer c.name.result c.args.ask ∷ []) (Some c.name.result) c.args.board.now.book
+    c.answer.new.self.book c.args.conn.now
+    (acts_recorded c.args.who (event.Answer c.name.result c.args.ask) (Some c.name.result) c.args.board.now c.answer.new.self c.in-Ok.ensures.ok.new_is
+    c.answer.ensures.entries c.answer.ensures.row) c.requires.edition)
+
+pub returns-in-Err-answer-clause-edition : goal.returns-in-Err-answer-clause-edition
+returns-in-Err-answer-clause-edition g c =
+    subst (λ (x : SeenConn). IsOfGeneration g.N.Known.known c.answer.new.self.book x.generation x.reader.limits x.site) (sym c.in-Err-answer.ensures.err)
+    (edition-acts c.generations_keep_their_editions.ensures g.N.Known.known c.args.who (event.Answer c.name.result c.args.ask ∷ []) (Some c.name.result) c.args.board.now.book
+    c.answer.new.self.book c.args.conn.now
+    (acts_recorded c.args.who (event.Answer c.name.result c.args.ask) (Some c.name.result) c.args.board.now c.answer.new.self c.in-Ok.ensures.ok.new_is
+    c.answer.ensures.entries c.answer.ensures.row) c.requires.edition)

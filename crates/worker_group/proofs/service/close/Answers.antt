@@ -9,6 +9,9 @@ use Rattle.worker_group.proofs.service.close.Goals as goal
 pub close-requires-clause-row : goal.close-requires-clause-row
 close-requires-clause-row g c = c.requires.row ∙ ap (λ (n : ConnName). Some n) (sym c.end.ensures.ends.name)
 
+pub close-requires-clause-edition : goal.close-requires-clause-edition
+close-requires-clause-edition g c = rw (c.end.ensures.ends.generation, c.end.ensures.ends.limits, c.end.ensures.ends.site) c.requires.edition
+
 pub returns-clause-closed : goal.returns-clause-closed
 returns-clause-closed g c =
     rw (← c.end.ensures.ends.name, ← c.end.ensures.ends.cause, ← c.end.ensures.ends.tail) (ap (λ (b : SeenBoard). b.book) c.close.ensures.is)

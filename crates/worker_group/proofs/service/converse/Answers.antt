@@ -10,6 +10,7 @@ loop-exit-init g c =
     record {
       name = refl;
       served = c.requires.served;
+      edition = c.requires.edition;
       acts = ([], acts_none c.args.who (Some c.args.conn.now.name) c.args.board.now.book c.requires.row);
       counts = none_falls-same c.args.conn.now.counts;
     }
@@ -35,6 +36,7 @@ loop-exit-preserved g c =
     record {
       name = c.serve_turn.ensures.name ∙ c.loop-exit.invariant.name;
       served = c.in_default.ensures.served;
+      edition = c.serve_turn.ensures.edition;
       acts =
           answers_more c.args.who c.args.conn.now.name c.loop-exit.conn.name c.args.board.now.book c.loop-exit.board.book c.serve_turn.new.board.book
           c.loop-exit.invariant.name c.loop-exit.invariant.acts c.serve_turn.ensures.acts;

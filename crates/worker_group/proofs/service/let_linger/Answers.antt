@@ -3,6 +3,7 @@ use Rattle.conn_machine.specs.declared.event.Event.TheVariants as event
 use Rattle.board.specs.Board.{SeenBoard}
 use Rattle.conn_state.specs.Turns.{ShutsOn}
 use Rattle.worker_group.proofs.ActsLemmas.{acts_one}
+use Rattle.worker_group.proofs.EditionLemmas.{edition-shut}
 use Rattle.worker_group.proofs.ExitLemmas.{put-there}
 use Rattle.worker_group.proofs.LingerLemmas.{lingers-named, fails-named, may-linger, out-ended, out-there, shut-lingers}
 use Rattle.worker_group.proofs.service.let_linger.Goals as goal
@@ -11,6 +12,12 @@ pub linger-requires-clause-shows : goal.linger-requires-clause-shows
 linger-requires-clause-shows g c =
     may-linger c.args.cause c.args.conn c.shut.new.self true (subst (ShutsOn c.args.conn c.shut.new.self) c.if-shut.true c.shut.ensures)
     c.requires.shows
+
+pub linger-requires-clause-edition : goal.linger-requires-clause-edition
+linger-requires-clause-edition g c = edition-shut g.N.Known.known c.args.board.now.book c.args.conn c.shut.new.self _ c.shut.ensures c.requires.edition
+
+pub close-requires-clause-edition : goal.close-requires-clause-edition
+close-requires-clause-edition g c = edition-shut g.N.Known.known c.args.board.now.book c.args.conn c.shut.new.self _ c.shut.ensures c.requires.edition
 
 pub returns-then-shut-clause-left : goal.returns-then-shut-clause-left
 returns-then-shut-clause-left g c =

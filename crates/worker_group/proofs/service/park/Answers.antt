@@ -3,6 +3,7 @@ use Rattle.mpm_base.specs.declared.conn.Cause.{Cause}
 use Rattle.conn_machine.specs.declared.event.Event.TheVariants as event
 use Rattle.conn_state.specs.Conn.{SeenConn}
 use Rattle.board.specs.Board.{SeenBoard}
+use Rattle.board.specs.Editions.{IsOfGeneration}
 use Rattle.board.specs.Fits.{IsSettled}
 use Rattle.board.specs.Book.{row_in}
 use Rattle.worker_group.specs.Acts.{Acts}
@@ -16,6 +17,11 @@ pub give_up-requires-clause-row : goal.give_up-requires-clause-row
 give_up-requires-clause-row g c =
     ap (λ (b : SeenBoard). row_in c.args.who b.book) c.in-Err.ensures.err ∙ c.requires.row
     ∙ ap (λ (x : SeenConn). Some x.name) (sym c.in-Err.ensures.back)
+
+pub give_up-requires-clause-edition : goal.give_up-requires-clause-edition
+give_up-requires-clause-edition g c =
+    subst (λ (b : SeenBoard). IsOfGeneration g.N.Known.known b.book c.in-Err.conn.generation c.in-Err.conn.reader.limits c.in-Err.conn.site) (sym c.in-Err.ensures.err)
+    (subst (λ (x : SeenConn). IsOfGeneration g.N.Known.known c.args.board.now.book x.generation x.reader.limits x.site) (sym c.in-Err.ensures.back) c.requires.edition)
 
 pub park-requires-clause-settled : goal.park-requires-clause-settled
 park-requires-clause-settled g c =

@@ -4,6 +4,7 @@ use Rattle.conn_machine.specs.declared.event.Event.TheVariants as event
 use Rattle.board.specs.Board.{SeenBoard}
 use Rattle.worker_group.specs.Acts.{Acts}
 use Rattle.worker_group.proofs.ActsLemmas.{acts_recorded, acts_one}
+use Rattle.worker_group.proofs.EditionLemmas.{edition-acts}
 use Rattle.worker_group.proofs.StartLemmas.{may-start, served-started, has-served}
 use Rattle.worker_group.proofs.service.serve.Goals as goal
 
@@ -21,6 +22,12 @@ converse-exit-requires-clause-served g c =
 
 pub converse-exit-requires-clause-row : goal.converse-exit-requires-clause-row
 converse-exit-requires-clause-row g c = c.start.ensures.row ∙ ap (λ (n : ConnName). Some n) (sym c.in_ok-conn.ensures.name)
+
+pub converse-exit-requires-clause-edition : goal.converse-exit-requires-clause-edition
+converse-exit-requires-clause-edition g c =
+    edition-acts c.generations_keep_their_editions.ensures g.N.Known.known c.args.who (event.Start c.args.name ∷ []) (Some c.args.name) c.queue.new.self.book c.start.new.self.book c.in_ok-conn.conn
+    (acts_recorded c.args.who (event.Start c.args.name) (Some c.args.name) c.queue.new.self c.start.new.self c.start.ensures.is c.start.ensures.entries
+    c.start.ensures.row) c.in_ok-conn.ensures.edition
 
 pub leave-requires-clause-row : goal.leave-requires-clause-row
 leave-requires-clause-row g c =

@@ -10,6 +10,7 @@ use Rattle.worker_group.specs.InHandInside.{sends_left}
 use Rattle.worker_group.proofs.LingerLemmas.{exits-out, last-lingers, last-shows, leaves-out}
 use Rattle.worker_group.proofs.ServeLemmas.{in-hand, served-written, served-read, closes-failed_write, closes-done, closes-failed_read, closes-unread}
 use Rattle.worker_group.proofs.AnswerLemmas.{answers_none, fewer-told, sends-same}
+use Rattle.worker_group.proofs.EditionLemmas.{edition-read, edition-shut, edition-written}
 use Rattle.worker_group.proofs.ExitLemmas.{exits-written, exits-read, keeps-alive}
 use Rattle.worker_group.proofs.TurnedLemmas.{turned-answer, turned-on, turned-shut, turned-written}
 use Rattle.worker_group.proofs.service.serve_turn.Goals as goal
@@ -173,3 +174,49 @@ returns-in-Asked-clause-fewer g c =
     (sends-same c.args.board.now.book.state c.args.conn.now c.read_turn.new.self (reads.child ∙ writes.child) (reads.notes ∙ writes.notes)
     (reads.told_once ∙ or-false (is_awaited c.write_turn.new.self.reader.stage) ∙ ap (λ (r : SeenReader). is_awaited r.stage) writes.reader))
     c.answer.ensures.fewer
+
+pub returns-in-NotReady-clause-edition : goal.returns-in-NotReady-clause-edition
+returns-in-NotReady-clause-edition g c = edition-written g.N.Known.known c.args.board.now.book c.args.conn.now c.write_turn.new.self write.NotReady c.in-NotReady.ensures c.requires.edition
+
+pub returns-in-LinkFailed-clause-edition : goal.returns-in-LinkFailed-clause-edition
+returns-in-LinkFailed-clause-edition g c = edition-written g.N.Known.known c.args.board.now.book c.args.conn.now c.write_turn.new.self write.LinkFailed c.in-LinkFailed.ensures c.requires.edition
+
+pub returns-then-last-clause-edition : goal.returns-then-last-clause-edition
+returns-then-last-clause-edition g c =
+    edition-shut g.N.Known.known c.args.board.now.book c.write_turn.new.self c.half_close.new.conn _ c.half_close.ensures.shuts
+    (edition-written g.N.Known.known c.args.board.now.book c.args.conn.now c.write_turn.new.self write.Done c.in-Done.ensures c.requires.edition)
+
+pub returns-in-More-clause-edition : goal.returns-in-More-clause-edition
+returns-in-More-clause-edition g c =
+    edition-read g.N.Known.known c.args.board.now.book c.args.conn.now c.write_turn.new.self c.read_turn.new.self write.Done read.More c.in-Done.ensures
+    c.in-More.ensures.reads c.requires.edition
+
+pub returns-in-More-2-clause-edition : goal.returns-in-More-2-clause-edition
+returns-in-More-2-clause-edition g c =
+    edition-read g.N.Known.known c.args.board.now.book c.args.conn.now c.write_turn.new.self c.read_turn.new.self write.Done read.More c.in-Done.ensures
+    c.in-More-2.ensures.reads c.requires.edition
+
+pub returns-in-Gone-clause-edition : goal.returns-in-Gone-clause-edition
+returns-in-Gone-clause-edition g c =
+    edition-read g.N.Known.known c.args.board.now.book c.args.conn.now c.write_turn.new.self c.read_turn.new.self write.Done read.Gone c.in-Done.ensures
+    c.in-Gone.ensures.reads c.requires.edition
+
+pub returns-in-LinkFailed-read_turn-clause-edition : goal.returns-in-LinkFailed-read_turn-clause-edition
+returns-in-LinkFailed-read_turn-clause-edition g c =
+    edition-read g.N.Known.known c.args.board.now.book c.args.conn.now c.write_turn.new.self c.read_turn.new.self write.Done read.LinkFailed c.in-Done.ensures
+    c.in-LinkFailed-read_turn.ensures.reads c.requires.edition
+
+pub returns-in-NoMemory-clause-edition : goal.returns-in-NoMemory-clause-edition
+returns-in-NoMemory-clause-edition g c =
+    edition-read g.N.Known.known c.args.board.now.book c.args.conn.now c.write_turn.new.self c.read_turn.new.self write.Done read.NoMemory c.in-Done.ensures
+    c.in-NoMemory.ensures.reads c.requires.edition
+
+pub returns-in-Interim-clause-edition : goal.returns-in-Interim-clause-edition
+returns-in-Interim-clause-edition g c =
+    edition-read g.N.Known.known c.args.board.now.book c.args.conn.now c.write_turn.new.self c.read_turn.new.self write.Done read.Interim c.in-Done.ensures
+    c.in-Interim.ensures.reads c.requires.edition
+
+pub answer-requires-clause-edition : goal.answer-requires-clause-edition
+answer-requires-clause-edition g c =
+    edition-read g.N.Known.known c.args.board.now.book c.args.conn.now c.write_turn.new.self c.read_turn.new.self write.Done _ c.in-Done.ensures
+    c.in-Asked.ensures.reads c.requires.edition

@@ -1,9 +1,5 @@
-use Rattle.std.proofs.Common.{◌≡◌, length, vec_capacity, subst, sym, ap, ◌∙◌, refl}
-use Rattle.conn_machine.specs.Table.{noted_at}
+use Rattle.std.proofs.Common.{◌≡◌, length, vec_capacity, subst, sym, ◌∙◌, refl}
 use Rattle.conn_machine.specs.declared.event.Event.TheVariants as event
-use Rattle.conn_machine.specs.declared.event.Reply.TheVariants.{Noted}
-use Rattle.conn_machine.specs.declared.state.State.{State}
-use Rattle.board.specs.Book.{SeenBook}
 use Rattle.board.specs.Board.{SeenBoard}
 use Rattle.board.specs.Layout.{conns_in}
 use Rattle.board.specs.Events.{IsDecided}
@@ -12,7 +8,6 @@ use Rattle.board.specs.BoardParts.{seen_board}
 use Rattle.board.proofs.BoardLemmas.{may_while, there_of}
 use Rattle.board.proofs.ClosedLemmas.{board_on}
 use Rattle.board.proofs.EventLemmas.{answer-there}
-use Rattle.board.proofs.HandLemmas.{answer-note}
 use Rattle.board.proofs.PassLemmas.{adds_inside, has_inside}
 use Rattle.board.proofs.UseLemmas.{answer-used}
 use Rattle.board.proofs.board.Board.answer.Goals as goal
@@ -39,7 +34,7 @@ invariant_of-self-2 g c =
     let ok = c.in_ok-note.ensures.ok in
     let may = may_while _ c.args.self.now e view_is c.requires.allowed ok.was_open.going in
     rw (ok.new_is)
-    (board_on _ inside.book slots slots conns ended inside.queues inside.queues room room c.args.who e invariant (λ s. refl)
+    (board_on _ inside.book slots slots conns ended inside.queues inside.queues room room c.args.who e invariant ok.keeps (λ s. refl)
     (answer-there c.one_row_changes.ensures inside.book.state c.args.name c.args.ask conns inside.queues (length ended) room may (there_of _ inside.book slots ended inside.queues room invariant)) invariant.outside.conns
     refl (invariant.used ∙ sym (answer-used inside.book.state c.args.name c.args.ask may)))
 

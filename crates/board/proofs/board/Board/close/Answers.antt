@@ -6,6 +6,7 @@ use Rattle.conn_state.specs.Answered.{SeenEnded}
 use Rattle.conn_state.specs.Conn.{SeenConn}
 use Rattle.board.specs.Events.{with_recorded}
 use Rattle.board.specs.Book.{book_with_entry, row_in}
+use Rattle.board.specs.Editions.{IsOfGeneration, KeepsEditions}
 use Rattle.board.specs.Fits.{IsClosing}
 use Rattle.board.specs.Board.{SeenBoard}
 use Rattle.board.specs.BoardInside.{AreParts, IsBoard}
@@ -53,10 +54,15 @@ invariant_of-self g c =
     left-slots slots c.take.new.self.slots e.name c.take.result (close-live inside.book.state slots e.name e.cause e.tail may invariant.used)
     (subst (λ (v : SeenEnded). c.take.result ≡ item_of slots v.name) c.ended.view_is c.take.ensures.item)
     (subst (λ (v : SeenEnded). OnSome c.take.result (c.take.new.self.slots ≡ without_item slots v.name)) c.ended.view_is c.take.ensures.emptied) in
+    let keeps : KeepsEditions inside.book (book_with_entry c.args.who (event.Close e.name e.cause e.tail) inside.book) =
+    subst (λ (v : SeenEnded). KeepsEditions inside.book (book_with_entry c.args.who (event.Close v.name v.cause v.tail) inside.book)) c.ended.view_is
+    c.record_sure.ensures.keeps in
+    let edition : IsOfGeneration g.N.Known.known inside.book e.generation e.limits e.site =
+    subst (λ (v : SeenBoard). IsOfGeneration g.N.Known.known v.book e.generation e.limits e.site) (sym view_is) c.requires.edition in
     rw (c.record_sure.ensures.is, more)
     (subst (λ (v : SeenEnded). IsBoard _ (record { book = book_with_entry c.args.who (event.Close v.name v.cause v.tail) inside.book; conns = conns_in c.take.new.self.slots; ended = ended ++ e ∷ [] }) c.take.new.self.slots inside.queues (vec_capacity c.push.new.self))
     (sym c.ended.view_is)
-    (board_closed _ inside.book slots c.take.new.self.slots ended e inside.queues room (vec_capacity c.push.new.self) c.args.who invariant c.show.ensures.state closing c.requires.answered c.requires.outside
+    (board_closed _ inside.book slots c.take.new.self.slots ended e inside.queues room (vec_capacity c.push.new.self) c.args.who invariant keeps c.show.ensures.state closing c.requires.answered c.requires.client edition
     (close-there c.one_row_changes.ensures inside.book.state e.name e.cause e.tail conns inside.queues (length ended) room (vec_capacity c.push.new.self) may
     (there_of _ inside.book slots ended inside.queues room invariant) c.push.ensures.capacity)
     (ap conns_in left ∙ conns-left slots e.name (close-away inside.book.state e.name e.cause e.tail conns may invariant.agrees.waiting))

@@ -15,9 +15,10 @@ invariant_of-self-2 g c =
     rw c.deref_mut-parts.ensures.value c.self.invariant in
     let lines : lines_then c.in_ok-lines.lines inside.book.folded.lines ≡ lines_after (map line_of inside.ended.items) inside.book.folded.closed inside.book.folded.lines =
     rw (← c.folded-folded.ensures, ← c.as_slice.ensures.value) c.in_ok-lines.ensures in
-    let folds : c.fold.new.self ≡ folded_book (map line_of inside.ended.items) inside.book = c.fold.ensures _ lines in
+    let folds : c.fold.new.self ≡ folded_book (map line_of inside.ended.items) inside.book = c.in_ok-fold.ensures.ok _ lines in
     rw (folds, c.clear.ensures.items)
     (board_folded _ (seen_board inside) inside.conns.slots inside.queues (vec_capacity inside.ended) (vec_capacity c.clear.new.self)
+    c.generations_keep_their_editions.ensures c.show.ensures.sound c.show.ensures.state
     (omega (arith, c.clear.ensures.capacity)) invariant)
 
 pub returns-clause-ok : goal.returns-clause-ok
@@ -27,5 +28,5 @@ returns-clause-ok g c =
     rw c.deref_mut-parts.ensures.value c.self.view_is in
     let lines : lines_then c.in_ok-lines.lines inside.book.folded.lines ≡ lines_after (map line_of inside.ended.items) inside.book.folded.closed inside.book.folded.lines =
     rw (← c.folded-folded.ensures, ← c.as_slice.ensures.value) c.in_ok-lines.ensures in
-    let folds : c.fold.new.self ≡ folded_book (map line_of inside.ended.items) inside.book = c.fold.ensures _ lines in
+    let folds : c.fold.new.self ≡ folded_book (map line_of inside.ended.items) inside.book = c.in_ok-fold.ensures.ok _ lines in
     rw (folds, c.clear.ensures.items, ← view_is) refl

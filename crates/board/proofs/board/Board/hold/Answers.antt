@@ -4,6 +4,7 @@ use Rattle.conn_machine.specs.States.{is_signalled}
 use Rattle.conn_machine.specs.Table.{may_be_held}
 use Rattle.conn_state.specs.Conn.{SeenConn}
 use Rattle.board.specs.Book.{SeenBook}
+use Rattle.board.specs.Editions.{IsOfGeneration}
 use Rattle.board.specs.Finds.{cause_of}
 use Rattle.board.specs.Fits.{IsOnItsWay, IsTakenUp}
 use Rattle.board.specs.Board.{SeenBoard}
@@ -13,6 +14,7 @@ use Rattle.board.specs.BoardParts.{seen_board}
 use Rattle.board.proofs.BoardLemmas.{may_inside, there_of}
 use Rattle.board.proofs.ClientLemmas.{clients_taken}
 use Rattle.board.proofs.ClosedLemmas.{board_on}
+use Rattle.board.proofs.EditionLemmas.{generation_carried}
 use Rattle.board.proofs.EventLemmas.{hold-there}
 use Rattle.board.proofs.HandLemmas.{given_is, hold-given, hold-unparked, hold-way}
 use Rattle.board.proofs.PassLemmas.{adds_inside}
@@ -45,9 +47,9 @@ invariant_of-self g c =
     let unparked = hold-unparked inside.book.state c.args.name inside.queues c.unpark.new.self c.unpark.result may invariant.queued
     c.unpark.ensures.found c.unpark.ensures.unparked in
     rw (c.record_sure.ensures.is, c.take_out.ensures.emptied, unparked)
-    (board_on _ inside.book slots _ _ ended inside.queues _ room room c.args.who (event.Hold c.args.name) invariant (λ s. refl)
+    (board_on _ inside.book slots _ _ ended inside.queues _ room room c.args.who (event.Hold c.args.name) invariant c.record_sure.ensures.keeps (λ s. refl)
     (hold-there c.one_row_changes.ensures inside.book.state c.args.name conns inside.queues (length ended) room may (there_of _ inside.book slots ended inside.queues room invariant))
-    (clients_taken _ conns c.args.name.slot invariant.outside.conns) (conns-with slots c.args.name None)
+    (clients_taken _ inside.book conns c.args.name.slot invariant.outside.conns) (conns-with slots c.args.name None)
     (written-used slots inside.book.state.rows c.args.name None (may_be_held inside.book.state (is_signalled inside.book.state c.args.name.slot)) invariant.used may
     ∙ sym (hold-used inside.book.state c.args.name may)))
 
@@ -94,12 +96,12 @@ returns-clause-entries g c =
     rw c.deref_mut-parts.ensures.value c.self.view_is in
     adds_inside c.args.who _ c.args.self.now _ view_is c.record_sure.ensures.entries
 
-pub take_out-requires-clause-clients : goal.take_out-requires-clause-clients
-take_out-requires-clause-clients g c =
+pub take_out-requires-clause-client : goal.take_out-requires-clause-client
+take_out-requires-clause-client g c =
     let inside = c.deref_mut-parts.result.now in
     let invariant : AreParts g.N.Known.known inside =
     rw c.deref_mut-parts.ensures.value c.self.invariant in
-    invariant.outside.conns
+    λ conn at. (invariant.outside.conns c.args.name.slot conn at).client
 
 pub take_out-requires-clause-live : goal.take_out-requires-clause-live
 take_out-requires-clause-live g c =
@@ -121,3 +123,13 @@ returns-clause-is g c =
     let conns : conns_in c.take_out.new.conns.slots ≡ slice_set (conns_in slots) c.args.name.slot None =
     ap conns_in c.take_out.ensures.emptied ∙ conns-with slots c.args.name None in
     rw (conns, c.record_sure.ensures.is, ← view_is) refl
+
+pub returns-clause-edition : goal.returns-clause-edition
+returns-clause-edition g c =
+    let inside = c.deref_mut-parts.result.now in
+    let invariant : AreParts g.N.Known.known inside =
+    rw c.deref_mut-parts.ensures.value c.self.invariant in
+    let conn = c.take_out.result in
+    let was = invariant.outside.conns c.args.name.slot conn c.take_out.ensures.conn in
+    subst (λ (b : SeenBook). IsOfGeneration g.N.Known.known b conn.generation conn.reader.limits conn.site) (sym c.record_sure.ensures.is)
+    (generation_carried _ inside.book _ conn.generation conn.reader.limits conn.site (c.record_sure.ensures.keeps conn.generation) was.edition)

@@ -7,6 +7,8 @@ use Rattle.conn_machine.specs.Table.{is_allowed, next, lingering_row}
 use Rattle.conn_machine.specs.declared.event.Event.TheVariants as event
 use Rattle.conn_machine.specs.States.{is_signalled}
 use Rattle.conn_state.specs.Conn.{lingers}
+use Rattle.board.specs.Board.{SeenBoard}
+use Rattle.board.specs.Editions.{IsOfGeneration}
 use Rattle.board.specs.Fits.{LingersFor}
 use Rattle.board.specs.Layout.{conns_in}
 use Rattle.board.specs.QueuesInside.{waits_in, waits_under}
@@ -98,10 +100,12 @@ invariant_of-self g c =
     let parked = linger-parked c.one_row_changes.ensures inside.book.state name why c.requires.fits.row may found in
     let queued : c.wait_in_queue.new.queues ≡ slice_set inside.queues name.slot (waits_in (lingering_row inside.book.state why c.requires.fits.row)) = search rules in
     rw (c.record_sure.ensures.is, c.put_back.ensures, queued)
-    (board_on _ inside.book slots _ _ ended inside.queues _ room room c.args.who (event.Linger name why) invariant (λ s. refl)
+    (board_on _ inside.book slots _ _ ended inside.queues _ room room c.args.who (event.Linger name why) invariant c.record_sure.ensures.keeps (λ s. refl)
     (linger-there c.one_row_changes.ensures inside.book.state name why conns inside.queues c.args.conn c.requires.fits.row (length ended) room may
     (there_of _ inside.book slots ended inside.queues room invariant) found (sym c.name-name.ensures) c.requires.fits.fits waits c.show.ensures.conn)
-    (clients_put _ conns name.slot c.args.conn c.show.ensures.outside invariant.outside.conns) (conns-with slots name (Some c.args.conn))
+    (clients_put _ inside.book conns name.slot c.args.conn c.show.ensures.client
+    (subst (λ (v : SeenBoard). IsOfGeneration g.N.Known.known v.book c.args.conn.generation c.args.conn.reader.limits c.args.conn.site) (sym view_is) c.requires.edition)
+    invariant.outside.conns) (conns-with slots name (Some c.args.conn))
     (written-used slots inside.book.state.rows name (Some c.args.conn) (is_fit_to_linger inside.book.state why (is_signalled inside.book.state name.slot)) invariant.used
     may ∙ sym (linger-used inside.book.state name why may)))
 

@@ -7,6 +7,8 @@ use Rattle.board.specs.Book.{row_in}
 use Rattle.conn_machine.specs.Table.{is_allowed, next, may_wait, parked_row}
 use Rattle.conn_machine.specs.declared.event.Event.TheVariants as event
 use Rattle.board.specs.Finds.{cause_of}
+use Rattle.board.specs.Board.{SeenBoard}
+use Rattle.board.specs.Editions.{IsOfGeneration}
 use Rattle.board.specs.Fits.{IsSettled}
 use Rattle.board.specs.Board.{SeenBoard}
 use Rattle.board.specs.Layout.{conns_in}
@@ -68,10 +70,12 @@ invariant_of-self-2 g c =
     let parked = park-parked c.one_row_changes.ensures inside.book.state name c.args.kind c.requires.fits.row may found in
     let queued : c.wait_in_queue.new.queues ≡ slice_set inside.queues name.slot (waits_in (parked_row inside.book.state c.args.kind c.requires.fits.row)) = search rules in
     rw (ok.new_is, c.put_back.ensures, queued)
-    (board_on _ inside.book slots _ _ ended inside.queues _ room room c.args.who e invariant (λ s. refl)
+    (board_on _ inside.book slots _ _ ended inside.queues _ room room c.args.who e invariant ok.keeps (λ s. refl)
     (park-there c.one_row_changes.ensures inside.book.state name c.args.kind conns inside.queues c.args.conn c.requires.fits.row (length ended) room may
     (there_of _ inside.book slots ended inside.queues room invariant) found (sym c.name-name.ensures) c.requires.fits.fits settled)
-    (clients_put _ conns name.slot c.args.conn c.show.ensures.outside invariant.outside.conns) (conns-with slots name (Some c.args.conn))
+    (clients_put _ inside.book conns name.slot c.args.conn c.show.ensures.client
+    (subst (λ (v : SeenBoard). IsOfGeneration g.N.Known.known v.book c.args.conn.generation c.args.conn.reader.limits c.args.conn.site) (sym view_is) c.requires.edition)
+    invariant.outside.conns) (conns-with slots name (Some c.args.conn))
     (written-used slots inside.book.state.rows name (Some c.args.conn) (may_wait inside.book.state.moment c.args.kind) invariant.used
     (park-lives inside.book.state name c.args.kind may) ∙ sym (park-used inside.book.state name c.args.kind may)))
 

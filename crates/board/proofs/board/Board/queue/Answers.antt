@@ -3,6 +3,7 @@ use Rattle.conn_machine.specs.declared.event.Event.TheVariants as event
 use Rattle.conn_machine.specs.Table.{may_be_queued}
 use Rattle.conn_state.specs.Conn.{SeenConn}
 use Rattle.board.specs.Book.{SeenBook}
+use Rattle.board.specs.Editions.{IsOfGeneration}
 use Rattle.board.specs.Fits.{IsTakenUp}
 use Rattle.board.specs.Board.{SeenBoard}
 use Rattle.board.specs.Layout.{conns_in}
@@ -11,6 +12,7 @@ use Rattle.board.specs.BoardParts.{seen_board}
 use Rattle.board.proofs.BoardLemmas.{may_while, there_of}
 use Rattle.board.proofs.ClientLemmas.{clients_taken}
 use Rattle.board.proofs.ClosedLemmas.{board_on}
+use Rattle.board.proofs.EditionLemmas.{generation_carried}
 use Rattle.board.proofs.EventLemmas.{queue-there}
 use Rattle.board.proofs.HandLemmas.{given_is, queue-given, queue-open, queue-unparked}
 use Rattle.board.proofs.PassLemmas.{adds_inside}
@@ -50,9 +52,9 @@ invariant_of-self-2 g c =
     let unparked = queue-unparked inside.book.state c.args.name inside.queues c.unpark.new.self c.unpark.result may invariant.queued
     c.unpark.ensures.found c.unpark.ensures.unparked in
     rw (c.in_ok-record.ensures.ok.new_is, c.take_out.ensures.emptied, unparked)
-    (board_on _ inside.book slots _ _ ended inside.queues _ room room c.args.who (event.Queue c.args.name) invariant (λ s. refl)
+    (board_on _ inside.book slots _ _ ended inside.queues _ room room c.args.who (event.Queue c.args.name) invariant c.in_ok-record.ensures.ok.keeps (λ s. refl)
     (queue-there c.one_row_changes.ensures inside.book.state c.args.name conns inside.queues (length ended) room may (there_of _ inside.book slots ended inside.queues room invariant))
-    (clients_taken _ conns c.args.name.slot invariant.outside.conns) (conns-with slots c.args.name None)
+    (clients_taken _ inside.book conns c.args.name.slot invariant.outside.conns) (conns-with slots c.args.name None)
     (written-used slots inside.book.state.rows c.args.name None (may_be_queued inside.book.state) invariant.used (queue-lives inside.book.state c.args.name may)
     ∙ sym (queue-used inside.book.state c.args.name may)))
 
@@ -98,12 +100,12 @@ returns-clause-entries g c =
     rw c.deref_mut-parts.ensures.value c.self.view_is in
     adds_inside c.args.who _ c.args.self.now _ view_is c.record.ensures.entries
 
-pub take_out-requires-clause-clients : goal.take_out-requires-clause-clients
-take_out-requires-clause-clients g c =
+pub take_out-requires-clause-client : goal.take_out-requires-clause-client
+take_out-requires-clause-client g c =
     let inside = c.deref_mut-parts.result.now in
     let invariant : AreParts g.N.Known.known inside =
     rw c.deref_mut-parts.ensures.value c.self.invariant in
-    invariant.outside.conns
+    λ conn at. (invariant.outside.conns c.args.name.slot conn at).client
 
 pub take_out-requires-clause-live : goal.take_out-requires-clause-live
 take_out-requires-clause-live g c =
@@ -125,3 +127,14 @@ returns-clause-emptied g c =
     ap conns_in c.take_out.ensures.emptied
     ∙ conns-with slots c.args.name None
     ∙ ap (λ (b : SeenBoard). slice_set b.conns c.args.name.slot None) view_is
+
+pub returns-clause-edition : goal.returns-clause-edition
+returns-clause-edition g c =
+    let inside = c.deref_mut-parts.result.now in
+    let invariant : AreParts g.N.Known.known inside =
+    rw c.deref_mut-parts.ensures.value c.self.invariant in
+    let ok = c.in_ok-record.ensures.ok in
+    let conn = c.take_out.result in
+    let was = invariant.outside.conns c.args.name.slot conn c.take_out.ensures.conn in
+    subst (λ (b : SeenBook). IsOfGeneration g.N.Known.known b conn.generation conn.reader.limits conn.site) (sym ok.new_is)
+    (generation_carried _ inside.book _ conn.generation conn.reader.limits conn.site (ok.keeps conn.generation) was.edition)

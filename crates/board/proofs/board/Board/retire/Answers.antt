@@ -13,7 +13,7 @@ invariant_of-self g c =
     rw c.deref_mut-parts.ensures.value c.self.invariant in
     rw (c.record_sure.ensures.is)
     (board_same _ inside.book inside.conns.slots inside.ended.items inside.queues (vec_capacity inside.ended) c.args.who (event.Retire c.args.child)
-    invariant (λ s. refl) refl)
+    invariant c.record_sure.ensures.keeps (λ s. refl) refl)
 
 pub returns-clause-entries : goal.returns-clause-entries
 returns-clause-entries g c =

@@ -34,7 +34,7 @@ invariant_of-self g c =
     let ended = inside.ended.items in
     let room = vec_capacity inside.ended in
     rw (c.record_sure.ensures.is)
-    (board_on _ inside.book slots slots conns ended inside.queues inside.queues room room c.args.who (event.Start c.args.name) invariant (λ s. refl)
+    (board_on _ inside.book slots slots conns ended inside.queues inside.queues room room c.args.who (event.Start c.args.name) invariant c.record_sure.ensures.keeps (λ s. refl)
     (start-there c.one_row_changes.ensures inside.book.state c.args.name conns inside.queues (length ended) room may (there_of _ inside.book slots ended inside.queues room invariant)) invariant.outside.conns
     refl (invariant.used ∙ sym (start-used inside.book.state c.args.name may)))
 

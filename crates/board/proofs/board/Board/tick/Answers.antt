@@ -13,7 +13,7 @@ invariant_of-self-2 g c =
     rw c.deref_mut-parts.ensures.value c.self.invariant in
     rw (c.in_ok-record.ensures.ok.new_is)
     (board_same _ inside.book inside.conns.slots inside.ended.items inside.queues (vec_capacity inside.ended) c.args.who (event.Tick c.args.moment)
-    invariant (λ s. refl) refl)
+    invariant c.in_ok-record.ensures.ok.keeps (λ s. refl) refl)
 
 pub returns-clause-entries : goal.returns-clause-entries
 returns-clause-entries g c =

@@ -1,14 +1,17 @@
-use Rattle.std.proofs.Common.{◌≡◌, List, ◌+◌, ◌<◌, ◌≤◌, ◌^◌, true, false, length, vec_capacity, subst, sym, refl, ◌∙◌, ap, rules, arith}
+use Rattle.std.proofs.Common.{◌≡◌, List, ◌∷◌, [], ◌+◌, ◌<◌, ◌≤◌, ◌^◌, true, false, length, vec_capacity, subst, sym, refl, ◌∙◌, ap, rules, arith}
 use Rattle.conn_machine.specs.States.{is_halted}
 use Rattle.conn_machine.specs.declared.state.State.{State}
 use Rattle.conn_machine.specs.Table.{is_allowed, reply}
 use Rattle.conn_machine.specs.declared.event.Entry.{Entry}
+use Rattle.conn_machine.specs.Events.{count_events, is_order}
 use Rattle.conn_machine.specs.Runs.{Adds, after}
-use Rattle.board.specs.Book.{SeenBook, entry_of, numbered_entry}
+use Rattle.board.specs.Book.{SeenBook, book_with_entry, entry_of, numbered_entry}
+use Rattle.board.specs.EditionsInside.{with_begun}
 use Rattle.board.specs.RoomInside.{room_with_event}
 use Rattle.board.proofs.BookLemmas.{goes_by, kept_roomier, kept_with_room, open_if, recorded_is}
+use Rattle.board.proofs.EditionLemmas.{keeps_on}
 use Rattle.board.proofs.PassLemmas.{adds_nothing, adds_recorded, is_own, may_be_next, role_inside, row-recorded}
-use Rattle.board.proofs.book.Book.record.Goals.{then-saturating_add-most-via-then-saturating_add-most, then-saturating_add-most-via-else-saturating_add-most+then-is_err}
+use Rattle.board.proofs.book.Book.record.Goals.{then-saturating_add-most-via-then-saturating_add-most, then-saturating_add-most-via-else-saturating_add-most+then-is_err, then-saturating_add-most-via-else-saturating_add-most+else-is_err+then-is_err-2}
 use Rattle.board.proofs.book.Book.record.Goals as goal
 
 pub step-requires-clause-allowed : goal.step-requires-clause-allowed
@@ -36,12 +39,15 @@ invariant_of-self-2 c =
     let role = role_inside c.args.who _ c.args.self.now c.args.event c.self.view_is c.requires.role in
     let below : c.args.who < passes = search rules in
     let goes_on = c.histories_go_on_by_one_entry.ensures in
-    kept_with_room c.one_row_changes.ensures passes base folded history c.append.new.history.items inside.state c.step.new.state inside.ahead
-    c.append.new.ahead (vec_capacity inside.history) (vec_capacity c.append.new.history)
-    e c.self.invariant c.requires.unordered c.append.ensures.ahead
+    let editions = inside.editions.items.items in
+    let editions_are : c.add.new.self.items.items ≡ with_begun c.args.event c.step.new.state.newest (folded.orders + count_events is_order history + 1) editions =
+    search rules in
+    kept_with_room c.one_row_changes.ensures c.generations_begin_in_order.ensures passes base folded history c.append.new.history.items inside.state c.step.new.state inside.ahead
+    c.append.new.ahead editions c.add.new.self.items.items (vec_capacity inside.history) (vec_capacity c.append.new.history)
+    e c.self.invariant editions_are c.append.ensures.ahead
     (record { sound = c.step.ensures.sound; sizes = c.step.ensures.sizes; sized = c.step.ensures.sized })
     (rw c.reserve.ensures.items at c.append.ensures.history) c.in-Ok.ensures.state space few
-    (goes_by passes base folded history inside.state inside.ahead (vec_capacity inside.history) e c.self.invariant below may c.in-Ok.ensures.reply
+    (goes_by passes base folded history inside.state inside.ahead editions (vec_capacity inside.history) e c.self.invariant below may c.in-Ok.ensures.reply
     refl role goes_on.state goes_on.history goes_on.made goes_on.other)
 
 pub returns-clause-ok : goal.returns-clause-ok
@@ -52,6 +58,8 @@ returns-clause-ok c =
       new_is = recorded_is c.args.self.now inside.base.value inside.folded inside.history.items c.append.new.history.items inside.state c.step.new.state
           c.args.who c.args.event c.in-Ok.reply c.self.view_is (rw c.reserve.ensures.items at c.append.ensures.history) c.in-Ok.ensures.state
           c.in-Ok.ensures.reply;
+      keeps = keeps_on c.generations_begin_in_order.ensures c.args.self.now (book_with_entry c.args.who c.args.event c.args.self.now)
+          (entry_of c.args.who c.args.event c.args.self.now ∷ []) refl refl refl;
     }
 
 pub returns-clause-reply : goal.returns-clause-reply
@@ -89,15 +97,16 @@ returns-then-saturating_add-most-clause-entries c =
     let none = c.passes_add_entries.ensures.none c.args.who b.base b.folded b.history in
     elim c.then-saturating_add-most.branch [
       | then-saturating_add-most-via-then-saturating_add-most w ↦ adds_nothing c.args.who b new w.self-is none
-      | then-saturating_add-most-via-else-saturating_add-most+then-is_err w ↦
+      | then-saturating_add-most-via-else-saturating_add-most+then-is_err w ↦ adds_nothing c.args.who b new (w.self-is ∙ c.self.view_is) none
+      | then-saturating_add-most-via-else-saturating_add-most+else-is_err+then-is_err-2 w ↦
           adds_nothing c.args.who b new (w.self-is ∙ rw w.reserve.ensures.items c.self.view_is) none
     ]
 
 pub invariant_of-self-in_default : goal.invariant_of-self-in_default
 invariant_of-self-in_default c =
     let inside = c.self.inside in
-    rw (c.in_default.ensures.err, c.reserve.ensures.items)
-    (kept_roomier (length inside.folded.ordinals) inside.base.value inside.folded inside.history.items inside.state inside.ahead
+    rw (c.in_default.ensures.err, c.reserve.ensures.items, c.reserve_for.ensures.same)
+    (kept_roomier (length inside.folded.ordinals) inside.base.value inside.folded inside.history.items inside.state inside.ahead inside.editions.items.items
     (vec_capacity inside.history) (vec_capacity c.reserve.new.self) c.self.invariant c.reserve.ensures.capacity)
 
 pub returns-in_default-clause-entries : goal.returns-in_default-clause-entries

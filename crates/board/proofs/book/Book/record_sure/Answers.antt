@@ -1,9 +1,10 @@
-use Rattle.std.proofs.Common.{◌≡◌, ◌+◌, ◌≤◌, ◌<◌, true, length, vec_capacity, subst, sym, refl, ap, ◌∙◌, rules, arith}
+use Rattle.std.proofs.Common.{◌≡◌, ◌∷◌, [], ◌+◌, ◌≤◌, ◌<◌, true, length, vec_capacity, subst, sym, refl, ap, ◌∙◌, rules, arith}
 use Rattle.conn_machine.specs.Table.{is_allowed, next, reply}
 use Rattle.conn_machine.specs.Runs.{after}
-use Rattle.board.specs.Book.{SeenBook, entry_of, numbered_entry}
+use Rattle.board.specs.Book.{SeenBook, book_with_entry, entry_of, numbered_entry}
 use Rattle.board.specs.RoomInside.{owed_entries}
 use Rattle.board.proofs.BookLemmas.{goes_by, kept_sure, recorded_is}
+use Rattle.board.proofs.EditionLemmas.{keeps_on}
 use Rattle.board.proofs.RoomLemmas.{owed-sure}
 use Rattle.board.proofs.PassLemmas.{adds_recorded, is_own, may_be_next, role_inside, row-recorded}
 use Rattle.board.proofs.book.Book.record_sure.Goals as goal
@@ -29,12 +30,12 @@ invariant_of-self c =
     let role = role_inside c.args.who _ c.args.self.now c.args.event c.self.view_is c.requires.role in
     let below : c.args.who < passes = search rules in
     let goes_on = c.histories_go_on_by_one_entry.ensures in
-    kept_sure passes base folded history c.append.new.history.items inside.state c.step.new.state inside.ahead
-    c.append.new.ahead (vec_capacity inside.history) (vec_capacity c.append.new.history)
+    kept_sure c.generations_begin_in_order.ensures passes base folded history c.append.new.history.items inside.state c.step.new.state inside.ahead
+    c.append.new.ahead inside.editions.items.items (vec_capacity inside.history) (vec_capacity c.append.new.history)
     e c.self.invariant may c.append.ensures.ahead
     (record { sound = c.step.ensures.sound; sizes = c.step.ensures.sizes; sized = c.step.ensures.sized })
     c.append.ensures.history c.in-Ok.ensures.state c.requires.sure c.append.ensures.room
-    (goes_by passes base folded history inside.state inside.ahead (vec_capacity inside.history) e c.self.invariant below may c.in-Ok.ensures.reply
+    (goes_by passes base folded history inside.state inside.ahead inside.editions.items.items (vec_capacity inside.history) e c.self.invariant below may c.in-Ok.ensures.reply
     refl role goes_on.state goes_on.history goes_on.made goes_on.other)
 
 pub returns-clause-entries : goal.returns-clause-entries
@@ -57,3 +58,8 @@ returns-clause-row c =
     c.args.event c.in-Ok.reply c.self.view_is c.append.ensures.history c.in-Ok.ensures.state c.in-Ok.ensures.reply)
     (c.in-Ok.ensures.reply ∙ ap (λ (v : SeenBook). reply v.state c.args.event) c.self.view_is)
     (c.histories_go_on_by_one_entry.ensures.row b.folded c.args.who b.history (entry_of c.args.who c.args.event b) (is_own c.args.who c.args.event b))
+
+pub returns-clause-keeps : goal.returns-clause-keeps
+returns-clause-keeps c =
+    let b = c.args.self.now in
+    keeps_on c.generations_begin_in_order.ensures b (book_with_entry c.args.who c.args.event b) (entry_of c.args.who c.args.event b ∷ []) refl refl refl

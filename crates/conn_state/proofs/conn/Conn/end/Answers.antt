@@ -1,6 +1,6 @@
 use Rattle.std.proofs.Common.{refl, rules}
 use Rattle.conn_state.proofs.EndLemmas.{ended-shown}
-use Rattle.conn_state.proofs.KnownLemmas.{outside-closed}
+use Rattle.conn_state.proofs.KnownLemmas.{client-closed}
 use Rattle.conn_state.proofs.conn.Conn.end.Goals as goal
 
 pub returns-clause-ended : goal.returns-clause-ended
@@ -15,5 +15,5 @@ returns-clause-ended g c =
     _ c.args.self _ c.self.invariant.conn c.self.view_is c.requires.shown c.close.ensures.told_is c.close.ensures.only_faults (search rules) (search rules) refl
     (search rules) (search rules)
 
-pub returns-clause-outside : goal.returns-clause-outside
-returns-clause-outside g c = outside-closed _ _ _ _ _ _ _ c.close.ensures.told_is (search rules) (search rules) c.self.invariant.outside
+pub returns-clause-client : goal.returns-clause-client
+returns-clause-client g c = client-closed _ _ _ c.close.ensures.told_is c.self.invariant.client

@@ -11,7 +11,9 @@ use Rattle.worker_group.specs.Acts.{Acts}
 use Rattle.mpm_run.specs.ListenInside.{WatchesAll}
 use Rattle.worker_group.specs.Service.{left_events}
 use Rattle.mpm_run.specs.RoundInside.{FailsTaking, GivesUp, way_of}
-use Rattle.mpm_run.proofs.FrontLemmas.{follows-turned, follows-watch, step-watch, takes-turned, takes-watch}
+use Rattle.mpm_run.proofs.EditionLemmas.{edition-acts, edition-same}
+use Rattle.mpm_run.proofs.FrontLemmas.{takes-turned, takes-watch}
+use Rattle.mpm_run.proofs.FrontCallLemmas.{follows-turned, follows-watch, step-watch}
 use Rattle.mpm_run.proofs.RoundLemmas.{acts-spelled, if-err-both, on-err, on-ok, takes-one}
 use Rattle.mpm_run.proofs.WatchLemmas.{takes-one-left, watched-taking, watched-turned}
 use Rattle.mpm_run.proofs.listen.Listener.take.Goals as goal
@@ -102,8 +104,19 @@ returns-clause-follows g c =
 pub returns-clause-front : goal.returns-clause-front
 returns-clause-front g c = (takes-watch _ _ _ _ _ (ap (λ (f : FrontSeen). f.told) c.watch-watched.ensures.watches.front))
 
-pub returns-clause-up : goal.returns-clause-up
-returns-clause-up g c = c.settle.ensures.rest.up (rw (c.in-Ok.ensures.going) (c.requires.up))
+pub settle-requires-clause-edition : goal.settle-requires-clause-edition
+settle-requires-clause-edition g c =
+    let e = c.args.self.now.edition in
+    edition-same g.N.Known.known c.accept.new.board.book c.args.self.now.board.book.state.newest _ e.limits _ e.site.value _
+    (c.new-conn.ensures.generation ∙ c.in-Ok.ensures.generation) c.new-conn.ensures.limits (c.new-conn.ensures.site ∙ c.requires.site)
+    (edition-acts c.generations_keep_their_editions.ensures g.N.Known.known 0 _ _ c.args.self.now.board.book c.accept.new.board.book
+    c.args.self.now.board.book.state.newest e.limits e.site.value c.in-Ok.ensures.acts c.requires.serves)
+
+pub returns-clause-going : goal.returns-clause-going
+returns-clause-going g c = c.settle.ensures.rest.going ∙ c.accept.ensures.going
+
+pub returns-clause-newest : goal.returns-clause-newest
+returns-clause-newest g c = c.settle.ensures.rest.newest ∙ c.accept.ensures.newest
 
 pub returns-in-Err-clause-watched : goal.returns-in-Err-clause-watched
 returns-in-Err-clause-watched g c before =

@@ -1,0 +1,178 @@
+//! Two boards that are given the same commands, of which one folds its history wherever it may, and the other one never does.
+use crate::driven::{Answer, Driven};
+use crate::editions::known_editions;
+use crate::folds::difference;
+use crate::moves::{LastBoard, site_of};
+use crate::seen::Seen;
+use crate::texts::{grown, number_of, small_of, words};
+use conn_machine::{BoxedShape, Commanded, Edition, Event, Refusal, Why};
+use file_table::Site;
+use mpm_base::{NoMemory, Shape};
+use std::alloc::Global;
+use std::io;
+use std::sync::Arc;
+
+/// A shape of a new generation, but for its number of workers.
+const SHAPE: Shape = Shape {
+    threads: 1,
+    factor: 200,
+    read_ms: 60_000,
+    keep_ms: 5_000,
+    keep: true,
+    most: 100,
+    target: 1,
+    children: 3,
+};
+
+/// A board behind the steps of a row, what was seen of it, and what it answered to the last order.
+#[derive(Drop)]
+struct Asked {
+    last: LastBoard,
+    answer: Option<Answer>,
+}
+
+impl Asked {
+    /// The board behind one step more; none where it can't go on.
+    fn take(self, alloc: Global, site: &Arc<Site>, step: &str) -> Result<Option<Asked>, NoMemory> {
+        let (word, number) = words(step);
+        if let Some(command) = command_of(alloc, word, number)? {
+            return Ok(self.ask(command));
+        }
+        let (event, times) = event_of(word, number);
+        Ok(self.make_moves(alloc, site, &event, times))
+    }
+
+    /// The board behind the order.
+    fn ask(self, command: Commanded) -> Option<Asked> {
+        let Asked { last, answer: _ } = self;
+        let LastBoard { driven, mut seen } = last;
+        let (driven, answer) = driven.order(&mut seen, command)?;
+        Some(Asked {
+            last: LastBoard { driven, seen },
+            answer: Some(answer),
+        })
+    }
+
+    /// The board behind so many moves that begin with the event, where it allows them.
+    fn make_moves(
+        self,
+        alloc: Global,
+        site: &Arc<Site>,
+        event: &Event,
+        times: u64,
+    ) -> Option<Asked> {
+        let Asked { last, answer } = self;
+        let LastBoard { driven, mut seen } = last;
+        let mut driven = driven;
+        for _ in 0..times {
+            driven = driven.make_move(alloc, &mut seen, site, event, 0)?;
+        }
+        let last = LastBoard { driven, seen };
+        Some(Asked { last, answer })
+    }
+}
+
+/// The order of the words, if they are one.
+fn command_of(alloc: Global, word: &str, number: &str) -> Result<Option<Commanded>, NoMemory> {
+    let shape = Shape {
+        threads: small_of(number),
+        ..SHAPE
+    };
+    match word {
+        "Graceful" => Ok(Some(Commanded::Graceful(BoxedShape::make(alloc, shape)?))),
+        "Refused" => Ok(Some(Commanded::Refused(Refusal::Conf))),
+        "GracefulStop" => Ok(Some(Commanded::GracefulStop(number.parse::<u64>().ok()))),
+        _ => Ok(None),
+    }
+}
+
+/// The event of the words, which are no order, and how often it is made.
+fn event_of(word: &str, number: &str) -> (Event, u64) {
+    match word {
+        "Accept" => (Event::Accept(small_of(number)), 1),
+        "Ready" => (Event::Ready(0), number_of(number)),
+        "Tick" => (Event::Tick(number_of(number)), 1),
+        "StartChild" => (Event::StartChild(small_of(number)), 1),
+        "Retire" => (Event::Retire(small_of(number)), 1),
+        _ => (Event::Command(Commanded::Stop(Why::Asked)), 1),
+    }
+}
+
+/// The board of so many slots behind the steps of the row; none where it can't go on.
+fn behind(
+    alloc: Global,
+    site: &Arc<Site>,
+    slots: u32,
+    row: &str,
+    folding: bool,
+) -> Result<Option<Asked>, NoMemory> {
+    let driven = Driven::make(alloc, slots)?;
+    let seen = Seen::nothing(0, folding);
+    let mut asked = Asked {
+        last: LastBoard { driven, seen },
+        answer: None,
+    };
+    for step in row.split("; ") {
+        match asked.take(alloc, site, step)? {
+            Some(next) => asked = next,
+            None => return Ok(None),
+        }
+    }
+    Ok(Some(asked))
+}
+
+/// Shows of each row, the steps of a board of so many slots, what the board that folds answered to the last order, what it knows then, and
+/// in what it differs from the one that never folds.
+pub fn show_orders(rt: &impl Print, alloc: Global, slots: &str, rows: &str) -> io::Result<()> {
+    let site = site_of(alloc)?;
+    for row in rows.lines() {
+        let folding = grown(behind(alloc, &site, small_of(slots), row, true))?;
+        let keeping = grown(behind(alloc, &site, small_of(slots), row, false))?;
+        match (folding, keeping) {
+            (Some(folding), Some(keeping)) => show_both(rt, alloc, row, &folding, &keeping)?,
+            _ => println!(rt; "{row} => a board can't go on")?,
+        }
+    }
+    Ok(())
+}
+
+/// Shows what the first board answered and knows, and in what it differs from the second one.
+fn show_both(
+    rt: &impl Print,
+    alloc: Global,
+    row: &str,
+    folding: &Asked,
+    keeping: &Asked,
+) -> io::Result<()> {
+    let board = folding.last.driven.board();
+    println!(rt; "{row} => {}", answer_word(folding.answer))?;
+    print!(rt;
+        "orders {}, newest {}, record",
+        board.orders(),
+        board.state().newest
+    )?;
+    show_editions(rt, board.folded().editions.as_slice())?;
+    print!(rt; ", in use")?;
+    show_editions(rt, grown(known_editions(alloc, board))?.as_slice())?;
+    let (folds, _) = folding.last.seen.folds();
+    let what = difference(alloc, &folding.last, &keeping.last)?;
+    println!(rt; ", folded {folds} times: {what} differs")
+}
+
+/// What the board answered to the last order.
+fn answer_word(answer: Option<Answer>) -> &'static str {
+    match answer {
+        Some(Answer::Taken) => "taken",
+        Some(Answer::NotAllowed) => "not allowed",
+        Some(Answer::Halted) => "refused, the server has stopped",
+        None => "nothing was asked",
+    }
+}
+
+/// Shows each generation with its edition.
+fn show_editions(rt: &impl Print, editions: &[Edition]) -> io::Result<()> {
+    for edition in editions {
+        print!(rt; " {}:{}", edition.generation, edition.edition)?;
+    }
+    Ok(())
+}
