@@ -15,8 +15,8 @@ use Rattle.conn_machine.specs.declared.event.Commanded.TheVariants as commanded
 use Rattle.conn_machine.specs.declared.event.Entry.{Entry}
 use Rattle.conn_machine.specs.declared.event.Event.{Event}
 use Rattle.conn_machine.specs.declared.event.Event.TheVariants as event
-use Rattle.mpm_run.specs.Commands.{asked_by, asked_in, done_by, done_in, ending_with, is_graceful_stop, lines_read}
-use Rattle.mpm_run.specs.Standing.{DoesAllBut}
+use Rattle.mpm_run.specs.Commands.{LacksLast, asked_by, asked_in, done_by, done_in, ending_with, is_graceful_stop, lines_read}
+use Rattle.mpm_run.specs.Standing.{DoesAllBut, LeavesLast}
 use Rattle.mpm_run.proofs.CommandLemmas.{line-read}
 
 -- ## Words
@@ -124,15 +124,25 @@ pub record HasReadLine (history : List Entry) (words : List CommandWord) (f f' :
   pub lines : IfSome f'.told (DoesAllBut words history)
   pub commands : Rises f.counts.commands f'.counts.commands
 
+leaves-last : (words : List CommandWord) (history : List Entry) (t : FrontTold) → LacksLast history t → LeavesLast words history t
+leaves-last [] history t lacks = tt
+leaves-last (word ∷ words) history t lacks = lacks
+
 read-line : (history : List Entry) (line : List ℕ) (t : FrontTold) → GivesLine (Some line) t → DoesAllBut [] history t
     → DoesAllBut (asked_in (has_ended history) line) history (after_command true t)
 read-line history line t gives does few =
     let fewer : t.read < greatest_count = by few in
-    let before : asked_by false (lines_read t) ≡ done_by history ++ [] = does fewer in
-    ap (asked_by false) (line-read t line gives fewer)
-    ∙ asked-both false (lines_read t) line
-    ∙ ap (λ (b : Bool). asked_by false (lines_read t) ++ asked_in b line) (ends-as (lines_read t) history before)
-    ∙ ap (λ (xs : List CommandWord). xs ++ asked_in (has_ended history) line) (before ∙ append-nil (done_by history)) where
+    let before : asked_by false (lines_read t) ≡ done_by history ++ [] = (does fewer).does in
+    record {
+      does =
+          ap (asked_by false) (line-read t line gives fewer)
+          ∙ asked-both false (lines_read t) line
+          ∙ ap (λ (b : Bool). asked_by false (lines_read t) ++ asked_in b line) (ends-as (lines_read t) history before)
+          ∙ ap (λ (xs : List CommandWord). xs ++ asked_in (has_ended history) line) (before ∙ append-nil (done_by history));
+      last =
+          leaves-last (asked_in (has_ended history) line) history (after_command true t)
+          (record { before = lines_read t; line = line; lines_are = line-read t line gives fewer; done = before ∙ append-nil (done_by history) });
+    } where
       by : (after_command true t).read < greatest_count → t.read < greatest_count
       by less = omega (arith, less)
 

@@ -61,7 +61,7 @@ none-asked (line ∷ lines) = refl
 lines-opened : (told : Option FrontTold) (calls : Option (List (ℕ × ℕ))) → IsIdle told calls → IfSome told (DoesAllBut [] [])
 lines-opened None calls idle = tt
 lines-opened (Some t) calls idle =
-    λ few. subst (λ (n : ℕ). asked_by false (take n t.lines) ≡ []) (sym idle.front.read) (none-asked t.lines)
+    λ few. record { does = subst (λ (n : ℕ). asked_by false (take n t.lines) ≡ []) (sym idle.front.read) (none-asked t.lines); last = tt }
 
 -- a store that wasn't renewed tells the same
 unrenewed : (told : Option StoreTold) → told ≡ option_map (renewed 0) told

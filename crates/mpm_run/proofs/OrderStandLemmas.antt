@@ -138,7 +138,7 @@ does-done : (words done : List CommandWord) (old new : List Entry) (told : Optio
     → IfSome told (DoesAllBut words old) → IfSome told (DoesAllBut [] new)
 does-done words done old new None is same does = tt
 does-done words done old new (Some t) is same does =
-    λ few. does few ∙ ap (λ (xs : List CommandWord). done_by old ++ xs) same ∙ sym is ∙ sym (append-nil (done_by new))
+    λ few. record { does = (does few).does ∙ ap (λ (xs : List CommandWord). done_by old ++ xs) same ∙ sym is ∙ sym (append-nil (done_by new)); last = tt }
 
 counts-one : (test : Bool) (many old : ℕ) → test ≡ true → many ≡ old + cond test 1 0 → many ≡ old + 1
 counts-one test many old is same = same ∙ ap (λ (b : Bool). old + cond b 1 0) is

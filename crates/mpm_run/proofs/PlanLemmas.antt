@@ -18,7 +18,7 @@ use Rattle.restart_control.specs.declared.reload_fault.ReloadFault.TheVariants a
 use Rattle.conn_machine.specs.declared.state.State.{State}
 use Rattle.mpm_run.specs.Configured.{most_config}
 use Rattle.mpm_run.specs.Generations.{Opening, carried, config_among, config_at, config_in, edition_of_files, made_edition, renewed}
-use Rattle.mpm_run.specs.Orders.{HasNoConfig, HasNoSite, HasShape, IsRefusedAs, shape_by}
+use Rattle.mpm_run.specs.Orders.{HasNoConfig, HasNoSite, HasShape, HasSite, IsRefusedAs, MakesSite, may_begin, shape_by}
 use Rattle.mpm_run.specs.OrdersInside.{reason_for}
 use Rattle.mpm_run.specs.Sites.{head_limits_of}
 use Rattle.mpm_run.specs.Standing.{HasTimeout, KnowsLater, later_edition}
@@ -150,6 +150,28 @@ timeout-of_order o number ms c same has =
     if-some (λ x. x ≡ Some c) (λ x. option_map (λ (c : Configuration). c.current.stop_ms) x ≡ Some ms) (config_at o number)
     (λ x is. ap (option_map (λ (c : Configuration). c.current.stop_ms)) is ∙ ap (λ (n : ℕ). Some n) (sym same)) has
 
+plan-site : (o : Opening) (t : StoreTold) (plan : Plan) → IsPlan (Some t) o.name o.config plan → MakesSite o t
+plan-site o t plan plans = record {
+  config = plan.config;
+  accepted = next-config t o.name o.config plan.config plans.config;
+  site = plan.site;
+  makes = plans.site;
+  within = plans.within;
+}
+
+site-told : (o : Opening) (number : ℕ) (told0 told : Option StoreTold) (plan : Plan) → o.store.told ≡ told0 → told ≡ option_map (renewed number) told0
+    → IsPlan told o.name o.config plan → HasSite o number
+site-told o number None told plan at is plans = subst (λ (x : Option StoreTold). IfSome x (λ t. MakesSite o (renewed number t))) (sym at) tt
+site-told o number (Some t) told plan at is plans =
+    subst (λ (x : Option StoreTold). IfSome x (λ t. MakesSite o (renewed number t))) (sym at)
+    (plan-site o (renewed number t) plan (subst (λ (x : Option StoreTold). IsPlan x o.name o.config plan) is plans))
+
+pub site-of_order : (o : Opening) (number : ℕ) (told : Option StoreTold) (name : List ℕ) (first : Configuration) (plan : Plan) → o.name ≡ name → o.config ≡ first
+    → IsStoreOf o number told → IsPlan told name first plan → HasSite o number
+site-of_order o number told name first plan named configured is plans =
+    site-told o number o.store.told told plan refl is
+    (subst (λ (x : List ℕ). IsPlan told x o.config plan) (sym named) (subst (λ (x : Configuration). IsPlan told name x plan) (sym configured) plans))
+
 -- ## Why there is no plan
 
 absent-told : (name : List ℕ) (t : StoreTold) (told : Option StoreTold) → told ≡ Some t → IfSome told (λ x. bytes_of name x.files ≡ None)
@@ -184,28 +206,37 @@ refused-site o t counts counts' why lacks = record {
 }
 
 cause-told : (o : Opening) (number : ℕ) (s : State) (told0 told : Option StoreTold) (counts counts' : StoreCounts) (why : ReloadFault)
-    → o.store.told ≡ told0 → told ≡ option_map (renewed number) told0 → HasCause told o.name o.config counts counts' why
+    → may_begin s ≡ true → o.store.told ≡ told0 → told ≡ option_map (renewed number) told0 → HasCause told o.name o.config counts counts' why
     → IsRefusedAs o number s (reason_for why)
-cause-told o number s None told counts counts' fault.Absent at is cause = subst (λ (x : Option StoreTold). IfSome x (λ t. bytes_of o.name (renewed number t).files ≡ None)) (sym at) tt
-cause-told o number s (Some t) told counts counts' fault.Absent at is cause =
-    subst (λ (x : Option StoreTold). IfSome x (λ t. bytes_of o.name (renewed number t).files ≡ None)) (sym at)
-    (absent-told o.name (renewed number t) told is cause.none)
-cause-told o number s None told counts counts' (fault.Conf why) at is cause = subst (λ (x : Option StoreTold). IfSome x (λ t. HasNoConfig o (renewed number t))) (sym at) tt
-cause-told o number s (Some t) told counts counts' (fault.Conf why) at is cause =
-    subst (λ (x : Option StoreTold). IfSome x (λ t. HasNoConfig o (renewed number t))) (sym at)
-    (refused-conf o (renewed number t) counts counts' why (subst (λ (x : Option StoreTold). RefusesConfig x o.name counts counts' why) is cause))
-cause-told o number s None told counts counts' (fault.Load why) at is cause = subst (λ (x : Option StoreTold). IfSome x (λ t. HasNoSite o (renewed number t))) (sym at) tt
-cause-told o number s (Some t) told counts counts' (fault.Load why) at is cause =
-    subst (λ (x : Option StoreTold). IfSome x (λ t. HasNoSite o (renewed number t))) (sym at)
-    (refused-site o (renewed number t) counts counts' why (subst (λ (x : Option StoreTold). LacksSite x o.name o.config counts counts' why) is cause))
-cause-told o number s told0 told counts counts' fault.StoreFault at is cause = tt
-cause-told o number s told0 told counts counts' fault.NoMemory at is cause = tt
+cause-told o number s None told counts counts' fault.Absent may at is cause =
+    (may, subst (λ (x : Option StoreTold). IfSome x (λ t. bytes_of o.name (renewed number t).files ≡ None)) (sym at) tt)
+cause-told o number s (Some t) told counts counts' fault.Absent may at is cause = (
+  may,
+  subst (λ (x : Option StoreTold). IfSome x (λ t. bytes_of o.name (renewed number t).files ≡ None)) (sym at)
+      (absent-told o.name (renewed number t) told is cause.none),
+)
+cause-told o number s None told counts counts' (fault.Conf why) may at is cause =
+    (may, subst (λ (x : Option StoreTold). IfSome x (λ t. HasNoConfig o (renewed number t))) (sym at) tt)
+cause-told o number s (Some t) told counts counts' (fault.Conf why) may at is cause = (
+  may,
+  subst (λ (x : Option StoreTold). IfSome x (λ t. HasNoConfig o (renewed number t))) (sym at)
+      (refused-conf o (renewed number t) counts counts' why (subst (λ (x : Option StoreTold). RefusesConfig x o.name counts counts' why) is cause)),
+)
+cause-told o number s None told counts counts' (fault.Load why) may at is cause =
+    (may, subst (λ (x : Option StoreTold). IfSome x (λ t. HasNoSite o (renewed number t))) (sym at) tt)
+cause-told o number s (Some t) told counts counts' (fault.Load why) may at is cause = (
+  may,
+  subst (λ (x : Option StoreTold). IfSome x (λ t. HasNoSite o (renewed number t))) (sym at)
+      (refused-site o (renewed number t) counts counts' why (subst (λ (x : Option StoreTold). LacksSite x o.name o.config counts counts' why) is cause)),
+)
+cause-told o number s told0 told counts counts' fault.StoreFault may at is cause = may
+cause-told o number s told0 told counts counts' fault.NoMemory may at is cause = tt
 
 -- the restart is refused as the run says
 pub cause-of_order : (o : Opening) (number : ℕ) (s : State) (told : Option StoreTold) (name : List ℕ) (first : Configuration) (counts counts' : StoreCounts)
-    (why : ReloadFault) → o.name ≡ name → o.config ≡ first → IsStoreOf o number told → HasCause told name first counts counts' why
+    (why : ReloadFault) → may_begin s ≡ true → o.name ≡ name → o.config ≡ first → IsStoreOf o number told → HasCause told name first counts counts' why
     → IsRefusedAs o number s (reason_for why)
-cause-of_order o number s told name first counts counts' why named configured is cause =
-    cause-told o number s o.store.told told counts counts' why refl is
+cause-of_order o number s told name first counts counts' why may named configured is cause =
+    cause-told o number s o.store.told told counts counts' why may refl is
     (subst (λ (x : List ℕ). HasCause told x o.config counts counts' why) (sym named)
     (subst (λ (x : Configuration). HasCause told name x counts counts' why) (sym configured) cause))

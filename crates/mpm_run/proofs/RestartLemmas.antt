@@ -34,8 +34,8 @@ use Rattle.restart_control.specs.declared.reload_fault.ReloadFault.TheVariants a
 use Rattle.board.specs.declared.faults.BoardFault.{BoardFault}
 use Rattle.mpm_run.specs.FirstNumbers.{opened_by}
 use Rattle.mpm_run.specs.Generations.{Opening, config_at, renewed}
-use Rattle.mpm_run.specs.Orders.{EndsUntil, HasShape, IsRefusedAs, ending_by, ending_moment, newest_edition, shape_by}
-use Rattle.mpm_run.specs.OrdersInside.{Begins, Carries, KnowsComing, Refuses, ServesNewest, StandsBehind, BreaksBehind, may_begin, reason_for}
+use Rattle.mpm_run.specs.Orders.{EndsUntil, HasShape, HasSite, IsRefusedAs, ending_by, ending_moment, may_begin, newest_edition, shape_by}
+use Rattle.mpm_run.specs.OrdersInside.{Begins, Carries, KnowsComing, Refuses, ServesNewest, StandsBehind, BreaksBehind, reason_for}
 use Rattle.mpm_run.specs.RoundInside.{DoesOrders}
 use Rattle.mpm_run.specs.Served.{all_entries}
 use Rattle.mpm_run.specs.Sites.{head_limits_of}
@@ -49,7 +49,7 @@ use Rattle.mpm_run.proofs.EditionLemmas.{newest-acts}
 use Rattle.mpm_run.proofs.LineLemmas.{HasReadLine, asks-ended, asks-ending, has_ended, reads-line}
 use Rattle.mpm_run.proofs.OrderStandLemmas.{IsRenewedOnce, once-more, one-entry, rises-one, stands-ending, stands-front, stands-line, stands-order, stands-unordered, state-behind}
 use Rattle.mpm_run.proofs.StandingLemmas.{SameLines, counted-both}
-use Rattle.mpm_run.proofs.PlanLemmas.{cause-of_order, config-of_order, knows-renewed, serves-plan, shape-of_order, timeout-of_order}
+use Rattle.mpm_run.proofs.PlanLemmas.{cause-of_order, config-of_order, knows-renewed, serves-plan, shape-of_order, site-of_order, timeout-of_order}
 
 -- the law of histories that go on
 abbrev pub HistoriesJoin : Type 0
@@ -173,13 +173,13 @@ late-stands joins known c ms s s' a b refuses now within late renews f f' gave o
 
 -- for a cause
 pub cause-stands : HistoriesJoin → (known : Option KnownOutside) (c : NamedConfig) (ms : ℕ) (s s' : StoreSeen) (a b : SeenBook) (why : ReloadFault)
-    → Refuses (reason_for why) a b → after a.base a.history ≡ a.state → Renews s s'
+    → Refuses (reason_for why) a b → may_begin a.state ≡ true → after a.base a.history ≡ a.state → Renews s s'
     → HasCause s'.told c.name.now c.config.now s.counts s'.counts why
     → StandsBehind known c word.Graceful (λ f. standing ms s f a) (λ f. standing ms s' f b)
-cause-stands joins known c ms s s' a b why refuses now renews cause f f' gave o n opened asked stood =
+cause-stands joins known c ms s s' a b why refuses may now renews cause f f' gave o n opened asked stood =
     let many = count_events is_order (all_entries n a stood.folded) in
     let refused_as : IsRefusedAs o (suc many) a.state (reason_for why) =
-    cause-of_order o (suc many) a.state s'.told c.name.now c.config.now s.counts s'.counts why opened.name opened.config
+    cause-of_order o (suc many) a.state s'.told c.name.now c.config.now s.counts s'.counts why may opened.name opened.config
     (store-of_order known o n ms s s' f a stood renews.told_is) cause in
     refused-stands joins known o n (reason_for why) ms s s' f f' a b refuses gave now stood
     (subst (λ (x : ℕ). IsRefusedAs o x a.state (reason_for why)) (next-number many) refused_as)
@@ -197,11 +197,14 @@ begun-stands joins known c ms s s' a b plan e begins now renews plans f f' gave 
     (store-of_order known o n ms s s' f a stood renews.told_is) plans.config in
     stands-order known o n (commanded.Graceful (shape_by plan.config)) ms e.stop_ms s s' f f' a b (record { order = refl; line = refl; done = refl; ending = refl })
     begins.acts (ap (λ (x : State). is_serving x.going) begins.state) stood (graceful-read known o n ms s f f' a gave stood)
-    (subst (λ (number : ℕ). IsDoneAt o number plan) (next-number many) (shape-of_order o (suc many) plan.config config))
+    (subst (λ (number : ℕ). IsDoneAt o number plan) (next-number many) (
+      shape-of_order o (suc many) plan.config config,
+      site-of_order o (suc many) s'.told c.name.now c.config.now plan opened.name opened.config (store-of_order known o n ms s s' f a stood renews.told_is) plans,
+    ))
     (subst (λ (number : ℕ). HasTimeout o number e.stop_ms) (next-number many) (timeout-of_order o (suc many) e.stop_ms plan.config begins.stop config))
     (renewed-once s s' renews) where
       IsDoneAt : Opening → ℕ → Plan → Type 0
-      IsDoneAt o number plan = HasShape o number (shape_by plan.config)
+      IsDoneAt o number plan = HasShape o number (shape_by plan.config) × HasSite o number
 
 -- what comes of a plan
 pub carried-stands : HistoriesJoin → (known : Option KnownOutside) (c : NamedConfig) (s s' : StoreSeen) (a b : SeenBook) (plan : Plan) (e e' : Edition)
@@ -334,11 +337,11 @@ breaks-as known c ms ms' s s' a b same_ms same renews =
     (unordered-breaks known c ms s s' a renews))
 
 pub cause-as : HistoriesJoin → (known : Option KnownOutside) (c : NamedConfig) (ms : ℕ) (s s' : StoreSeen) (a b : SeenBook) (why : ReloadFault) (reason : Refusal)
-    → reason ≡ reason_for why → Refuses reason a b → after a.base a.history ≡ a.state → Renews s s'
+    → reason ≡ reason_for why → Refuses reason a b → may_begin a.state ≡ true → after a.base a.history ≡ a.state → Renews s s'
     → HasCause s'.told c.name.now c.config.now s.counts s'.counts why
     → StandsBehind known c word.Graceful (λ f. standing ms s f a) (λ f. standing ms s' f b)
-cause-as joins known c ms s s' a b why reason is refuses now renews cause =
-    cause-stands joins known c ms s s' a b why (subst (λ (x : Refusal). Refuses x a b) is refuses) now renews cause
+cause-as joins known c ms s s' a b why reason is refuses may now renews cause =
+    cause-stands joins known c ms s s' a b why (subst (λ (x : Refusal). Refuses x a b) is refuses) may now renews cause
 
 pub knows-as : (known : Option KnownOutside) (c c' : NamedConfig) (told : Option StoreTold) (b : SeenBook) → c' ≡ c → KnowsComing known b c told
     → KnowsComing known b c' told

@@ -24,7 +24,7 @@ use Rattle.board.specs.ReportLine.{line_of}
 use Rattle.mpm_run.specs.FirstNumbers.{folded_by, opened_by}
 use Rattle.mpm_run.specs.Generations.{Opening, config_among, config_at, known_edition, known_editions, made_edition, renewed}
 use Rattle.mpm_run.specs.Listen.{HasFolded}
-use Rattle.mpm_run.specs.Orders.{AreOrdered, HasNoConfig, HasNoSite, IsDoneBy, IsOrdered, IsRefusedAs, edition_with, ending_by, orders_with, shape_by}
+use Rattle.mpm_run.specs.Orders.{AreOrdered, HasNoConfig, HasNoSite, IsDoneBy, IsOrdered, IsRefusedAs, MakesSite, edition_with, ending_by, orders_with, shape_by}
 use Rattle.mpm_run.specs.OrdersInside.{known_outside}
 use Rattle.mpm_run.specs.Served.{AreServedIn, ServesByEditions, all_entries, whole_book}
 use Rattle.mpm_run.specs.declared.run_numbers.RunNumbers.{RunNumbers}
@@ -104,28 +104,41 @@ refused-reopened : (o : Opening) (store : StoreSeen) (front : FrontSeen) (number
     → IsRefusedAs o number s reason → IsRefusedAs (reopened o store front) number s reason
 refused-reopened o store front number s refusal.Late same is = is
 refused-reopened o store front number s refusal.Absent same is =
-    subst (λ (told : Option StoreTold). IfSome told (λ (t : StoreTold). bytes_of o.name (renewed number t).files ≡ None)) (sym same) is
-refused-reopened o store front number s refusal.Conf same is =
-    subst (λ (told : Option StoreTold). IfSome told (λ (t : StoreTold). HasNoConfig (reopened o store front) (renewed number t))) (sym same)
-    (IfSome_then o.store.told is (λ t none. record { text = none.text; found = none.found; refused = none.refused }))
-refused-reopened o store front number s refusal.Site same is =
-    subst (λ (told : Option StoreTold). IfSome told (λ (t : StoreTold). HasNoSite (reopened o store front) (renewed number t))) (sym same)
-    (IfSome_then o.store.told is (λ t none. record {
-      config = none.config;
-      accepted = none.accepted;
-      fault = none.fault;
-      limit = none.limit;
-      lacks = none.lacks;
-    }))
-refused-reopened o store front number s refusal.Store same is = tt
+    (is.0, subst (λ (told : Option StoreTold). IfSome told (λ (t : StoreTold). bytes_of o.name (renewed number t).files ≡ None)) (sym same) is.1)
+refused-reopened o store front number s refusal.Conf same is = (
+  is.0,
+  subst (λ (told : Option StoreTold). IfSome told (λ (t : StoreTold). HasNoConfig (reopened o store front) (renewed number t))) (sym same)
+      (IfSome_then o.store.told is.1 (λ t none. record { text = none.text; found = none.found; refused = none.refused })),
+)
+refused-reopened o store front number s refusal.Site same is = (
+  is.0,
+  subst (λ (told : Option StoreTold). IfSome told (λ (t : StoreTold). HasNoSite (reopened o store front) (renewed number t))) (sym same)
+      (IfSome_then o.store.told is.1 (λ t none. record {
+        config = none.config;
+        accepted = none.accepted;
+        fault = none.fault;
+        limit = none.limit;
+        lacks = none.lacks;
+      })),
+)
+refused-reopened o store front number s refusal.Store same is = is
 refused-reopened o store front number s refusal.NoMemory same is = tt
 
 -- a command is done by the same
 done-reopened : (o : Opening) (store : StoreSeen) (front : FrontSeen) (orders edition : ℕ) (s : State) (c : Commanded) → store.told ≡ o.store.told
     → IsDoneBy o orders edition s c → IsDoneBy (reopened o store front) orders edition s c
-done-reopened o store front orders edition s (commanded.Graceful shape) same is =
-    subst (λ (c : Option (Option Configuration)). IfSome c (λ (x : Option Configuration). option_map shape_by x ≡ Some shape))
-    (sym (config-reopened o store front (orders + 1) same)) is
+done-reopened o store front orders edition s (commanded.Graceful shape) same is = (
+  subst (λ (c : Option (Option Configuration)). IfSome c (λ (x : Option Configuration). option_map shape_by x ≡ Some shape))
+      (sym (config-reopened o store front (orders + 1) same)) is.0,
+  subst (λ (told : Option StoreTold). IfSome told (λ (t : StoreTold). MakesSite (reopened o store front) (renewed (orders + 1) t))) (sym same)
+      (IfSome_then o.store.told is.1 (λ t made. record {
+        config = made.config;
+        accepted = made.accepted;
+        site = made.site;
+        makes = made.makes;
+        within = made.within;
+      })),
+)
 done-reopened o store front orders edition s (commanded.Refused reason) same is = refused-reopened o store front (orders + 1) s reason same is
 done-reopened o store front orders edition s (commanded.GracefulStop until) same is =
     subst (λ (c : Option (Option Configuration)). IfSome c (λ (x : Option Configuration). option_map (ending_by s.moment) x ≡ Some until))

@@ -32,7 +32,7 @@ use Rattle.mpm_run.specs.ListenInside.{Follows, HasNoneToHeed, OnlyTakes}
 use Rattle.mpm_run.specs.Orders.{AreOrdered, IsOrdered, edition_with, newest_edition, orders_with}
 use Rattle.mpm_run.specs.RoundInside.{StartsAsAsked}
 use Rattle.mpm_run.specs.Served.{all_entries, whole_book}
-use Rattle.mpm_run.specs.Standing.{DoesAllBut, HasTimeout, Standing, StandsBroken, StandsOn, StandsSo}
+use Rattle.mpm_run.specs.Standing.{DoesAllBut, HasDone, HasTimeout, LeavesLast, Standing, StandsBroken, StandsOn, StandsSo}
 use Rattle.mpm_run.specs.Stores.{IsRenewed, RisesBy, is_store_refusal}
 use Rattle.mpm_run.specs.declared.edition.NamedConfig.{NamedConfig}
 use Rattle.mpm_run.specs.declared.run_numbers.RunNumbers.{RunNumbers}
@@ -187,12 +187,23 @@ pub record SameLines (old new : FrontSeen) : Type 0 where
   pub told : TellsOn ReadsAlike old.told new.told
   pub commands : NeverFalls old.counts.commands new.counts.commands
 
+leaves-kept : (left : List CommandWord) (old new : List Entry) (t t' : FrontTold) → done_by new ≡ done_by old → ReadsAlike t t' → LeavesLast left old t
+    → LeavesLast left new t'
+leaves-kept [] old new t t' done alike last = tt
+leaves-kept (word ∷ left) old new t t' done alike last =
+    record { before = last.before; line = last.line; lines_are = alike.lines ∙ last.lines_are; done = last.done ∙ sym done }
+
 pub lines-kept : (left : List CommandWord) (old new : List Entry) (told told' : Option FrontTold) → done_by new ≡ done_by old → TellsOn ReadsAlike told told'
     → IfSome told (DoesAllBut left old) → IfSome told' (DoesAllBut left new)
 lines-kept left old new None told' done alike does = subst (λ (x : Option FrontTold). IfSome x (DoesAllBut left new)) (sym alike) tt
 lines-kept left old new (Some t) told' done alike does =
     subst (λ (x : Option FrontTold). IfSome x (DoesAllBut left new)) (sym alike.1)
-    (λ few. ap (asked_by false) alike.2.lines ∙ does (omega (arith, few, alike.2.read)) ∙ ap (λ (xs : List CommandWord). xs ++ left) (sym done))
+    (λ few.
+    let before : HasDone left old t = does (omega (arith, few, alike.2.read)) in
+    record {
+      does = ap (asked_by false) alike.2.lines ∙ before.does ∙ ap (λ (xs : List CommandWord). xs ++ left) (sym done);
+      last = leaves-kept left old new t alike.0 done alike.2 before.last;
+    })
 
 -- ## Counts
 

@@ -25,7 +25,7 @@ use Rattle.board.specs.declared.faults.BoardFault.{BoardFault}
 use Rattle.board.specs.Book.{SeenBook}
 use Rattle.mpm_run.specs.declared.listen.End.{End}
 use Rattle.mpm_run.specs.declared.listen.End.TheVariants as end
-use Rattle.mpm_run.specs.Commands.{DoesLines, done_by, done_in, is_by_line, is_graceful_stop}
+use Rattle.mpm_run.specs.Commands.{DoesLines, LacksLast, done_by, done_in, is_by_line, is_graceful_stop}
 use Rattle.mpm_run.specs.FirstNumbers.{opened_by}
 use Rattle.mpm_run.specs.Generations.{Opening}
 use Rattle.mpm_run.specs.ListenInside.{HandsOutEach, TurnsEnd, why_of}
@@ -147,11 +147,12 @@ IsLeft going left = (left ≡ []) ⊎ (IsBrokenOff going × (length left ≤ 1))
 lines-left : (going : Going) (left : List CommandWord) (old new : List Entry) (t : FrontTold) → IsLeft going left → done_by new ≡ done_by old
     → DoesAllBut left old t → DoesLines going new (hushed_front t)
 lines-left going left old new t (inl none) same does few =
-    inl (does few ∙ ap (λ (xs : List CommandWord). done_by old ++ xs) none ∙ append-nil (done_by old) ∙ sym same)
+    inl ((does few).does ∙ ap (λ (xs : List CommandWord). done_by old ++ xs) none ∙ append-nil (done_by old) ∙ sym same)
 lines-left going [] old new t (inr (broken, one)) same does few =
-    inl (does few ∙ append-nil (done_by old) ∙ sym same)
+    inl ((does few).does ∙ append-nil (done_by old) ∙ sym same)
 lines-left going (x ∷ []) old new t (inr (broken, one)) same does few =
-    inr (broken, (x, does few ∙ ap (λ (xs : List CommandWord). xs ++ x ∷ []) (sym same)))
+    let lacks : LacksLast old t = (does few).last in
+    inr (broken, record { before = lacks.before; line = lacks.line; lines_are = lacks.lines_are; done = lacks.done ∙ sym same })
 lines-left going (x ∷ y ∷ left) old new t (inr (broken, one)) same does few = absurd (omega (arith, one))
 
 lines-hushed : (going : Going) (left : List CommandWord) (old new : List Entry) (told told' : Option FrontTold) → told' ≡ option_map hushed_front told

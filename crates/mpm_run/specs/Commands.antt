@@ -75,13 +75,18 @@ done_in other = []
 abbrev pub done_by : List Entry → List CommandWord
 done_by history = flat_map (λ e. done_in e.event) history
 
+-- the history does what all lines ask for that were read but the last one
+pub record LacksLast (history : List Entry) (t : FrontTold) : Type 0 where
+  pub before : List (List ℕ)
+  pub line : List ℕ
+  pub lines_are : lines_read t ≡ before ++ line ∷ []
+  pub done : asked_by false before ≡ done_by history
+
 -- the history does what the lines ask for that were read, each once and in order; where the server stopped for want of memory the last
 -- one may not have been done
 abbrev pub DoesLines : Going → List Entry → FrontTold → Type 0
 DoesLines going history t =
-    t.read < greatest_count →
-    (asked_by false (lines_read t) ≡ done_by history)
-    ⊎ (IsBrokenOff going × ((last : CommandWord) × (asked_by false (lines_read t) ≡ done_by history ++ last ∷ [])))
+    t.read < greatest_count → (asked_by false (lines_read t) ≡ done_by history) ⊎ (IsBrokenOff going × LacksLast history t)
 
 -- the event is what a command line asks for
 abbrev pub is_by_line : Event → Bool

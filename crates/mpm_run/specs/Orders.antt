@@ -1,11 +1,12 @@
 -- What each command of a history was asked for, and by which edition it was done: a new generation has the shape of its configuration, a
 -- restart that was refused has its cause, and a graceful stop ends when the newest generation's configuration says.
-use Rattle.std.specs.Prelude.{◌≡◌, ◌⊎◌, ◌==◌, ℕ, ◌+◌, true, false, List, [], ◌∷◌, Option, None, Some, option_map, IfSome, Err, if◌then◌else◌, ⊤}
+use Rattle.std.specs.Prelude.{◌≡◌, ◌⊎◌, ◌==◌, ◌&&◌, ℕ, ◌+◌, Bool, nat_lt, true, false, List, [], ◌∷◌, Option, None, Some, option_map, IfSome, Err, if◌then◌else◌, ⊤}
 use Rattle.mpm_base.specs.Store.{StoreTold, bytes_of}
 use Rattle.mpm_base.specs.declared.shape.Shape.{Shape}
 use Rattle.mpm_config.specs.Config.{Configuration}
 use Rattle.mpm_config.specs.Shape.{shape_of_numbers}
-use Rattle.file_table.specs.Load.{MayLoad, is_limit}
+use Rattle.file_table.specs.Load.{IsWithinLimits, MayLoad, is_limit}
+use Rattle.file_table.specs.Site.{IsSiteOf, SeenSite}
 use Rattle.file_table.specs.declared.load_fault.LoadFault.{LoadFault}
 use Rattle.conn_machine.specs.declared.event.Commanded.{Commanded}
 use Rattle.conn_machine.specs.declared.event.Commanded.TheVariants as commanded
@@ -48,6 +49,18 @@ shape_by c = shape_of_numbers c.current
 abbrev pub HasShape : Opening → ℕ → Shape → Type 0
 HasShape o number shape = IfSome (config_at o number) (λ c. option_map shape_by c ≡ Some shape)
 
+-- by the configuration the files make a site that is within the limits of one
+pub record MakesSite (o : Opening) (t : StoreTold) : Type 0 where
+  pub config : Configuration
+  pub accepted : config_among o.config o.name t.files ≡ Some config
+  pub site : SeenSite
+  pub makes : IsSiteOf (order_of config) t.files site
+  pub within : IsWithinLimits site
+
+-- so do those of the edition of that number, where they are known
+abbrev pub HasSite : Opening → ℕ → Type 0
+HasSite o number = IfSome o.store.told (λ t. MakesSite o (renewed number t))
+
 -- ## A restart that was refused
 
 -- the configuration is there, and is too large or refused
@@ -64,14 +77,19 @@ pub record HasNoSite (o : Opening) (t : StoreTold) : Type 0 where
   pub limit : is_limit fault ≡ true
   pub lacks : MayLoad (order_of config) t.files (Err fault)
 
--- why a restart in the state is refused that asks for the edition of that number. How often the store failed is said beside; memory may
--- lack at any time
+-- a generation may begin in the state: the server takes connections, and there is a number for one
+abbrev pub may_begin : State → Bool
+may_begin s = is_serving s.going && nat_lt s.newest greatest_generation
+
+-- why a restart in the state is refused that asks for the edition of that number: where no generation may begin it is late, and nothing is
+-- read. How often the store failed is said beside; memory may lack at any time
 abbrev pub IsRefusedAs : Opening → ℕ → State → Refusal → Type 0
 IsRefusedAs o number s refusal.Late = (is_serving s.going ≡ false) ⊎ (s.newest ≡ greatest_generation)
-IsRefusedAs o number s refusal.Absent = IfSome o.store.told (λ t. bytes_of o.name (renewed number t).files ≡ None)
-IsRefusedAs o number s refusal.Conf = IfSome o.store.told (λ t. HasNoConfig o (renewed number t))
-IsRefusedAs o number s refusal.Site = IfSome o.store.told (λ t. HasNoSite o (renewed number t))
-IsRefusedAs o number s refusal.Store = ⊤
+IsRefusedAs o number s refusal.Absent =
+    (may_begin s ≡ true) × IfSome o.store.told (λ t. bytes_of o.name (renewed number t).files ≡ None)
+IsRefusedAs o number s refusal.Conf = (may_begin s ≡ true) × IfSome o.store.told (λ t. HasNoConfig o (renewed number t))
+IsRefusedAs o number s refusal.Site = (may_begin s ≡ true) × IfSome o.store.told (λ t. HasNoSite o (renewed number t))
+IsRefusedAs o number s refusal.Store = may_begin s ≡ true
 IsRefusedAs o number s refusal.NoMemory = ⊤
 
 -- ## A graceful stop
@@ -92,7 +110,7 @@ EndsUntil o edition s until = IfSome (config_at o edition) (λ c. option_map (en
 
 -- the command, behind so many orders, in the state, where the newest generation has that edition
 abbrev pub IsDoneBy : Opening → ℕ → ℕ → State → Commanded → Type 0
-IsDoneBy o orders edition s (commanded.Graceful shape) = HasShape o (orders + 1) shape
+IsDoneBy o orders edition s (commanded.Graceful shape) = HasShape o (orders + 1) shape × HasSite o (orders + 1)
 IsDoneBy o orders edition s (commanded.Refused reason) = IsRefusedAs o (orders + 1) s reason
 IsDoneBy o orders edition s (commanded.GracefulStop until) = EndsUntil o edition s until
 IsDoneBy o orders edition s (commanded.Stop why) = ⊤

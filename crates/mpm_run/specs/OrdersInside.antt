@@ -1,14 +1,12 @@
 -- What the listener keeps of its generations on its way, and what it does for a command line.
-use Rattle.std.specs.Prelude.{◌≡◌, ◌⊎◌, ◌&&◌, ℕ, ◌+◌, Bool, nat_lt, [], ◌∷◌, if◌then◌else◌, Option, None, Some}
+use Rattle.std.specs.Prelude.{◌≡◌, ◌⊎◌, ℕ, ◌+◌, Bool, [], ◌∷◌, if◌then◌else◌, Option, None, Some}
 use Rattle.mpm_base.specs.CommandWord.{command_word}
 use Rattle.mpm_base.specs.Front.{Commands, FrontSeen, after_hush}
 use Rattle.mpm_base.specs.Store.{StoreSeen, StoreTold}
 use Rattle.mpm_base.specs.declared.script_line.CommandWord.{CommandWord}
 use Rattle.conn_machine.specs.declared.event.Commanded.TheVariants.{Graceful, Refused}
 use Rattle.conn_machine.specs.declared.event.Event.TheVariants as event
-use Rattle.conn_machine.specs.declared.state.State.{State}
-use Rattle.conn_machine.specs.States.{is_serving}
-use Rattle.conn_machine.specs.Table.{greatest_generation, next}
+use Rattle.conn_machine.specs.Table.{next}
 use Rattle.conn_state.specs.Known.{KnownOutside}
 use Rattle.board.specs.Book.{SeenBook}
 use Rattle.board.specs.Editions.{IsOfGeneration, edition_of, orders_in}
@@ -56,10 +54,6 @@ abbrev pub known_outside : Opening → KnownOutside
 known_outside o = record { clients = clients_told o.front.told; edition = known_edition o }
 
 -- ## A command line
-
--- a generation may begin: the server takes connections, and there is a number for one
-abbrev pub may_begin : State → Bool
-may_begin s = is_serving s.going && nat_lt s.newest greatest_generation
 
 -- a generation began by the plan, with the number of its order as that of its edition, and connections are served by the plan from then on
 pub record Begins (plan : Plan) (old new : SeenBook) (e : Edition) : Type 0 where

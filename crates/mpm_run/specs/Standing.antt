@@ -1,6 +1,6 @@
 -- Where a run stands on its way, of all that it did, the entries that were folded among it: what its orders, its command lines and its store
 -- are to that.
-use Rattle.std.specs.Prelude.{◌≡◌, ℕ, ◌<◌, ◌≤◌, ◌+◌, false, not, List, [], ◌++◌, length, Option, None, Some, option_map, IfSome, Result, Ok, Err}
+use Rattle.std.specs.Prelude.{◌≡◌, ℕ, ◌<◌, ◌≤◌, ◌+◌, false, not, List, [], ◌∷◌, ◌++◌, length, Option, None, Some, option_map, IfSome, Result, Ok, Err, ⊤}
 use Rattle.std.specs.List.{list_any}
 use Rattle.mpm_base.specs.Count.{greatest_count}
 use Rattle.mpm_base.specs.Front.{FrontSeen, FrontTold}
@@ -14,7 +14,7 @@ use Rattle.conn_state.specs.Known.{KnownEdition, KnownOutside}
 use Rattle.board.specs.Board.{EndedOfOutside}
 use Rattle.board.specs.declared.faults.BoardFault.{BoardFault}
 use Rattle.board.specs.Book.{SeenBook}
-use Rattle.mpm_run.specs.Commands.{DoesLines, asked_by, done_by, is_by_line, is_graceful_stop, lines_read}
+use Rattle.mpm_run.specs.Commands.{DoesLines, LacksLast, asked_by, done_by, is_by_line, is_graceful_stop, lines_read}
 use Rattle.mpm_run.specs.FirstNumbers.{opened_by}
 use Rattle.mpm_run.specs.Generations.{Opening, config_at, made_edition, renewed}
 use Rattle.mpm_run.specs.Listen.{HasFolded}
@@ -53,9 +53,19 @@ pub record Standing : Type 0 where
 abbrev pub HasTimeout : Opening → ℕ → ℕ → Type 0
 HasTimeout o edition stop_ms = IfSome (config_at o edition) (λ c. option_map (λ c. c.current.stop_ms) c ≡ Some stop_ms)
 
+-- what is left is what the last line asks for
+abbrev pub LeavesLast : List CommandWord → List Entry → FrontTold → Type 0
+LeavesLast [] history t = ⊤
+LeavesLast (word ∷ left) history t = LacksLast history t
+
 -- the history does what the lines ask for that were read, and of these words nothing yet
+pub record HasDone (left : List CommandWord) (history : List Entry) (t : FrontTold) : Type 0 where
+  pub does : asked_by false (lines_read t) ≡ done_by history ++ left
+  pub last : LeavesLast left history t
+
+-- the same, while fewer lines were read than the greatest count
 abbrev pub DoesAllBut : List CommandWord → List Entry → FrontTold → Type 0
-DoesAllBut left history t = t.read < greatest_count → asked_by false (lines_read t) ≡ done_by history ++ left
+DoesAllBut left history t = t.read < greatest_count → HasDone left history t
 
 -- a graceful stop was begun in the history exactly where the server takes no connections any more
 abbrev pub EndsAsBegun : List Entry → SeenBook → Type 0

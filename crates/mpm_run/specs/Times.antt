@@ -156,7 +156,7 @@ pub record IsInformedOfTime (waits : Option (List WaitTold)) (calls : Option (Li
   pub ticks : IfSome calls (λ calls. TicksAre calls b)
   pub signals : IfSome waits (λ waits. SignalsBegin waits b)
 
--- the time of a graceful stop was over, so that nothing was signalled any more of what the last wait gave
+-- the time of a graceful stop was over
 abbrev pub IsOverdue : Going → Type 0
 IsOverdue going = going ≡ Halted why.Overdue
 

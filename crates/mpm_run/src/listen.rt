@@ -83,7 +83,7 @@ impl End {
 /// What the next wait of the front is told.
 #[derive(Clone, Copy, Debug, PartialEq, Eq)]
 pub struct Rest {
-    /// The least deadline of a connection that waits.
+    /// The least deadline of a connection that waits, or of a graceful stop.
     pub until: Option<Moment>,
     /// Whether no connection is in hand or waits for service, so that time may pass.
     pub quiet: bool,

@@ -125,7 +125,7 @@ impl<'a, 'c, L: Link + Send, N: Known, B: Bell, G: Gate> Listener<'a, 'c, L, N, 
 
     /// Whether a generation may begin: the server takes connections, and there is a number for one.
     fn may_begin(&self) -> bool
-        ensures may { result ≡ inside.may_begin self.now.board.book.state }
+        ensures may { result ≡ spec.may_begin self.now.board.book.state }
         ensures in_range { self.now.board.book.state.newest ≤ greatest_generation }
     {
         let state = self.board.state();
@@ -137,7 +137,7 @@ impl<'a, 'c, L: Link + Send, N: Known, B: Bell, G: Gate> Listener<'a, 'c, L, N, 
     fn begin(&mut self, plan: Plan) -> Result<(), BoardFault>
         requires passes { 0 < self.old.board.book.passes }
         requires free { row_in 0 self.old.board.book ≡ None }
-        requires may { inside.may_begin self.old.board.book.state ≡ true }
+        requires may { spec.may_begin self.old.board.book.state ≡ true }
         ensures carries { OnOk result (Carries plan self.old.board.book self.new.board.book self.old.edition self.new.edition) }
         ensures same { OnErr result (self.new ≡ self.old) }
         ensures others { self.new ≡ record self.old { board = self.new.board; edition = self.new.edition } }

@@ -18,9 +18,9 @@ pub struct Scripted {
     pub front: ScriptFront,
     /// The clock of the run.
     pub clock: ScriptClock,
-    /// The site of the script, at the edition at which the run left it.
+    /// The store of the script, at the edition at which the run left it.
     pub store: PlainStore,
-    /// The configuration by which the run worked.
+    /// The configuration by which the run opened.
     pub config: Config,
 }
 

@@ -99,7 +99,7 @@ returns-in-Err-clause-stands g c =
     (ap (λ (l : _). l.edition.stop_ms) c.refuse-in-Err.ensures.others)
     (cause-as c.histories_join.ensures.state g.N.Known.known c.args.self.now.config c.args.self.now.edition.stop_ms (g.D.Store.seen c.args.store.now)
     (g.D.Store.seen c.reload.new.store) c.args.self.now.board.book c.refuse-in-Err.new.self.board.book c.in-Err.fault c.reason_for.result
-    c.reason_for.ensures refuses c.show.ensures.after c.in-Err.ensures.store
+    c.reason_for.ensures refuses (sym c.may_begin.ensures.may ∙ c.if-not-may_begin.false) c.show.ensures.after c.in-Err.ensures.store
     c.in-Err.ensures.answer))
     c.refuse-in-Err.ensures.refuses
 
