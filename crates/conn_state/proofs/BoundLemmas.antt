@@ -12,10 +12,11 @@ use Rattle.std.proofs.lemmas.List.Sums.{sum_by-cons}
 use Rattle.httparse.specs.Ascii.{crlf_bytes}
 use Rattle.httparse.specs.Grammar.{print_chunk_line}
 use Rattle.httparse.specs.Spans.{name_and_value}
+use Rattle.mpm_base.specs.LetterCase.{is_same_ignoring_case}
 use Rattle.http_read.specs.declared.request.BodyKind.{BodyKind}
 use Rattle.http_read.specs.declared.request.BodyKind.TheVariants as kind
 use Rattle.http_read.specs.declared.request.Limits.{Limits}
-use Rattle.http_read.specs.FieldValues.{is_same_token, values_named, words_of_all, ends_in_word}
+use Rattle.http_read.specs.FieldValues.{values_named, words_of_all, ends_in_word}
 use Rattle.http_read.specs.HeadRules.{unless_refused, host_in, length_of, sized_body, coded_body, transfer_body, body_of, expects_of, said_by}
 use Rattle.http_read.specs.RequestParts.{RequestParts}
 use Rattle.http_read.specs.ChunkLines.{Chunk, IsChunk, print_chunk, print_chunks, content_len, AreChunks}
@@ -70,7 +71,7 @@ coded-small codings = either-ok IsSmallBody (ends_in_word (codes "chunked") (wor
 transfer-small : (codings : List (List ℕ)) → HasSmallBody (transfer_body codings)
 transfer-small [] = coded-small []
 transfer-small (value ∷ []) =
-    either-ok IsSmallBody (is_same_token value (codes "chunked")) (Ok kind.Chunked) (coded_body (value ∷ [])) tt (coded-small (value ∷ []))
+    either-ok IsSmallBody (is_same_ignoring_case value (codes "chunked")) (Ok kind.Chunked) (coded_body (value ∷ [])) tt (coded-small (value ∷ []))
 transfer-small (value ∷ (other ∷ values)) = coded-small (value ∷ (other ∷ values))
 
 -- a body

@@ -4,10 +4,11 @@ use Rattle.std.specs.List.{list_all}
 use Rattle.std.specs.Char.{is_ascii_digit}
 use Rattle.std.specs.Str.Parse.{digits_value}
 use Rattle.httparse.specs.Spans.{name_and_value}
+use Rattle.mpm_base.specs.LetterCase.{is_same_ignoring_case}
 use Rattle.http_read.specs.declared.request.BodyKind.{BodyKind}
 use Rattle.http_read.specs.declared.request.BodyKind.TheVariants as kind
 use Rattle.http_read.specs.declared.request.Limits.{Limits}
-use Rattle.http_read.specs.FieldValues.{is_same_token, values_named, words_of_all, ends_in_word}
+use Rattle.http_read.specs.FieldValues.{values_named, words_of_all, ends_in_word}
 use Rattle.http_read.specs.HeadRules.{unless_refused, is_authority_byte, host_in, length_of, sized_body, coded_body, transfer_body, body_of, has_content, expectation, expects_of, said_by}
 use Rattle.http_read.specs.FieldLimit.{has_long_field}
 use Rattle.http_read.specs.Head.{IsRefusal}
@@ -55,7 +56,7 @@ coded-code codings = either-code (ends_in_word (codes "chunked") (words_of_all c
 -- a body by its codings
 transfer-code : (codings : List (List ℕ)) → HasCode (transfer_body codings)
 transfer-code [] = coded-code []
-transfer-code (value ∷ []) = either-code (is_same_token value (codes "chunked")) (Ok kind.Chunked) (coded_body (value ∷ [])) tt (coded-code (value ∷ []))
+transfer-code (value ∷ []) = either-code (is_same_ignoring_case value (codes "chunked")) (Ok kind.Chunked) (coded_body (value ∷ [])) tt (coded-code (value ∷ []))
 transfer-code (value ∷ (other ∷ values)) = coded-code (value ∷ (other ∷ values))
 
 -- a body
@@ -67,7 +68,7 @@ body-code minor (coding ∷ codings) lengths =
 -- Expect of HTTP/1.1
 expectation-code : (body : BodyKind) (values : List (List ℕ)) → HasCode (expectation body values)
 expectation-code body [] = tt
-expectation-code body (value ∷ []) = either-code (is_same_token value (codes "100-continue")) (Ok (has_content body)) (Err 417) tt refl
+expectation-code body (value ∷ []) = either-code (is_same_ignoring_case value (codes "100-continue")) (Ok (has_content body)) (Err 417) tt refl
 expectation-code body (value ∷ (other ∷ values)) = refl
 
 -- Expect

@@ -5,21 +5,22 @@ use Rattle.std.proofs.lemmas.List.Folds.{list_any-append}
 use Rattle.std.proofs.lemmas.Grind.{flat_map-append}
 use Rattle.httparse.specs.declared.spans.Span.{Span}
 use Rattle.httparse.specs.Spans.{span_bytes, IsWithin}
+use Rattle.mpm_base.specs.LetterCase.{is_same_ignoring_case}
 use Rattle.http_read.specs.declared.request_fields.Values.TheVariants as values
-use Rattle.http_read.specs.FieldValues.{is_same_token, values_named, words_of, words_of_all, has_word, ends_in_word}
+use Rattle.http_read.specs.FieldValues.{values_named, words_of, words_of_all, has_word, ends_in_word}
 use Rattle.http_read.specs.ValuesInside.{AreValues}
 use Rattle.http_read.specs.WordsInside.{last_word_is}
 use Rattle.http_read.proofs.WordLemmas.{last_word-append, last_word-last}
 
-values_push : (name : List ℕ) (fields : List (List ℕ × List ℕ)) (f : List ℕ × List ℕ) → values_named name (fields ++ f ∷ []) ≡ values_named name fields ++ cond (is_same_token f.0 name) (f.1 ∷ []) []
+values_push : (name : List ℕ) (fields : List (List ℕ × List ℕ)) (f : List ℕ × List ℕ) → values_named name (fields ++ f ∷ []) ≡ values_named name fields ++ cond (is_same_ignoring_case f.0 name) (f.1 ∷ []) []
 values_push name fields f =
-    flat_map-append (λ x. cond (is_same_token x.0 name) (x.1 ∷ []) []) fields (f ∷ [])
-    ∙ ap (λ l. values_named name fields ++ l) (append-nil (cond (is_same_token f.0 name) (f.1 ∷ []) []))
+    flat_map-append (λ x. cond (is_same_ignoring_case x.0 name) (x.1 ∷ []) []) fields (f ∷ [])
+    ∙ ap (λ l. values_named name fields ++ l) (append-nil (cond (is_same_ignoring_case f.0 name) (f.1 ∷ []) []))
 
-pub values_more : (name : List ℕ) (fields : List (List ℕ × List ℕ)) (f : List ℕ × List ℕ) → is_same_token f.0 name ≡ true → values_named name (fields ++ f ∷ []) ≡ values_named name fields ++ f.1 ∷ []
+pub values_more : (name : List ℕ) (fields : List (List ℕ × List ℕ)) (f : List ℕ × List ℕ) → is_same_ignoring_case f.0 name ≡ true → values_named name (fields ++ f ∷ []) ≡ values_named name fields ++ f.1 ∷ []
 values_more name fields f e = values_push name fields f ∙ ap (λ l. values_named name fields ++ l) (ap (λ t. cond t (f.1 ∷ []) []) e)
 
-pub values_other : (name : List ℕ) (fields : List (List ℕ × List ℕ)) (f : List ℕ × List ℕ) → is_same_token f.0 name ≡ false → values_named name (fields ++ f ∷ []) ≡ values_named name fields
+pub values_other : (name : List ℕ) (fields : List (List ℕ × List ℕ)) (f : List ℕ × List ℕ) → is_same_ignoring_case f.0 name ≡ false → values_named name (fields ++ f ∷ []) ≡ values_named name fields
 values_other name fields f e =
     values_push name fields f
     ∙ ap (λ l. values_named name fields ++ l) (ap (λ t. cond t (f.1 ∷ []) []) e)
@@ -28,15 +29,15 @@ values_other name fields f e =
 words_push : (vs : List (List ℕ)) (v : List ℕ) → words_of_all (vs ++ v ∷ []) ≡ words_of_all vs ++ words_of v
 words_push vs v = flat_map-append words_of vs (v ∷ []) ∙ ap (λ l. words_of_all vs ++ l) (append-nil (words_of v))
 
-pub words_more : (name : List ℕ) (fields : List (List ℕ × List ℕ)) (f : List ℕ × List ℕ) → is_same_token f.0 name ≡ true → words_of_all (values_named name (fields ++ f ∷ [])) ≡ words_of_all (values_named name fields) ++ words_of f.1
+pub words_more : (name : List ℕ) (fields : List (List ℕ × List ℕ)) (f : List ℕ × List ℕ) → is_same_ignoring_case f.0 name ≡ true → words_of_all (values_named name (fields ++ f ∷ [])) ≡ words_of_all (values_named name fields) ++ words_of f.1
 words_more name fields f e = ap words_of_all (values_more name fields f e) ∙ words_push (values_named name fields) f.1
 
-pub has_word_more : (name word : List ℕ) (fields : List (List ℕ × List ℕ)) (f : List ℕ × List ℕ) → is_same_token f.0 name ≡ true → has_word word (words_of_all (values_named name (fields ++ f ∷ []))) ≡ (has_word word (words_of_all (values_named name fields)) || has_word word (words_of f.1))
+pub has_word_more : (name word : List ℕ) (fields : List (List ℕ × List ℕ)) (f : List ℕ × List ℕ) → is_same_ignoring_case f.0 name ≡ true → has_word word (words_of_all (values_named name (fields ++ f ∷ []))) ≡ (has_word word (words_of_all (values_named name fields)) || has_word word (words_of f.1))
 has_word_more name word fields f e =
     ap (has_word word) (words_more name fields f e)
-    ∙ list_any-append (λ other. is_same_token other word) (words_of_all (values_named name fields)) (words_of f.1)
+    ∙ list_any-append (λ other. is_same_ignoring_case other word) (words_of_all (values_named name fields)) (words_of f.1)
 
-pub last_word_more : (name word : List ℕ) (fields : List (List ℕ × List ℕ)) (f : List ℕ × List ℕ) (last : Bool) → is_same_token f.0 name ≡ true → last ≡ last_word_is word false (words_of_all (values_named name fields)) → last_word_is word last (words_of f.1) ≡ last_word_is word false (words_of_all (values_named name (fields ++ f ∷ [])))
+pub last_word_more : (name word : List ℕ) (fields : List (List ℕ × List ℕ)) (f : List ℕ × List ℕ) (last : Bool) → is_same_ignoring_case f.0 name ≡ true → last ≡ last_word_is word false (words_of_all (values_named name fields)) → last_word_is word last (words_of f.1) ≡ last_word_is word false (words_of_all (values_named name (fields ++ f ∷ [])))
 last_word_more name word fields f last e is =
     ap (λ t. last_word_is word t (words_of f.1)) is
     ∙ sym (last_word-append word false (words_of_all (values_named name fields)) (words_of f.1))
@@ -48,7 +49,7 @@ last_word_of_all [] words some = absurd (omega (arith, some))
 last_word_of_all (b ∷ bs) [] some = refl
 last_word_of_all (b ∷ bs) (found ∷ words) some =
     let place : length words ≡ length (found ∷ words) - 1 = omega arith in
-    last_word-last (b ∷ bs) found words false ∙ ap (λ n. is_same_token (get_or (found ∷ words) n []) (b ∷ bs)) place
+    last_word-last (b ∷ bs) found words false ∙ ap (λ n. is_same_ignoring_case (get_or (found ∷ words) n []) (b ∷ bs)) place
 
 pub value_added : (head : List ℕ) (vs : List (List ℕ)) (span : Span) → AreValues head vs values.Absent → IsWithin (length head) span → AreValues head (vs ++ span_bytes head span ∷ []) (values.One span)
 value_added head vs span none within = (ap (λ l. l ++ span_bytes head span ∷ []) none, within)

@@ -3,7 +3,8 @@ use Rattle.std.proofs.Common.{◌≡◌, ◌≢◌, ℕ, zero, suc, ◌<◌, Boo
 use Rattle.std.specs.List.{onto_first, filter}
 use Rattle.std.proofs.lemmas.Bool.{eq-eqb, ne_eqb, lt-ltb, le-ltb}
 use Rattle.httparse.specs.Grammar.{trim_ows}
-use Rattle.http_read.specs.FieldValues.{is_same_token, words_of}
+use Rattle.mpm_base.specs.LetterCase.{is_same_ignoring_case}
+use Rattle.http_read.specs.FieldValues.{words_of}
 use Rattle.http_read.specs.WordsInside.{parts_of, last_word_is}
 
 -- the first part ends at the first comma
@@ -37,9 +38,9 @@ words_missing value part parts e none =
 -- the flag of the last word, over further words
 pub last_word-append : (word : List ℕ) (before : Bool) (words more : List (List ℕ)) → last_word_is word before (words ++ more) ≡ last_word_is word (last_word_is word before words) more
 last_word-append word before [] more = refl
-last_word-append word before (found ∷ words) more = last_word-append word (is_same_token found word) words more
+last_word-append word before (found ∷ words) more = last_word-append word (is_same_ignoring_case found word) words more
 
 -- where no word is empty, the flag is that of the last one
-pub last_word-last : (word found : List ℕ) (words : List (List ℕ)) (before : Bool) → last_word_is word before (found ∷ words) ≡ is_same_token (get_or (found ∷ words) (length words) []) word
+pub last_word-last : (word found : List ℕ) (words : List (List ℕ)) (before : Bool) → last_word_is word before (found ∷ words) ≡ is_same_ignoring_case (get_or (found ∷ words) (length words) []) word
 last_word-last word found [] before = refl
-last_word-last word found (next ∷ words) before = last_word-last word next words (is_same_token found word)
+last_word-last word found (next ∷ words) before = last_word-last word next words (is_same_ignoring_case found word)

@@ -7,6 +7,7 @@ use Rattle.http_read.specs.declared.request.BodyKind.{BodyKind}
 use Rattle.http_read.specs.declared.request.BodyKind.TheVariants as kind
 use Rattle.http_read.specs.ChunkLines.{IsShortLine, Chunk, print_chunks, content_len, AreChunks, IsChunkLineBegun, BreaksChunkLine}
 use Rattle.http_read.specs.TrailerLines.{IsTrailer, print_trailers, AreTrailers, IsTrailerBegun, IsTrailerTooLong}
+use Rattle.http_read.specs.Sizes.{greatest_body, most_trailers}
 
 -- the chunks and the line of the last chunk, which says 0
 pub record IsChunkedData (bytes : List ℕ) : Type 0 where
@@ -17,7 +18,7 @@ pub record IsChunkedData (bytes : List ℕ) : Type 0 where
   pub zero : chunk_size last ≡ 0
   pub printed : bytes ≡ print_chunks chunks ++ print_chunk_line last
 
--- a chunked body: the chunks, at most 100 trailer lines, and an empty line (CRLF or LF)
+-- a chunked body: the chunks, few enough trailer lines, and an empty line (CRLF or LF)
 pub record IsChunkedBody (bytes : List ℕ) : Type 0 where
   pub before : List ℕ
   pub trailers : List (List ℕ)
@@ -75,7 +76,7 @@ IsBodyFront kind.Nothing bytes line = ⊥
 IsBodyFront (kind.Length n) bytes line = (length bytes < n) × (line ≡ [])
 IsBodyFront kind.Chunked bytes line = IsChunkedFront bytes line
 
--- no chunk line of at most 1,024 bytes can come where one is due: 400
+-- no chunk line that is short enough can come where one is due: 400
 pub record BreaksAtLine (bytes : List ℕ) (code : ℕ) : Type 0 where
   pub chunks : List Chunk
   pub rest : List ℕ
@@ -84,14 +85,14 @@ pub record BreaksAtLine (bytes : List ℕ) (code : ℕ) : Type 0 where
   pub printed : bytes ≡ print_chunks chunks ++ rest
   pub code_is : code ≡ 400
 
--- the sizes add up to more than 1,073,741,824: 413
+-- the sizes add up to more than the greatest size of a body: 413
 pub record BreaksAtSum (bytes : List ℕ) (code : ℕ) : Type 0 where
   pub chunks : List Chunk
   pub line : ChunkLine
   pub rest : List ℕ
   pub are_chunks : AreChunks chunks
   pub is_line : IsShortLine line
-  pub above : 1073741824 < content_len chunks + chunk_size line
+  pub above : greatest_body < content_len chunks + chunk_size line
   pub printed : bytes ≡ print_chunks chunks ++ (print_chunk_line line ++ rest)
   pub code_is : code ≡ 413
 
@@ -105,13 +106,13 @@ pub record BreaksAtChunkEnd (bytes : List ℕ) (code : ℕ) : Type 0 where
   pub printed : bytes ≡ print_chunks chunks ++ (print_chunk_line chunk.line ++ (chunk.content ++ rest))
   pub code_is : code ≡ 400
 
--- a trailer line is too long, or is the 101st: 400
+-- a trailer line is too long, or is one too many: 400
 pub record BreaksAtTrailer (bytes : List ℕ) (code : ℕ) : Type 0 where
   pub before : List ℕ
   pub trailers : List (List ℕ)
   pub rest : List ℕ
   pub is_data : IsChunkedData before
-  pub breaks : (AreTrailers trailers × IsTrailerTooLong rest) ⊎ ((length trailers ≡ 101) × All IsTrailer trailers)
+  pub breaks : (AreTrailers trailers × IsTrailerTooLong rest) ⊎ ((length trailers ≡ most_trailers + 1) × All IsTrailer trailers)
   pub printed : bytes ≡ before ++ (print_trailers trailers ++ rest)
   pub code_is : code ≡ 400
 

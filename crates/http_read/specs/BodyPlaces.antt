@@ -16,6 +16,7 @@ use Rattle.http_read.specs.declared.chunk_line.ChunkLinePart.TheVariants.{Digits
 use Rattle.http_read.specs.declared.chunk_line.ChunkLineFront.{ChunkLineFront}
 use Rattle.http_read.specs.declared.chunked.ChunkedPlace.{ChunkedPlace}
 use Rattle.http_read.specs.declared.chunked.ChunkedPlace.TheVariants.{Line, Data, DataLineFeed, Trailer, LastLineFeed}
+use Rattle.http_read.specs.Sizes.{greatest_body, greatest_chunk_line}
 
 -- how many bytes of a line that isn't whole were looked at, in a chunked body
 abbrev pub chunked_begun_len : ChunkedPlace → ℕ
@@ -50,7 +51,7 @@ EndsInPart CarriageReturn bytes size = (extension : Option (List ℕ)) × IsExte
 -- the bytes are that front of a chunk line
 pub record IsChunkLineFront (bytes : List ℕ) (f : ChunkLineFront) : Type 0 where
   pub len : f.len ≡ length bytes
-  pub short : length bytes < 1024
+  pub short : length bytes < greatest_chunk_line
   pub ends : EndsInPart f.part bytes f.size
 
 -- chunks, and the front of a chunk line
@@ -72,7 +73,7 @@ pub record StandsInData (bytes : List ℕ) (sum left : ℕ) : Type 0 where
   pub some : 0 < chunk_size line
   pub size : length here + left ≡ chunk_size line
   pub sum_is : sum ≡ content_len chunks + chunk_size line
-  pub fits : sum ≤ 1073741824
+  pub fits : sum ≤ greatest_body
   pub printed : bytes ≡ print_chunks chunks ++ (print_chunk_line line ++ here)
 
 -- chunks, the last of them without its line feed

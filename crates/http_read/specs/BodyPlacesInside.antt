@@ -7,6 +7,7 @@ use Rattle.http_read.specs.declared.chunk_line.ChunkLinePart.TheVariants.{Digits
 use Rattle.http_read.specs.declared.chunk_line.ChunkLineFront.{ChunkLineFront}
 use Rattle.http_read.specs.declared.chunked.ChunkedPlace.{ChunkedPlace}
 use Rattle.http_read.specs.declared.chunked.ChunkedPlace.TheVariants.{Line, Data, DataLineFeed, Trailer, LastLineFeed}
+use Rattle.http_read.specs.Sizes.{greatest_body, greatest_chunk_line, greatest_trailer, most_trailers}
 
 -- a size of so many digits is below that power of 16
 abbrev pub IsSmallSize : ChunkLinePart → ℕ → ℕ → Type 0
@@ -15,18 +16,18 @@ IsSmallSize Pad len size = ⊤
 IsSmallSize Extension len size = ⊤
 IsSmallSize CarriageReturn len size = ⊤
 
--- the front of a chunk line is shorter than 1,024 bytes
+-- the front of a chunk line is shorter than a chunk line may be
 pub record IsSmallFront (f : ChunkLineFront) : Type 0 where
-  pub len : f.len < 1024
+  pub len : f.len < greatest_chunk_line
   pub size : IsSmallSize f.part f.len f.size
 
 -- the counts of a place in a chunked body stay within their limits
 abbrev pub IsSmallChunked : ChunkedPlace → Type 0
-IsSmallChunked (Line sum f) = (sum ≤ 1073741824) × IsSmallFront f
-IsSmallChunked (Data sum left) = sum ≤ 1073741824
-IsSmallChunked (DataLineFeed sum) = sum ≤ 1073741824
-IsSmallChunked (Trailer count len) = (count ≤ 100) × (len < 8190)
-IsSmallChunked (LastLineFeed count) = count ≤ 100
+IsSmallChunked (Line sum f) = (sum ≤ greatest_body) × IsSmallFront f
+IsSmallChunked (Data sum left) = sum ≤ greatest_body
+IsSmallChunked (DataLineFeed sum) = sum ≤ greatest_body
+IsSmallChunked (Trailer count len) = (count ≤ most_trailers) × (len < greatest_trailer)
+IsSmallChunked (LastLineFeed count) = count ≤ most_trailers
 
 -- the counts of a place stay within their limits
 abbrev pub IsSmallPlace : BodyPlace → Type 0

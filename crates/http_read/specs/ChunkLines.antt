@@ -3,11 +3,12 @@ use Rattle.std.specs.Prelude.{◌≡◌, ℕ, ◌<◌, ◌≤◌, ◌⊎◌, Lis
 use Rattle.std.specs.List.{flat_map}
 use Rattle.httparse.specs.Ascii.{crlf_bytes}
 use Rattle.httparse.specs.Grammar.{ChunkLine, IsChunkLine, print_chunk_line, chunk_size, HasNoChunkLine, NeverHasChunkLine, MayBecomeChunkLine}
+use Rattle.http_read.specs.Sizes.{greatest_body, greatest_chunk_line}
 
--- a chunk line of at most 1,024 bytes with its line end
+-- a chunk line that is short enough with its line end
 pub record IsShortLine (l : ChunkLine) : Type 0 where
   pub line : IsChunkLine l
-  pub short : length (print_chunk_line l) ≤ 1024
+  pub short : length (print_chunk_line l) ≤ greatest_chunk_line
 
 -- a chunk: its line and its data
 pub record Chunk : Type 0 where
@@ -32,17 +33,19 @@ print_chunks chunks = flat_map print_chunk chunks
 abbrev pub content_len : List Chunk → ℕ
 content_len chunks = sum_by (λ (c : Chunk). length c.content) chunks
 
--- chunks with at most 1,073,741,824 bytes of data
+-- chunks whose data is no more than a body may have
 pub record AreChunks (chunks : List Chunk) : Type 0 where
   pub each : All IsChunk chunks
-  pub sum : content_len chunks ≤ 1073741824
+  pub sum : content_len chunks ≤ greatest_body
 
--- a chunk line that isn't whole: its end may still come, and fewer than 1,024 bytes of it are there
+-- a chunk line that isn't whole: its end may still come, and it is shorter than a chunk line may be
 pub record IsChunkLineBegun (bytes : List ℕ) : Type 0 where
   pub unfinished : MayBecomeChunkLine bytes
   pub no_line : HasNoChunkLine bytes
-  pub short : length bytes < 1024
+  pub short : length bytes < greatest_chunk_line
 
--- a chunk line can't come of the bytes, or 1,024 bytes of it are there without its end
+-- a chunk line can't come of the bytes, or as many bytes of it as may be are there without its end
 abbrev pub BreaksChunkLine : List ℕ → Type 0
-BreaksChunkLine bytes = NeverHasChunkLine bytes ⊎ ((1024 ≤ length bytes) × HasNoChunkLine (take 1024 bytes))
+BreaksChunkLine bytes =
+    NeverHasChunkLine bytes
+    ⊎ ((greatest_chunk_line ≤ length bytes) × HasNoChunkLine (take greatest_chunk_line bytes))

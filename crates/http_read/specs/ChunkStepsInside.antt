@@ -12,6 +12,7 @@ use Rattle.http_read.specs.declared.chunked.ChunkedMove.{ChunkedMove}
 use Rattle.http_read.specs.declared.chunked.ChunkedMove.TheVariants.{On, Done, Bad}
 use Rattle.http_read.specs.BodyPlaces.{chunked_begun_len}
 use Rattle.http_read.specs.BodyPlacesInside.{IsSmallFront, IsSmallChunked}
+use Rattle.http_read.specs.Sizes.{greatest_body, greatest_chunk_line, greatest_trailer, most_trailers}
 
 -- nothing of a chunk line
 abbrev pub first_front : ChunkLineFront
@@ -21,9 +22,10 @@ first_front = record { len = 0; size = 0; part = Digits }
 abbrev pub first_place : ChunkedPlace
 first_place = Line 0 first_front
 
--- the front with one more byte, while it is shorter than 1,024
+-- the front with one more byte, while it is shorter than a chunk line may be
 abbrev pub longer : ChunkLineFront → ℕ → ChunkLinePart → ChunkLineMove
-longer f size part = if nat_lt (f.len + 1) 1024 then Front (record { len = f.len + 1; size = size; part = part }) else Broken
+longer f size part =
+    if nat_lt (f.len + 1) greatest_chunk_line then Front (record { len = f.len + 1; size = size; part = part }) else Broken
 
 -- a byte behind the digits and the padding
 abbrev pub pad_step : ChunkLineFront → ℕ → ChunkLineMove
@@ -51,16 +53,21 @@ line_step f b = part_step f.part f b
 -- what becomes of the body by a byte of a chunk line, where the chunks before it have so many bytes
 abbrev pub behind_line : ℕ → ChunkLineMove → ChunkedMove
 behind_line sum (Front f) = On (Line sum f)
-behind_line sum (Whole size) = if size == 0 then On (Trailer 0 0) else if nat_lt (1073741824 - sum) size then Bad 413 else On (Data (sum + size) size)
+behind_line sum (Whole size) =
+    if size == 0 then On (Trailer 0 0)
+    else if nat_lt (greatest_body - sum) size then Bad 413 else On (Data (sum + size) size)
 behind_line sum Broken = Bad 400
 
 -- one more trailer line
 abbrev pub behind_trailer : ℕ → ChunkedMove
-behind_trailer count = if nat_lt count 100 then On (Trailer (count + 1) 0) else Bad 400
+behind_trailer count = if nat_lt count most_trailers then On (Trailer (count + 1) 0) else Bad 400
 
 -- a byte of a line behind the last chunk
 abbrev pub trailer_step : ℕ → ℕ → ℕ → ChunkedMove
-trailer_step count len b = if b == 10 then (if len == 0 then Done else behind_trailer count) else if len == 0 && b == 13 then On (LastLineFeed count) else if nat_lt (len + 1) 8190 then On (Trailer count (len + 1)) else Bad 400
+trailer_step count len b =
+    if b == 10 then (if len == 0 then Done else behind_trailer count)
+    else if len == 0 && b == 13 then On (LastLineFeed count)
+    else if nat_lt (len + 1) greatest_trailer then On (Trailer count (len + 1)) else Bad 400
 
 -- a byte of a chunked body
 abbrev pub chunked_step : ChunkedPlace → ℕ → ChunkedMove

@@ -1,4 +1,4 @@
--- What a reader of heads finds in the bytes that it looks at, at most 65,537.
+-- What a reader of heads finds in the bytes that it looks at: at most one more than a head may have.
 use Rattle.std.specs.Prelude.{◌≡◌, ℕ, ◌+◌, ◌-◌, ◌<◌, ◌≤◌, ◌⊎◌, Bool, true, false, ◌||◌, List, ◌∷◌, ◌++◌, take, drop, length, nat_lt, Option, Some, None}
 use Rattle.http_read.specs.declared.request.Limits.{Limits}
 use Rattle.http_read.specs.declared.head_reader.HeadReader.{HeadReader}
@@ -8,25 +8,26 @@ use Rattle.http_read.specs.declared.head_reader.Added.{Added}
 use Rattle.http_read.specs.declared.head_reader.Added.TheVariants as added
 use Rattle.http_read.specs.HeadLines.{IsHeadLine, BreaksLineLimit, IsUnended, IsHeadText}
 use Rattle.http_read.specs.FieldLimit.{has_long_field}
+use Rattle.http_read.specs.Sizes.{greatest_head}
 
 -- the lines of a head end behind n bytes of the window
 pub record EndsIn (limits : Limits) (window : List ℕ) (n : ℕ) (long : Bool) : Type 0 where
   pub fields : List (List ℕ)
   pub within : n ≤ length window
-  pub fits : n ≤ 65536
+  pub fits : n ≤ greatest_head
   pub text : IsHeadText limits (take n window) fields
   pub long_is : long ≡ has_long_field limits fields
 
--- the window is full, and no head ends within 65,536 bytes
+-- the window is full, and no head ends within the greatest size
 pub record IsFullWindow (limits : Limits) (window : List ℕ) : Type 0 where
-  pub some : length window ≡ 65537
+  pub some : length window ≡ greatest_head + 1
   pub unended : IsUnended limits window ⊎ ((fields : List (List ℕ)) × IsHeadText limits window fields)
 
 -- what was found is there
 abbrev pub LooksForEnd : Limits → List ℕ → Extent → Type 0
 LooksForEnd limits window extent.LongLine = BreaksLineLimit limits window
 LooksForEnd limits window extent.TooLarge = IsFullWindow limits window
-LooksForEnd limits window extent.Unended = (length window ≤ 65536) × IsUnended limits window
+LooksForEnd limits window extent.Unended = (length window ≤ greatest_head) × IsUnended limits window
 LooksForEnd limits window (extent.Ends n long) = EndsIn limits window n long
 
 -- what a whole line of so many bytes of text does to the reader, before its places go on
@@ -41,8 +42,8 @@ AddsLine r text added.Goes r' =
 -- what is to be said where the bytes have no end of a head
 abbrev pub SaysUnended : HeadReader → ℕ → Extent → Type 0
 SaysUnended r len extent.LongLine = (r.begun ≡ false) × (r.limits.line + 2 ≤ len - r.line)
-SaysUnended r len extent.TooLarge = (65536 < len) × (r.begun ≡ false → len - r.line < r.limits.line + 2)
-SaysUnended r len extent.Unended = (len ≤ 65536) × (r.begun ≡ false → len - r.line < r.limits.line + 2)
+SaysUnended r len extent.TooLarge = (greatest_head < len) × (r.begun ≡ false → len - r.line < r.limits.line + 2)
+SaysUnended r len extent.Unended = (len ≤ greatest_head) × (r.begun ≡ false → len - r.line < r.limits.line + 2)
 SaysUnended r len (extent.Ends n long) = ⊥
 
 -- the first line feed stands behind a line and in front of these bytes

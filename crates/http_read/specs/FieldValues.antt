@@ -1,16 +1,12 @@
 -- The values of the fields of a head (RFC 9110, sections 5.1 to 5.6), from the list of their names and values.
-use Rattle.std.specs.Prelude.{ℕ, ◌-◌, Bool, List, [], ◌∷◌, map, length, get_or, if◌then◌else◌, ◌==◌, nat_lt, flat_map, bytes_eq}
+use Rattle.std.specs.Prelude.{ℕ, ◌-◌, Bool, List, [], ◌∷◌, map, length, get_or, if◌then◌else◌, ◌==◌, nat_lt, flat_map}
 use Rattle.std.specs.List.{slice_split, filter, list_any}
-use Rattle.std.specs.Char.{to_ascii_lowercase}
+use Rattle.mpm_base.specs.LetterCase.{is_same_ignoring_case}
 use Rattle.httparse.specs.Grammar.{trim_ows}
-
--- the two words are the same, case ignored
-abbrev pub is_same_token : List ℕ → List ℕ → Bool
-is_same_token word other = bytes_eq (map to_ascii_lowercase word) (map to_ascii_lowercase other)
 
 -- the values of all fields of that name, in order (RFC 9110, section 5.1)
 abbrev pub values_named : List ℕ → List (List ℕ × List ℕ) → List (List ℕ)
-values_named name fields = flat_map (λ field. if is_same_token field.0 name then field.1 ∷ [] else []) fields
+values_named name fields = flat_map (λ field. if is_same_ignoring_case field.0 name then field.1 ∷ [] else []) fields
 
 -- the words of a value: it is split at commas, each part is taken without spaces and tabs at both ends, and empty parts are left out (RFC 9110, section 5.6.1)
 abbrev pub words_of : List ℕ → List (List ℕ)
@@ -22,8 +18,8 @@ words_of_all values = flat_map words_of values
 
 -- one of the words is this one, case ignored
 abbrev pub has_word : List ℕ → List (List ℕ) → Bool
-has_word word words = list_any (λ other. is_same_token other word) words
+has_word word words = list_any (λ other. is_same_ignoring_case other word) words
 
 -- the last of the words is this one, case ignored
 abbrev pub ends_in_word : List ℕ → List (List ℕ) → Bool
-ends_in_word word words = is_same_token (get_or words (length words - 1) []) word
+ends_in_word word words = is_same_ignoring_case (get_or words (length words - 1) []) word

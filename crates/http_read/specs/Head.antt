@@ -1,5 +1,5 @@
 -- What the bytes of a connection say of the head of its next request.
-use Rattle.std.specs.Prelude.{◌≡◌, ℕ, ◌≤◌, ◌⊎◌, Bool, List, [], length, take, map, Result, Ok, Err, ⊤}
+use Rattle.std.specs.Prelude.{◌≡◌, ℕ, ◌+◌, ◌<◌, ◌≤◌, ◌⊎◌, Bool, List, [], length, take, map, Result, Ok, Err, ⊤}
 use Rattle.httparse.specs.Grammar.{RequestHead, ReadsRequest}
 use Rattle.httparse.specs.Spans.{name_and_value}
 use Rattle.http_read.specs.declared.request.Limits.{Limits}
@@ -9,10 +9,11 @@ use Rattle.http_read.specs.RequestParts.{RequestParts}
 use Rattle.http_read.specs.HeadLines.{BreaksLineLimit, IsUnended, IsHeadText}
 use Rattle.http_read.specs.FieldLimit.{has_long_field}
 use Rattle.http_read.specs.HeadRules.{said_by}
+use Rattle.http_read.specs.Sizes.{greatest_head}
 
--- the bytes that are looked at: a head ends within 65,536 bytes, or one byte more is there without an end
+-- the bytes that are looked at: a head ends within the greatest size, or one byte more is there without an end
 abbrev pub head_window : List ℕ → List ℕ
-head_window bytes = take 65537 bytes
+head_window bytes = take (greatest_head + 1) bytes
 
 -- the text is that head of the grammar, with so many fields at most
 pub record IsHead (most : ℕ) (text : List ℕ) (head : RequestHead) : Type 0 where
@@ -23,10 +24,10 @@ pub record IsHead (most : ℕ) (text : List ℕ) (head : RequestHead) : Type 0 w
 abbrev pub head_says : Bool → RequestHead → Result RequestParts ℕ
 head_says long head = said_by long head.method head.target head.minor (map name_and_value head.fields)
 
--- a head whose first line fits its limit ends behind n bytes, at most 65,536, and these are its field lines
+-- a head whose first line fits its limit ends behind n bytes, no more than the greatest size, and these are its field lines
 pub record EndsAt (limits : Limits) (bytes : List ℕ) (n : ℕ) (fields : List (List ℕ)) : Type 0 where
   pub within : n ≤ length bytes
-  pub fits : n ≤ 65536
+  pub fits : n ≤ greatest_head
   pub text : IsHeadText limits (take n bytes) fields
 
 -- the first n bytes are a head that says this of its request
@@ -37,9 +38,9 @@ pub record BeginsHead (limits : Limits) (bytes : List ℕ) (request : RequestPar
   pub is_head : IsHead limits.fields (take n bytes) head
   pub says : head_says (has_long_field limits field_lines) head ≡ Ok request
 
--- the first line isn't too long, no head ends within 65,536 bytes, and one byte more is there
+-- the first line isn't too long, no head ends within the greatest size, and one byte more is there
 pub record IsTooLarge (limits : Limits) (bytes : List ℕ) : Type 0 where
-  pub some : 65537 ≤ length bytes
+  pub some : greatest_head < length bytes
   pub unended : IsUnended limits (head_window bytes) ⊎ ((fields : List (List ℕ)) × IsHeadText limits (head_window bytes) fields)
 
 -- the lines end as those of a head, but their text is no head of the grammar, or has too many fields
@@ -66,7 +67,7 @@ IsRefusal limits bytes code =
 
 -- more bytes of the head have to come
 pub record IsHeadFront (limits : Limits) (bytes : List ℕ) : Type 0 where
-  pub small : length bytes ≤ 65536
+  pub small : length bytes ≤ greatest_head
   pub unended : IsUnended limits bytes
 
 -- the answer says what stands at the front of the bytes

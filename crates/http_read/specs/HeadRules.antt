@@ -3,10 +3,12 @@ use Rattle.std.specs.Prelude.{ℕ, Bool, true, false, not, ◌&&◌, ◌||◌, L
 use Rattle.std.specs.List.{list_all, list_any}
 use Rattle.std.specs.Char.{is_ascii_digit}
 use Rattle.std.specs.Str.Parse.{digits_value}
+use Rattle.mpm_base.specs.LetterCase.{is_same_ignoring_case}
 use Rattle.http_read.specs.declared.request.BodyKind.{BodyKind}
 use Rattle.http_read.specs.declared.request.BodyKind.TheVariants as kind
-use Rattle.http_read.specs.FieldValues.{is_same_token, values_named, words_of_all, has_word, ends_in_word}
+use Rattle.http_read.specs.FieldValues.{values_named, words_of_all, has_word, ends_in_word}
 use Rattle.http_read.specs.RequestParts.{RequestParts}
+use Rattle.http_read.specs.Sizes.{greatest_body}
 
 -- what follows an answer, unless that is a refusal already
 abbrev pub unless_refused : {A B : Type 0} → Result A ℕ → (A → Result B ℕ) → Result B ℕ
@@ -27,11 +29,11 @@ host_in minor [] = if minor == 1 then Err 400 else Ok []
 host_in minor (value ∷ []) = one_host value
 host_in minor (value ∷ other ∷ values) = Err 400
 
--- the number of a Content-Length: 400 where it isn't one or more digits, 413 above 1,073,741,824 (RFC 9110, section 8.6)
+-- the number of a Content-Length: 400 where it isn't one or more digits, 413 above the greatest size of a body (RFC 9110, section 8.6)
 abbrev pub length_of : List ℕ → Result BodyKind ℕ
 length_of value =
     if nat_lt 0 (length value) && list_all is_ascii_digit value
-    then (if nat_lt 1073741824 (digits_value 10 value) then Err 413 else Ok (kind.Length (digits_value 10 value)))
+    then (if nat_lt greatest_body (digits_value 10 value) then Err 413 else Ok (kind.Length (digits_value 10 value)))
     else Err 400
 
 -- the body that the Content-Length fields say, 400 for more than one (RFC 9112, section 6.3)
@@ -47,7 +49,7 @@ coded_body codings = if ends_in_word (codes "chunked") (words_of_all codings) th
 -- the body that the transfer codings say: a single `chunked` alone is built
 abbrev pub transfer_body : List (List ℕ) → Result BodyKind ℕ
 transfer_body [] = coded_body []
-transfer_body (value ∷ []) = if is_same_token value (codes "chunked") then Ok kind.Chunked else coded_body (value ∷ [])
+transfer_body (value ∷ []) = if is_same_ignoring_case value (codes "chunked") then Ok kind.Chunked else coded_body (value ∷ [])
 transfer_body (value ∷ other ∷ values) = coded_body (value ∷ other ∷ values)
 
 -- the body of a request (RFC 9112, section 6.3): by its Transfer-Encoding where there is one, which is refused by 400 in HTTP/1.0 and beside a Content-Length, else by its Content-Length
@@ -65,7 +67,7 @@ has_content kind.Chunked = true
 -- whether the client waits for 100 Continue, where bytes of a body are to come, by the values of Expect of a request of HTTP/1.1: 417 for any other expectation (RFC 9110, section 10.1.1)
 abbrev pub expectation : BodyKind → List (List ℕ) → Result Bool ℕ
 expectation body [] = Ok false
-expectation body (value ∷ []) = if is_same_token value (codes "100-continue") then Ok (has_content body) else Err 417
+expectation body (value ∷ []) = if is_same_ignoring_case value (codes "100-continue") then Ok (has_content body) else Err 417
 expectation body (value ∷ other ∷ values) = Err 417
 
 -- the same by the version: a request of HTTP/1.0 expects nothing

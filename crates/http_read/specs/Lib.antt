@@ -1,4 +1,5 @@
 pub mod RequestParts
+pub mod Sizes
 pub mod Spans
 pub mod SpansInside
 pub mod FieldValues

@@ -1,9 +1,10 @@
 -- How far a reader of heads has looked.
-use Rattle.std.specs.Prelude.{◌≡◌, ℕ, ◌≤◌, Bool, true, false, List, ◌++◌, length, All}
+use Rattle.std.specs.Prelude.{◌≡◌, ℕ, ◌+◌, ◌≤◌, Bool, true, false, List, ◌++◌, length, All}
 use Rattle.http_read.specs.declared.request.Limits.{Limits}
 use Rattle.http_read.specs.declared.head_reader.HeadReader.{HeadReader}
 use Rattle.http_read.specs.HeadLines.{IsHeadLine, print_lines, IsEmptyLine, AreHeadLines}
 use Rattle.http_read.specs.FieldLimit.{has_long_field}
+use Rattle.http_read.specs.Sizes.{greatest_head}
 
 -- the whole lines are those of a head whose first line fits its limit, and the flag says whether one of the field lines is longer than its limit
 pub record HasBegun (limits : Limits) (lines : List (List ℕ)) (long : Bool) : Type 0 where
@@ -29,5 +30,5 @@ pub record HasLookedAt (seen : List ℕ) (r : HeadReader) : Type 0 where
   pub seen_is : seen ≡ print_lines lines ++ front
   pub line_is : r.line ≡ length (print_lines lines)
   pub looked_is : r.looked ≡ length seen
-  pub small : length seen ≤ 65537
+  pub small : length seen ≤ greatest_head + 1
   pub stage : IsStage r.limits lines r.begun r.long

@@ -2,15 +2,16 @@
 use Rattle.std.specs.Prelude.{◌≢◌, ℕ, ◌+◌, ◌<◌, ◌≤◌, List, [], ◌∷◌, ◌++◌, length, take, All}
 use Rattle.std.specs.List.{flat_map}
 use Rattle.httparse.specs.Ascii.{line_feed, carriage_return}
+use Rattle.http_read.specs.Sizes.{greatest_trailer, most_trailers}
 
 -- none of the bytes is a line feed
 abbrev pub HasNoLineFeed : List ℕ → Type 0
 HasNoLineFeed bytes = All (λ b. b ≢ line_feed) bytes
 
--- a trailer line: it has at most 8,190 bytes with its line feed, and isn't empty
+-- a trailer line: it is short enough with its line feed, and isn't empty
 pub record IsTrailer (text : List ℕ) : Type 0 where
   pub one_line : HasNoLineFeed text
-  pub short : length text + 1 ≤ 8190
+  pub short : length text + 1 ≤ greatest_trailer
   pub some : text ≢ []
   pub no_cr : text ≢ carriage_return ∷ []
 
@@ -22,17 +23,17 @@ print_trailer text = text ++ line_feed ∷ []
 abbrev pub print_trailers : List (List ℕ) → List ℕ
 print_trailers texts = flat_map print_trailer texts
 
--- at most 100 trailer lines
+-- no more trailer lines than a body may have
 pub record AreTrailers (texts : List (List ℕ)) : Type 0 where
   pub each : All IsTrailer texts
-  pub few : length texts ≤ 100
+  pub few : length texts ≤ most_trailers
 
--- a trailer line, or the empty line, that isn't whole: fewer than 8,190 bytes without a line feed
+-- a trailer line, or the empty line, that isn't whole: fewer bytes than one may have, without a line feed
 pub record IsTrailerBegun (bytes : List ℕ) : Type 0 where
   pub one_line : HasNoLineFeed bytes
-  pub short : length bytes < 8190
+  pub short : length bytes < greatest_trailer
 
--- 8,190 bytes of a trailer line are there without its line feed
+-- as many bytes of a trailer line as may be are there without its line feed
 pub record IsTrailerTooLong (bytes : List ℕ) : Type 0 where
-  pub long : 8190 ≤ length bytes
-  pub one_line : HasNoLineFeed (take 8190 bytes)
+  pub long : greatest_trailer ≤ length bytes
+  pub one_line : HasNoLineFeed (take greatest_trailer bytes)

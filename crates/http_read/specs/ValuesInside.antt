@@ -1,9 +1,15 @@
 -- The values of the fields of one name, as they are looked up.
-use Rattle.std.specs.Prelude.{◌≡◌, ℕ, ◌≤◌, List, [], ◌∷◌, length, Option, Some, None, Result, Ok, Err}
+use Rattle.std.specs.Prelude.{◌≡◌, ℕ, ◌≤◌, List, [], ◌∷◌, length, map, Option, Some, None, Result, Ok, Err}
 use Rattle.httparse.specs.declared.spans.Span.{Span}
-use Rattle.httparse.specs.Spans.{span_bytes, IsWithin}
+use Rattle.httparse.specs.declared.spans.HeaderSpan.{HeaderSpan}
+use Rattle.httparse.specs.Spans.{span_bytes, header_bytes, IsWithin}
 use Rattle.http_read.specs.declared.request_fields.Values.{Values}
 use Rattle.http_read.specs.declared.request_fields.Values.TheVariants as values
+use Rattle.http_read.specs.FieldValues.{values_named}
+
+-- the values of the fields of that name, where the fields stand so in the head
+abbrev pub values_in : List ℕ → List HeaderSpan → List ℕ → List (List ℕ)
+values_in head fields name = values_named name (map (header_bytes head) fields)
 
 -- the values were found: none, the one at the span, or several
 abbrev pub AreValues : List ℕ → List (List ℕ) → Values → Type 0

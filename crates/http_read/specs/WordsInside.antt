@@ -2,7 +2,8 @@
 use Rattle.std.specs.Prelude.{◌≡◌, ℕ, ◌<◌, ◌+◌, ◌==◌, Bool, List, [], ◌∷◌, length, Option, Some, None}
 use Rattle.std.specs.List.{slice_split}
 use Rattle.std.specs.Borrow.{Bor}
-use Rattle.http_read.specs.FieldValues.{is_same_token, words_of}
+use Rattle.mpm_base.specs.LetterCase.{is_same_ignoring_case}
+use Rattle.http_read.specs.FieldValues.{words_of}
 
 -- the parts of bytes that are cut at commas
 abbrev pub parts_of : List ℕ → List (List ℕ)
@@ -16,7 +17,7 @@ IsSplitAt bytes part None = parts_of bytes ≡ part ∷ []
 -- whether the last of the words is this one, where the flag says it of the words before them
 abbrev pub last_word_is : List ℕ → Bool → List (List ℕ) → Bool
 last_word_is word before [] = before
-last_word_is word before (found ∷ words) = last_word_is word (is_same_token found word) words
+last_word_is word before (found ∷ words) = last_word_is word (is_same_ignoring_case found word) words
 
 -- the words of the bytes that are left
 abbrev pub words_left : Option (Bor (List ℕ)) → List (List ℕ)

@@ -80,7 +80,8 @@ impl BodyReader {
     pub fn feed(&mut self, bytes: &[u8]) -> BodyAnswer
         requires { begun_len self.old ≤ length bytes.now }
         ensures counts { CountsBytes (length bytes.now) result self.new }
-        ensures body { (kind : BodyKind) (past : List ℕ) → StandsAt kind (past ++ take (begun_len self.old) bytes.now) self.old
+        ensures body { (kind : BodyKind) (past : List ℕ)
+            → StandsAt kind (past ++ take (begun_len self.old) bytes.now) self.old
             → AnswersBody kind past bytes.now result self.new }
     {
         match self.place {
@@ -107,14 +108,16 @@ impl BodyReader {
 /// Bytes have one form of a body of each kind, and no two: they begin with a whole one, are the front of one, or break
 /// its form.
 pub fn one_form()
-    ensures some { (kind : BodyKind) (bytes : List ℕ) → (form : BodyForm) × HasForm kind bytes form }
+    ensures some { (kind : BodyKind) (bytes : List ℕ)
+        → (form : BodyForm) × HasForm kind bytes form }
     ensures one { (kind : BodyKind) (bytes : List ℕ) (form other : BodyForm)
         → HasForm kind bytes form → HasForm kind bytes other → form ≡ other }
 {}
 
 /// A whole body stays one whatever follows, and so does a break of the form.
 pub fn keeps_form()
-    ensures whole { (kind : BodyKind) (bytes more : List ℕ) (n : ℕ) → BeginsBody kind bytes n → BeginsBody kind (bytes ++ more) n }
+    ensures whole { (kind : BodyKind) (bytes more : List ℕ) (n : ℕ)
+        → BeginsBody kind bytes n → BeginsBody kind (bytes ++ more) n }
     ensures broken { (kind : BodyKind) (bytes more : List ℕ) (code : ℕ)
         → BreaksBody kind bytes code → BreaksBody kind (bytes ++ more) code }
 {}
@@ -123,12 +126,17 @@ pub fn keeps_form()
 /// no other answer fits the same bytes.
 pub fn cuts_never_matter()
     ensures stands { (kind : BodyKind) (past bytes more : List ℕ) (n : ℕ) (place : BodyPlace)
-        → CountsBytes (length bytes) (BodyAnswer.Took n) place → AnswersBody kind past bytes (BodyAnswer.Took n) place
+        → CountsBytes (length bytes) (BodyAnswer.Took n) place
+        → AnswersBody kind past bytes (BodyAnswer.Took n) place
         → StandsAt kind ((past ++ take n bytes) ++ take (begun_len place) (drop n bytes ++ more)) place }
-    ensures pieces { (kind : BodyKind) (past bytes : List ℕ) (pieces : List (List ℕ)) (answer : BodyAnswer) (new : BodyPlace)
+    ensures pieces { (kind : BodyKind) (past bytes : List ℕ) (pieces : List (List ℕ))
+        (answer : BodyAnswer) (new : BodyPlace)
         → AnswersPieces kind past bytes pieces answer new
-        → CountsBytes (length (bytes ++ concat pieces)) answer new × AnswersBody kind past (bytes ++ concat pieces) answer new }
-    ensures one { (kind : BodyKind) (past bytes : List ℕ) (answer other : BodyAnswer) (place new : BodyPlace)
+        → CountsBytes (length (bytes ++ concat pieces)) answer new
+        × AnswersBody kind past (bytes ++ concat pieces) answer new }
+    ensures one { (kind : BodyKind) (past bytes : List ℕ) (answer other : BodyAnswer)
+        (place new : BodyPlace)
         → CountsBytes (length bytes) answer place → AnswersBody kind past bytes answer place
-        → CountsBytes (length bytes) other new → AnswersBody kind past bytes other new → answer ≡ other }
+        → CountsBytes (length bytes) other new → AnswersBody kind past bytes other new
+        → answer ≡ other }
 {}

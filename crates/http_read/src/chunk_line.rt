@@ -2,7 +2,9 @@
 ghost use Rattle.std.specs.Prelude.{◌≡◌, ◌+◌, ◌<◌};
 ghost use Rattle.http_read.specs.ChunkStepsInside.{first_front, line_step, digit_step, pad_step, extension_step, longer, IsSmallLineMove};
 ghost use Rattle.http_read.specs.BodyPlacesInside.{IsSmallFront, IsSmallSize};
+ghost use Rattle.http_read.specs.Sizes.{greatest_chunk_line};
 
+use crate::sizes::GREATEST_CHUNK_LINE;
 use httparse::parse_hex_digit;
 
 /// What the front of a chunk line ends in.
@@ -40,8 +42,6 @@ pub enum ChunkLineMove {
     Broken,
 }
 
-/// How long a chunk line may be with its line end.
-const MOST_LINE: u32 = 1024;
 /// How many digits a chunk line may have.
 const MOST_DIGITS: u32 = 16;
 
@@ -101,7 +101,7 @@ impl ChunkLineFront {
     }
 
     fn step_pad(self, byte: u8) -> ChunkLineMove
-        requires { self.len < 1024 }
+        requires { self.len < greatest_chunk_line }
         ensures step { result ≡ pad_step self byte }
         ensures small { IsSmallLineMove self.len result }
     {
@@ -114,7 +114,7 @@ impl ChunkLineFront {
     }
 
     fn step_extension(self, byte: u8) -> ChunkLineMove
-        requires { self.len < 1024 }
+        requires { self.len < greatest_chunk_line }
         ensures step { result ≡ extension_step self byte }
         ensures small { IsSmallLineMove self.len result }
     {
@@ -127,13 +127,13 @@ impl ChunkLineFront {
 
     /// The front with one more byte, unless the line is too long then.
     fn longer(self, size: u64, part: ChunkLinePart) -> ChunkLineMove
-        requires len { self.len < 1024 }
+        requires len { self.len < greatest_chunk_line }
         requires size { IsSmallSize part (self.len + 1) size }
         ensures step { result ≡ longer self size part }
         ensures small { IsSmallLineMove self.len result }
     {
         let len = self.len + 1;
-        if len < MOST_LINE {
+        if len < GREATEST_CHUNK_LINE {
             ChunkLineMove::Front(ChunkLineFront { len, size, part })
         } else {
             ChunkLineMove::Broken

@@ -3,9 +3,11 @@ ghost use Rattle.std.specs.Prelude.{◌≡◌, ℕ, ◌+◌, ◌<◌, ◌≤◌,
 ghost use Rattle.http_read.specs.ChunkStepsInside.{first_place, chunked_step, behind_line, trailer_step, behind_trailer, run, run_on, outcome_of, move_begun_len, IsSmallMove, IsSmallLineMove};
 ghost use Rattle.http_read.specs.BodyPlaces.{chunked_begun_len};
 ghost use Rattle.http_read.specs.BodyPlacesInside.{IsSmallChunked};
+ghost use Rattle.http_read.specs.Sizes.{greatest_body, greatest_trailer};
 
 use crate::chunk_line::{ChunkLineFront, ChunkLineMove};
 use crate::codes::{BAD_REQUEST, CONTENT_TOO_LARGE};
+use crate::sizes::{GREATEST_BODY, GREATEST_TRAILER, MOST_TRAILERS};
 
 /// Where in a chunked body the reader stands.
 #[derive(Clone, Copy, Debug, PartialEq, Eq)]
@@ -34,13 +36,6 @@ pub enum ChunkedMove {
     /// The form is broken, for this code.
     Bad(u16),
 }
-
-/// How many bytes of data the chunks may have in all.
-const MOST_DATA: u64 = 1_073_741_824;
-/// How long a trailer line may be with its line feed.
-const MOST_TRAILER: u32 = 8190;
-/// How many trailer lines there may be.
-const MOST_TRAILERS: u32 = 100;
 
 impl ChunkedPlace {
     /// Before a body.
@@ -123,16 +118,17 @@ impl ChunkedPlace {
 
 /// What a chunk line's next byte makes of the body, where the chunks before it have so many bytes of data.
 fn behind_line(sum: u64, line: ChunkLineMove) -> ChunkedMove
-    requires { sum ≤ 1073741824 }
+    requires { sum ≤ greatest_body }
     ensures step { result ≡ behind_line sum line }
-    ensures small { (len : ℕ) → IsSmallLineMove len line → IsSmallMove result × (move_begun_len result ≤ len + 1) }
+    ensures small { (len : ℕ) → IsSmallLineMove len line
+        → IsSmallMove result × (move_begun_len result ≤ len + 1) }
 {
     match line {
         ChunkLineMove::Front(front) => ChunkedMove::On(ChunkedPlace::Line(sum, front)),
         ChunkLineMove::Whole(size) => {
             if size == 0 {
                 ChunkedMove::On(ChunkedPlace::Trailer(0, 0))
-            } else if size > MOST_DATA - sum {
+            } else if size > GREATEST_BODY - sum {
                 ChunkedMove::Bad(CONTENT_TOO_LARGE)
             } else {
                 ChunkedMove::On(ChunkedPlace::Data(sum + size, size))
@@ -144,7 +140,7 @@ fn behind_line(sum: u64, line: ChunkLineMove) -> ChunkedMove
 
 /// What the next byte makes of a line behind the last chunk.
 fn step_trailer(count: u32, len: u32, byte: u8) -> ChunkedMove
-    requires { len < 8190 }
+    requires { len < greatest_trailer }
     ensures { result ≡ trailer_step count len byte }
 {
     if byte == b'\n' {
@@ -155,7 +151,7 @@ fn step_trailer(count: u32, len: u32, byte: u8) -> ChunkedMove
         }
     } else if len == 0 && byte == b'\r' {
         ChunkedMove::On(ChunkedPlace::LastLineFeed(count))
-    } else if len + 1 < MOST_TRAILER {
+    } else if len + 1 < GREATEST_TRAILER {
         ChunkedMove::On(ChunkedPlace::Trailer(count, len + 1))
     } else {
         ChunkedMove::Bad(BAD_REQUEST)
@@ -182,7 +178,8 @@ pub(crate) fn read_chunked(from: ChunkedPlace, bytes: &[u8]) -> (ChunkedMove, us
     ensures within { result.1 ≤ length bytes.now }
     ensures small { IsSmallMove result.0 }
     ensures begun { move_begun_len result.0 ≤ length bytes.now }
-    ensures runs { run (drop (chunked_begun_len from) bytes.now) from ≡ outcome_of result.0 (drop result.1 bytes.now) }
+    ensures runs { run (drop (chunked_begun_len from) bytes.now) from
+        ≡ outcome_of result.0 (drop result.1 bytes.now) }
 {
     let mut place = from;
     let mut at = from.begun();

@@ -7,6 +7,7 @@ ghost use Rattle.http_read.specs.Head.{HeadIs};
 use crate::codes::{BAD_REQUEST, URI_TOO_LONG};
 use crate::head_reader::{Extent, HeadReader};
 use crate::request::{Limits, Request};
+use crate::sizes::GREATEST_HEAD;
 use crate::whole_head::read_head;
 use std::alloc::Global;
 
@@ -24,15 +25,15 @@ pub enum HeadAnswer {
 }
 
 /// So many bytes are looked at: a head that has no end in them is too large.
-const WINDOW: usize = 65_537;
+const WINDOW: usize = GREATEST_HEAD + 1;
 
 /// Reads the head at the front of the bytes (RFC 9112, section 2).
 pub fn next_head(alloc: Global, bytes: &[u8], limits: &Limits) -> HeadAnswer
     ensures head { HeadIs limits.now bytes.now result }
 
     // The same from the bytes: what they are is answered, unless memory lacks.
-    ensures only { (answer : HeadAnswer) → HeadIs limits.now bytes.now answer → answer ≢ HeadAnswer.NoMemory
-        → result ≢ HeadAnswer.NoMemory → result ≡ answer }
+    ensures only { (answer : HeadAnswer) → HeadIs limits.now bytes.now answer
+        → answer ≢ HeadAnswer.NoMemory → result ≢ HeadAnswer.NoMemory → result ≡ answer }
 {
     one_answer();
     let mut reader = HeadReader::new(*limits);
@@ -63,14 +64,17 @@ impl HeadReader {
 
 /// No bytes have two answers.
 pub fn one_answer()
-    ensures { (limits : Limits) (bytes : List ℕ) (answer other : HeadAnswer) → HeadIs limits bytes answer → HeadIs limits bytes other
+    ensures { (limits : Limits) (bytes : List ℕ) (answer other : HeadAnswer)
+        → HeadIs limits bytes answer → HeadIs limits bytes other
         → answer ≢ HeadAnswer.NoMemory → other ≢ HeadAnswer.NoMemory → answer ≡ other }
 {}
 
 /// A whole head stays so whatever follows it, and what is refused stays refused.
 pub fn keeps_answer()
     ensures whole { (limits : Limits) (bytes more : List ℕ) (request : RequestParts) (head_len : ℕ)
-        → HeadIs limits bytes (HeadAnswer.Whole request head_len) → HeadIs limits (bytes ++ more) (HeadAnswer.Whole request head_len) }
+        → HeadIs limits bytes (HeadAnswer.Whole request head_len)
+        → HeadIs limits (bytes ++ more) (HeadAnswer.Whole request head_len) }
     ensures refused { (limits : Limits) (bytes more : List ℕ) (code : ℕ)
-        → HeadIs limits bytes (HeadAnswer.Refused code) → HeadIs limits (bytes ++ more) (HeadAnswer.Refused code) }
+        → HeadIs limits bytes (HeadAnswer.Refused code)
+        → HeadIs limits (bytes ++ more) (HeadAnswer.Refused code) }
 {}

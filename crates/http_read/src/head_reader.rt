@@ -1,14 +1,14 @@
-//! A reader of heads that remembers how far it has looked, so that each byte is looked at once however they are cut.
-ghost use Rattle.std.specs.Prelude.{◌≡◌, ◌≤◌, ◌<◌, [], ◌++◌, ◌∷◌, length, take, get_or};
+//! A reader of heads that remembers how far it has looked, so that their end is looked for at each byte once, however they
+//! are cut.
+ghost use Rattle.std.specs.Prelude.{◌≡◌, ◌+◌, ◌≤◌, ◌<◌, [], ◌++◌, ◌∷◌, length, take, get_or};
 ghost use Rattle.http_read.specs.HeadLines.{line_len};
 ghost use Rattle.http_read.specs.LookedAt.{HasLookedAt};
 ghost use Rattle.http_read.specs.ExtentsInside.{IsFeedAt, LooksForEnd, AddsLine, SaysUnended};
+ghost use Rattle.http_read.specs.Sizes.{greatest_head};
 
 use crate::request::Limits;
+use crate::sizes::GREATEST_HEAD;
 use memchr::memchr;
-
-/// A head ends within so many bytes.
-pub(crate) const GREATEST_HEAD: usize = 65_536;
 
 /// Reads the head at the front of bytes that come piece by piece.
 #[derive(Clone, Copy, Debug)]
@@ -29,7 +29,7 @@ pub struct HeadReader {
 pub(crate) enum Extent {
     /// The first line is longer than its limit.
     LongLine,
-    /// No head ends within 65,536 bytes.
+    /// No head ends within the greatest size.
     TooLarge,
     /// More bytes have to come.
     Unended,
@@ -80,7 +80,7 @@ impl HeadReader {
         }
     }
 
-    /// How many bytes it has looked at; it looks at none of them again.
+    /// How many bytes it has looked at; it looks for the end of the head at none of them again.
     pub fn looked(&self) -> usize
         ensures { result ≡ self.now.looked }
     {
@@ -107,7 +107,7 @@ impl HeadReader {
     /// Looks at the bytes behind those that it has looked at.
     pub(crate) fn look(&mut self, window: &[u8]) -> Extent
         requires within { self.old.looked ≤ length window.now }
-        requires small { length window.now ≤ 65537 }
+        requires small { length window.now ≤ greatest_head + 1 }
         requires looked { HasLookedAt (take self.old.looked window.now) self.old }
         ensures looks { LooksForEnd self.new.limits window.now result }
         ensures all { result ≡ Extent.Unended → self.new.looked ≡ length window.now }

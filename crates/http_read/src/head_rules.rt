@@ -1,24 +1,22 @@
 //! What a head of the grammar says, by the rules of RFC 9110 and RFC 9112, or the code by which it is refused.
-ghost use Rattle.std.specs.Prelude.{◌≡◌, length, map, All, codes};
+ghost use Rattle.std.specs.Prelude.{◌≡◌, length, All, codes};
 ghost use Rattle.std.specs.List.{list_all};
-ghost use Rattle.httparse.specs.Spans.{IsHeaderWithin, header_bytes};
-ghost use Rattle.http_read.specs.FieldValues.{values_named, words_of_all};
+ghost use Rattle.httparse.specs.Spans.{IsHeaderWithin};
+ghost use Rattle.http_read.specs.FieldValues.{words_of_all};
 ghost use Rattle.http_read.specs.HeadRules.{is_authority_byte, host_in, length_of, coded_body, transfer_body, sized_body, body_of, has_content, expects_of, asks_close, range_in};
-ghost use Rattle.http_read.specs.ValuesInside.{AreValues, IsHostAt, IsRangeAt};
+ghost use Rattle.http_read.specs.ValuesInside.{AreValues, IsHostAt, IsRangeAt, values_in};
 
 use crate::codes::{BAD_REQUEST, CONTENT_TOO_LARGE, EXPECTATION_FAILED, NOT_IMPLEMENTED};
 use crate::request::BodyKind;
 use crate::request_fields::{Values, fields_end_in_word, fields_have_word, values_of};
-use crate::words::is_same_token;
+use crate::sizes::GREATEST_BODY;
 use httparse::spans::{HeaderSpan, Span};
-
-/// The greatest length of a body, in bytes.
-const GREATEST_LENGTH: u64 = 1_073_741_824;
+use mpm_base::is_same_ignoring_case;
 
 /// Where the Host stands; an empty span where there is none.
 pub(crate) fn host_in(head: &[u8], minor: u8, headers: &[HeaderSpan]) -> Result<Span, u16>
     requires { All (IsHeaderWithin (length head.now)) headers.now }
-    ensures { IsHostAt head.now (host_in minor (values_named (codes "host") (map (header_bytes head.now) headers.now))) result }
+    ensures { IsHostAt head.now (host_in minor (values_in head.now headers.now (codes "host"))) result }
 {
     match values_of(head, headers, b"host") {
         Values::Absent if minor == 1 => Err(BAD_REQUEST),
@@ -48,7 +46,8 @@ fn is_authority_byte(b: u8) -> bool
 /// The body of the request.
 pub(crate) fn body_of(head: &[u8], minor: u8, headers: &[HeaderSpan]) -> Result<BodyKind, u16>
     requires { All (IsHeaderWithin (length head.now)) headers.now }
-    ensures { result ≡ body_of minor (values_named (codes "transfer-encoding") (map (header_bytes head.now) headers.now)) (values_named (codes "content-length") (map (header_bytes head.now) headers.now)) }
+    ensures { result ≡ body_of minor (values_in head.now headers.now (codes "transfer-encoding"))
+        (values_in head.now headers.now (codes "content-length")) }
 {
     let codings = values_of(head, headers, b"transfer-encoding");
     let lengths = values_of(head, headers, b"content-length");
@@ -64,11 +63,12 @@ pub(crate) fn body_of(head: &[u8], minor: u8, headers: &[HeaderSpan]) -> Result<
 /// The body that transfer codings say.
 fn transfer_body(head: &[u8], headers: &[HeaderSpan], codings: Values) -> Result<BodyKind, u16>
     requires within { All (IsHeaderWithin (length head.now)) headers.now }
-    requires values { AreValues head.now (values_named (codes "transfer-encoding") (map (header_bytes head.now) headers.now)) codings }
-    ensures { result ≡ transfer_body (values_named (codes "transfer-encoding") (map (header_bytes head.now) headers.now)) }
+    requires values { AreValues head.now
+        (values_in head.now headers.now (codes "transfer-encoding")) codings }
+    ensures { result ≡ transfer_body (values_in head.now headers.now (codes "transfer-encoding")) }
 {
     if let Values::One(span) = codings
-        && is_same_token(span.of(head), b"chunked")
+        && is_same_ignoring_case(span.of(head), b"chunked")
     {
         return Ok(BodyKind::Chunked);
     }
@@ -91,9 +91,9 @@ fn length_of(value: &[u8]) -> Result<BodyKind, u16>
         if !b.is_ascii_digit() {
             return Err(BAD_REQUEST);
         }
-        number = (number * 10 + u64::from(*b - b'0')).min(GREATEST_LENGTH + 1);
+        number = (number * 10 + u64::from(*b - b'0')).min(GREATEST_BODY + 1);
     }
-    if number > GREATEST_LENGTH {
+    if number > GREATEST_BODY {
         Err(CONTENT_TOO_LARGE)
     } else {
         Ok(BodyKind::Length(number))
@@ -119,14 +119,16 @@ pub(crate) fn expects_of(
     body: BodyKind,
 ) -> Result<bool, u16>
     requires { All (IsHeaderWithin (length head.now)) headers.now }
-    ensures { result ≡ expects_of minor body (values_named (codes "expect") (map (header_bytes head.now) headers.now)) }
+    ensures { result ≡ expects_of minor body (values_in head.now headers.now (codes "expect")) }
 {
     if minor == 0 {
         return Ok(false);
     }
     match values_of(head, headers, b"expect") {
         Values::Absent => Ok(false),
-        Values::One(span) if is_same_token(span.of(head), b"100-continue") => Ok(has_content(body)),
+        Values::One(span) if is_same_ignoring_case(span.of(head), b"100-continue") => Ok(
+            has_content(body),
+        ),
         _ => Err(EXPECTATION_FAILED),
     }
 }
@@ -134,7 +136,8 @@ pub(crate) fn expects_of(
 /// Whether the connection is to be closed after the response.
 pub(crate) fn asks_close(head: &[u8], minor: u8, headers: &[HeaderSpan]) -> bool
     requires { All (IsHeaderWithin (length head.now)) headers.now }
-    ensures { result ≡ asks_close minor (words_of_all (values_named (codes "connection") (map (header_bytes head.now) headers.now))) }
+    ensures { result
+        ≡ asks_close minor (words_of_all (values_in head.now headers.now (codes "connection"))) }
 {
     fields_have_word(head, headers, b"connection", b"close")
         || (minor == 0 && !fields_have_word(head, headers, b"connection", b"keep-alive"))
@@ -143,7 +146,8 @@ pub(crate) fn asks_close(head: &[u8], minor: u8, headers: &[HeaderSpan]) -> bool
 /// Where the Range stands, where one does and no If-Range.
 pub(crate) fn range_in(head: &[u8], headers: &[HeaderSpan]) -> Option<Span>
     requires { All (IsHeaderWithin (length head.now)) headers.now }
-    ensures { IsRangeAt head.now (range_in (values_named (codes "range") (map (header_bytes head.now) headers.now)) (values_named (codes "if-range") (map (header_bytes head.now) headers.now))) result }
+    ensures { IsRangeAt head.now (range_in (values_in head.now headers.now (codes "range"))
+        (values_in head.now headers.now (codes "if-range"))) result }
 {
     match (
         values_of(head, headers, b"range"),

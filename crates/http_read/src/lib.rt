@@ -4,8 +4,9 @@
 //! refused, with the code of its response. A head is one of the grammar of the kit's `httparse`; what its lines are stands in
 //! `specs/HeadLines.antt`, what its fields say in `specs/HeadRules.antt` and `specs/FieldValues.antt`, and the answers in
 //! `specs/Head.antt`. `one_answer` and `keeps_answer` are the laws above them. `HeadReader` gives the same answers to bytes
-//! that come piece by piece, and looks at each byte once (`specs/LookedAt.antt`). `Request` is what a head says
-//! (`specs/RequestParts.antt`), in one copy of it.
+//! that come piece by piece, and looks for their end at each byte once (`specs/LookedAt.antt`); what a head says is read once
+//! it is whole. `Request` is what a head says (`specs/RequestParts.antt`), in one copy of it. The greatest sizes of all of
+//! these stand in `specs/Sizes.antt`.
 //!
 //! `BodyReader` reads a body as its bytes come and keeps none of them. `specs/BodyForm.antt` says what a whole body is, what
 //! the front of one, and what breaks its form; `one_form`, `keeps_form` and `cuts_never_matter` are the laws above it. What a
@@ -25,6 +26,7 @@ mod head_rules;
 mod request;
 mod request_fields;
 mod requests;
+mod sizes;
 mod whole_head;
 mod words;
 
@@ -33,3 +35,4 @@ pub use head::{HeadAnswer, keeps_answer, next_head, one_answer};
 pub use head_reader::HeadReader;
 pub use request::{BodyKind, Limits, Request};
 pub use requests::{keeps_spelling, one_spelling};
+pub use sizes::GREATEST_HEAD;

@@ -1,12 +1,13 @@
 //! The fields of a head, looked up by their names.
-ghost use Rattle.std.specs.Prelude.{◌≡◌, ◌<◌, ℕ, false, List, [], ◌∷◌, ◌++◌, length, map, All};
+ghost use Rattle.std.specs.Prelude.{◌≡◌, ◌<◌, ℕ, false, List, [], ◌∷◌, ◌++◌, length, All};
 ghost use Rattle.httparse.specs.Spans.{IsHeaderWithin, IsWithin, header_bytes, span_bytes};
 ghost use Rattle.http_read.specs.FieldValues.{values_named, words_of_all, has_word, ends_in_word};
-ghost use Rattle.http_read.specs.ValuesInside.{AreValues};
+ghost use Rattle.http_read.specs.ValuesInside.{AreValues, values_in};
 ghost use Rattle.http_read.specs.WordsInside.{last_word_is};
 
-use crate::words::{is_same_token, value_ends_in_word, value_has_word};
+use crate::words::{value_ends_in_word, value_has_word};
 use httparse::spans::{HeaderSpan, Span};
+use mpm_base::is_same_ignoring_case;
 
 /// The values of the fields of one name.
 #[derive(Clone, Copy, Debug)]
@@ -22,7 +23,7 @@ pub(crate) enum Values {
 /// The values of the fields of that name.
 pub(crate) fn values_of(head: &[u8], headers: &[HeaderSpan], name: &[u8]) -> Values
     requires { All (IsHeaderWithin (length head.now)) headers.now }
-    ensures { AreValues head.now (values_named name.now (map (header_bytes head.now) headers.now)) result }
+    ensures { AreValues head.now (values_in head.now headers.now name.now) result }
 {
     let mut found = Values::Absent;
     for header in headers {
@@ -34,10 +35,12 @@ pub(crate) fn values_of(head: &[u8], headers: &[HeaderSpan], name: &[u8]) -> Val
 /// The values after one field more.
 fn add_value(found: Values, head: &[u8], header: &HeaderSpan, name: &[u8]) -> Values
     requires { IsHeaderWithin (length head.now) header.now }
-    ensures { (fields : List (List ℕ × List ℕ)) → AreValues head.now (values_named name.now fields) found
-        → AreValues head.now (values_named name.now (fields ++ header_bytes head.now header.now ∷ [])) result }
+    ensures { (fields : List (List ℕ × List ℕ))
+        → AreValues head.now (values_named name.now fields) found
+        → AreValues head.now (values_named name.now (fields ++ header_bytes head.now header.now ∷ []))
+        result }
 {
-    if is_same_token(header.name.of(head), name) {
+    if is_same_ignoring_case(header.name.of(head), name) {
         one_more(found, header.value)
     } else {
         found
@@ -46,7 +49,8 @@ fn add_value(found: Values, head: &[u8], header: &HeaderSpan, name: &[u8]) -> Va
 
 /// The values after one value more.
 fn one_more(found: Values, value: Span) -> Values
-    ensures { (head : List ℕ) (values : List (List ℕ)) → AreValues head values found → IsWithin (length head) value
+    ensures { (head : List ℕ) (values : List (List ℕ))
+        → AreValues head values found → IsWithin (length head) value
         → AreValues head (values ++ span_bytes head value ∷ []) result }
 {
     match found {
@@ -63,7 +67,7 @@ pub(crate) fn fields_have_word(
     word: &[u8],
 ) -> bool
     requires { All (IsHeaderWithin (length head.now)) headers.now }
-    ensures { result ≡ has_word word.now (words_of_all (values_named name.now (map (header_bytes head.now) headers.now))) }
+    ensures { result ≡ has_word word.now (words_of_all (values_in head.now headers.now name.now)) }
 {
     let mut found = false;
     for header in headers {
@@ -75,10 +79,12 @@ pub(crate) fn fields_have_word(
 /// Whether they have it after one field more.
 fn add_word(found: bool, head: &[u8], header: &HeaderSpan, name: &[u8], word: &[u8]) -> bool
     requires { IsHeaderWithin (length head.now) header.now }
-    ensures { (fields : List (List ℕ × List ℕ)) → found ≡ has_word word.now (words_of_all (values_named name.now fields))
-        → result ≡ has_word word.now (words_of_all (values_named name.now (fields ++ header_bytes head.now header.now ∷ []))) }
+    ensures { (fields : List (List ℕ × List ℕ))
+        → found ≡ has_word word.now (words_of_all (values_named name.now fields))
+        → result ≡ has_word word.now
+        (words_of_all (values_named name.now (fields ++ header_bytes head.now header.now ∷ []))) }
 {
-    if is_same_token(header.name.of(head), name) {
+    if is_same_ignoring_case(header.name.of(head), name) {
         found | value_has_word(header.value.of(head), word)
     } else {
         found
@@ -94,7 +100,7 @@ pub(crate) fn fields_end_in_word(
 ) -> bool
     requires within { All (IsHeaderWithin (length head.now)) headers.now }
     requires some { 0 < length word.now }
-    ensures { result ≡ ends_in_word word.now (words_of_all (values_named name.now (map (header_bytes head.now) headers.now))) }
+    ensures { result ≡ ends_in_word word.now (words_of_all (values_in head.now headers.now name.now)) }
 {
     let mut is_last = false;
     for header in headers {
@@ -106,10 +112,12 @@ pub(crate) fn fields_end_in_word(
 /// Whether it is after one field more.
 fn add_last_word(is_last: bool, head: &[u8], header: &HeaderSpan, name: &[u8], word: &[u8]) -> bool
     requires { IsHeaderWithin (length head.now) header.now }
-    ensures { (fields : List (List ℕ × List ℕ)) → is_last ≡ last_word_is word.now false (words_of_all (values_named name.now fields))
-        → result ≡ last_word_is word.now false (words_of_all (values_named name.now (fields ++ header_bytes head.now header.now ∷ []))) }
+    ensures { (fields : List (List ℕ × List ℕ))
+        → is_last ≡ last_word_is word.now false (words_of_all (values_named name.now fields))
+        → result ≡ last_word_is word.now false
+        (words_of_all (values_named name.now (fields ++ header_bytes head.now header.now ∷ []))) }
 {
-    if is_same_token(header.name.of(head), name) {
+    if is_same_ignoring_case(header.name.of(head), name) {
         value_ends_in_word(header.value.of(head), word, is_last)
     } else {
         is_last

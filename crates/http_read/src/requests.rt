@@ -9,12 +9,18 @@ use crate::head::{keeps_answer, one_answer};
 
 /// Bytes spell one list of requests, at most one refusal behind them, and leave one rest.
 pub fn one_spelling()
-    ensures requests { (limits : Limits) (bytes : List ℕ) (requests others : List (RequestParts × ℕ)) (refusal other : Option ReadRefusal) (rest left : List ℕ)
-        → AreItems limits bytes requests refusal rest → AreItems limits bytes others other left → requests ≡ others }
-    ensures refusal { (limits : Limits) (bytes : List ℕ) (requests others : List (RequestParts × ℕ)) (refusal other : Option ReadRefusal) (rest left : List ℕ)
-        → AreItems limits bytes requests refusal rest → AreItems limits bytes others other left → refusal ≡ other }
-    ensures rest { (limits : Limits) (bytes : List ℕ) (requests others : List (RequestParts × ℕ)) (refusal other : Option ReadRefusal) (rest left : List ℕ)
-        → AreItems limits bytes requests refusal rest → AreItems limits bytes others other left → rest ≡ left }
+    ensures requests { (limits : Limits) (bytes : List ℕ) (requests others : List (RequestParts × ℕ))
+        (refusal other : Option ReadRefusal) (rest left : List ℕ)
+        → AreItems limits bytes requests refusal rest → AreItems limits bytes others other left
+        → requests ≡ others }
+    ensures refusal { (limits : Limits) (bytes : List ℕ) (requests others : List (RequestParts × ℕ))
+        (refusal other : Option ReadRefusal) (rest left : List ℕ)
+        → AreItems limits bytes requests refusal rest → AreItems limits bytes others other left
+        → refusal ≡ other }
+    ensures rest { (limits : Limits) (bytes : List ℕ) (requests others : List (RequestParts × ℕ))
+        (refusal other : Option ReadRefusal) (rest left : List ℕ)
+        → AreItems limits bytes requests refusal rest → AreItems limits bytes others other left
+        → rest ≡ left }
 {
     one_answer();
     one_form();
@@ -22,10 +28,14 @@ pub fn one_spelling()
 
 /// Requests that are spelled stay so whatever follows, and so does a refusal behind them.
 pub fn keeps_spelling()
-    ensures requests { (limits : Limits) (bytes more : List ℕ) (requests : List (RequestParts × ℕ)) (rest : List ℕ)
-        → SpellsRequests limits bytes requests rest → SpellsRequests limits (bytes ++ more) requests (rest ++ more) }
-    ensures refusal { (limits : Limits) (bytes more : List ℕ) (requests : List (RequestParts × ℕ)) (refusal : ReadRefusal) (rest : List ℕ)
-        → AreItems limits bytes requests (Some refusal) rest → AreItems limits (bytes ++ more) requests (Some refusal) (rest ++ more) }
+    ensures requests { (limits : Limits) (bytes more : List ℕ) (requests : List (RequestParts × ℕ))
+        (rest : List ℕ)
+        → SpellsRequests limits bytes requests rest
+        → SpellsRequests limits (bytes ++ more) requests (rest ++ more) }
+    ensures refusal { (limits : Limits) (bytes more : List ℕ) (requests : List (RequestParts × ℕ))
+        (refusal : ReadRefusal) (rest : List ℕ)
+        → AreItems limits bytes requests (Some refusal) rest
+        → AreItems limits (bytes ++ more) requests (Some refusal) (rest ++ more) }
 {
     keeps_answer();
     keeps_form();

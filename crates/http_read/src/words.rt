@@ -1,17 +1,11 @@
 //! The words of the values of fields (RFC 9110, section 5.6).
 ghost use Rattle.std.specs.Prelude.{◌≡◌, reverse};
 ghost use Rattle.httparse.specs.Grammar.{skip_ows, trim_ows};
-ghost use Rattle.http_read.specs.FieldValues.{is_same_token, words_of, has_word, ends_in_word};
+ghost use Rattle.http_read.specs.FieldValues.{words_of, has_word, ends_in_word};
 ghost use Rattle.http_read.specs.WordsInside.{IsSplitAt, last_word_is};
 
 use httparse::is_space_or_tab;
-
-/// Whether the two are the same, case ignored.
-pub(crate) fn is_same_token(word: &[u8], other: &[u8]) -> bool
-    ensures { result ≡ is_same_token word.now other.now }
-{
-    word.eq_ignore_ascii_case(other)
-}
+use mpm_base::is_same_ignoring_case;
 
 fn trim_start(bytes: &[u8]) -> &[u8]
     ensures { result.now ≡ skip_ows bytes.now }
@@ -62,7 +56,7 @@ pub(crate) fn value_has_word(value: &[u8], word: &[u8]) -> bool
     while let Some(bytes) = left {
         let (part, behind) = split_at_comma(bytes);
         let found = trimmed(part);
-        if !found.is_empty() && is_same_token(found, word) {
+        if !found.is_empty() && is_same_ignoring_case(found, word) {
             return true;
         }
         left = behind;
@@ -80,7 +74,7 @@ pub(crate) fn value_ends_in_word(value: &[u8], word: &[u8], before: bool) -> boo
         let (part, behind) = split_at_comma(bytes);
         let found = trimmed(part);
         if !found.is_empty() {
-            is_last = is_same_token(found, word);
+            is_last = is_same_ignoring_case(found, word);
         }
         left = behind;
     }

@@ -9,5 +9,5 @@ abbrev pub is_number : ℕ → List ℕ → Bool
 is_number most text = nat_le 1 (length text) && nat_le (length text) most && list_all is_ascii_digit text
 
 -- the number that the text is, where it is 1 to so many decimal digits
-abbrev pub decimal : ℕ → List ℕ → Option ℕ
-decimal most text = if is_number most text then Some (digits_value 10 text) else None
+abbrev pub number_in_digits : ℕ → List ℕ → Option ℕ
+number_in_digits most text = if is_number most text then Some (digits_value 10 text) else None

@@ -3,12 +3,12 @@ ghost use Rattle.std.specs.Prelude.{◌≡◌, ◌<◌, ◌≤◌, ◌^◌, leng
 ghost use Rattle.std.specs.List.{list_all};
 ghost use Rattle.std.specs.Char.{is_ascii_digit};
 ghost use Rattle.std.specs.Str.Parse.{digits_value, AllDigits};
-ghost use Rattle.mpm_base.specs.Digits.{decimal, is_number};
+ghost use Rattle.mpm_base.specs.Digits.{is_number, number_in_digits};
 
 /// The number that 1 to `most` decimal digits spell. None where the text is something else.
-pub fn decimal(text: &[u8], most: usize) -> Option<u64>
+pub fn number_in_digits(text: &[u8], most: usize) -> Option<u64>
     requires few { most ≤ 18 }
-    ensures value { result ≡ decimal most text.now }
+    ensures value { result ≡ number_in_digits most text.now }
     ensures bound { IfSome result (λ n. n < 10 ^ most) }
 {
     if is_number(text, most) {

@@ -74,11 +74,13 @@ pub trait Front {
     /// From now on the slot of that name is given where something comes for the link, which `accept` handed out. False
     /// where the call failed.
     fn watch(&mut self, name: ConnName, link: &mut Self::L) -> bool
-        ensures watches { Watches (seen self.old) (seen self.new) name (Self.L.seen link.old) (Self.L.seen link.new) result };
+        ensures watches { Watches (seen self.old) (seen self.new) name
+            (Self.L.seen link.old) (Self.L.seen link.new) result };
 
     /// Closes a link that it handed out and that no connection takes.
     fn turn_away(&mut self, link: Self::L)
-        ensures { seen self.new ≡ front_after_turning_away (Self.L.seen link).told (seen self.old) };
+        ensures { seen self.new
+            ≡ front_after_turning_away (Self.L.seen link).told (seen self.old) };
 
     /// Stops listening: no connection is taken any more.
     fn hush(&mut self)

@@ -6,7 +6,8 @@
 //! stand in `specs/`, one file for each trait. `stand_ins` has objects in memory that keep these traits.
 //!
 //! `ScriptLine` is a line of a script, as a front may tell it; `mpm_script` reads scripts, and `script_front` plays them.
-//! `decimal` reads a number of decimal digits (`specs/Digits.antt`).
+//! `number_in_digits` reads a number of decimal digits (`specs/Digits.antt`), and `is_same_ignoring_case` compares texts in
+//! which the case of letters doesn't count (`specs/LetterCase.antt`).
 #![tactic(auto)]
 
 mod addr;
@@ -16,6 +17,7 @@ mod conn;
 mod digits;
 mod front;
 pub mod laws;
+mod letter_case;
 mod line;
 mod link;
 mod memory;
@@ -33,8 +35,9 @@ pub use addr::Addr;
 pub use bell::{Bell, Gate};
 pub use clock::Clock;
 pub use conn::{Ask, Cause, ConnName, GREATEST_MOMENT, Kind, Moment, Tail};
-pub use digits::decimal;
+pub use digits::number_in_digits;
 pub use front::{Arrival, Front, Woke};
+pub use letter_case::is_same_ignoring_case;
 pub use line::Line;
 pub use link::{Got, Link, Sent};
 pub use memory::NoMemory;

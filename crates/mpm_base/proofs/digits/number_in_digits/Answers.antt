@@ -1,6 +1,6 @@
 use Rattle.std.proofs.Common.{arith, ◌∙◌, sym}
 use Rattle.mpm_base.proofs.DigitLemmas.{number_parts, small_number}
-use Rattle.mpm_base.proofs.digits.decimal.Goals as goal
+use Rattle.mpm_base.proofs.digits.number_in_digits.Goals as goal
 
 pub decimal_value-requires-clause-few : goal.decimal_value-requires-clause-few
 decimal_value-requires-clause-few c =
