@@ -6,7 +6,7 @@ use Rattle.mpm_base.specs.Store.{StoreSeen, names_under}
 use Rattle.file_table.specs.declared.load_fault.LoadFault.{LoadFault}
 use Rattle.file_table.specs.declared.load_fault.LoadFault.TheVariants as fault
 use Rattle.file_table.specs.declared.site.SiteOrder.{SiteOrder}
-use Rattle.file_table.specs.Site.{SeenSite, IsSiteOf, first_too_large, size_of}
+use Rattle.file_table.specs.Site.{SeenSite, IsSiteOf, first_too_large, most_files, size_of}
 
 -- the file is the first of the site that is too large; the name is its whole name, and it has so many bytes
 pub record IsTooLargeFile (order : SiteOrder) (files : List File) (name : List ℕ) (size : ℕ) : Type 0 where
@@ -21,14 +21,14 @@ pub record IsTooLargeFile (order : SiteOrder) (files : List File) (name : List �
 abbrev pub MayLoad : SiteOrder → List File → Result SeenSite LoadFault → Type 0
 MayLoad order files (Ok site) = IsSiteOf order files site
 MayLoad order files (Err fault.StoreFault) = ⊤
-MayLoad order files (Err fault.TooMany) = 65536 < length (names_under order.root files)
+MayLoad order files (Err fault.TooMany) = most_files < length (names_under order.root files)
 MayLoad order files (Err (fault.TooLarge name size)) =
-    (length (names_under order.root files) ≤ 65536) × IsTooLargeFile order files name size
+    (length (names_under order.root files) ≤ most_files) × IsTooLargeFile order files name size
 MayLoad order files (Err fault.NoMemory) = ⊤
 
--- a site that was loaded has at most 65,536 files, and none is too large
+-- a site that was loaded has no more files than one may have, and none is too large
 pub record IsWithinLimits (site : SeenSite) : Type 0 where
-  pub few : length site.files ≤ 65536
+  pub few : length site.files ≤ most_files
   pub small : first_too_large 0 site.files ≡ None
 
 -- the store failed

@@ -5,13 +5,13 @@ use Rattle.mpm_base.specs.Count.{NeverFalls}
 use Rattle.mpm_base.specs.Store.{StoreSeen, StoreTold, lies_under}
 use Rattle.file_table.specs.declared.load_fault.LoadFault.{LoadFault}
 use Rattle.file_table.specs.declared.load_fault.LoadFault.TheVariants as fault
-use Rattle.file_table.specs.Site.{file_within, first_too_large, is_too_large, name_within, size_of}
+use Rattle.file_table.specs.Site.{file_within, first_too_large, is_too_large, most_bytes_together, most_files, name_within, size_of}
 
 -- what listing a site's files answers, where these are their names
 abbrev pub MayListFiles : List (List ℕ) → Result (List (List ℕ)) LoadFault → Type 0
 MayListFiles names (Ok listed) = listed ≡ names
 MayListFiles names (Err fault.StoreFault) = ⊤
-MayListFiles names (Err fault.TooMany) = 65536 < length names
+MayListFiles names (Err fault.TooMany) = most_files < length names
 MayListFiles names (Err (fault.TooLarge name size)) = ⊥
 MayListFiles names (Err fault.NoMemory) = ⊤
 
@@ -45,7 +45,7 @@ MayNotRead root given names fault.NoMemory = ⊤
 pub record HasReadFiles (root : List ℕ) (told : Option StoreTold) (names : List (List ℕ)) (files : List File) (sum : ℕ) : Type 0 where
   pub named : map (λ (file : File). file.name) files ≡ map (name_within root) names
   pub judged : (more : List File) → first_too_large 0 (files ++ more) ≡ first_too_large sum more
-  pub bounded : sum ≤ 67108864
+  pub bounded : sum ≤ most_bytes_together
   pub known : IfSome told (λ t. files ≡ map (file_within root t.files) names)
 
 -- the store tells what it told, and no count of it fell

@@ -27,13 +27,25 @@ pub record IsSiteOf (order : SiteOrder) (given : List File) (site : SeenSite) : 
   pub files : site.files ≡ map (file_within order.root given) names
   pub in_order : IsInOrder site.files
 
+-- a site has at most 65,536 files
+abbrev pub most_files : ℕ
+most_files = 65536
+
+-- a file of a site has at most 16,777,216 bytes
+abbrev pub most_bytes : ℕ
+most_bytes = 16777216
+
+-- the files of a site have at most 67,108,864 bytes together
+abbrev pub most_bytes_together : ℕ
+most_bytes_together = 67108864
+
 -- how many bytes the file has
 abbrev pub size_of : File → ℕ
 size_of file = length file.bytes
 
--- the file has more than 16,777,216 bytes, or with those before it, which have so many, more than 67,108,864
+-- the file has more bytes than one may have, or with those before it, which have so many, more than the files may have together
 abbrev pub is_too_large : ℕ → File → Bool
-is_too_large before file = nat_lt 16777216 (size_of file) || nat_lt 67108864 (before + size_of file)
+is_too_large before file = nat_lt most_bytes (size_of file) || nat_lt most_bytes_together (before + size_of file)
 
 -- the first file that is too large, where those before the first have so many bytes
 abbrev pub first_too_large : ℕ → List File → Option File

@@ -1,8 +1,9 @@
 //! The content type of a file.
 ghost use Rattle.std.specs.Prelude.{◌≡◌, ◌<◌, length, Some, slice_get, option_map, codes};
-ghost use Rattle.file_table.specs.ContentType.{extension_of, is_extension, type_by_extension, type_of_extension, type_of_name};
+ghost use Rattle.file_table.specs.ContentType.{extension_of, type_by_extension, type_of_extension, type_of_name};
 
 use crate::site::Site;
+use mpm_base::is_same_ignoring_case;
 
 /// What follows the last point of a name, where there is one.
 fn extension_of(name: &[u8]) -> Option<&[u8]>
@@ -16,36 +17,31 @@ fn extension_of(name: &[u8]) -> Option<&[u8]>
     None
 }
 
-/// Whether the extension is this word, in which case of letters doesn't count.
-fn is_extension(word: &[u8], extension: &[u8]) -> bool
-    ensures { result ≡ is_extension word.now extension.now }
-{
-    extension.eq_ignore_ascii_case(word)
-}
-
 /// The type that goes with an extension.
 fn type_by_extension(extension: &[u8]) -> &'static [u8]
     ensures { result.now ≡ type_by_extension extension.now }
 {
-    if is_extension(b"html", extension) || is_extension(b"htm", extension) {
+    if is_same_ignoring_case(extension, b"html") || is_same_ignoring_case(extension, b"htm") {
         b"text/html"
-    } else if is_extension(b"txt", extension) {
+    } else if is_same_ignoring_case(extension, b"txt") {
         b"text/plain"
-    } else if is_extension(b"css", extension) {
+    } else if is_same_ignoring_case(extension, b"css") {
         b"text/css"
-    } else if is_extension(b"js", extension) {
+    } else if is_same_ignoring_case(extension, b"js") {
         b"text/javascript"
-    } else if is_extension(b"json", extension) {
+    } else if is_same_ignoring_case(extension, b"json") {
         b"application/json"
-    } else if is_extension(b"xml", extension) {
+    } else if is_same_ignoring_case(extension, b"xml") {
         b"application/xml"
-    } else if is_extension(b"svg", extension) {
+    } else if is_same_ignoring_case(extension, b"svg") {
         b"image/svg+xml"
-    } else if is_extension(b"png", extension) {
+    } else if is_same_ignoring_case(extension, b"png") {
         b"image/png"
-    } else if is_extension(b"jpg", extension) || is_extension(b"jpeg", extension) {
+    } else if is_same_ignoring_case(extension, b"jpg")
+        || is_same_ignoring_case(extension, b"jpeg")
+    {
         b"image/jpeg"
-    } else if is_extension(b"gif", extension) {
+    } else if is_same_ignoring_case(extension, b"gif") {
         b"image/gif"
     } else {
         b"application/octet-stream"
@@ -65,7 +61,8 @@ fn type_of_name(name: &[u8]) -> &'static [u8]
 /// The content type of a file of the site (RFC 9110, section 8.3). Takes no memory.
 pub fn content_type(site: &Site, file: u32) -> &[u8]
     requires { file < length site.now.files }
-    ensures { option_map (λ f. type_of_name f.name) (slice_get site.now.files file) ≡ Some result.now }
+    ensures { option_map (λ f. type_of_name f.name) (slice_get site.now.files file)
+        ≡ Some result.now }
 {
     type_of_name(site.files()[file as usize].name.as_slice())
 }

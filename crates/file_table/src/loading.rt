@@ -6,7 +6,7 @@ ghost use Rattle.std.specs.Ordering.{nat_cmp};
 ghost use Rattle.mpm_base.specs.Store.{bytes_of, lies_under, names_under};
 ghost use Rattle.file_table.specs.Load.{IsWithinLimits, LeavesStore, MayLoad};
 ghost use Rattle.file_table.specs.LoadInside.{MayListFiles, MayReadBytes, MayNotRead, MayReadNext};
-ghost use Rattle.file_table.specs.Site.{file_within, first_too_large, is_too_large, name_within};
+ghost use Rattle.file_table.specs.Site.{file_within, first_too_large, is_too_large, most_bytes_together, most_files, name_within};
 
 use crate::load_fault::LoadFault;
 use crate::search::begins_with;
@@ -38,8 +38,9 @@ fn text_of(bytes: &[u8]) -> &str
 fn list_names<D: Store>(alloc: Global, store: &mut D, root: &[u8]) -> Result<Names, LoadFault>
     requires { IsUtf8 root.now }
     ensures store { LeavesStore (D.seen store.old) (D.seen store.new) result }
-    ensures names { IfOk result (λ names. (length names ≤ 65536) × All IsUtf8 names) }
-    ensures known { IfSome (D.seen store.old).told (λ t. MayListFiles (names_under root.now t.files) result) }
+    ensures names { IfOk result (λ names. (length names ≤ most_files) × All IsUtf8 names) }
+    ensures known { IfSome (D.seen store.old).told
+        (λ t. MayListFiles (names_under root.now t.files) result) }
 {
     match store.names(alloc, text_of(root), MOST_FILES) {
         Ok(names) => Ok(names),
@@ -64,7 +65,8 @@ fn name_at(names: &Names, place: usize) -> &[u8]
 
 /// Those of the names that lie under the root.
 fn names_within<'a>(alloc: Global, names: &'a Names, root: &[u8]) -> Result<Vec<&'a [u8]>, NoMemory>
-    ensures { IfOk result (λ within. map (λ name. name.now) within.items ≡ filter (lies_under root.now) names.now) }
+    ensures { IfOk result
+        (λ within. map (λ name. name.now) within.items ≡ filter (lies_under root.now) names.now) }
 {
     let mut within = Vec::new(alloc);
     for place in 0..names.len() {
@@ -80,7 +82,8 @@ fn names_within<'a>(alloc: Global, names: &'a Names, root: &[u8]) -> Result<Vec<
 fn sorted_names<'a>(alloc: Global, names: &'a Names, root: &[u8]) -> Result<Vec<&'a [u8]>, NoMemory>
     ensures names { IfOk result (λ sorted. IsPermutation (filter (lies_under root.now) names.now)
         (map (λ name. name.now) sorted.items)) }
-    ensures in_order { IfOk result (λ sorted. IsSortedByKey (λ name. name.now) (slice_cmp nat_cmp) sorted.items) }
+    ensures in_order { IfOk result
+        (λ sorted. IsSortedByKey (λ name. name.now) (slice_cmp nat_cmp) sorted.items) }
 {
     let mut sorted = names_within(alloc, names, root)?;
     sorted.sort()?;
@@ -123,9 +126,10 @@ fn read_next<D: Store>(
 ) -> Result<File, LoadFault>
     requires utf8 { IsUtf8 name.now }
     requires under { lies_under root.now name.now ≡ true }
-    requires bounded { before ≤ 67108864 }
+    requires bounded { before ≤ most_bytes_together }
     ensures store { LeavesStore (D.seen store.old) (D.seen store.new) result }
-    ensures file { IfOk result (λ file. (file.name ≡ name_within root.now name.now) × (is_too_large before file ≡ false)) }
+    ensures file { IfOk result (λ file. (file.name ≡ name_within root.now name.now)
+        × (is_too_large before file ≡ false)) }
     ensures known { IfSome (D.seen store.old).told
         (λ t. MayReadNext (file_within root.now t.files name.now) name.now before result) }
 {
@@ -149,7 +153,8 @@ fn read_files<D: Store>(
         ≡ map (name_within root.now) (map (λ name. name.now) names.now)) }
     ensures small { IfOk result (λ files. first_too_large 0 files.items ≡ None) }
     ensures known { IfSome (D.seen store.old).told (λ t. MatchResult result
-        (λ files. files.items ≡ map (file_within root.now t.files) (map (λ name. name.now) names.now))
+        (λ files. files.items
+        ≡ map (file_within root.now t.files) (map (λ name. name.now) names.now))
         (MayNotRead root.now t.files (map (λ name. name.now) names.now))) }
 {
     let mut files = Vec::new(alloc);
@@ -174,7 +179,7 @@ fn read_site<D: Store>(
     order: &SiteOrder,
     names: &Names,
 ) -> Result<Site, LoadFault>
-    requires few { length names.now ≤ 65536 }
+    requires few { length names.now ≤ most_files }
     requires utf8 { All IsUtf8 names.now }
     ensures store { LeavesStore (D.seen store.old) (D.seen store.new) result }
     ensures limits { IfOk result IsWithinLimits }

@@ -3,6 +3,7 @@ ghost use Rattle.std.specs.Prelude.{◌≡◌, ◌++◌, ◌<◌, false, IfOk, O
 ghost use Rattle.file_table.specs.Path.{has_dot_segment, name_of_segments, segments};
 ghost use Rattle.file_table.specs.PathInside.{further_name};
 ghost use Rattle.file_table.specs.Resource.{IsFoundIn, escaped_byte, file_or, folder_path, has_files_under, is_unreserved, place_of_file, resource_of, resource_of_decoded, resource_of_name};
+ghost use Rattle.file_table.specs.Site.{most_files};
 
 use crate::found::Found;
 use crate::path::{
@@ -48,7 +49,7 @@ fn folder_path(alloc: Global, name: &[u8]) -> Result<Octets, NoMemory>
 
 /// The place of a file as it is answered.
 fn file_at(place: usize) -> Found
-    requires { place < 65536 }
+    requires { place < most_files }
     ensures { result ≡ Found.File place }
 {
     Found::File(place as u32)
@@ -67,7 +68,9 @@ fn place_of_index(site: &Site, name: &[u8]) -> Option<usize>
 
 /// The file that stands for the folder of that name.
 fn find_index(site: &Site, name: &[u8]) -> Found
-    ensures { result ≡ file_or (place_of_file (further_name name.now site.now.index) site.now.files) Found.Missing }
+    ensures { result
+        ≡ file_or (place_of_file (further_name name.now site.now.index) site.now.files)
+            Found.Missing }
 {
     let _few = site.files();
     match place_of_index(site, name) {
@@ -144,8 +147,8 @@ fn find_path(alloc: Global, site: &Site, path: &[u8]) -> Result<Found, NoMemory>
     find_decoded(alloc, site, decoded.as_slice())
 }
 
-/// What a path, which is the part of a target before its query, names in the site. NoMemory where memory lacks for its decoded form
-/// or for a redirect.
+/// What a path, which is the part of a target before its query, names in the site. NoMemory where memory lacks for its decoded
+/// form, for the name of a path with empty segments, or for a redirect.
 pub fn find(alloc: Global, site: &Site, path: &[u8]) -> Result<Found, NoMemory>
     ensures resource { IfOk result (λ found. found ≡ resource_of site.now path.now) }
     ensures there { IfOk result (IsFoundIn site.now) }

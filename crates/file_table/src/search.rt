@@ -48,8 +48,10 @@ fn goes_before(name: &[u8], front: &[u8], back: &[u8]) -> bool
 /// 65,536.
 pub fn count_before<T: Named>(items: &[T], front: &[u8], back: &[u8]) -> usize
     ensures { IsSortedByKey T.name_of (slice_cmp nat_cmp) items.now
-        → IsPartitionPoint (λ (item : T). name_goes_before (T.name_of item) (front.now ++ back.now) ≡ true)
-        (λ (item : T). name_goes_before (T.name_of item) (front.now ++ back.now) ≡ false) items.now result }
+        → IsPartitionPoint
+        (λ (item : T). name_goes_before (T.name_of item) (front.now ++ back.now) ≡ true)
+        (λ (item : T). name_goes_before (T.name_of item) (front.now ++ back.now) ≡ false)
+        items.now result }
 {
     items.partition_point(|item| goes_before(item.name(), front, back))
 }

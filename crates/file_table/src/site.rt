@@ -1,6 +1,7 @@
 //! The files of a site.
 ghost use Rattle.std.specs.Prelude.{◌≡◌, ◌<◌, ◌≤◌, ◌∷◌, length, Some, IfOk, slice_get, option_map};
 ghost use Rattle.file_table.specs.Order.{IsInOrder};
+ghost use Rattle.file_table.specs.Site.{most_files};
 
 use mpm_base::{File, NoMemory, Octets};
 use std::alloc::Global;
@@ -26,20 +27,21 @@ pub struct Site {
 impl Model for Site {
     ghost use Rattle.std.specs.Prelude.{◌≡◌, ◌≤◌, ◌∷◌, length};
     ghost use Rattle.file_table.specs.Order.{IsInOrder};
-    ghost use Rattle.file_table.specs.Site.{SeenSite};
+    ghost use Rattle.file_table.specs.Site.{SeenSite, most_files};
 
     ghost Value = { SeenSite };
 
     ghost view = { λ s. record { index = s.index; files = s.files.items } };
 
-    ghost invariant = { λ s. (s.slash_index ≡ 47 ∷ s.index) × IsInOrder s.files.items × (length s.files.items ≤ 65536) };
+    ghost invariant = { λ s. (s.slash_index ≡ 47 ∷ s.index) × IsInOrder s.files.items
+        × (length s.files.items ≤ most_files) };
 }
 
 impl Site {
     /// A site of these files.
     pub(crate) fn of(alloc: Global, index: &[u8], files: Vec<File>) -> Result<Site, NoMemory>
         requires in_order { IsInOrder files.items }
-        requires few { length files.items ≤ 65536 }
+        requires few { length files.items ≤ most_files }
         ensures { IfOk result (λ site. site ≡ record { index = index.now; files = files.items }) }
     {
         let mut slash_index = Octets::of(alloc, b"/")?;
@@ -70,7 +72,7 @@ impl Site {
     pub fn files(&self) -> &[File]
         ensures files { result.now ≡ self.now.files }
         ensures in_order { IsInOrder self.now.files }
-        ensures few { length self.now.files ≤ 65536 }
+        ensures few { length self.now.files ≤ most_files }
     {
         self.files.as_slice()
     }
