@@ -1,15 +1,10 @@
 -- The names of the language. A name is compared without regard to the case of ASCII letters.
-use Rattle.std.specs.Prelude.{ℕ, List, [], ◌∷◌, Option, map, Bool, find, codes, option_map}
-use Rattle.std.specs.Char.{to_ascii_lowercase}
-use Rattle.std.specs.Str.{bytes_eq}
+use Rattle.std.specs.Prelude.{ℕ, List, [], ◌∷◌, Option, find, codes, option_map}
+use Rattle.mpm_base.specs.LetterCase.{is_same_ignoring_case}
 use Rattle.mpm_config.specs.declared.directive.Directive.{Directive}
 use Rattle.mpm_config.specs.declared.directive.Directive.TheVariants.{Number, KeepAlive, Listen, ControlListen, DocumentRoot, DirectoryIndex, ServerName}
 use Rattle.mpm_config.specs.declared.directive.Quantity.{Quantity}
 use Rattle.mpm_config.specs.declared.directive.Quantity.TheVariants as number
-
--- the word is the name, but for the case of letters
-abbrev pub is_same_word : List ℕ → List ℕ → Bool
-is_same_word name word = bytes_eq (map to_ascii_lowercase word) (map to_ascii_lowercase name)
 
 -- the first spelling of the name of a directive whose value is a number
 abbrev pub quantity_name : Quantity → List ℕ
@@ -69,7 +64,7 @@ names =
 
 -- the directive of the first of the names that the word is
 abbrev pub directive_among : List Name → List ℕ → Option Directive
-directive_among ns word = option_map (λ n. n.directive) (find (λ n. is_same_word n.text word) ns)
+directive_among ns word = option_map (λ n. n.directive) (find (λ n. is_same_ignoring_case word n.text) ns)
 
 -- the directive that a word names
 abbrev pub directive_of : List ℕ → Option Directive

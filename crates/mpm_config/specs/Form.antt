@@ -6,7 +6,7 @@ use Rattle.std.specs.Option.{option_map_or}
 use Rattle.std.specs.Str.{bytes_eq}
 use Rattle.mpm_config.specs.declared.form.Form.{Form}
 use Rattle.mpm_config.specs.declared.form.Form.TheVariants.{Blank, Opening, Closing, ClosingWithWord, OtherSection, Directive}
-use Rattle.mpm_config.specs.Directive.{is_same_word}
+use Rattle.mpm_base.specs.LetterCase.{is_same_ignoring_case}
 use Rattle.mpm_config.specs.Words.{Word, Closed, is_blank, words, from_blanks}
 
 -- the modules that are there
@@ -31,7 +31,8 @@ guard ws = None
 -- the words after the kind of a section, where that is IfModule: it goes to the first blank, and stands without quotes
 abbrev pub arguments : List ℕ → Option (List Word)
 arguments text =
-    if is_same_word (codes "IfModule") (before_first is_blank text) then Some (words (drop (position_or_len is_blank text) text)) else None
+    if is_same_ignoring_case (before_first is_blank text) (codes "IfModule")
+    then Some (words (drop (position_or_len is_blank text) text)) else None
 
 -- what closes a section has no further word
 abbrev pub section_closing : List Word → Form

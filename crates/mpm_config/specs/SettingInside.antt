@@ -1,5 +1,4 @@
 -- Which settings a draft may take.
-use Rattle.mpm_config.specs.declared.directive.Directive.TheVariants.{Number}
 use Rattle.mpm_config.specs.declared.setting.Setting.{Setting}
 use Rattle.mpm_config.specs.declared.setting.Setting.TheVariants as sets
 use Rattle.mpm_config.specs.Range.{IsAllowed}

@@ -2,17 +2,17 @@
 use Rattle.std.specs.Prelude.{ℕ, ◌+◌, ◌-◌, ◌*◌, ◌==◌, ◌&&◌, nat_le, nat_lt, if◌then◌else◌, Bool, true, false, not, List, [], ◌∷◌, length, take, drop, codes, Option, Some, None, option_map, option_and_then, slice_index}
 use Rattle.std.specs.List.{list_any, before_first, after_first, position_or_len}
 use Rattle.std.specs.Str.{bytes_eq}
-use Rattle.mpm_base.specs.Digits.{decimal}
+use Rattle.mpm_base.specs.Digits.{number_in_digits}
+use Rattle.mpm_base.specs.LetterCase.{is_same_ignoring_case}
 use Rattle.mpm_base.specs.declared.addr.Addr.{Addr}
 use Rattle.mpm_config.specs.declared.directive.Quantity.{Quantity}
 use Rattle.mpm_config.specs.declared.directive.Quantity.TheVariants.{AsyncRequestWorkerFactor, KeepAliveTimeout}
 use Rattle.mpm_config.specs.declared.range.NumberRange.{NumberRange}
 use Rattle.mpm_config.specs.Range.{range_of, millisecond_range, octet_range, port_range, number_in}
-use Rattle.mpm_config.specs.Directive.{is_same_word}
 
 -- a whole number, of at most nine digits, in a range of the table
 abbrev pub number : NumberRange → List ℕ → Option ℕ
-number r v = option_and_then (number_in r) (decimal 9 v)
+number r v = option_and_then (number_in r) (number_in_digits 9 v)
 
 -- what stands before and after the first byte c
 pub record Parts : Type 0 where
@@ -21,16 +21,18 @@ pub record Parts : Type 0 where
 
 -- the bytes before and behind the first of that byte
 abbrev pub parts_around : ℕ → List ℕ → Option Parts
-parts_around c v = if nat_lt (position_or_len (λ b. b == c) v) (length v) then Some (record { before = before_first (λ b. b == c) v; after = after_first (λ b. b == c) v }) else None
+parts_around c v =
+    if nat_lt (position_or_len (λ b. b == c) v) (length v)
+    then Some (record { before = before_first (λ b. b == c) v; after = after_first (λ b. b == c) v }) else None
 
 -- hundredths: one or two digits after the point
 abbrev pub decimals : List ℕ → Option ℕ
-decimals v = option_map (λ n. if length v == 1 then 10 * n else n) (decimal 2 v)
+decimals v = option_map (λ n. if length v == 1 then 10 * n else n) (number_in_digits 2 v)
 
 -- hundredths: one to three digits, and where there is a point (46) the decimals after it
 abbrev pub hundredths_of : List ℕ → Option Parts → Option ℕ
-hundredths_of v None = option_map (λ n. 100 * n) (decimal 3 v)
-hundredths_of v (Some p) = option_and_then (λ n. option_map (λ m. 100 * n + m) (decimals p.after)) (decimal 3 p.before)
+hundredths_of v None = option_map (λ n. 100 * n) (number_in_digits 3 v)
+hundredths_of v (Some p) = option_and_then (λ n. option_map (λ m. 100 * n + m) (decimals p.after)) (number_in_digits 3 p.before)
 
 -- the hundredths that a value spells: digits, perhaps with a point and decimals
 abbrev pub hundredths : List ℕ → Option ℕ
@@ -49,7 +51,9 @@ number_of q v = number (range_of q) v
 
 -- on or off, in which case does not count
 abbrev pub switch : List ℕ → Option Bool
-switch v = if is_same_word (codes "On") v then Some true else (if is_same_word (codes "Off") v then Some false else None)
+switch v =
+    if is_same_ignoring_case v (codes "On") then Some true
+    else (if is_same_ignoring_case v (codes "Off") then Some false else None)
 
 -- the four octets of an address, with a point (46) between them
 abbrev pub octets : List ℕ → Option (List ℕ)

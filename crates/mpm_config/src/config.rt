@@ -29,7 +29,14 @@ impl Model for Config {
 
     ghost Value = { Configuration };
 
-    ghost view = { λ c. record { written = c.written; current = c.now; listen = c.listen; control = c.control; root = c.root; index = c.index } };
+    ghost view = { λ c. record {
+      written = c.written;
+      current = c.now;
+      listen = c.listen;
+      control = c.control;
+      root = c.root;
+      index = c.index;
+    } };
 
     ghost invariant = { λ c. IsConfiguration c.written c.now c.root c.index };
 }

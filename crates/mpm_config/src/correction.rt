@@ -174,7 +174,8 @@ pub fn warnings_of(alloc: Global, written: &Numbers) -> Result<Warnings, NoMemor
 /// The name of the number that the correction at a place corrects.
 fn name_at(corrections: &[Correction], place: usize) -> &'static str
     requires { place < length corrections.now }
-    ensures { result.now ≡ option_map_or (λ c. quantity_name (quantity_of c)) (slice_get corrections.now place) [] }
+    ensures { result.now
+        ≡ option_map_or (λ c. quantity_name (quantity_of c)) (slice_get corrections.now place) [] }
 {
     corrections[place].quantity().name()
 }

@@ -1,7 +1,10 @@
 //! The directives of the language, and the names that stand for them.
 ghost use Rattle.std.specs.Prelude.{◌≡◌, List, map, find, option_map};
-ghost use Rattle.mpm_config.specs.Directive.{directive_of, directive_among, is_same_word, quantity_name, Name};
+ghost use Rattle.mpm_base.specs.LetterCase.{is_same_ignoring_case};
+ghost use Rattle.mpm_config.specs.Directive.{directive_of, directive_among, quantity_name, Name};
 ghost use Rattle.mpm_config.specs.DirectiveInside.{name_of};
+
+use mpm_base::is_same_ignoring_case;
 
 /// A directive whose value is a number.
 #[derive(Clone, Copy, Debug, PartialEq, Eq)]
@@ -143,26 +146,22 @@ pub const SPELLINGS: [Spelling; 24] = [
     },
 ];
 
-/// Whether the word is the name, in which case does not count.
-pub fn is_word(word: &[u8], name: &str) -> bool
-    ensures { result ≡ is_same_word name.now word.now }
-{
-    word.eq_ignore_ascii_case(name.as_bytes())
-}
-
 /// The directive of the first of the spellings that is the word.
 fn first_among(word: &[u8], spellings: &[Spelling]) -> Option<Directive>
-    ensures { result ≡ option_map (λ s. s.directive) (find (λ (s : Spelling). is_same_word s.name.now word.now) spellings.now) }
+    ensures { result ≡ option_map (λ s. s.directive)
+        (find (λ (s : Spelling). is_same_ignoring_case word.now s.name.now) spellings.now) }
 {
-    let found = spellings
-        .iter()
-        .find(|spelling| is_word(word, spelling.name))?;
+    let found = spellings.iter().find(|spelling| is_same_ignoring_case(
+        word,
+        spelling.name.as_bytes(),
+    ))?;
     Some(found.directive)
 }
 
 /// The same, where the spellings are the code's form of those names.
 fn among(word: &[u8], spellings: &[Spelling]) -> Option<Directive>
-    ensures { (names : List Name) → map name_of spellings.now ≡ names → result ≡ directive_among names word.now }
+    ensures { (names : List Name) → map name_of spellings.now ≡ names
+        → result ≡ directive_among names word.now }
 {
     first_among(word, spellings)
 }

@@ -30,7 +30,13 @@ impl Model for Draft {
 
     ghost Value = { Settings };
 
-    ghost view = { λ d. record { numbers = d.numbers; listen = d.listen; control = d.control; root = d.root; index = d.index } };
+    ghost view = { λ d. record {
+      numbers = d.numbers;
+      listen = d.listen;
+      control = d.control;
+      root = d.root;
+      index = d.index;
+    } };
 
     ghost invariant = { λ d. AreKept d.numbers d.root d.index };
 }
@@ -71,7 +77,8 @@ impl Draft {
 
     /// The configuration of the settings, and its warnings.
     pub fn finish(self, alloc: Global) -> Result<(Config, Warnings), NoMemory>
-        ensures { IfOk result (λ r. record { config = r.0; warnings = r.1 } ≡ configuration_of self) }
+        ensures { IfOk result
+            (λ r. record { config = r.0; warnings = r.1 } ≡ configuration_of self) }
     {
         let Draft {
             numbers,

@@ -4,8 +4,8 @@ ghost use Rattle.std.specs.List.{list_all};
 ghost use Rattle.mpm_config.specs.Form.{arguments, before_end, section_closing, form_of, guard, guard_of, is_present, of_inside, of_section};
 ghost use Rattle.mpm_config.specs.Words.{is_blank, words};
 
-use crate::directive::is_word;
 use crate::word::{First, at_blank, first_word, is_blank, past_first, skip_blanks};
+use mpm_base::is_same_ignoring_case;
 
 /// The kind of a line.
 #[derive(Clone, Copy, Debug, PartialEq, Eq)]
@@ -60,7 +60,7 @@ fn arguments(text: &str) -> Option<&str>
     ensures { option_map (λ rest. words rest.now) result ≡ arguments text.now }
 {
     let (kind, after) = at_blank(text);
-    if is_word(kind.as_bytes(), "IfModule") {
+    if is_same_ignoring_case(kind.as_bytes(), b"IfModule") {
         Some(after)
     } else {
         None
@@ -107,7 +107,8 @@ fn all_blank(text: &[u8]) -> bool
 /// Whether a `>` stands at the place and only blanks follow it.
 fn ends_at(text: &[u8], place: usize) -> bool
     requires { place < length text.now }
-    ensures { result ≡ (slice_index text.now place == 62 && list_all is_blank (drop (place + 1) text.now)) }
+    ensures { result
+        ≡ (slice_index text.now place == 62 && list_all is_blank (drop (place + 1) text.now)) }
 {
     text[place] == b'>' && all_blank(&text[place + 1..])
 }

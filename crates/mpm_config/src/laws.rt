@@ -37,5 +37,6 @@ pub fn first_refusal_decides()
 
 /// Numbers in their ranges are, once they are corrected, those of a shape in its bounds.
 pub fn corrected_numbers_are_in_bounds()
-    ensures { (n : Numbers) → IsInRange n → is_in_bounds (shape_of_numbers (after_corrections n)) ≡ true }
+    ensures { (n : Numbers) → IsInRange n
+        → is_in_bounds (shape_of_numbers (after_corrections n)) ≡ true }
 {}

@@ -9,7 +9,8 @@ use mpm_base::NoMemory;
 
 /// What stands before and after the first line feed.
 fn at_line_end(text: &str) -> Option<(&str, &str)>
-    ensures { option_map (λ p. record { before = p.0.now; after = p.1.now }) result ≡ parts_around 10 text.now }
+    ensures { option_map (λ p. record { before = p.0.now; after = p.1.now }) result
+        ≡ parts_around 10 text.now }
 {
     text.split_once('\n')
 }
@@ -63,7 +64,8 @@ pub fn take_line<'a>(text: &'a str, line: &mut String) -> Result<(&'a str, u64),
     requires { 0 < length text.now }
     ensures line { IfOk result (λ r. (n : ℕ)
         → logical n (lines text.now)
-        ≡ record { number = n; bytes = string_bytes line.new } ∷ logical (n + r.1) (lines r.0.now)) }
+        ≡ record { number = n; bytes = string_bytes line.new }
+        ∷ logical (n + r.1) (lines r.0.now)) }
     ensures room { IfOk result (λ r. length r.0.now + r.1 ≤ length text.now) }
     ensures shorter { IfOk result (λ r. length r.0.now < length text.now) }
 {

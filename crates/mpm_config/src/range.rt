@@ -22,140 +22,123 @@ pub struct NumberRange {
 /// The greatest whole number: nine digits.
 pub const WHOLE: u32 = 999_999_999;
 
+/// Any whole number, kept as it is written, 0 by default. What a line of the table has otherwise stands there.
+const ANY_WHOLE: NumberRange = NumberRange {
+    default: 0,
+    least: 0,
+    greatest: WHOLE,
+    zero: 0,
+    unit: 1,
+};
+
 pub const SERVER_LIMIT: NumberRange = NumberRange {
     default: 16,
     least: 1,
     greatest: 32,
-    zero: 0,
-    unit: 1,
+    ..ANY_WHOLE
 };
 
 pub const THREAD_LIMIT: NumberRange = NumberRange {
     default: 64,
     least: 1,
     greatest: 64,
-    zero: 0,
-    unit: 1,
+    ..ANY_WHOLE
 };
 
 pub const START_SERVERS: NumberRange = NumberRange {
     default: 3,
-    least: 0,
-    greatest: WHOLE,
-    zero: 0,
-    unit: 1,
+    ..ANY_WHOLE
 };
 
 pub const MIN_SPARE_THREADS: NumberRange = NumberRange {
     default: 75,
-    least: 0,
-    greatest: WHOLE,
-    zero: 0,
-    unit: 1,
+    ..ANY_WHOLE
 };
 
 pub const MAX_SPARE_THREADS: NumberRange = NumberRange {
     default: 250,
-    least: 0,
-    greatest: WHOLE,
-    zero: 0,
-    unit: 1,
+    ..ANY_WHOLE
 };
 
 pub const THREADS_PER_CHILD: NumberRange = NumberRange {
     default: 25,
-    least: 0,
-    greatest: WHOLE,
-    zero: 0,
-    unit: 1,
+    ..ANY_WHOLE
 };
 
 pub const MAX_REQUEST_WORKERS: NumberRange = NumberRange {
     default: 400,
-    least: 0,
-    greatest: WHOLE,
-    zero: 0,
-    unit: 1,
+    ..ANY_WHOLE
 };
 
-pub const MAX_CONNECTIONS_PER_CHILD: NumberRange = NumberRange {
-    default: 0,
-    least: 0,
-    greatest: WHOLE,
-    zero: 0,
-    unit: 1,
-};
+pub const MAX_CONNECTIONS_PER_CHILD: NumberRange = ANY_WHOLE;
 /// In hundredths.
 pub const ASYNC_REQUEST_WORKER_FACTOR: NumberRange = NumberRange {
     default: 200,
     least: 1,
     greatest: 10_000,
-    zero: 0,
-    unit: 1,
+    ..ANY_WHOLE
 };
+
 /// In seconds.
 pub const TIMEOUT: NumberRange = NumberRange {
     default: 60,
     least: 1,
     greatest: 65_535,
-    zero: 0,
     unit: 1_000,
+    ..ANY_WHOLE
 };
+
 /// In seconds.
 pub const KEEP_ALIVE_TIMEOUT: NumberRange = NumberRange {
     default: 5,
     least: 1,
     greatest: 65_535,
-    zero: 0,
     unit: 1_000,
+    ..ANY_WHOLE
 };
+
 /// The same directive where its value ends in `ms`, in milliseconds.
 pub const KEEP_ALIVE_MILLISECONDS: NumberRange = NumberRange {
     default: 5_000,
     least: 1,
     greatest: 65_535_000,
-    zero: 0,
-    unit: 1,
+    ..ANY_WHOLE
 };
 
 pub const MAX_KEEP_ALIVE_REQUESTS: NumberRange = NumberRange {
     default: 100,
-    least: 0,
-    greatest: WHOLE,
     zero: 65_535,
-    unit: 1,
-};
-/// In seconds.
-pub const GRACEFUL_SHUTDOWN_TIMEOUT: NumberRange = NumberRange {
-    default: 0,
-    least: 0,
-    greatest: 65_535,
-    zero: 0,
-    unit: 1_000,
+    ..ANY_WHOLE
 };
 
+/// In seconds.
+pub const GRACEFUL_SHUTDOWN_TIMEOUT: NumberRange = NumberRange {
+    greatest: 65_535,
+    unit: 1_000,
+    ..ANY_WHOLE
+};
+
+/// In bytes.
 pub const LIMIT_REQUEST_LINE: NumberRange = NumberRange {
     default: 8_190,
     least: 1,
     greatest: 65_000,
-    zero: 0,
-    unit: 1,
+    ..ANY_WHOLE
 };
 
+/// In bytes, with the name of the field and without the line end.
 pub const LIMIT_REQUEST_FIELD_SIZE: NumberRange = NumberRange {
     default: 8_190,
     least: 1,
     greatest: 65_000,
-    zero: 0,
-    unit: 1,
+    ..ANY_WHOLE
 };
 
 pub const LIMIT_REQUEST_FIELDS: NumberRange = NumberRange {
     default: 100,
-    least: 0,
     greatest: 1_000,
     zero: 1_000,
-    unit: 1,
+    ..ANY_WHOLE
 };
 
 /// A port.
@@ -163,16 +146,13 @@ pub const PORT: NumberRange = NumberRange {
     default: 8_080,
     least: 1,
     greatest: 65_535,
-    zero: 0,
-    unit: 1,
+    ..ANY_WHOLE
 };
+
 /// A part of an IPv4 address.
 pub const OCTET: NumberRange = NumberRange {
-    default: 0,
-    least: 0,
     greatest: 255,
-    zero: 0,
-    unit: 1,
+    ..ANY_WHOLE
 };
 
 impl Quantity {

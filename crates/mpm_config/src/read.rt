@@ -25,7 +25,8 @@ fn nul_place(bytes: &[u8]) -> usize
 fn text_of(bytes: &[u8]) -> Result<&str, ConfFault>
     ensures { MatchResult result
         (λ text. (text.now ≡ bytes.now) × (nat_lt (text_len bytes.now) (length bytes.now) ≡ false))
-        (λ e. (nat_lt (text_len bytes.now) (length bytes.now) ≡ true) × (e ≡ ConfFault.NotText (text_len bytes.now))) }
+        (λ e. (nat_lt (text_len bytes.now) (length bytes.now) ≡ true)
+        × (e ≡ ConfFault.NotText (text_len bytes.now))) }
 {
     let nul = nul_place(bytes);
     match std::str::from_utf8(bytes) {

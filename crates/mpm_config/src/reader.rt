@@ -112,7 +112,8 @@ impl Reader {
         line: &str,
         form: Form,
     ) -> Result<(), ConfFault>
-        ensures { LeadsTo (in_sight self.old (record { number = number; bytes = line.now }) form) self.new result }
+        ensures { LeadsTo (in_sight self.old (record { number = number; bytes = line.now }) form)
+            self.new result }
     {
         match form {
             Form::Blank => Ok(()),
@@ -125,7 +126,8 @@ impl Reader {
 
     /// Reads a line in a part that is skipped.
     fn read_in_hiding(&mut self, number: u64, line: &str, form: Form) -> Result<(), ConfFault>
-        ensures { LeadsTo (in_hiding self.old (record { number = number; bytes = line.now }) form) self.new result }
+        ensures { LeadsTo (in_hiding self.old (record { number = number; bytes = line.now }) form)
+            self.new result }
     {
         match form {
             Form::Opening(_) => self.open(number, true),
@@ -137,7 +139,8 @@ impl Reader {
 
     /// Reads a line. After a refusal the reader is used no more.
     pub fn read_line(&mut self, alloc: Global, number: u64, line: &str) -> Result<(), ConfFault>
-        ensures { LeadsTo (after_line self.old (record { number = number; bytes = line.now })) self.new result }
+        ensures { LeadsTo (after_line self.old (record { number = number; bytes = line.now }))
+            self.new result }
     {
         let form = form_of(line);
         if self.hides() {

@@ -1,25 +1,25 @@
 //! What the value of a directive spells: numbers, switches, addresses and names.
 ghost use Rattle.std.specs.Prelude.{◌≡◌, ◌==◌, position, ◌<◌, ◌≤◌, ◌^◌, option_map, IfSome};
 ghost use Rattle.std.specs.List.{list_any};
-ghost use Rattle.mpm_base.specs.Digits.{decimal};
+ghost use Rattle.mpm_base.specs.Digits.{number_in_digits};
 ghost use Rattle.mpm_config.specs.Range.{millisecond_range, octet_range, port_range, number_in, IsAllowed, IsNumberIn};
 ghost use Rattle.mpm_config.specs.RangeInside.{IsWellFormed};
 ghost use Rattle.mpm_config.specs.Value.{address, parts_around, decimals, hundredths, is_file, is_folder, is_short, milliseconds, number, number_of, octets, switch, Parts};
 
-use crate::directive::{Quantity, is_word};
+use crate::directive::Quantity;
 use crate::range::{
     ASYNC_REQUEST_WORKER_FACTOR, KEEP_ALIVE_MILLISECONDS, KEEP_ALIVE_TIMEOUT, NumberRange, OCTET,
     PORT,
 };
-use mpm_base::{Addr, decimal};
+use mpm_base::{Addr, is_same_ignoring_case, number_in_digits};
 
 /// The number of 1 to `most` decimal digits.
 fn whole(value: &[u8], most: usize) -> Option<u32>
     requires { most ≤ 9 }
-    ensures value { result ≡ decimal most value.now }
+    ensures value { result ≡ number_in_digits most value.now }
     ensures bound { IfSome result (λ n. n < 10 ^ most) }
 {
-    let n = decimal(value, most)?;
+    let n = number_in_digits(value, most)?;
     Some(n as u32)
 }
 
@@ -56,7 +56,8 @@ pub fn place_of(value: &[u8], byte: u8) -> Option<usize>
 
 /// What stands before and after the first such byte.
 fn cut(value: &[u8], at: u8) -> Option<(&[u8], &[u8])>
-    ensures { option_map (λ p. record { before = p.0.now; after = p.1.now }) result ≡ parts_around at value.now }
+    ensures { option_map (λ p. record { before = p.0.now; after = p.1.now }) result
+        ≡ parts_around at value.now }
 {
     let place = place_of(value, at)?;
     Some((&value[..place], &value[place + 1..]))
@@ -103,9 +104,9 @@ fn milliseconds(value: &[u8]) -> Option<u32>
 pub fn switch(value: &[u8]) -> Option<bool>
     ensures { result ≡ switch value.now }
 {
-    if is_word(value, "On") {
+    if is_same_ignoring_case(value, b"On") {
         Some(true)
-    } else if is_word(value, "Off") {
+    } else if is_same_ignoring_case(value, b"Off") {
         Some(false)
     } else {
         None

@@ -26,7 +26,8 @@ pub fn is_blank(byte: u8) -> bool
 
 /// What stands before and after the first quote.
 fn at_quote(text: &str) -> Option<(&str, &str)>
-    ensures { option_map (λ p. record { before = p.0.now; after = p.1.now }) result ≡ parts_around 34 text.now }
+    ensures { option_map (λ p. record { before = p.0.now; after = p.1.now }) result
+        ≡ parts_around 34 text.now }
 {
     text.split_once('"')
 }
