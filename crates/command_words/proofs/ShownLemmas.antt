@@ -12,7 +12,7 @@ use Rattle.clap.specs.Kinds.{Kinds, or_else}
 use Rattle.clap.specs.Faults.{bundle_fault, check_fault, defaults_fault, entered_fault, flag_word_fault, settle_fault, step_fault, turn_fault, word_fault}
 use Rattle.clap.proofs.OnLiterals.{clap_on_literals}
 use Rattle.mpm_base.specs.CommandWord.{command_word}
-use Rattle.mpm_base.specs.Digits.{decimal}
+use Rattle.mpm_base.specs.Digits.{number_in_digits}
 use Rattle.mpm_base.specs.declared.script_line.CommandWord.{CommandWord}
 use Rattle.mpm_base.specs.declared.script_line.CommandWord.TheVariants as word
 use Rattle.command_words.specs.Invocations.{AreOfForm, IsLoadText, IsPlainWord, Parses, command, loads, option_values, plays, sends, serves, tests, values_in}
@@ -48,16 +48,16 @@ no_short (x ∷ []) h = go (x == 45)
 no_short (x ∷ y ∷ rest) h = ap (λ (b : Bool). option_and_then short_of_rest (cond b (Some (y ∷ rest)) None)) (ne_eqb x 45 h)
 
 -- a text with a first `-` is no number
-no_number : (y : ℕ) (rest : Text) → decimal 6 (45 ∷ y ∷ rest) ≡ None
+no_number : (y : ℕ) (rest : Text) → number_in_digits 6 (45 ∷ y ∷ rest) ≡ None
 no_number y rest =
     let text = 45 ∷ y ∷ rest in
     ap (λ (b : Bool). cond b (Some (digits_value 10 text)) None) (never (nat_le 1 (length text) && nat_le (length text) 6))
 
-plain_number : (text : Text) (n : ℕ) → decimal 6 text ≡ Some n → IsPlainWord text
+plain_number : (text : Text) (n : ℕ) → number_in_digits 6 text ≡ Some n → IsPlainWord text
 plain_number [] n e = tt
 plain_number (x ∷ []) n e = tt
 plain_number (x ∷ y ∷ rest) n e = λ dash.
-    let same : decimal 6 (45 ∷ y ∷ rest) ≡ Some n = ap (λ (b : ℕ). decimal 6 (b ∷ y ∷ rest)) (sym dash) ∙ e in
+    let same : number_in_digits 6 (45 ∷ y ∷ rest) ≡ Some n = ap (λ (b : ℕ). number_in_digits 6 (b ∷ y ∷ rest)) (sym dash) ∙ e in
     absurd (cc (no_number y rest, same))
 
 -- ## The value of an option

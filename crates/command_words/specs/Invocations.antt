@@ -6,7 +6,7 @@ use Rattle.std.specs.String.{string_bytes}
 use Rattle.clap.specs.Words.{App, Row, Rule, fault_of, first_of, matches_of, new_app, new_rule}
 use Rattle.clap.specs.declared.builder.action.ArgAction.TheVariants.{SetTrue}
 use Rattle.mpm_base.specs.CommandWord.{command_word}
-use Rattle.mpm_base.specs.Digits.{decimal}
+use Rattle.mpm_base.specs.Digits.{number_in_digits}
 use Rattle.mpm_base.specs.declared.script_line.CommandWord.{CommandWord}
 use Rattle.command_words.specs.declared.invocation.Invocation.{Invocation}
 use Rattle.command_words.specs.declared.invocation.Invocation.TheVariants as invocation
@@ -76,7 +76,7 @@ pub data Form : Type 0 where
 
 -- the text is a number of connections of a load: 1 to 6 decimal digits, from 1 to 100,000
 pub record IsLoadText (text : List ℕ) (n : ℕ) : Type 0 where
-  pub number : decimal 6 text ≡ Some n
+  pub number : number_in_digits 6 text ≡ Some n
   pub some : 1 ≤ n
   pub few : n ≤ 100000
 

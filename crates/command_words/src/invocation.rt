@@ -10,7 +10,7 @@ ghost use Rattle.command_words.specs.declared.invocation.NoInvocation.TheVariant
 use crate::options::{Options, read_options, texts_of};
 use clap::Error;
 use clap::error::ErrorKind;
-use mpm_base::{CommandWord, NoMemory, Words, decimal};
+use mpm_base::{CommandWord, NoMemory, Words, number_in_digits};
 use restart_control::read_command;
 use std::alloc::Global;
 
@@ -80,8 +80,10 @@ pub fn invocation_of(alloc: Global, words: &Words) -> Result<Invocation, NoInvoc
 
 /// The form that the options have. Unknown where they have none.
 fn form_of_options(alloc: Global, options: Options<'_>) -> Result<Invocation, NoInvocation>
-    ensures form { IfOk result (λ invocation. IsForm (values_of options.entry) (held_form invocation)) }
-    ensures none { IfErr result (λ why. why ≡ no.Unknown → (form : Form) → ¬ (IsForm (values_of options.entry) form)) }
+    ensures form { IfOk result
+        (λ invocation. IsForm (values_of options.entry) (held_form invocation)) }
+    ensures none { IfErr result (λ why. why ≡ no.Unknown
+        → (form : Form) → ¬ (IsForm (values_of options.entry) form)) }
 {
     match (
         options.script,
@@ -101,9 +103,10 @@ fn form_of_options(alloc: Global, options: Options<'_>) -> Result<Invocation, No
 
 /// The load of so many connections, from 1 to 100,000. Unknown where the text isn't 1 to 6 decimal digits, or is another number.
 fn load_of(text: &str) -> Result<Invocation, NoInvocation>
-    ensures { MatchResult result (IsLoadOf text.now) (λ why. (why ≡ no.Unknown) × IsNoLoad text.now) }
+    ensures { MatchResult result (IsLoadOf text.now)
+        (λ why. (why ≡ no.Unknown) × IsNoLoad text.now) }
 {
-    match decimal(text.as_bytes(), 6) {
+    match number_in_digits(text.as_bytes(), 6) {
         Some(number) if 1 <= number && number <= MOST_LOAD => Ok(Invocation::Load(number as u32)),
         _ => Err(NoInvocation::Unknown),
     }
@@ -112,7 +115,8 @@ fn load_of(text: &str) -> Result<Invocation, NoInvocation>
 /// The word is sent to the server of the configuration of that name. Unknown where it is no command.
 fn send_of(alloc: Global, word: &str, name: &str) -> Result<Invocation, NoInvocation>
     ensures form { IfOk result (IsSendOf word.now name.now) }
-    ensures none { IfErr result (λ why. why ≡ no.Unknown → (command : CommandWord) → word.now ≢ command_word command) }
+    ensures none { IfErr result (λ why. why ≡ no.Unknown
+        → (command : CommandWord) → word.now ≢ command_word command) }
 {
     match read_command(word) {
         Ok(command) => Ok(Invocation::Send(command, copy_of(alloc, name)?)),

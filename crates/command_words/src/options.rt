@@ -39,7 +39,8 @@ pub fn texts_of(alloc: Global, words: &Words) -> Result<Vec<&str>, NoMemory>
 
 /// Reads the words as options of the command. An error that isn't for want of memory says that they can't be parsed so.
 pub fn read_options<'a>(alloc: Global, words: &'a [&'a str]) -> Result<Options<'a>, Error>
-    ensures values { IfOk result (λ options. values_of options ≡ option_values (map (λ word. word.now) words.entry.now)) }
+    ensures values { IfOk result
+        (λ options. values_of options ≡ option_values (map (λ word. word.now) words.entry.now)) }
     ensures parsed { MatchResult result
         (λ _. Parses (map (λ word. word.now) words.entry.now))
         (λ e. kind_of e ≢ kind.OutOfMemory → ¬ (Parses (map (λ word. word.now) words.entry.now))) }
