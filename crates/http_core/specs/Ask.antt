@@ -3,6 +3,7 @@ use Rattle.std.specs.Prelude.{◌<◌, ◌≤◌, false, length, ⊤}
 use Rattle.mpm_base.specs.declared.conn.Ask.{Ask}
 use Rattle.http_read.specs.RequestParts.{RequestParts}
 use Rattle.file_table.specs.Site.{SeenSite}
+use Rattle.http_core.specs.Code.{number_of}
 use Rattle.http_core.specs.Served.{code_of, is_head, is_page, served_to, size_at}
 use Rattle.http_core.specs.declared.plan.Plan.{Plan}
 use Rattle.http_core.specs.declared.plan.FilePart.{FilePart}
@@ -14,7 +15,7 @@ abbrev pub ask_for : SeenSite → RequestParts → Ask
 ask_for site r = record {
   asked_close = r.asked_close;
   refused = false;
-  code = code_of (served_to site r);
+  code = number_of (code_of (served_to site r));
   page = is_page (served_to site r);
 }
 

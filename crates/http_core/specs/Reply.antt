@@ -9,8 +9,10 @@ use Rattle.mpm_base.specs.declared.store.File.{File}
 use Rattle.file_table.specs.ContentType.{type_of_name}
 use Rattle.file_table.specs.Site.{SeenSite}
 use Rattle.http_core.specs.Served.{code_of}
-use Rattle.http_core.specs.Code.{code_text}
+use Rattle.http_core.specs.Code.{code_text, number_of}
 use Rattle.http_core.specs.StatusPage.{page_text, page_type}
+use Rattle.http_core.specs.declared.code.Code.{Code}
+use Rattle.http_core.specs.declared.code.Code.TheVariants as code
 use Rattle.http_core.specs.declared.plan.Plan.{Plan}
 use Rattle.http_core.specs.declared.plan.Served.{Served}
 use Rattle.http_core.specs.declared.plan.Served.TheVariants as served
@@ -30,7 +32,8 @@ connection_line last minor =
 -- the methods that are served, for OPTIONS and where the method isn't allowed
 abbrev pub allow_line : Served → List ℕ
 allow_line served.Options = head_line_of (codes "Allow: GET, HEAD, OPTIONS")
-allow_line (served.Refused code) = if code == 405 then head_line_of (codes "Allow: GET, HEAD, OPTIONS") else []
+allow_line (served.Refused code.MethodNotAllowed) = head_line_of (codes "Allow: GET, HEAD, OPTIONS")
+allow_line (served.Refused other) = []
 allow_line (served.Page auto) = []
 allow_line (served.Whole part) = []
 allow_line (served.Part part) = []
@@ -41,7 +44,7 @@ allow_line (served.Moved path) = []
 abbrev pub location_line : Served → List ℕ
 location_line (served.Moved path) = head_line_of (codes "Location: " ++ path)
 location_line served.Options = []
-location_line (served.Refused code) = []
+location_line (served.Refused reason) = []
 location_line (served.Page auto) = []
 location_line (served.Whole part) = []
 location_line (served.Part part) = []
@@ -53,7 +56,7 @@ range_line (served.Part part) =
     head_line_of (codes "Content-Range: bytes " ++ decimal part.from ++ codes "-" ++ decimal (part.to - 1) ++ codes "/" ++ decimal part.size)
 range_line (served.Unsatisfied size) = head_line_of (codes "Content-Range: bytes */" ++ decimal size)
 range_line served.Options = []
-range_line (served.Refused code) = []
+range_line (served.Refused reason) = []
 range_line (served.Page auto) = []
 range_line (served.Whole part) = []
 range_line (served.Moved path) = []
@@ -71,11 +74,11 @@ type_line site (served.Part part) = head_line_of (codes "Content-Type: " ++ type
 type_line site (served.Page auto) = head_line_of (codes "Content-Type: " ++ page_type auto)
 type_line site (served.Unsatisfied size) = head_line_of (codes "Content-Type: text/plain")
 type_line site (served.Moved path) = head_line_of (codes "Content-Type: text/plain")
-type_line site (served.Refused code) = head_line_of (codes "Content-Type: text/plain")
+type_line site (served.Refused reason) = head_line_of (codes "Content-Type: text/plain")
 
 -- a body that says the code
-abbrev pub code_body : ℕ → List ℕ
-code_body code = code_text code ++ codes "\n"
+abbrev pub code_body : Code → List ℕ
+code_body c = code_text c ++ codes "\n"
 
 -- the body of a GET, where the status page shows this
 abbrev pub body_of_get : Served → Option Snapshot → Body
@@ -83,9 +86,9 @@ body_of_get (served.Whole part) page = body.File part.file part.from part.to
 body_of_get (served.Part part) page = body.File part.file part.from part.to
 body_of_get served.Options page = body.Nothing
 body_of_get (served.Page auto) page = body.Own (page_text auto page)
-body_of_get (served.Unsatisfied size) page = body.Own (code_body 416)
-body_of_get (served.Moved path) page = body.Own (code_body 301)
-body_of_get (served.Refused code) page = body.Own (code_body code)
+body_of_get (served.Unsatisfied size) page = body.Own (code_body code.RangeNotSatisfiable)
+body_of_get (served.Moved path) page = body.Own (code_body code.MovedPermanently)
+body_of_get (served.Refused reason) page = body.Own (code_body reason)
 
 -- how many bytes a body has
 abbrev pub body_length : Body → ℕ
@@ -94,8 +97,8 @@ body_length (body.Own bytes) = length bytes
 body_length (body.File file from to) = to - from
 
 -- the first two lines of a head
-abbrev pub first_lines : ℕ → List ℕ → List ℕ
-first_lines code date = head_line_of (codes "HTTP/1.1 " ++ code_text code) ++ head_line_of (codes "Date: " ++ date)
+abbrev pub first_lines : Code → List ℕ → List ℕ
+first_lines c date = head_line_of (codes "HTTP/1.1 " ++ code_text c) ++ head_line_of (codes "Date: " ++ date)
 
 -- the last lines of a head, for a body of so many bytes
 abbrev pub last_lines : ℕ → List ℕ
@@ -119,13 +122,16 @@ pub record IsReply (site : SeenSite) (plan : Plan) (note : Note) (before : List 
   pub body : reply.body ≡ reply_body plan note
 
 -- the head of the response to a refused head
-abbrev pub refusal_head : ℕ → List ℕ → List ℕ
-refusal_head code date =
-    first_lines code date ++ head_line_of (codes "Connection: close") ++ head_line_of (codes "Content-Type: text/plain") ++ last_lines (length (code_body code))
+abbrev pub refusal_head : Code → List ℕ → List ℕ
+refusal_head c date =
+    first_lines c date ++ head_line_of (codes "Connection: close") ++ head_line_of (codes "Content-Type: text/plain")
+    ++ last_lines (length (code_body c))
 
--- the reply is the response to a refused head, by the note's code
+-- the reply is the response to a refused head, by the code whose number the note has
 pub record IsRefusalReply (note : Note) (before : List ℕ) (reply : Reply) : Type 0 where
+  pub refused_by : Code
+  pub number : number_of refused_by ≡ note.code
   pub date : HttpDate
   pub second : unix_secs date ≡ note.date
-  pub head : reply.head ≡ before ++ refusal_head note.code (date_text date)
-  pub body : reply.body ≡ body.Own (code_body note.code)
+  pub head : reply.head ≡ before ++ refusal_head refused_by (date_text date)
+  pub body : reply.body ≡ body.Own (code_body refused_by)

@@ -10,6 +10,8 @@ use Rattle.file_table.specs.declared.found.Found.TheVariants as resource
 use Rattle.http_core.specs.Range.{range_in_value, selection_of}
 use Rattle.http_core.specs.StatusPage.{asks_for_text, is_status_path}
 use Rattle.http_core.specs.Target.{path_of}
+use Rattle.http_core.specs.declared.code.Code.{Code}
+use Rattle.http_core.specs.declared.code.Code.TheVariants as code
 use Rattle.http_core.specs.declared.range.Range.{Range}
 use Rattle.http_core.specs.declared.range.Selection.{Selection}
 use Rattle.http_core.specs.declared.range.Selection.TheVariants as selection
@@ -53,7 +55,7 @@ size_at site place = size_of_file (slice_get site.files place)
 
 -- OPTIONS is served but where the target is none (RFC 9110, section 9.3.7)
 abbrev pub options_of : Found → Served
-options_of resource.BadPath = served.Refused 400
+options_of resource.BadPath = served.Refused code.BadRequest
 options_of (resource.File place) = served.Options
 options_of (resource.Redirect path) = served.Options
 options_of resource.Missing = served.Options
@@ -76,9 +78,9 @@ range_for get size (Some text) = if not get || size == 0 then None else range_in
 
 -- what a resource serves to GET, or else to HEAD
 abbrev pub served_of : SeenSite → Bool → Option (List ℕ) → Found → Served
-served_of site get range resource.BadPath = served.Refused 400
+served_of site get range resource.BadPath = served.Refused code.BadRequest
 served_of site get range (resource.Redirect path) = served.Moved path
-served_of site get range resource.Missing = served.Refused 404
+served_of site get range resource.Missing = served.Refused code.NotFound
 served_of site get range (resource.File place) = served_range place (size_at site place) (range_for get (size_at site place) range)
 
 -- what a target serves to GET, or else to HEAD: the status page, where its path is that, for which no range counts; or what it
@@ -94,17 +96,17 @@ served_to site r =
     if is_get r.method || is_head r.method then served_at site (is_get r.method) r.range r.target
     else (if is_options r.method
     then (if bytes_eq r.target (codes "*") then served.Options else options_of (resource_of_target site r.target))
-    else (if is_disallowed r.method then served.Refused 405 else served.Refused 501))
+    else (if is_disallowed r.method then served.Refused code.MethodNotAllowed else served.Refused code.NotImplemented))
 
 -- the code of what is served
-abbrev pub code_of : Served → ℕ
-code_of (served.Whole part) = 200
-code_of (served.Part part) = 206
-code_of (served.Unsatisfied size) = 416
-code_of (served.Moved path) = 301
-code_of served.Options = 200
-code_of (served.Page auto) = 200
-code_of (served.Refused code) = code
+abbrev pub code_of : Served → Code
+code_of (served.Whole part) = code.Ok
+code_of (served.Part part) = code.PartialContent
+code_of (served.Unsatisfied size) = code.RangeNotSatisfiable
+code_of (served.Moved path) = code.MovedPermanently
+code_of served.Options = code.Ok
+code_of (served.Page auto) = code.Ok
+code_of (served.Refused reason) = reason
 
 -- what is served is the status page
 abbrev pub is_page : Served → Bool
@@ -114,4 +116,4 @@ is_page (served.Part part) = false
 is_page (served.Unsatisfied size) = false
 is_page (served.Moved path) = false
 is_page served.Options = false
-is_page (served.Refused code) = false
+is_page (served.Refused reason) = false

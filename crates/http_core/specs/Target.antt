@@ -1,8 +1,7 @@
 -- The target of a request (RFC 9112, section 3.2).
-use Rattle.std.specs.Prelude.{ℕ, ◌==◌, ◌||◌, Bool, List, [], ◌∷◌, length, take, drop, map, codes, Option, Some, None, slice_index, if◌then◌else◌}
+use Rattle.std.specs.Prelude.{ℕ, ◌==◌, ◌||◌, Bool, List, [], ◌∷◌, length, take, drop, codes, Option, Some, None, slice_index, if◌then◌else◌}
 use Rattle.std.specs.List.{before_first, list_any}
-use Rattle.std.specs.Char.{to_ascii_lowercase}
-use Rattle.std.specs.Str.{bytes_eq}
+use Rattle.mpm_base.specs.LetterCase.{is_same_ignoring_case}
 
 -- the byte that begins a query
 abbrev pub begins_query : ℕ → Bool
@@ -22,7 +21,7 @@ begins_fragment b = b == 35
 
 -- the target begins with http://, in which case of letters doesn't count
 abbrev pub has_scheme : List ℕ → Bool
-has_scheme target = bytes_eq (map to_ascii_lowercase (take 7 target)) (codes "http://")
+has_scheme target = is_same_ignoring_case (take 7 target) (codes "http://")
 
 -- a path, or the root where it is empty (RFC 9110, section 4.2.3)
 abbrev pub path_or_root : List ℕ → List ℕ

@@ -15,7 +15,7 @@ mod status_page;
 mod target;
 mod writing;
 
-pub use code::continue_text;
+pub use code::{Code, continue_text};
 pub use plan::{FilePart, Plan, Served};
 pub use planning::ask_of;
 pub use range::{Range, Selection};

@@ -2,6 +2,7 @@
 ghost use Rattle.std.specs.Prelude.{◌≡◌};
 ghost use Rattle.http_core.specs.Served.{code_of, is_page};
 
+use crate::code::Code;
 use mpm_base::Octets;
 
 /// A part of a file of a site: its bytes from one place up to another, which isn't one of them.
@@ -33,7 +34,7 @@ pub enum Served {
     /// The status page: true as plain text, for programs; false as HTML.
     Page(bool),
     /// A refusal by its code.
-    Refused(u16),
+    Refused(Code),
 }
 
 /// The plan of a response.
@@ -48,17 +49,17 @@ pub struct Plan {
 }
 
 impl Served {
-    /// Its code (RFC 9110, section 15).
-    pub fn code(&self) -> u16
+    /// Its code.
+    pub fn code(&self) -> Code
         ensures { result ≡ code_of self.now }
     {
         match self {
-            Served::Whole(_) => 200,
-            Served::Part(_) => 206,
-            Served::Unsatisfied(_) => 416,
-            Served::Moved(_) => 301,
-            Served::Options => 200,
-            Served::Page(_) => 200,
+            Served::Whole(_) => Code::Ok,
+            Served::Part(_) => Code::PartialContent,
+            Served::Unsatisfied(_) => Code::RangeNotSatisfiable,
+            Served::Moved(_) => Code::MovedPermanently,
+            Served::Options => Code::Ok,
+            Served::Page(_) => Code::Ok,
             Served::Refused(code) => *code,
         }
     }

@@ -8,6 +8,7 @@ ghost use Rattle.http_core.specs.Ask.{IsServedOf};
 ghost use Rattle.http_core.specs.RangeInside.{HasSmallBound, IsPartWithin};
 ghost use Rattle.http_core.specs.Served.{is_disallowed, is_get, is_head, is_options, options_of, range_for, served_range, resource_at, resource_of_target, served_at, served_of, served_to, size_at};
 
+use crate::code::Code;
 use crate::plan::{FilePart, Plan, Served};
 use crate::range::{Range, Selection, range_of, selection_of};
 use crate::status_page::{asks_for_text, is_status_path};
@@ -19,7 +20,8 @@ use std::alloc::Global;
 
 /// What the path of a target names.
 fn resource_at(alloc: Global, site: &Site, path: Option<&[u8]>) -> Result<Found, NoMemory>
-    ensures resource { IfOk result (λ found. found ≡ resource_at site.now (option_map (λ p. p.now) path.entry)) }
+    ensures resource { IfOk result
+        (λ found. found ≡ resource_at site.now (option_map (λ p. p.now) path.entry)) }
     ensures there { IfOk result (IsFoundIn site.now) }
 {
     match path {
@@ -81,9 +83,9 @@ fn served_of(site: &Site, get: bool, range: Option<&[u8]>, found: Found) -> Serv
     ensures of { IsServedOf site.now result }
 {
     match found {
-        Found::BadPath => Served::Refused(400),
+        Found::BadPath => Served::Refused(Code::BadRequest),
         Found::Redirect(path) => Served::Moved(path),
-        Found::Missing => Served::Refused(404),
+        Found::Missing => Served::Refused(Code::NotFound),
         Found::File(place) => {
             let size = size_at(site, place);
             ranged(place, size, range_for(get, size, range))
@@ -96,7 +98,7 @@ fn options_of(found: Found) -> Served
     ensures { result ≡ options_of found }
 {
     match found {
-        Found::BadPath => Served::Refused(400),
+        Found::BadPath => Served::Refused(Code::BadRequest),
         _ => Served::Options,
     }
 }
@@ -113,7 +115,8 @@ fn is_disallowed(method: &[u8]) -> bool
 
 /// What is served to a GET, or else to a HEAD.
 fn served_at(alloc: Global, site: &Site, request: &Request, get: bool) -> Result<Served, NoMemory>
-    ensures value { IfOk result (λ served. served ≡ served_at site.now get request.now.range request.now.target) }
+    ensures value { IfOk result
+        (λ served. served ≡ served_at site.now get request.now.range request.now.target) }
     ensures of { IfOk result (IsServedOf site.now) }
 {
     let target = request.target();
@@ -127,7 +130,8 @@ fn served_at(alloc: Global, site: &Site, request: &Request, get: bool) -> Result
 
 /// What is served to OPTIONS.
 fn serve_options(alloc: Global, site: &Site, target: &[u8]) -> Result<Served, NoMemory>
-    ensures value { IfOk result (λ served. served ≡ (if bytes_eq target.now (codes "*") then Served.Options
+    ensures value { IfOk result (λ served. served
+        ≡ (if bytes_eq target.now (codes "*") then Served.Options
         else options_of (resource_of_target site.now target.now))) }
     ensures of { IfOk result (IsServedOf site.now) }
 {
@@ -147,7 +151,8 @@ fn served_to(alloc: Global, site: &Site, request: &Request) -> Result<Served, No
         b"GET" => served_at(alloc, site, request, true),
         b"HEAD" => served_at(alloc, site, request, false),
         b"OPTIONS" => serve_options(alloc, site, request.target()),
-        method => Ok(Served::Refused(if is_disallowed(method) { 405 } else { 501 })),
+        method if is_disallowed(method) => Ok(Served::Refused(Code::MethodNotAllowed)),
+        _ => Ok(Served::Refused(Code::NotImplemented)),
     }
 }
 
@@ -168,7 +173,7 @@ pub fn ask_of(alloc: Global, site: &Site, request: &Request) -> Result<(Ask, Pla
     let ask = Ask {
         asked_close: request.asked_close(),
         refused: false,
-        code: served.code(),
+        code: served.code().number(),
         page: served.is_page(),
     };
     let plan = Plan {

@@ -4,7 +4,7 @@ ghost use Rattle.http_core.specs.Range.{range_between, range_in_value, range_of_
 ghost use Rattle.http_core.specs.RangeInside.{HasSmallBound, IsWithinSize};
 
 use crate::target::place_of_byte;
-use mpm_base::decimal;
+use mpm_base::{is_same_ignoring_case, number_in_digits};
 
 /// The most digits of a position.
 const MOST_DIGITS: usize = 18;
@@ -37,16 +37,16 @@ fn range_between(before: &[u8], after: &[u8]) -> Option<Range>
     ensures bound { IfSome result HasSmallBound }
 {
     if before.is_empty() {
-        return match decimal(after, MOST_DIGITS) {
+        return match number_in_digits(after, MOST_DIGITS) {
             Some(count) => Some(Range::Last(count)),
             None => None,
         };
     }
-    let first = decimal(before, MOST_DIGITS)?;
+    let first = number_in_digits(before, MOST_DIGITS)?;
     if after.is_empty() {
         return Some(Range::From(first));
     }
-    match decimal(after, MOST_DIGITS) {
+    match number_in_digits(after, MOST_DIGITS) {
         Some(last) => Some(Range::Between(first, last)),
         None => None,
     }
@@ -70,7 +70,7 @@ pub fn range_of(text: &[u8]) -> Option<Range>
     ensures value { result ≡ range_in_value text.now }
     ensures bound { IfSome result HasSmallBound }
 {
-    if text.len() >= 6 && text[..6].eq_ignore_ascii_case(b"bytes=") {
+    if text.len() >= 6 && is_same_ignoring_case(&text[..6], b"bytes=") {
         range_of_bytes(&text[6..])
     } else {
         None

@@ -7,7 +7,7 @@ ghost use Rattle.http_core.specs.Reply as spec;
 ghost use Rattle.http_core.specs.Reply.{IsRefusalReply, IsReply};
 ghost use Rattle.http_core.specs.Code.{refuses_head};
 
-use crate::code::code_text;
+use crate::code::{Code, refusal_code};
 use crate::plan::{Plan, Served};
 use crate::status_page::page_text;
 use crate::writing::{write_head, write_refusal};
@@ -61,10 +61,10 @@ fn date_at(second: u64) -> HttpDate
 }
 
 /// A body that says the code.
-fn code_body(alloc: Global, code: u16) -> Result<Octets, NoMemory>
+fn code_body(alloc: Global, code: Code) -> Result<Octets, NoMemory>
     ensures { IfOk result (λ text. text ≡ spec.code_body code) }
 {
-    let mut text = Octets::of(alloc, code_text(code))?;
+    let mut text = Octets::of(alloc, code.text())?;
     text.add(b"\n")?;
     Ok(text)
 }
@@ -110,8 +110,8 @@ pub fn response(
     Ok(Reply { head, body })
 }
 
-/// The response to a head that was refused by the note's code: its head is written behind what the buffer holds, which is dropped where
-/// memory lacks.
+/// The response to a head that was refused by the note's code: its head is written behind what the buffer holds, which is
+/// dropped where memory lacks.
 pub fn refusal(alloc: Global, head: Octets, note: &Note) -> Result<Reply, NoMemory>
     requires date { IsSecond note.now.date }
     requires code { refuses_head note.now.code ≡ true }
@@ -119,8 +119,9 @@ pub fn refusal(alloc: Global, head: Octets, note: &Note) -> Result<Reply, NoMemo
 {
     let mut head = head;
     let date = date_at(note.date);
-    write_refusal(&mut head, note.code, &date)?;
-    let text = code_body(alloc, note.code)?;
+    let code = refusal_code(note.code);
+    write_refusal(&mut head, code, &date)?;
+    let text = code_body(alloc, code)?;
     Ok(Reply {
         head,
         body: Body::Own(text),

@@ -3,6 +3,8 @@ ghost use Rattle.std.specs.Prelude.{◌≡◌, ◌==◌, position, slice_index, 
 ghost use Rattle.std.specs.List.{after_first, before_first, list_any, position_or_len};
 ghost use Rattle.http_core.specs.Target.{begins_fragment, begins_path, has_scheme, path_behind, path_of, path_or_root};
 
+use mpm_base::is_same_ignoring_case;
+
 /// The place of the first such byte, where there is one.
 fn find_byte(text: &[u8], byte: u8) -> Option<usize>
     ensures { result ≡ position (λ b. b == byte) text.now }
@@ -47,7 +49,7 @@ fn begins_path(target: &[u8]) -> bool
 fn has_scheme(target: &[u8]) -> bool
     ensures { result ≡ has_scheme target.now }
 {
-    target[..target.len().min(7)].eq_ignore_ascii_case(b"http://")
+    is_same_ignoring_case(&target[..target.len().min(7)], b"http://")
 }
 
 /// Whether a fragment begins in the text.

@@ -5,7 +5,7 @@ ghost use Rattle.httpdate.specs.Date.{date_text};
 ghost use Rattle.http_core.specs.Ask.{IsServedOf};
 ghost use Rattle.http_core.specs.Reply as spec;
 
-use crate::code::code_text;
+use crate::code::Code;
 use crate::plan::{FilePart, Plan, Served};
 use crate::status_page::page_type;
 use file_table::{Site, content_type};
@@ -14,7 +14,8 @@ use mpm_base::{NoMemory, Note, Octets};
 
 /// Room for a head without its Location. None takes more: at most, with their ends, 30 bytes of a status line with a part's
 /// code, 37 of Date, 24 of Connection, 85 of Content-Range, 40 of Content-Type, 38 of Content-Length, numbers having at
-/// most 20 digits, and 2 of the empty line. A longer status line, or Allow, goes with no part.
+/// most 20 digits, and 2 of the empty line. A longer status line, or Allow, goes with no part. A body that is
+/// copied behind the head isn't counted.
 const USUAL_ROOM: usize = 256;
 
 /// The line that says which methods are served.
@@ -41,10 +42,10 @@ fn add_line(head: &mut Octets, name: &[u8], value: &[u8]) -> Result<(), NoMemory
 }
 
 /// Adds the first two lines.
-fn add_first_lines(head: &mut Octets, code: u16, date: &HttpDate) -> Result<(), NoMemory>
+fn add_first_lines(head: &mut Octets, code: Code, date: &HttpDate) -> Result<(), NoMemory>
     ensures { OnOk result (head.new ≡ head.old ++ spec.first_lines code (date_text date.now)) }
 {
-    add_line(head, b"HTTP/1.1 ", code_text(code))?;
+    add_line(head, b"HTTP/1.1 ", code.text())?;
     add_line(head, b"Date: ", &date.to_bytes())
 }
 
@@ -67,7 +68,7 @@ fn add_allow(head: &mut Octets, served: &Served) -> Result<(), NoMemory>
 {
     match served {
         Served::Options => head.add(ALLOW),
-        Served::Refused(405) => head.add(ALLOW),
+        Served::Refused(Code::MethodNotAllowed) => head.add(ALLOW),
         _ => Ok(()),
     }
 }
@@ -84,7 +85,8 @@ fn add_location(head: &mut Octets, served: &Served) -> Result<(), NoMemory>
 
 /// Adds which bytes of how many follow.
 fn add_part(head: &mut Octets, part: &FilePart) -> Result<(), NoMemory>
-    ensures { OnOk result (head.new ≡ head.old ++ spec.head_line_of (codes "Content-Range: bytes " ++ decimal part.now.from
+    ensures { OnOk result (head.new
+        ≡ head.old ++ spec.head_line_of (codes "Content-Range: bytes " ++ decimal part.now.from
         ++ codes "-" ++ decimal (part.now.to - 1) ++ codes "/" ++ decimal part.now.size)) }
 {
     head.add(b"Content-Range: bytes ")?;
@@ -98,7 +100,8 @@ fn add_part(head: &mut Octets, part: &FilePart) -> Result<(), NoMemory>
 
 /// Adds how many bytes there are, where a range lies behind them.
 fn add_unsatisfied(head: &mut Octets, size: u64) -> Result<(), NoMemory>
-    ensures { OnOk result (head.new ≡ head.old ++ spec.head_line_of (codes "Content-Range: bytes */" ++ decimal size)) }
+    ensures { OnOk result (head.new
+        ≡ head.old ++ spec.head_line_of (codes "Content-Range: bytes */" ++ decimal size)) }
 {
     head.add(b"Content-Range: bytes */")?;
     head.add_number(size)?;
@@ -119,7 +122,8 @@ fn add_range(head: &mut Octets, served: &Served) -> Result<(), NoMemory>
 /// Adds the line of the type of a file.
 fn add_type_of_file(head: &mut Octets, site: &Site, file: u32) -> Result<(), NoMemory>
     requires { file < length site.now.files }
-    ensures { OnOk result (head.new ≡ head.old ++ spec.head_line_of (codes "Content-Type: " ++ spec.type_of_file (slice_get site.now.files file))) }
+    ensures { OnOk result (head.new ≡ head.old ++ spec.head_line_of
+        (codes "Content-Type: " ++ spec.type_of_file (slice_get site.now.files file))) }
 {
     add_line(head, b"Content-Type: ", content_type(site, file))
 }
@@ -158,7 +162,8 @@ pub fn write_head(
 ) -> Result<(), NoMemory>
     requires of { IsServedOf site.now plan.now.served }
     requires size { size ≡ spec.body_length (spec.body_of_get plan.now.served note.now.page) }
-    ensures { OnOk result (head.new ≡ head.old ++ spec.head_of site.now plan.now note.now (date_text date.now)) }
+    ensures { OnOk result (head.new
+        ≡ head.old ++ spec.head_of site.now plan.now note.now (date_text date.now)) }
 {
     let served = &plan.served;
     head.reserve(room_of(served))?;
@@ -172,12 +177,12 @@ pub fn write_head(
 }
 
 /// Writes the head of the response to a refused head.
-pub fn write_refusal(head: &mut Octets, code: u16, date: &HttpDate) -> Result<(), NoMemory>
+pub fn write_refusal(head: &mut Octets, code: Code, date: &HttpDate) -> Result<(), NoMemory>
     ensures { OnOk result (head.new ≡ head.old ++ spec.refusal_head code (date_text date.now)) }
 {
     head.reserve(USUAL_ROOM)?;
     add_first_lines(head, code, date)?;
     add_connection(head, true, 1)?;
     head.add(TEXT)?;
-    add_last_lines(head, code_text(code).len() as u64 + 1)
+    add_last_lines(head, code.text().len() as u64 + 1)
 }

@@ -15,6 +15,6 @@ returns c =
     let lines = c.in_ok-add_first_lines.ensures ∙ ap (λ t. t ++ first) c.reserve.ensures in
     let connection = one_more head first _ _ _ lines c.in_ok-add_connection.ensures in
     let kind = one_more head second _ _ _ connection c.in_ok-add.ensures.ok in
-    let size = ap (λ t. length t + 1) c.code_text.ensures ∙ sym (length_push (code_text c.args.code) 10) in
+    let size = ap (λ t. length t + 1) c.text.ensures ∙ sym (length_push (code_text c.args.code) 10) in
     on_ok_weaker c.add_last_lines.result
     (λ e. one_more head (second ++ head_line_of (codes "Content-Type: text/plain")) _ _ _ kind (e ∙ ap (λ n. c.add.new.self ++ last_lines n) size)) c.add_last_lines.ensures
