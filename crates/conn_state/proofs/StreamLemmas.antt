@@ -10,6 +10,7 @@ use Rattle.http_read.specs.Requests.{ReadRefusal, BeginsWholeRequest, BeginsRefu
 use Rattle.file_table.specs.Site.{SeenSite}
 use Rattle.http_core.specs.Ask.{plan_for}
 use Rattle.http_core.specs.Reply.{head_of, refusal_head}
+use Rattle.http_core.specs.declared.code.Code.{Code}
 use Rattle.http_core.specs.declared.plan.Plan.{Plan}
 use Rattle.http_core.specs.declared.reply.Reply.{Reply}
 use Rattle.conn_state.specs.Items.{Item, BeginsItem, items_of, AreFirst}
@@ -140,7 +141,7 @@ some-head : (site : SeenSite) (plan : Plan) (note : Note) (date : List ℕ) → 
 some-head site plan note date = omega arith
 
 -- the head of a refusal isn't empty
-some-refusal : (code : ℕ) (date : List ℕ) → 0 < length (refusal_head code date)
+some-refusal : (code : Code) (date : List ℕ) → 0 < length (refusal_head code date)
 some-refusal code date = omega arith
 
 -- the head of a reply isn't empty
@@ -148,7 +149,7 @@ some-reply : (site : SeenSite) (item : Item) (note : Note) (reply : Reply) → I
 some-reply site (inl request) note reply is =
     subst (λ xs. 0 < length xs) (sym is.head) (some-head site (plan_for site request) note _)
 some-reply site (inr refusal) note reply is =
-    subst (λ xs. 0 < length xs) (sym is.1.head) (some-refusal note.code _)
+    subst (λ xs. 0 < length xs) (sym is.1.head) (some-refusal is.1.refused_by _)
 
 -- no response is empty
 pub some-response : (site : SeenSite) (item : Item) (note : Note) (response : List ℕ) → IsResponse site item note response → 0 < length response

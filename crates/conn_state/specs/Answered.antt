@@ -19,6 +19,7 @@ use Rattle.conn_state.specs.Items.{Item}
 use Rattle.conn_state.specs.Replies.{IsFitting, AreReplies, IsInterim, MayFollow}
 use Rattle.conn_state.specs.Reader.{keeps_none}
 use Rattle.conn_state.specs.Conn.{SeenConn, IsFrontOf, is_usable, is_half_closed}
+use Rattle.conn_state.specs.Sizes.{most_dropped}
 
 -- a connection that ended, and how: what its closed link tells and counts, its name, child and generation, the site of its generation
 -- and the limits of its heads, its responses, why its service ended and how its link was left; and, for clauses alone, what its last
@@ -154,7 +155,7 @@ pub record IsAnswered (why : Cause) (how : Tail) (site : SeenSite) (limits : Lim
   pub shuts : t.shuts ≡ shuts_of how
   pub answers : HasAnswered why site limits notes t
   pub drained : how ≡ tail.Drained → t.coming ≡ []
-  pub sated : how ≡ tail.Sated → length t.received ≡ length t.before_shut + 1048576
+  pub sated : how ≡ tail.Sated → length t.received ≡ length t.before_shut + most_dropped
 
 -- what the counts of the link show for the cause, whether it tells or not: a read found the end, or a call failed
 abbrev pub LicensesCause : Cause → LinkCounts → Type 0

@@ -16,6 +16,7 @@ use Rattle.conn_state.specs.Replies.{IsFitting, AreReplies, MayFollow}
 use Rattle.conn_state.specs.Rest.{is_awaited}
 use Rattle.conn_state.specs.Reader.{SeenReader, StandsFor, AsksKeptItem, AwaitsMore}
 use Rattle.conn_state.specs.Follows.{what_follows}
+use Rattle.conn_state.specs.Sizes.{most_dropped}
 
 -- a connection: what its link tells and counts, its name, child and generation, the site of its generation, its responses so
 -- far, what of them is still to be sent, the reader of its requests, what its last turn answered, how far it is on its way out, and
@@ -160,7 +161,7 @@ pub record IsDone (c : SeenConn) : Type 0 where
 
 -- fewer bytes were dropped than the most that may be
 abbrev pub IsBelowMost : ℕ → Type 0
-IsBelowMost dropped = dropped < 1048576
+IsBelowMost dropped = dropped < most_dropped
 
 -- a call of the link failed
 abbrev pub HasFailed : SeenConn → Type 0
@@ -172,7 +173,7 @@ LingerFits linger.Open c = c.dropped ≡ 0
 LingerFits linger.ShutFailed c = (c.dropped ≡ 0) × HasFailed c
 LingerFits linger.Shut c = c.dropped ≡ 0
 LingerFits linger.Drained c = IsBelowMost c.dropped × IsDone c
-LingerFits linger.Sated c = c.dropped ≡ 1048576
+LingerFits linger.Sated c = c.dropped ≡ most_dropped
 LingerFits linger.NotReady c = IsBelowMost c.dropped
 LingerFits linger.LinkFailed c = IsBelowMost c.dropped × HasFailed c
 

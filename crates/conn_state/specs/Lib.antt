@@ -12,6 +12,7 @@ pub mod ReaderInside
 pub mod Replies
 pub mod ResponsesInside
 pub mod Rest
+pub mod Sizes
 pub mod Steps
 pub mod StepsInside
 pub mod Turns

@@ -5,6 +5,7 @@ use Rattle.mpm_base.specs.Link.{LinkTold, LinkCounts, with_received}
 use Rattle.conn_state.specs.declared.turn.LingerTurn.{LingerTurn}
 use Rattle.conn_state.specs.declared.turn.LingerTurn.TheVariants as left
 use Rattle.conn_state.specs.Turns.{is_drained, is_sated, is_linger_late, is_linger_failure}
+use Rattle.conn_state.specs.Sizes.{most_dropped}
 
 -- bytes came so far, and were dropped
 pub record HasDropped (told told' : Option LinkTold) (counts counts' : LinkCounts) (dropped dropped' : ℕ) : Type 0 where
@@ -24,8 +25,8 @@ pub record DropsOn (told told' : Option LinkTold) (counts counts' : LinkCounts) 
   pub told_is : told' ≡ option_map (with_received (length got)) told
   pub gives : IfSome told (λ t. got ≡ take (length got) t.coming)
   pub none_comes : answer ≡ left.Drained → IfSome told' (λ t. t.coming ≡ [])
-  pub most : dropped' ≤ 1048576
-  pub sated : is_sated answer ≡ (dropped' == 1048576)
+  pub most : dropped' ≤ most_dropped
+  pub sated : is_sated answer ≡ (dropped' == most_dropped)
   pub faults : RisesWhere (is_linger_failure answer) counts.faults counts'.faults
   pub late_reads : RisesExactlyWhere (is_linger_late answer) counts.late_reads counts'.late_reads
   pub late_writes : counts'.late_writes ≡ counts.late_writes
@@ -34,7 +35,7 @@ pub record DropsOn (told told' : Option LinkTold) (counts counts' : LinkCounts) 
 -- bytes were dropped, and no more than may be
 pub record DropsSome (dropped dropped' : ℕ) : Type 0 where
   pub more : dropped < dropped'
-  pub most : dropped' ≤ 1048576
+  pub most : dropped' ≤ most_dropped
 
 -- one read of the link: bytes came and were dropped, or dropping ended with an answer
 abbrev pub DropsPiece : Option LinkTold → Option LinkTold → LinkCounts → LinkCounts → ℕ → ℕ → Option LingerTurn → Type 0

@@ -14,6 +14,7 @@ use Rattle.conn_state.specs.Items.{Item, BeginsItem}
 use Rattle.conn_state.specs.Replies.{Expects, IsAskedIn}
 use Rattle.conn_state.specs.Rest.{StandsAs, is_awaited, is_in_head}
 use Rattle.conn_state.specs.Steps.{WaitsIn, IsShortIn}
+use Rattle.conn_state.specs.Sizes.{read_piece}
 
 -- what is seen of a reader: its limits, the bytes that it keeps, and how far the next request was read
 pub record SeenReader : Type 0 where
@@ -117,12 +118,12 @@ KeepsAll answer.Gone r rest = StandsFor r rest
 KeepsAll answer.LinkFailed r rest = StandsFor r rest
 KeepsAll answer.NoMemory r rest = ⊤
 
--- the last of the bytes that came, at most 4,096, came where nothing that was there before them could be answered
+-- the last of the bytes that came, at most a piece, came where nothing that was there before them could be answered
 pub record ComesLast (old : SeenReader) (rest got : List ℕ) : Type 0 where
   pub before : List ℕ
   pub last : List ℕ
   pub got_is : got ≡ before ++ last
-  pub few : length last ≤ 4096
+  pub few : length last ≤ read_piece
   pub none_there : ¬ (IsAnswerable old (rest ++ before))
 
 -- the link was asked only where nothing that was there could be answered: no byte came, or the last ones came so

@@ -6,6 +6,7 @@ use Rattle.conn_state.specs.declared.reader.RequestAnswer.{RequestAnswer}
 use Rattle.conn_state.specs.declared.reader.RequestAnswer.TheVariants as answer
 use Rattle.conn_state.specs.Rest.{is_awaited}
 use Rattle.conn_state.specs.Reader.{SeenReader, StandsFor, AwaitsMore, finds_waiting, finds_more, finds_end, finds_failure, AnswerFinds, KeepsAll}
+use Rattle.conn_state.specs.Sizes.{read_piece}
 
 -- bytes came so far and were read on, and no client was found that waits
 pub record HasCome (link link' : LinkSeen) (old new : SeenReader) : Type 0 where
@@ -24,7 +25,7 @@ pub record HasCome (link link' : LinkSeen) (old new : SeenReader) : Type 0 where
 pub record HasComeSome (link link' : LinkSeen) (old new : SeenReader) : Type 0 where
   pub come : HasCome link link' old new
   pub some : 0 < length come.got
-  pub few : length come.got ≤ 4096
+  pub few : length come.got ≤ read_piece
   pub same_stage : new.stage ≡ old.stage
 
 -- the read ended the turn with an answer, where more had to come
@@ -38,7 +39,7 @@ pub record EndsReading (link link' : LinkSeen) (old new : SeenReader) (given : R
   pub finds : (rest : List ℕ) → AwaitsMore old rest → AnswerFinds given new (rest ++ got)
   pub same_client : is_awaited new.stage ≡ is_awaited old.stage
   pub none_waits : finds_waiting given ≡ false
-  pub few : length got ≤ 4096
+  pub few : length got ≤ read_piece
   pub faults : RisesWhere (finds_failure given) link.counts.faults link'.counts.faults
   pub late_reads : RisesExactlyWhere (finds_more given) link.counts.late_reads link'.counts.late_reads
   pub late_writes : link'.counts.late_writes ≡ link.counts.late_writes

@@ -13,6 +13,7 @@ use Rattle.conn_state.specs.declared.stage.Stage.TheVariants as stage
 use Rattle.conn_state.specs.declared.steps.StepAnswer.{StepAnswer}
 use Rattle.conn_state.specs.declared.steps.StepAnswer.TheVariants as step
 use Rattle.conn_state.specs.Rest.{StandsAs, is_awaited, is_in_head, is_in_body, is_whole, is_refused}
+use Rattle.http_read.specs.Sizes.{greatest_head, greatest_trailer}
 
 -- the client is to be told to send the body
 abbrev pub is_told : StepAnswer → Bool
@@ -91,8 +92,8 @@ IsReadable unread (stage.Refused code expected) = ⊤
 
 -- no more bytes are there than a head may have, or a line of a body that isn't whole
 abbrev pub IsShortIn : List ℕ → Stage → Type 0
-IsShortIn unread (stage.Head reader) = length unread ≤ 65536
-IsShortIn unread (stage.Body request reader) = length unread < 8190
+IsShortIn unread (stage.Head reader) = length unread ≤ greatest_head
+IsShortIn unread (stage.Body request reader) = length unread < greatest_trailer
 IsShortIn unread (stage.Whole request) = ⊥
 IsShortIn unread (stage.Refused code expected) = ⊥
 

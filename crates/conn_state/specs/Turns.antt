@@ -21,6 +21,7 @@ use Rattle.conn_state.specs.Reader.{SeenReader, StandsFor, item_kept, AsksKeptIt
 use Rattle.conn_state.specs.Follows.{what_follows}
 use Rattle.conn_state.specs.Writing.{is_not_ready, is_write_failure, WriteLeaves, with_sent}
 use Rattle.conn_state.specs.Conn.{SeenConn}
+use Rattle.conn_state.specs.Sizes.{most_dropped}
 
 -- ## Reading
 
@@ -231,7 +232,7 @@ pub record LingersOn (old new : SeenConn) (answer : LingerTurn) : Type 0 where
   pub told : new.told ≡ option_map (with_received (length got)) old.told
   pub gives : IfSome old.told (λ t. got ≡ take (length got) t.coming)
   pub dropped : new.dropped ≡ old.dropped + length got
-  pub sated : is_sated answer ≡ (new.dropped == 1048576)
+  pub sated : is_sated answer ≡ (new.dropped == most_dropped)
   pub faults : RisesWhere (is_linger_failure answer) old.counts.faults new.counts.faults
   pub late_reads : RisesExactlyWhere (is_linger_late answer) old.counts.late_reads new.counts.late_reads
   pub ends : RisesExactlyWhere (is_drained answer) old.counts.ends new.counts.ends

@@ -38,7 +38,7 @@ use std::marker::{Model, PhantomData};
 use std::snapshot::Snapshot;
 use std::sync::Arc;
 
-/// For how many notes room is taken at once: so a connection with many of them has little that it doesn't use.
+/// For how many notes room is taken at once: so a connection with many of them has little room that it doesn't use.
 const NOTES_AT_ONCE: usize = 8;
 
 /// A connection over a link, served of the site of its generation. Where `N` knows the clients, the link is that of one of them.
@@ -207,7 +207,8 @@ impl<L: Link, N: Known> Conn<L, N> {
     /// Whether each byte that was read is one of an answered request.
     pub fn rest_empty(&self) -> bool
         ensures kept { result ≡ keeps_none self.now.reader }
-        ensures rest { (rest : List ℕ) → StandsFor self.now.reader rest → result ≡ (length rest == 0) }
+        ensures rest { (rest : List ℕ) → StandsFor self.now.reader rest
+            → result ≡ (length rest == 0) }
     {
         kept_bytes_show_empty_rests();
         self.reader.is_empty()
@@ -236,7 +237,8 @@ impl<L: Link, N: Known> Conn<L, N> {
         requires open { says_last self.old.notes ≡ false }
         requires not_shut { self.old.linger ≡ linger.Open }
         ensures reads { ReadsOn self.old self.new result }
-        ensures still { (rest : List ℕ) → StandsFor self.old.reader rest → IsAnswerable self.old.reader rest
+        ensures still { (rest : List ℕ)
+            → StandsFor self.old.reader rest → IsAnswerable self.old.reader rest
             → AsksNothing self.old self.new × KeepsRead result self.new.reader rest }
     {
         keeps_answer();
@@ -376,10 +378,12 @@ fn take_note(
     requires served { IfSome plan.now (λ p. IsServedOf site.now p.served) }
     requires code { plan.now ≡ None → refuses_head note.code ≡ true }
     ensures ok { OnOk result (notes.new ≡ notes.old ++ note ∷ []) }
-    ensures planned { IfOk result (λ unsent. (request : RequestParts) → plan.now ≡ Some (plan_for site.now request)
+    ensures planned { IfOk result (λ unsent. (request : RequestParts)
+        → plan.now ≡ Some (plan_for site.now request)
         → IsResponse site.now (inl request) note (pending_bytes site.now unsent)) }
     ensures refused { IfOk result (λ unsent. plan.now ≡ None → (expected : Bool)
-        → IsResponse site.now (inr (record { code = note.code; expected = expected })) note (pending_bytes site.now unsent)) }
+        → IsResponse site.now (inr (record { code = note.code; expected = expected }))
+        note (pending_bytes site.now unsent)) }
     ensures of { IfOk result (IsUnsentOf site.now) }
     ensures err { OnErr result (notes.new ≡ notes.old) }
 {

@@ -64,8 +64,10 @@ pub fn read_item<L: Link>(
     reader: &mut RequestReader,
     unsent: &mut Outgoing,
 ) -> ReadAnswer
-    ensures takes { TakesIn (L.seen link.old) (L.seen link.new) site.now reader.old reader.new unsent.old unsent.new result.turn result.plan }
-    ensures still { (rest : List ℕ) → StandsFor reader.old rest → IsAnswerable reader.old rest → L.seen link.new ≡ L.seen link.old }
+    ensures takes { TakesIn (L.seen link.old) (L.seen link.new) site.now
+        reader.old reader.new unsent.old unsent.new result.turn result.plan }
+    ensures still { (rest : List ℕ) → StandsFor reader.old rest → IsAnswerable reader.old rest
+        → L.seen link.new ≡ L.seen link.old }
 {
     reader.show();
     let given = reader.read_turn(link);

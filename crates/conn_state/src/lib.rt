@@ -26,6 +26,7 @@ mod outgoing;
 mod reader;
 mod received;
 mod responses;
+mod sizes;
 mod stage;
 mod steps;
 mod turn;

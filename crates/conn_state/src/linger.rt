@@ -1,21 +1,18 @@
 //! What a turn of lingering of a connection does.
 ghost use Rattle.std.specs.Prelude.{◌<◌};
 ghost use Rattle.conn_state.specs.LingerInside.{DropsOn, DropsPiece};
+ghost use Rattle.conn_state.specs.Sizes.{most_dropped};
 
+use crate::sizes::{MOST_DROPPED, READ_PIECE};
 use crate::turn::LingerTurn;
 use mpm_base::{Got, Link};
-
-/// How many bytes a link is asked for at once.
-const PIECE: usize = 4_096;
-
-/// How many bytes are dropped at most while a link lingers.
-const MOST_DROPPED: usize = 1_048_576;
 
 /// Reads and drops what the link has, until it gives no more or as many bytes were dropped in all as may be. `dropped` counts
 /// them, also those of earlier calls.
 pub fn drop_rest<L: Link>(link: &mut L, dropped: &mut usize) -> LingerTurn
-    requires { dropped.old < 1048576 }
-    ensures { DropsOn (L.seen link.old).told (L.seen link.new).told (L.seen link.old).counts (L.seen link.new).counts
+    requires { dropped.old < most_dropped }
+    ensures { DropsOn (L.seen link.old).told (L.seen link.new).told
+        (L.seen link.old).counts (L.seen link.new).counts
         dropped.old dropped.new result }
 {
     while *dropped < MOST_DROPPED {
@@ -28,12 +25,13 @@ pub fn drop_rest<L: Link>(link: &mut L, dropped: &mut usize) -> LingerTurn
 
 /// Reads and drops what the link has, at most a piece, and no more than is left to drop. None where bytes came.
 fn drop_piece<L: Link>(link: &mut L, dropped: &mut usize) -> Option<LingerTurn>
-    requires { dropped.old < 1048576 }
-    ensures { DropsPiece (L.seen link.old).told (L.seen link.new).told (L.seen link.old).counts (L.seen link.new).counts
+    requires { dropped.old < most_dropped }
+    ensures { DropsPiece (L.seen link.old).told (L.seen link.new).told
+        (L.seen link.old).counts (L.seen link.new).counts
         dropped.old dropped.new result }
 {
-    let mut buffer = [0; PIECE];
-    let room = PIECE.min(MOST_DROPPED - *dropped);
+    let mut buffer = [0; READ_PIECE];
+    let room = READ_PIECE.min(MOST_DROPPED - *dropped);
     match link.read(&mut buffer[..room]) {
         Got::Got(count) => {
             *dropped += count as usize;

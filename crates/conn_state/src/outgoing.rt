@@ -3,15 +3,14 @@ ghost use Rattle.std.specs.Prelude.{◌≡◌, ◌==◌, ◌+◌, ◌≤◌, [],
 ghost use Rattle.conn_state.specs.Outgoing.{IsRangeOf, IsUnsentOf, range_bytes, pending_bytes, range_len};
 ghost use Rattle.conn_state.specs.OutgoingInside.{unsent_behind};
 ghost use Rattle.conn_state.specs.Writing.{SendsOn};
+ghost use Rattle.conn_state.specs.Sizes.{write_piece};
 
+use crate::sizes::WRITE_PIECE;
 use crate::turn::WriteTurn;
 use file_table::{Site, bytes};
 use mpm_base::{Link, Octets, Sent};
 use std::alloc::Global;
 use std::marker::Model;
-
-/// How many bytes of a body a link is offered at once.
-const PIECE: u64 = 65_536;
 
 /// Bytes of a file of the site: from the one place up to the other, which isn't one of them.
 #[derive(Clone, Copy, Debug, PartialEq, Eq)]
@@ -65,7 +64,7 @@ impl Outgoing {
     /// The first bytes of the body, at most a piece, straight from the site.
     fn body_piece<'a>(&self, site: &'a Site) -> &'a [u8]
         requires { IsUnsentOf site.now self.now }
-        ensures { result.now ≡ take 65536 (range_bytes site.now self.now.body) }
+        ensures { result.now ≡ take write_piece (range_bytes site.now self.now.body) }
     {
         match self.body {
             Some(range) => piece_of(site, range),
@@ -109,19 +108,20 @@ impl Outgoing {
 /// The first bytes of the range, at most a piece.
 fn piece_of(site: &Site, range: FileRange) -> &[u8]
     requires { IsRangeOf site.now range }
-    ensures { result.now ≡ take 65536 (range_bytes site.now (Some range)) }
+    ensures { result.now ≡ take write_piece (range_bytes site.now (Some range)) }
 {
     let file = bytes(site, range.file);
-    let count = (range.to - range.from).min(PIECE);
+    let count = (range.to - range.from).min(WRITE_PIECE);
     let from = range.from as usize;
     &file[from..from + count as usize]
 }
 
 /// Sends what is left, until the link has no room. Each call of the link is offered what is left of the head, and behind it a
-/// piece of the body, 65,536 bytes at most. LinkFailed where a call failed. Where nothing is left, no memory is held for it then.
+/// piece of the body. LinkFailed where a call failed. Where nothing is left, no memory is held for it then.
 pub fn send<L: Link>(alloc: Global, link: &mut L, site: &Site, unsent: &mut Outgoing) -> WriteTurn
     requires { IsUnsentOf site.now unsent.old }
-    ensures sends { SendsOn (L.seen link.old).told (L.seen link.new).told (L.seen link.old).counts (L.seen link.new).counts
+    ensures sends { SendsOn (L.seen link.old).told (L.seen link.new).told
+        (L.seen link.old).counts (L.seen link.new).counts
         (pending_bytes site.now unsent.old) (pending_bytes site.now unsent.new) result }
     ensures of { IsUnsentOf site.now unsent.new }
 {

@@ -6,24 +6,20 @@ ghost use Rattle.conn_state.specs.Items.{Item};
 ghost use Rattle.conn_state.specs.Turns.{LeavesItem};
 ghost use Rattle.conn_state.specs.Reader.{item_kept, keeps_none, StandsFor, IsAnswerable, IsReading, LeavesRequest, ReadsNext};
 ghost use Rattle.conn_state.specs.ReaderInside.{TakesPiece};
+ghost use Rattle.conn_state.specs.Sizes.{read_piece};
 
 use crate::laws::{
     items_wait_for_nothing, kept_bytes_are_readable, kept_bytes_go_on, waiting_clients_are_found,
 };
 use crate::received::Received;
+use crate::sizes::READ_PIECE;
 use crate::stage::Stage;
 use crate::steps::{StepAnswer, read_on};
-use http_read::{HeadReader, Limits, keeps_answer, keeps_spelling};
+use http_read::{GREATEST_HEAD, HeadReader, Limits, keeps_answer, keeps_spelling};
 use mpm_base::{Got, Link, NoMemory};
 use std::alloc::Global;
 use std::marker::Model;
 use std::mem;
-
-/// How many bytes a link is asked for at once.
-const PIECE: usize = 4_096;
-
-/// So many bytes of a head are looked at: one that has no end in them is too large.
-const WINDOW: usize = 65_537;
 
 /// What a turn of reading found.
 #[derive(Clone, Copy, Debug, PartialEq, Eq)]
@@ -60,7 +56,8 @@ impl Model for RequestReader {
 
     ghost view = { λ r. record { limits = r.limits; unread = r.unread; stage = r.stage } };
 
-    ghost invariant = { λ r. IsReading (record { limits = r.limits; unread = r.unread; stage = r.stage }) };
+    ghost invariant = { λ r.
+        IsReading (record { limits = r.limits; unread = r.unread; stage = r.stage }) };
 }
 
 impl RequestReader {
@@ -129,7 +126,8 @@ impl RequestReader {
     /// Goes on behind the next item. Behind a refusal nothing is read, so it is kept.
     pub fn leave_item(&mut self)
         ensures limits { self.new.limits ≡ self.old.limits }
-        ensures leaves { (item : Item) (rest : List ℕ) → item_kept self.old.stage ≡ Some item → StandsFor self.old rest
+        ensures leaves { (item : Item) (rest : List ℕ)
+            → item_kept self.old.stage ≡ Some item → StandsFor self.old rest
             → LeavesItem item self.old self.new rest }
         ensures untold { (is_awaited self.new.stage ≡ true) → is_whole self.old.stage ≡ false }
         ensures none { item_kept self.old.stage ≡ None → self.new ≡ self.old }
@@ -145,7 +143,8 @@ impl RequestReader {
     /// Reads on by the bytes that are there.
     fn step(&mut self) -> StepAnswer
         ensures limits { self.new.limits ≡ self.old.limits }
-        ensures steps { Steps self.old.limits self.old.unread self.new.unread self.old.stage self.new.stage result }
+        ensures steps { Steps self.old.limits self.old.unread self.new.unread
+            self.old.stage self.new.stage result }
     {
         kept_bytes_are_readable();
         let stage = mem::replace(&mut self.stage, Stage::Refused(0, false));
@@ -154,21 +153,22 @@ impl RequestReader {
         step
     }
 
-    /// How many bytes the link is asked for: at most a piece, and no more than are looked at of a head.
+    /// How many bytes the link is asked for: at most a piece, and no more than it takes to see that a head is too large.
     fn room(&self) -> usize
         requires { IsShortIn self.now.unread self.now.stage }
         ensures some { 0 < result }
-        ensures few { result ≤ 4096 }
+        ensures few { result ≤ read_piece }
     {
         match &self.stage {
-            Stage::Head(_) => PIECE.min(WINDOW - self.unread.as_slice().len()),
-            _ => PIECE,
+            Stage::Head(_) => READ_PIECE.min(GREATEST_HEAD + 1 - self.unread.as_slice().len()),
+            _ => READ_PIECE,
         }
     }
 
     /// Keeps the bytes behind those that are there. Where memory lacks nothing changes.
     fn keep(&mut self, bytes: &[u8]) -> Result<(), NoMemory>
-        ensures ok { OnOk result (self.new ≡ record self.old { unread = self.old.unread ++ bytes.now }) }
+        ensures ok { OnOk result
+            (self.new ≡ record self.old { unread = self.old.unread ++ bytes.now }) }
         ensures err { OnErr result (self.new ≡ self.old) }
     {
         kept_bytes_go_on();
@@ -183,7 +183,7 @@ impl RequestReader {
         ensures { TakesPiece (L.seen link.old) (L.seen link.new) self.old self.new result }
     {
         kept_bytes_go_on();
-        let mut buffer = [0; PIECE];
+        let mut buffer = [0; READ_PIECE];
         let piece = &mut buffer[..self.room()];
         match link.read(&mut *piece) {
             Got::Got(count) => match self.keep(&piece[..count as usize]) {
@@ -203,7 +203,8 @@ impl RequestReader {
     /// more. The link is asked only while there is none of these.
     pub fn read_turn<L: Link>(&mut self, link: &mut L) -> RequestAnswer
         ensures reads { ReadsNext (L.seen link.old) (L.seen link.new) self.old self.new result }
-        ensures still { (rest : List ℕ) → StandsFor self.old rest → IsAnswerable self.old rest → L.seen link.new ≡ L.seen link.old }
+        ensures still { (rest : List ℕ) → StandsFor self.old rest → IsAnswerable self.old rest
+            → L.seen link.new ≡ L.seen link.old }
     {
         keeps_answer();
         keeps_spelling();

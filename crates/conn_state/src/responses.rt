@@ -17,10 +17,12 @@ use http_core::{Body, Plan, Reply, continue_text, refusal, response};
 use mpm_base::{NoMemory, Note, Octets};
 use std::alloc::Global;
 
-/// The reply as it is to be sent. A body of its own goes behind the head; that of a file stays in the site.
+/// The reply as it is to be sent. A body of its own is copied behind the head; that of a file stays in the site.
 fn outgoing_of(reply: Reply) -> Result<Outgoing, NoMemory>
-    ensures bytes { IfOk result (λ out. (site : SeenSite) → pending_bytes site out ≡ reply.head ++ body_bytes site reply.body) }
-    ensures of { IfOk result (λ out. (site : SeenSite) → IsBodyOf site reply.body → IsUnsentOf site out) }
+    ensures bytes { IfOk result (λ out. (site : SeenSite)
+        → pending_bytes site out ≡ reply.head ++ body_bytes site reply.body) }
+    ensures of { IfOk result (λ out. (site : SeenSite)
+        → IsBodyOf site reply.body → IsUnsentOf site out) }
 {
     let Reply { head, body } = reply;
     match body {
@@ -38,7 +40,8 @@ fn outgoing_of(reply: Reply) -> Result<Outgoing, NoMemory>
 pub fn respond(alloc: Global, site: &Site, plan: &Plan, note: &Note) -> Result<Outgoing, NoMemory>
     requires date { IsSecond note.now.date }
     requires served { IsServedOf site.now plan.now.served }
-    ensures response { IfOk result (λ out. (request : RequestParts) → plan.now ≡ plan_for site.now request
+    ensures response { IfOk result (λ out. (request : RequestParts)
+        → plan.now ≡ plan_for site.now request
         → IsResponse site.now (inl request) note.now (pending_bytes site.now out)) }
     ensures of { IfOk result (IsUnsentOf site.now) }
 {
@@ -51,7 +54,8 @@ pub fn refuse(alloc: Global, note: &Note) -> Result<Outgoing, NoMemory>
     requires date { IsSecond note.now.date }
     requires code { refuses_head note.now.code ≡ true }
     ensures response { IfOk result (λ out. (site : SeenSite) (expected : Bool)
-        → IsResponse site (inr (record { code = note.now.code; expected = expected })) note.now (pending_bytes site out)) }
+        → IsResponse site (inr (record { code = note.now.code; expected = expected }))
+        note.now (pending_bytes site out)) }
     ensures of { IfOk result (λ out. (site : SeenSite) → IsUnsentOf site out) }
 {
     let reply = refusal(alloc, Octets::make(alloc), note)?;

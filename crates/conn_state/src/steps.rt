@@ -33,7 +33,8 @@ pub enum StepAnswer {
 fn read_head(alloc: Global, reader: HeadReader, unread: &mut Received) -> (Stage, StepAnswer)
     requires within { reader.looked ≤ length unread.old }
     requires looked { HasLookedAt (take reader.looked unread.old) reader }
-    ensures { (limits : Limits) → Steps limits unread.old unread.new (stage.Head reader) result.0 result.1 }
+    ensures { (limits : Limits)
+        → Steps limits unread.old unread.new (stage.Head reader) result.0 result.1 }
 {
     let mut reader = reader;
     match reader.read(alloc, unread.as_slice()) {
@@ -62,7 +63,8 @@ fn begin_body(request: Request) -> (Stage, StepAnswer)
 /// Reads on in its body, and drops what it reads of it.
 fn read_body(request: Request, reader: BodyReader, unread: &mut Received) -> (Stage, StepAnswer)
     requires within { begun_len reader ≤ length unread.old }
-    ensures { (limits : Limits) → Steps limits unread.old unread.new (stage.Body request reader) result.0 result.1 }
+    ensures { (limits : Limits)
+        → Steps limits unread.old unread.new (stage.Body request reader) result.0 result.1 }
 {
     let mut reader = reader;
     match reader.feed(unread.as_slice()) {
