@@ -128,7 +128,8 @@ pub fn cuts_never_matter()
     ensures stands { (kind : BodyKind) (past bytes more : List ℕ) (n : ℕ) (place : BodyPlace)
         → CountsBytes (length bytes) (BodyAnswer.Took n) place
         → AnswersBody kind past bytes (BodyAnswer.Took n) place
-        → StandsAt kind ((past ++ take n bytes) ++ take (begun_len place) (drop n bytes ++ more)) place }
+        → StandsAt kind
+        ((past ++ take n bytes) ++ take (begun_len place) (drop n bytes ++ more)) place }
     ensures pieces { (kind : BodyKind) (past bytes : List ℕ) (pieces : List (List ℕ))
         (answer : BodyAnswer) (new : BodyPlace)
         → AnswersPieces kind past bytes pieces answer new

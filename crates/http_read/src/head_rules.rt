@@ -16,7 +16,8 @@ use mpm_base::is_same_ignoring_case;
 /// Where the Host stands; an empty span where there is none.
 pub(crate) fn host_in(head: &[u8], minor: u8, headers: &[HeaderSpan]) -> Result<Span, u16>
     requires { All (IsHeaderWithin (length head.now)) headers.now }
-    ensures { IsHostAt head.now (host_in minor (values_in head.now headers.now (codes "host"))) result }
+    ensures { IsHostAt head.now
+        (host_in minor (values_in head.now headers.now (codes "host"))) result }
 {
     match values_of(head, headers, b"host") {
         Values::Absent if minor == 1 => Err(BAD_REQUEST),

@@ -37,8 +37,8 @@ fn add_value(found: Values, head: &[u8], header: &HeaderSpan, name: &[u8]) -> Va
     requires { IsHeaderWithin (length head.now) header.now }
     ensures { (fields : List (List ℕ × List ℕ))
         → AreValues head.now (values_named name.now fields) found
-        → AreValues head.now (values_named name.now (fields ++ header_bytes head.now header.now ∷ []))
-        result }
+        → AreValues head.now
+        (values_named name.now (fields ++ header_bytes head.now header.now ∷ [])) result }
 {
     if is_same_ignoring_case(header.name.of(head), name) {
         one_more(found, header.value)
@@ -100,7 +100,8 @@ pub(crate) fn fields_end_in_word(
 ) -> bool
     requires within { All (IsHeaderWithin (length head.now)) headers.now }
     requires some { 0 < length word.now }
-    ensures { result ≡ ends_in_word word.now (words_of_all (values_in head.now headers.now name.now)) }
+    ensures { result
+        ≡ ends_in_word word.now (words_of_all (values_in head.now headers.now name.now)) }
 {
     let mut is_last = false;
     for header in headers {

@@ -9,16 +9,19 @@ use crate::head::{keeps_answer, one_answer};
 
 /// Bytes spell one list of requests, at most one refusal behind them, and leave one rest.
 pub fn one_spelling()
-    ensures requests { (limits : Limits) (bytes : List ℕ) (requests others : List (RequestParts × ℕ))
-        (refusal other : Option ReadRefusal) (rest left : List ℕ)
+    ensures requests { (limits : Limits) (bytes : List ℕ)
+        (requests others : List (RequestParts × ℕ)) (refusal other : Option ReadRefusal)
+        (rest left : List ℕ)
         → AreItems limits bytes requests refusal rest → AreItems limits bytes others other left
         → requests ≡ others }
-    ensures refusal { (limits : Limits) (bytes : List ℕ) (requests others : List (RequestParts × ℕ))
-        (refusal other : Option ReadRefusal) (rest left : List ℕ)
+    ensures refusal { (limits : Limits) (bytes : List ℕ)
+        (requests others : List (RequestParts × ℕ)) (refusal other : Option ReadRefusal)
+        (rest left : List ℕ)
         → AreItems limits bytes requests refusal rest → AreItems limits bytes others other left
         → refusal ≡ other }
-    ensures rest { (limits : Limits) (bytes : List ℕ) (requests others : List (RequestParts × ℕ))
-        (refusal other : Option ReadRefusal) (rest left : List ℕ)
+    ensures rest { (limits : Limits) (bytes : List ℕ)
+        (requests others : List (RequestParts × ℕ)) (refusal other : Option ReadRefusal)
+        (rest left : List ℕ)
         → AreItems limits bytes requests refusal rest → AreItems limits bytes others other left
         → rest ≡ left }
 {
