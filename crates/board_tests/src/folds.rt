@@ -2,12 +2,12 @@
 use crate::editions::{known_editions, order_in};
 use crate::moves::{LastBoard, last_board, show_seen, site_of};
 use crate::seen::{ScriptBoard, add_one};
-use crate::texts::{grown, small_of};
 use board::report_line::lines_after;
 use conn_machine::{Editions, Event};
 use mpm_base::Octets;
 use std::alloc::Global;
 use std::io;
+use test_rows::{grown, small_of};
 
 /// What is counted of all entries of a board.
 #[derive(Clone, Copy, PartialEq, Eq)]

@@ -4,13 +4,13 @@ use crate::editions::known_editions;
 use crate::folds::difference;
 use crate::moves::{LastBoard, site_of};
 use crate::seen::Seen;
-use crate::texts::{grown, number_of, small_of, words};
 use conn_machine::{BoxedShape, Commanded, Edition, Event, Refusal, Why};
 use file_table::Site;
 use mpm_base::{NoMemory, Shape};
 use std::alloc::Global;
 use std::io;
 use std::sync::Arc;
+use test_rows::{grown, number_of, small_of, words};
 
 /// A shape of a new generation, but for its number of workers.
 const SHAPE: Shape = Shape {

@@ -20,7 +20,6 @@ mod passes;
 mod perches;
 mod permits;
 mod posts;
-mod texts;
 mod travels;
 mod turns;
 
@@ -28,34 +27,30 @@ use std::alloc::Global;
 use std::io;
 use std::sync::Wait;
 use std::thread::Threads;
+use test_rows::{Section, begin_section, sections_of, small_of};
 
 fn main(rt: HostRuntime) -> io::Result<()> {
     let input = io::read_to_string(rt.alloc(), rt.reader())?;
-    let mut sections = input.as_str().split("\n== ");
-    let _ = sections.next();
-    for section in sections {
-        let (title, _) = section.split_once('\n').unwrap_or((section, ""));
-        println!(&rt; "== {title}")?;
-        let (kind, _) = title.split_once(':').unwrap_or((title, ""));
-        let (word, rest) = texts::words(kind);
-        show_section(&rt, rt.alloc(), word, texts::small_of(rest))?;
+    for text in sections_of(input.as_str()) {
+        let section = begin_section(&rt, text)?;
+        show_section(&rt, rt.alloc(), section)?;
     }
     Ok(())
 }
 
-/// Shows what comes of a section of that kind, with so many threads.
+/// Shows what comes of the section.
 fn show_section<R: Print + Threads + Wait + Sync>(
     rt: &R,
     alloc: Global,
-    word: &str,
-    threads: u32,
+    section: Section<'_>,
 ) -> io::Result<()> {
+    let Section { word, rest, rows } = section;
     match word {
         "passes" => passes::show_passes(rt, alloc),
         "permits" => permits::show_permits(rt, alloc),
         "perch" => perches::show_perch(rt, alloc),
-        "turns" => turns::show_turns(rt, alloc, threads),
-        "contend" => contended::show_contention(rt, alloc, threads),
+        "turns" => turns::show_turns(rt, alloc, small_of(rest)),
+        "contend" => contended::show_contention(rt, alloc, small_of(rest)),
         _ => travels::show_travel(rt, alloc),
     }
 }
