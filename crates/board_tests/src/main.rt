@@ -23,10 +23,12 @@ mod editions;
 mod folds;
 mod moves;
 mod orders;
+mod pairs;
 mod passes;
 mod scans;
 mod seen;
 
+use pairs::Given;
 use std::alloc::Global;
 use std::io;
 use std::sync::Wait;
@@ -46,8 +48,8 @@ fn show_section<R: Print + Wait>(rt: &R, alloc: Global, section: Section<'_>) ->
     let Section { word, rest, rows } = section;
     match word {
         "finds" => moves::show_finds(rt, alloc, rest, rows),
-        "folds" => folds::show_folds(rt, alloc, rest, rows),
-        "orders" => orders::show_orders(rt, alloc, rest, rows),
+        "folds" => pairs::show_pairs(rt, alloc, Given::Numbers, rest, rows),
+        "orders" => pairs::show_pairs(rt, alloc, Given::Steps, rest, rows),
         _ => passes::show_passes(rt, alloc),
     }
 }
