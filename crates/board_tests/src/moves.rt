@@ -6,9 +6,9 @@ use conn_machine::{Commanded, Event, Place, Row, Why};
 use file_table::Site;
 use mpm_base::{ConnName, NoMemory};
 use std::alloc::Global;
-use std::io::{self, ErrorKind};
+use std::io;
 use std::sync::Arc;
-use test_rows::{NumberStream, below, grown, number_of, small_of, words};
+use test_rows::{NumberStream, below, grown, number_of, out_of_memory, small_of, words};
 
 /// The most moves of a board.
 const MOVES: u32 = 4_000;
@@ -46,7 +46,7 @@ pub fn show_seen(rt: &impl Print, row: &str, seen: &Seen) -> io::Result<()> {
 pub fn site_of(alloc: Global) -> io::Result<Arc<Site>> {
     match empty_site(alloc) {
         Ok(site) => Ok(Arc::new(alloc, site)?),
-        Err(_) => Err(io::Error::from(ErrorKind::OutOfMemory)),
+        Err(_) => Err(out_of_memory()),
     }
 }
 

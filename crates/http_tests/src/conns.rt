@@ -12,7 +12,7 @@ use std::alloc::Global;
 use std::io::{self, ErrorKind};
 use std::str;
 use std::sync::Arc;
-use test_rows::{Marks, grown, number_of, text_of, words};
+use test_rows::{Marks, grown, number_of, out_of_memory, text_of, words};
 
 /// The second of the example in RFC 9110, section 5.6.7.
 pub const SECOND: u64 = 784_111_777;
@@ -40,7 +40,7 @@ pub fn conn_of(
     let ours = Arc::try_clone(site)?;
     match link_of(alloc, text, theirs) {
         Ok(link) => Ok(TestConn::new(alloc, ours, link)),
-        Err(NoMemory) => Err(io::Error::from(ErrorKind::OutOfMemory)),
+        Err(NoMemory) => Err(out_of_memory()),
     }
 }
 
@@ -48,7 +48,7 @@ pub fn conn_of(
 pub fn site_of(alloc: Global) -> io::Result<Arc<Site>> {
     match digits_site(alloc) {
         Ok(site) => Ok(Arc::new(alloc, site)?),
-        Err(_) => Err(io::Error::from(ErrorKind::OutOfMemory)),
+        Err(_) => Err(out_of_memory()),
     }
 }
 

@@ -9,9 +9,9 @@ use file_table::Site;
 use mpm_base::{Cause, NoMemory, Octets, Tail};
 use stand_ins::{ScriptLink, Wire};
 use std::alloc::Global;
-use std::io::{self, ErrorKind};
+use std::io;
 use std::sync::Arc;
-use test_rows::{Marks, grown, number_of, text_of, words};
+use test_rows::{Marks, grown, number_of, out_of_memory, text_of, words};
 
 /// The request for the large file.
 const REQUEST: &[u8] = b"GET /large.bin HTTP/1.1\r\nHost: a\r\n\r\n";
@@ -119,7 +119,7 @@ fn large_file(alloc: Global, size: u64) -> Result<Octets, NoMemory> {
 fn site_of_file(alloc: Global, file: &Octets) -> io::Result<Arc<Site>> {
     match large_site(alloc, file.as_slice()) {
         Ok(site) => Ok(Arc::new(alloc, site)?),
-        Err(_) => Err(io::Error::from(ErrorKind::OutOfMemory)),
+        Err(_) => Err(out_of_memory()),
     }
 }
 

@@ -41,16 +41,15 @@ pub enum SlotAnswer {
 }
 
 /// The call that the row writes.
-fn call_of(row: &str) -> Option<SlotCall> {
+fn call_of(row: &str) -> SlotCall {
     let (word, rest) = words(row);
     let (name, item) = words(rest);
     match word {
-        "put" => Some(SlotCall::Put(small_of(rest))),
-        "take" => Some(SlotCall::Take(name_of(name))),
-        "write" => Some(SlotCall::Write(name_of(name), small_of(item))),
-        "next" => Some(SlotCall::Next),
-        "free" => Some(SlotCall::Free),
-        _ => None,
+        "put" => SlotCall::Put(small_of(rest)),
+        "take" => SlotCall::Take(name_of(name)),
+        "write" => SlotCall::Write(name_of(name), small_of(item)),
+        "next" => SlotCall::Next,
+        _ => SlotCall::Free,
     }
 }
 
@@ -101,10 +100,8 @@ fn answer_to(slots: &mut Slots<u32>, call: SlotCall) -> SlotAnswer {
 pub fn show_slots(rt: &impl Print, alloc: Global, count: &str, rows: &str) -> io::Result<()> {
     let mut slots = grown(Slots::make(alloc, slots_of(count)))?;
     for row in rows.lines() {
-        match call_of(row) {
-            Some(call) => println!(rt; "{row} => {:?}", answer_to(&mut slots, call))?,
-            None => println!(rt; "{row} is no call")?,
-        }
+        let answer = answer_to(&mut slots, call_of(row));
+        println!(rt; "{row} => {answer:?}")?;
     }
     Ok(())
 }
