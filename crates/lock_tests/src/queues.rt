@@ -9,7 +9,7 @@ use std::alloc::Global;
 use std::io;
 use std::sync::Wait;
 use std::thread::{self, Threads, join};
-use test_rows::{grown, small_of, words};
+use test_rows::{grown, out_of_memory, small_of, words};
 
 /// How many numbers go from one thread to the other.
 const NUMBERS: u32 = 1_000;
@@ -105,7 +105,9 @@ pub fn show_queue<R: Print + Wait>(
     places: &str,
     rows: &str,
 ) -> io::Result<()> {
-    let (queue, mut seats) = grown(FdQueue::make(alloc, places_of(places), 1))?;
+    let Ok((queue, mut seats)) = FdQueue::make(alloc, places_of(places), 1) else {
+        return Err(out_of_memory());
+    };
     let Some(seat) = last_seat(&queue, &mut seats) else {
         return println!(rt; "a seat is missing");
     };
