@@ -1,13 +1,13 @@
-//! Two boards behind the same calls, of which one folds its history wherever it may, and the other one never does.
+//! In what two boards behind the same calls differ.
 use crate::editions::{known_editions, order_in};
-use crate::moves::{LastBoard, last_board, show_seen, site_of};
+use crate::moves::{LastBoard, show_seen};
 use crate::seen::{ScriptBoard, add_one};
-use crate::texts::{grown, small_of};
 use board::report_line::lines_after;
 use conn_machine::{Editions, Event};
 use mpm_base::Octets;
 use std::alloc::Global;
 use std::io;
+use test_rows::grown;
 
 /// What is counted of all entries of a board.
 #[derive(Clone, Copy, PartialEq, Eq)]
@@ -65,22 +65,8 @@ impl Counts {
     }
 }
 
-/// Shows of each row, a seed and a number of calls, in what two boards of so many slots differ behind these calls.
-pub fn show_folds(rt: &impl Print, alloc: Global, slots: &str, rows: &str) -> io::Result<()> {
-    let site = site_of(alloc)?;
-    for row in rows.lines() {
-        let folding = grown(last_board(alloc, &site, small_of(slots), row, true))?;
-        let keeping = grown(last_board(alloc, &site, small_of(slots), row, false))?;
-        match (folding, keeping) {
-            (Some(folding), Some(keeping)) => show_both(rt, alloc, row, &folding, &keeping)?,
-            _ => println!(rt; "{row} => a board can't go on")?,
-        }
-    }
-    Ok(())
-}
-
 /// Shows what was seen of the first board, how often it was folded, and in what it differs from the second one.
-fn show_both(
+pub fn show_folded(
     rt: &impl Print,
     alloc: Global,
     row: &str,

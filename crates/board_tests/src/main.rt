@@ -22,43 +22,34 @@ mod driven;
 mod editions;
 mod folds;
 mod moves;
-mod numbers;
 mod orders;
+mod pairs;
 mod passes;
 mod scans;
 mod seen;
-mod texts;
 
+use pairs::Given;
 use std::alloc::Global;
 use std::io;
 use std::sync::Wait;
+use test_rows::{Section, begin_section, sections_of};
 
 fn main(rt: HostRuntime) -> io::Result<()> {
     let input = io::read_to_string(rt.alloc(), rt.reader())?;
-    let mut sections = input.as_str().split("\n== ");
-    let _ = sections.next();
-    for section in sections {
-        let (title, rows) = section.split_once('\n').unwrap_or((section, ""));
-        println!(&rt; "== {title}")?;
-        let (kind, _) = title.split_once(':').unwrap_or((title, ""));
-        let (word, rest) = texts::words(kind);
-        show_section(&rt, rt.alloc(), word, rest, rows)?;
+    for text in sections_of(input.as_str()) {
+        let section = begin_section(&rt, text)?;
+        show_section(&rt, rt.alloc(), section)?;
     }
     Ok(())
 }
 
-/// Shows what comes of the rows of a section of that kind.
-fn show_section<R: Print + Wait>(
-    rt: &R,
-    alloc: Global,
-    word: &str,
-    rest: &str,
-    rows: &str,
-) -> io::Result<()> {
+/// Shows what comes of the rows of the section.
+fn show_section<R: Print + Wait>(rt: &R, alloc: Global, section: Section<'_>) -> io::Result<()> {
+    let Section { word, rest, rows } = section;
     match word {
         "finds" => moves::show_finds(rt, alloc, rest, rows),
-        "folds" => folds::show_folds(rt, alloc, rest, rows),
-        "orders" => orders::show_orders(rt, alloc, rest, rows),
+        "folds" => pairs::show_pairs(rt, alloc, Given::Numbers, rest, rows),
+        "orders" => pairs::show_pairs(rt, alloc, Given::Steps, rest, rows),
         _ => passes::show_passes(rt, alloc),
     }
 }

@@ -1,15 +1,14 @@
 //! Boards that do what numbers ask for, as far as they allow it.
 use crate::clients::empty_site;
 use crate::driven::Driven;
-use crate::numbers::{NumberStream, below};
 use crate::seen::{ScriptBoard, Seen};
-use crate::texts::{grown, number_of, small_of, words};
 use conn_machine::{Commanded, Event, Place, Row, Why};
 use file_table::Site;
 use mpm_base::{ConnName, NoMemory};
 use std::alloc::Global;
-use std::io::{self, ErrorKind};
+use std::io;
 use std::sync::Arc;
+use test_rows::{NumberStream, below, grown, number_of, out_of_memory, small_of, words};
 
 /// The most moves of a board.
 const MOVES: u32 = 4_000;
@@ -47,7 +46,7 @@ pub fn show_seen(rt: &impl Print, row: &str, seen: &Seen) -> io::Result<()> {
 pub fn site_of(alloc: Global) -> io::Result<Arc<Site>> {
     match empty_site(alloc) {
         Ok(site) => Ok(Arc::new(alloc, site)?),
-        Err(_) => Err(io::Error::from(ErrorKind::OutOfMemory)),
+        Err(_) => Err(out_of_memory()),
     }
 }
 

@@ -1,16 +1,16 @@
-//! Two boards that are given the same commands, of which one folds its history wherever it may, and the other one never does.
+//! Boards that are given events and commands.
 use crate::driven::{Answer, Driven};
 use crate::editions::known_editions;
 use crate::folds::difference;
-use crate::moves::{LastBoard, site_of};
+use crate::moves::LastBoard;
 use crate::seen::Seen;
-use crate::texts::{grown, number_of, small_of, words};
 use conn_machine::{BoxedShape, Commanded, Edition, Event, Refusal, Why};
 use file_table::Site;
 use mpm_base::{NoMemory, Shape};
 use std::alloc::Global;
 use std::io;
 use std::sync::Arc;
+use test_rows::{grown, number_of, small_of, words};
 
 /// A shape of a new generation, but for its number of workers.
 const SHAPE: Shape = Shape {
@@ -26,9 +26,9 @@ const SHAPE: Shape = Shape {
 
 /// A board behind the steps of a row, what was seen of it, and what it answered to the last order.
 #[derive(Drop)]
-struct Asked {
-    last: LastBoard,
-    answer: Option<Answer>,
+pub struct Asked {
+    pub last: LastBoard,
+    pub answer: Option<Answer>,
 }
 
 impl Asked {
@@ -99,7 +99,7 @@ fn event_of(word: &str, number: &str) -> (Event, u64) {
 }
 
 /// The board of so many slots behind the steps of the row; none where it can't go on.
-fn behind(
+pub fn behind(
     alloc: Global,
     site: &Arc<Site>,
     slots: u32,
@@ -121,23 +121,8 @@ fn behind(
     Ok(Some(asked))
 }
 
-/// Shows of each row, the steps of a board of so many slots, what the board that folds answered to the last order, what it knows then, and
-/// in what it differs from the one that never folds.
-pub fn show_orders(rt: &impl Print, alloc: Global, slots: &str, rows: &str) -> io::Result<()> {
-    let site = site_of(alloc)?;
-    for row in rows.lines() {
-        let folding = grown(behind(alloc, &site, small_of(slots), row, true))?;
-        let keeping = grown(behind(alloc, &site, small_of(slots), row, false))?;
-        match (folding, keeping) {
-            (Some(folding), Some(keeping)) => show_both(rt, alloc, row, &folding, &keeping)?,
-            _ => println!(rt; "{row} => a board can't go on")?,
-        }
-    }
-    Ok(())
-}
-
 /// Shows what the first board answered and knows, and in what it differs from the second one.
-fn show_both(
+pub fn show_asked(
     rt: &impl Print,
     alloc: Global,
     row: &str,

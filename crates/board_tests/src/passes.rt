@@ -5,7 +5,6 @@ ghost use Rattle.conn_machine.specs.Table.{is_allowed};
 ghost use Rattle.conn_machine.specs.declared.event.Event.TheVariants as event;
 
 use crate::seen::ScriptBoard;
-use crate::texts::grown;
 use board::Board;
 use board_lock::{Pass, Shared, number};
 use conn_machine::{Entry, Event, Reply, may};
@@ -14,6 +13,7 @@ use std::alloc::Global;
 use std::io;
 use std::sync::Wait;
 use table_rule::laws::values_stand_for_whole_histories;
+use test_rows::grown;
 
 const SHAPE: Shape = Shape {
     threads: 2,

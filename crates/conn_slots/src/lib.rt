@@ -15,11 +15,6 @@ ghost use Rattle.conn_slots.specs.Layout.{seen_slot};
 ghost use Rattle.conn_slots.specs.TableInside.{IsWithinLives, place_below};
 ghost use Rattle.conn_slots.specs.Changes.{NeverLiveAgain, WasNeverLive};
 
-#[cfg(test)]
-mod plain;
-#[cfg(test)]
-mod tests;
-
 use mpm_base::{ConnName, NoMemory};
 use std::alloc::Global;
 use std::marker::Model;

@@ -8,8 +8,6 @@
 pub mod laws;
 mod queue;
 mod seat;
-#[cfg(test)]
-mod tests;
 
 pub use queue::{FdQueue, FdSeat};
 pub use seat::{Item, SeatView};

@@ -1,10 +1,10 @@
 //! Bodies as clients send them, whole and cut, at the bounds of each rule (RFC 9112, sections 6 and 7.1).
 ghost use Rattle.std.specs.Prelude.{◌<◌, ◌≤◌, length};
 
-use crate::texts::{grown, number_of, text_of, words};
 use http_read::{BodyAnswer, BodyKind, BodyReader};
 use std::alloc::Global;
 use std::io;
+use test_rows::{Marks, grown, number_of, text_of, words};
 
 /// Reads the text as it comes: first so many bytes of it, then piece by piece. Answers as one call that got all of it would.
 fn read_cut(kind: BodyKind, text: &[u8], first: usize, piece: usize) -> BodyAnswer
@@ -40,7 +40,7 @@ fn kind_of(text: &str) -> BodyKind {
 pub fn show_bodies(rt: &impl Print, alloc: Global, kind: &str, rows: &str) -> io::Result<()> {
     let kind = kind_of(kind);
     for row in rows.lines() {
-        let text = grown(text_of(alloc, row))?;
+        let text = grown(text_of(alloc, row, Marks::Heads))?;
         let bytes = text.as_slice();
         let answer = read_cut(kind, bytes, bytes.len(), 1);
         println!(rt; "{row} => {answer:?}")?;
@@ -75,11 +75,11 @@ fn show_other(
 
 /// Shows the last answer to bodies of a gibibyte, and how each of them begins.
 pub fn show_gibibyte(rt: &impl Print, alloc: Global, rows: &str) -> io::Result<()> {
-    let piece = grown(text_of(alloc, "`4096 0123456789abcdef`"))?;
+    let piece = grown(text_of(alloc, "`4096 0123456789abcdef`", Marks::Heads))?;
     let bytes = piece.as_slice();
     for row in rows.lines() {
         let (kind, front) = row.split_once(": ").unwrap_or((row, ""));
-        let front = grown(text_of(alloc, front))?;
+        let front = grown(text_of(alloc, front, Marks::Heads))?;
         if front.len() <= bytes.len() {
             let answer = read_many(kind_of(kind), front.as_slice(), bytes, 16383);
             println!(rt; "{row} => {answer:?}")?;
@@ -128,7 +128,7 @@ fn looked_at(text: &[u8]) -> usize {
 /// Shows how many bytes are looked at of each chunked body, and how many it has.
 pub fn show_looks(rt: &impl Print, alloc: Global, rows: &str) -> io::Result<()> {
     for row in rows.lines() {
-        let text = grown(text_of(alloc, row))?;
+        let text = grown(text_of(alloc, row, Marks::Heads))?;
         println!(rt; "{row} => {} of {}", looked_at(text.as_slice()), text.len())?;
     }
     Ok(())

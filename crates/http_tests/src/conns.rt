@@ -4,7 +4,6 @@ ghost use Rattle.conn_state.specs.Conn.{IsFresh};
 
 use crate::responses::digits_site;
 use crate::test_conn::TestConn;
-use crate::texts::{grown, number_of, text_of, words};
 use conn_state::{Ended, LastTurn};
 use file_table::Site;
 use mpm_base::{Cause, LinkCall, NoMemory, Octets, Tail};
@@ -13,6 +12,7 @@ use std::alloc::Global;
 use std::io::{self, ErrorKind};
 use std::str;
 use std::sync::Arc;
+use test_rows::{Marks, grown, number_of, out_of_memory, text_of, words};
 
 /// The second of the example in RFC 9110, section 5.6.7.
 pub const SECOND: u64 = 784_111_777;
@@ -40,7 +40,7 @@ pub fn conn_of(
     let ours = Arc::try_clone(site)?;
     match link_of(alloc, text, theirs) {
         Ok(link) => Ok(TestConn::new(alloc, ours, link)),
-        Err(NoMemory) => Err(io::Error::from(ErrorKind::OutOfMemory)),
+        Err(NoMemory) => Err(out_of_memory()),
     }
 }
 
@@ -48,7 +48,7 @@ pub fn conn_of(
 pub fn site_of(alloc: Global) -> io::Result<Arc<Site>> {
     match digits_site(alloc) {
         Ok(site) => Ok(Arc::new(alloc, site)?),
-        Err(_) => Err(io::Error::from(ErrorKind::OutOfMemory)),
+        Err(_) => Err(out_of_memory()),
     }
 }
 
@@ -56,7 +56,7 @@ pub fn site_of(alloc: Global) -> io::Result<Arc<Site>> {
 pub fn show_turns(rt: &impl Print, alloc: Global, rows: &str) -> io::Result<()> {
     let site = site_of(alloc)?;
     let mut rows = rows.lines();
-    let text = grown(text_of(alloc, rows.next().unwrap_or("")))?;
+    let text = grown(text_of(alloc, rows.next().unwrap_or(""), Marks::Heads))?;
     for row in rows {
         show_row(rt, alloc, &site, text.as_slice(), row)?;
     }
@@ -177,7 +177,7 @@ pub fn show_cuts(rt: &impl Print, alloc: Global, rows: &str) -> io::Result<()> {
 
 /// Shows what comes of the client of the row, and what else comes of it where its bytes are cut.
 fn show_client(rt: &impl Print, alloc: Global, site: &Arc<Site>, row: &str) -> io::Result<()> {
-    let text = grown(text_of(alloc, row))?;
+    let text = grown(text_of(alloc, row, Marks::Heads))?;
     let whole = talk_cut(alloc, site, text.as_slice(), 0)?;
     print!(rt; "{row} => ")?;
     show_ended(rt, &whole)?;

@@ -1,10 +1,10 @@
 //! Heads as clients send them, and what RFC 9110 and RFC 9112 say of them.
 ghost use Rattle.std.specs.Prelude.{◌<◌, length};
 
-use crate::texts::{grown, small_of, text_of};
 use http_read::{HeadAnswer, HeadReader, Limits, Request, next_head};
 use std::alloc::Global;
 use std::io;
+use test_rows::{Marks, grown, small_of, text_of};
 
 /// The limits that the server has by default.
 pub const LIMITS: Limits = Limits {
@@ -41,7 +41,7 @@ fn limits_of(text: &str) -> Limits {
 pub fn show_heads(rt: &impl Print, alloc: Global, limits: &str, rows: &str) -> io::Result<()> {
     let limits = limits_of(limits);
     for row in rows.lines() {
-        let text = grown(text_of(alloc, row))?;
+        let text = grown(text_of(alloc, row, Marks::Heads))?;
         show_head(rt, alloc, row, limits, text.as_slice())?;
     }
     Ok(())
@@ -89,7 +89,7 @@ fn read_by_byte(alloc: Global, limits: Limits, text: &[u8]) -> (HeadAnswer, usiz
 /// Shows what each head asks.
 pub fn show_requests(rt: &impl Print, alloc: Global, rows: &str) -> io::Result<()> {
     for row in rows.lines() {
-        let text = grown(text_of(alloc, row))?;
+        let text = grown(text_of(alloc, row, Marks::Heads))?;
         match next_head(alloc, text.as_slice(), &LIMITS) {
             HeadAnswer::Whole(request, length) => {
                 println!(rt; "{row} => {length} of {}", text.len())?;
@@ -122,7 +122,7 @@ fn show_request(rt: &impl Print, alloc: Global, request: &Request) -> io::Result
 /// Shows which bytes a host may have in its midst, and the codes of the others.
 pub fn show_hosts(rt: &impl Print, alloc: Global) -> io::Result<()> {
     for byte in 0..=255u8 {
-        let mut text = grown(text_of(alloc, "GET / HTTP/1.1|Host: a"))?;
+        let mut text = grown(text_of(alloc, "GET / HTTP/1.1|Host: a", Marks::Heads))?;
         grown(text.add(&[byte]))?;
         grown(text.add(b"b\r\n\r\n"))?;
         let code = code_of(&next_head(alloc, text.as_slice(), &LIMITS));

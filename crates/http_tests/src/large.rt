@@ -4,14 +4,14 @@ use crate::conns::{SECOND, cause_after, conn_of, show_bytes, site_of};
 use crate::long_link::{LinkUse, LongLink};
 use crate::responses::large_site;
 use crate::test_conn::TestConn;
-use crate::texts::{grown, number_of, text_of, words};
 use conn_state::{Ended, LastTurn};
 use file_table::Site;
 use mpm_base::{Cause, NoMemory, Octets, Tail};
 use stand_ins::{ScriptLink, Wire};
 use std::alloc::Global;
-use std::io::{self, ErrorKind};
+use std::io;
 use std::sync::Arc;
+use test_rows::{Marks, grown, number_of, out_of_memory, text_of, words};
 
 /// The request for the large file.
 const REQUEST: &[u8] = b"GET /large.bin HTTP/1.1\r\nHost: a\r\n\r\n";
@@ -42,7 +42,7 @@ pub fn show_calls(rt: &impl Print, alloc: Global, rows: &str) -> io::Result<()> 
     let mut rows = rows.lines();
     let client = rows.next().unwrap_or("");
     for row in rows {
-        let file = grown(text_of(alloc, row))?;
+        let file = grown(text_of(alloc, row, Marks::Heads))?;
         let site = site_of_file(alloc, &file)?;
         let link = grown(long_link_of(alloc, client))?;
         let mut conn = TestConn::new(alloc, site, link);
@@ -63,9 +63,9 @@ fn long_link_of(alloc: Global, row: &str) -> Result<LongLink, NoMemory> {
     let (front, rest) = row.split_once("; ").unwrap_or((row, ""));
     let (times, rest) = rest.split_once("; ").unwrap_or((rest, ""));
     let (unit, back) = rest.split_once("; ").unwrap_or((rest, ""));
-    let front = text_of(alloc, front)?;
-    let unit = text_of(alloc, unit)?;
-    let back = text_of(alloc, back)?;
+    let front = text_of(alloc, front, Marks::Heads)?;
+    let unit = text_of(alloc, unit, Marks::Heads)?;
+    let back = text_of(alloc, back, Marks::Heads)?;
     Ok(LongLink::make(alloc, front, unit, number_of(times), back))
 }
 
@@ -107,7 +107,7 @@ pub fn show_slow(rt: &impl Print, alloc: Global, rows: &str) -> io::Result<()> {
 
 /// A file of so many bytes, at most 4,095 more.
 fn large_file(alloc: Global, size: u64) -> Result<Octets, NoMemory> {
-    let piece = text_of(alloc, "`256 0123456789abcdef`")?;
+    let piece = text_of(alloc, "`256 0123456789abcdef`", Marks::Heads)?;
     let mut file = Octets::make(alloc);
     for _ in 0..size.div_ceil(4096) {
         file.add(piece.as_slice())?;
@@ -119,7 +119,7 @@ fn large_file(alloc: Global, size: u64) -> Result<Octets, NoMemory> {
 fn site_of_file(alloc: Global, file: &Octets) -> io::Result<Arc<Site>> {
     match large_site(alloc, file.as_slice()) {
         Ok(site) => Ok(Arc::new(alloc, site)?),
-        Err(_) => Err(io::Error::from(ErrorKind::OutOfMemory)),
+        Err(_) => Err(out_of_memory()),
     }
 }
 

@@ -25,42 +25,32 @@ mod long_link;
 mod pages;
 mod responses;
 mod test_conn;
-mod texts;
 mod turn_answers;
 
 use std::alloc::Global;
 use std::io;
+use test_rows::{Section, begin_section, sections_of};
 
 fn main(rt: HostRuntime) -> io::Result<()> {
     let input = io::read_to_string(rt.alloc(), rt.reader())?;
-    let mut sections = input.as_str().split("\n== ");
-    let _ = sections.next();
-    for section in sections {
-        let (title, rows) = section.split_once('\n').unwrap_or((section, ""));
-        println!(&rt; "== {title}")?;
-        let (kind, _) = title.split_once(':').unwrap_or((title, ""));
-        let (word, rest) = texts::words(kind);
-        show_section(&rt, rt.alloc(), word, rest, rows)?;
+    for text in sections_of(input.as_str()) {
+        let section = begin_section(&rt, text)?;
+        show_section(&rt, rt.alloc(), section)?;
     }
     Ok(())
 }
 
-/// Shows what comes of the rows of a section of that kind.
-fn show_section(
-    rt: &impl Print,
-    alloc: Global,
-    word: &str,
-    kind: &str,
-    rows: &str,
-) -> io::Result<()> {
+/// Shows what comes of the rows of the section.
+fn show_section(rt: &impl Print, alloc: Global, section: Section<'_>) -> io::Result<()> {
+    let Section { word, rest, rows } = section;
     match word {
-        "body" if kind == "looks" => bodies::show_looks(rt, alloc, rows),
-        "body" => bodies::show_bodies(rt, alloc, kind, rows),
+        "body" if rest == "looks" => bodies::show_looks(rt, alloc, rows),
+        "body" => bodies::show_bodies(rt, alloc, rest, rows),
         "gibibyte" => bodies::show_gibibyte(rt, alloc, rows),
-        "heads" => heads::show_heads(rt, alloc, kind, rows),
+        "heads" => heads::show_heads(rt, alloc, rest, rows),
         "requests" => heads::show_requests(rt, alloc, rows),
         "hosts" => heads::show_hosts(rt, alloc),
-        "answers" => responses::show_answers(rt, alloc, kind, rows),
+        "answers" => responses::show_answers(rt, alloc, rest, rows),
         "refusals" => responses::show_refusals(rt, alloc, rows),
         "continue" => responses::show_continue(rt, alloc),
         "conn" => conns::show_turns(rt, alloc, rows),

@@ -1,11 +1,11 @@
 //! The status pages, whole, and the one that responses show.
 ghost use Rattle.std.specs.Prelude.{◌≡◌, IfOk, is_some};
 
-use crate::texts::{grown, small_of};
 use mpm_base::{NoMemory, Octets, Page, Snapshot};
 use scoreboard::{page_auto, page_html};
 use std::alloc::Global;
 use std::io;
+use test_rows::{grown, small_of};
 
 /// Shows both pages of each snapshot, and how many bytes they have.
 pub fn show_pages(rt: &impl Print, alloc: Global, rows: &str) -> io::Result<()> {

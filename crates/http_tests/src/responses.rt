@@ -6,7 +6,6 @@ ghost use Rattle.http_core.specs.Code.{refuses_head};
 
 use crate::heads::LIMITS;
 use crate::pages::page_where;
-use crate::texts::{grown, number_of, text_of, words};
 use file_table::{LoadFault, Site, SiteOrder, bytes, load};
 use http_core::{Body, Plan, ask_of, continue_text, refusal, response};
 use http_read::{HeadAnswer, Request, next_head};
@@ -14,6 +13,7 @@ use mpm_base::{Ask, NoMemory, Note, Octets, Page};
 use stand_ins::{Calls, Files, MemStore};
 use std::alloc::Global;
 use std::io;
+use test_rows::{Marks, grown, number_of, text_of, words};
 
 /// A site of the folder `htdocs`, whose index is `index.html`.
 fn htdocs(alloc: Global) -> Result<SiteOrder, NoMemory>
@@ -131,7 +131,7 @@ fn show_answers_of(
     rows: &str,
 ) -> io::Result<()> {
     for row in rows.lines() {
-        let head = grown(text_of(alloc, row))?;
+        let head = grown(text_of(alloc, row, Marks::Heads))?;
         match next_head(alloc, head.as_slice(), &LIMITS) {
             HeadAnswer::Whole(request, _) if second < 253_402_300_800 => {
                 let (code, text) = grown(answer_of(alloc, site, &request, second, last))?;

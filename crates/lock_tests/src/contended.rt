@@ -2,7 +2,6 @@
 ghost use Rattle.std.specs.Prelude.{◌≤◌};
 
 use crate::begins::begins;
-use crate::texts::grown;
 use board_lock::number;
 use idle_workers::{idle, release, reserve, uncredit};
 use lock_examples::{Player, last_of, opened, players};
@@ -12,6 +11,7 @@ use std::io;
 use std::sync::Wait;
 use std::sync::atomic::{AtomicU64, Ordering};
 use std::thread::{self, Threads};
+use test_rows::grown;
 
 /// How often each thread tries for a permit.
 const TRIES: u32 = 2_000;

@@ -1,8 +1,8 @@
 //! Tests of the lock, of permits, of the perch and of the queue, with the small value of `lock_examples`, on one thread and on several.
 //! The file `stdin` says which, section by section, and `stdout` what must come of them, whatever the schedule.
 //!
-//! In the input a line that begins with `== ` begins a section: the words up to a colon say what is tried, and the rest is its title. A
-//! section has no rows.
+//! In the input a line that begins with `== ` begins a section: the words up to a colon say what is tried, and the rest is its title. But
+//! for `queue` a section has no rows.
 //!
 //! - `passes`: pass 0 makes an entry, and each of two passes looks.
 //! - `permits`: three carriers reserve workers of a child that has two.
@@ -12,6 +12,8 @@
 //! - `contend THREADS`: each thread tries two thousand times for a permit of a child that has two workers, and gives it back.
 //! - `travel`: three carriers leave their perch two thousand times, a thousand times by each of two threads that send them through a
 //!   queue, and lie down again as two other threads receive them.
+//! - `queue PLACES`: the calls `push NUMBER`, `pop` and `end TIMES` of a seat that is alone at a queue of so many places.
+//! - `relay PLACES`: a thread puts a thousand numbers into such a queue, and another one takes as many items.
 #![tactic(auto)]
 
 mod begins;
@@ -20,7 +22,7 @@ mod passes;
 mod perches;
 mod permits;
 mod posts;
-mod texts;
+mod queues;
 mod travels;
 mod turns;
 
@@ -28,34 +30,32 @@ use std::alloc::Global;
 use std::io;
 use std::sync::Wait;
 use std::thread::Threads;
+use test_rows::{Section, begin_section, sections_of, small_of};
 
 fn main(rt: HostRuntime) -> io::Result<()> {
     let input = io::read_to_string(rt.alloc(), rt.reader())?;
-    let mut sections = input.as_str().split("\n== ");
-    let _ = sections.next();
-    for section in sections {
-        let (title, _) = section.split_once('\n').unwrap_or((section, ""));
-        println!(&rt; "== {title}")?;
-        let (kind, _) = title.split_once(':').unwrap_or((title, ""));
-        let (word, rest) = texts::words(kind);
-        show_section(&rt, rt.alloc(), word, texts::small_of(rest))?;
+    for text in sections_of(input.as_str()) {
+        let section = begin_section(&rt, text)?;
+        show_section(&rt, rt.alloc(), section)?;
     }
     Ok(())
 }
 
-/// Shows what comes of a section of that kind, with so many threads.
+/// Shows what comes of the section.
 fn show_section<R: Print + Threads + Wait + Sync>(
     rt: &R,
     alloc: Global,
-    word: &str,
-    threads: u32,
+    section: Section<'_>,
 ) -> io::Result<()> {
+    let Section { word, rest, rows } = section;
     match word {
         "passes" => passes::show_passes(rt, alloc),
         "permits" => permits::show_permits(rt, alloc),
         "perch" => perches::show_perch(rt, alloc),
-        "turns" => turns::show_turns(rt, alloc, threads),
-        "contend" => contended::show_contention(rt, alloc, threads),
+        "turns" => turns::show_turns(rt, alloc, small_of(rest)),
+        "contend" => contended::show_contention(rt, alloc, small_of(rest)),
+        "queue" => queues::show_queue(rt, alloc, rest, rows),
+        "relay" => queues::show_relay(rt, alloc, rest),
         _ => travels::show_travel(rt, alloc),
     }
 }

@@ -1,11 +1,11 @@
 //! Two passes on one thread, and the entry of the first.
-use crate::texts::grown;
 use board_lock::number;
 use lock_examples::{Toy, goes_on, last_of, looks, opened};
 use mpm_base::NoMemory;
 use std::alloc::Global;
 use std::io;
 use std::sync::Wait;
+use test_rows::grown;
 
 /// What came of the turns of two passes.
 #[derive(Drop)]

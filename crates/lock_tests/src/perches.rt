@@ -1,11 +1,11 @@
 //! A perch of two carriers, on one thread.
-use crate::texts::grown;
 use board_lock::number;
 use lock_examples::{last_looks, last_of, opened};
 use mpm_base::NoMemory;
 use recycle_perch::Perch;
 use std::alloc::Global;
 use std::io;
+use test_rows::grown;
 
 /// What came of two carriers that lay down.
 #[derive(Clone, Copy)]

@@ -1,6 +1,5 @@
 //! The permits of a child with two workers, on one thread.
 use crate::begins::begins;
-use crate::texts::grown;
 use board_lock::number;
 use idle_workers::{idle, release, reserve, uncredit};
 use lock_examples::{last_of, opened};
@@ -8,6 +7,7 @@ use mpm_base::NoMemory;
 use std::alloc::Global;
 use std::io;
 use std::sync::Wait;
+use test_rows::grown;
 
 /// What came of three carriers that reserve workers.
 #[derive(Clone, Copy)]

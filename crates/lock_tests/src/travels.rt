@@ -6,7 +6,6 @@ ghost use Rattle.lock_examples.specs.Toy.{IsReadyPass};
 
 use crate::begins::begins;
 use crate::posts::{Lock, Parcel, Post, posts};
-use crate::texts::grown;
 use board_lock::{Carrier, Pass, number};
 use fd_queue::FdQueue;
 use idle_workers::{idle, uncredit};
@@ -18,6 +17,7 @@ use std::io;
 use std::marker::Brand;
 use std::sync::Wait;
 use std::thread::{self, Threads};
+use test_rows::grown;
 
 /// What came of the carriers.
 #[derive(Clone, Copy)]

@@ -2,7 +2,6 @@
 ghost use Rattle.std.specs.Prelude.{◌≤◌};
 
 use crate::begins::begins;
-use crate::texts::grown;
 use board_lock::number;
 use conn_machine::{Entry, Event, Reply};
 use lock_examples::{Player, Toy, folds, goes_on, last_of, looks, opened, players, serves};
@@ -11,6 +10,7 @@ use std::alloc::Global;
 use std::io;
 use std::sync::Wait;
 use std::thread::{self, Threads};
+use test_rows::grown;
 
 /// How often the connection is served.
 const ROUNDS: u32 = 1_000;

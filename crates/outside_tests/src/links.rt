@@ -1,11 +1,12 @@
 //! What links answer and keep.
-use crate::texts::{calls_of, grown, number_of, show_bytes, text_of, words};
+use crate::calls::calls_of;
 use mpm_base::{Got, Link, LinkCall};
 use stand_ins::{PlainLink, ScriptLink, Wire};
 use std::alloc::Global;
 use std::io;
 use std::str::Lines;
 use std::sync::Arc;
+use test_rows::{Marks, grown, number_of, show_bytes, text_of, words};
 
 /// A link that can be shown.
 trait Shown {
@@ -46,7 +47,7 @@ impl Shown for ScriptLink {
 /// Shows what a link of that kind answers to each call.
 pub fn show_link(rt: &impl Print, alloc: Global, kind: &str, rows: &str) -> io::Result<()> {
     let mut calls = rows.lines();
-    let coming = grown(text_of(alloc, calls.next().unwrap_or("")))?;
+    let coming = grown(text_of(alloc, calls.next().unwrap_or(""), Marks::Lines))?;
     let (number, ends) = words(calls.next().unwrap_or(""));
     let reads = grown(calls_of(alloc, calls.next().unwrap_or("")))?;
     let writes = grown(calls_of(alloc, calls.next().unwrap_or("")))?;

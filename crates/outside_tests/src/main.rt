@@ -12,37 +12,35 @@
 //! - `editions`: what a file is in one edition after the other. `notes`: whether each note is the last.
 #![tactic(auto)]
 
+mod calls;
 mod links;
 mod notes;
 mod sinks;
 mod stores;
-mod texts;
 
 use std::alloc::Global;
 use std::io;
+use test_rows::{Section, begin_section, sections_of};
 
 fn main(rt: HostRuntime) -> io::Result<()> {
     let input = io::read_to_string(rt.alloc(), rt.reader())?;
-    let mut sections = input.as_str().split("\n== ");
-    let _ = sections.next();
-    for section in sections {
-        let (title, rows) = section.split_once('\n').unwrap_or((section, ""));
-        println!(&rt; "== {title}")?;
-        let (kind, _) = title.split_once(':').unwrap_or((title, ""));
-        show_section(&rt, rt.alloc(), kind, rows)?;
+    for text in sections_of(input.as_str()) {
+        let section = begin_section(&rt, text)?;
+        show_section(&rt, rt.alloc(), section)?;
     }
     Ok(())
 }
 
-/// Shows what comes of the rows of a section of that kind.
-fn show_section(rt: &impl Print, alloc: Global, kind: &str, rows: &str) -> io::Result<()> {
-    match kind {
+/// Shows what comes of the rows of the section.
+fn show_section(rt: &impl Print, alloc: Global, section: Section<'_>) -> io::Result<()> {
+    let Section { word, rows, .. } = section;
+    match word {
         "sink" => sinks::show_sink(rt, alloc, false, rows),
         "slow" => sinks::show_sink(rt, alloc, true, rows),
         "files" => stores::show_files(rt, alloc, rows),
         "store" => stores::show_store(rt, alloc, rows),
         "editions" => stores::show_editions(rt, alloc, rows),
         "notes" => notes::show_notes(rt, alloc, rows),
-        _ => links::show_link(rt, alloc, kind, rows),
+        _ => links::show_link(rt, alloc, word, rows),
     }
 }

@@ -1,8 +1,8 @@
 //! What notes say.
-use crate::texts::grown;
 use mpm_base::{Note, Notes};
 use std::alloc::Global;
 use std::io;
+use test_rows::grown;
 
 /// Shows whether the last note says that it is the last, at first and behind each of these.
 pub fn show_notes(rt: &impl Print, alloc: Global, rows: &str) -> io::Result<()> {

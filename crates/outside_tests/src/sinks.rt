@@ -1,9 +1,10 @@
 //! What outputs answer and keep.
-use crate::texts::{calls_of, grown, show_bytes, text_of};
+use crate::calls::calls_of;
 use mpm_base::Sink;
 use stand_ins::{MemSink, PlainSink};
 use std::alloc::Global;
 use std::io;
+use test_rows::{Marks, grown, show_bytes, text_of};
 
 /// Shows what an output answers to each piece, and what it keeps; and what one answers that keeps nothing.
 pub fn show_sink(rt: &impl Print, alloc: Global, slow: bool, rows: &str) -> io::Result<()> {
@@ -28,7 +29,7 @@ fn show_writes<K: Sink>(
     pieces: &str,
 ) -> io::Result<()> {
     for piece in pieces.lines() {
-        let text = grown(text_of(alloc, piece))?;
+        let text = grown(text_of(alloc, piece, Marks::Lines))?;
         let put = sink.write(text.as_slice());
         println!(rt; "{piece} => {put:?}")?;
     }

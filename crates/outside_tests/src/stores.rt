@@ -1,9 +1,10 @@
 //! What stores answer.
-use crate::texts::{calls_of, grown, number_of, show_bytes, words};
+use crate::calls::calls_of;
 use mpm_base::{NoMemory, Store};
 use stand_ins::{Calls, Files, MemStore, PlainStore};
 use std::alloc::Global;
 use std::io;
+use test_rows::{grown, number_of, show_bytes, words};
 
 /// The files that the rows set and unset.
 fn files_of(alloc: Global, rows: &str) -> Result<Files, NoMemory> {

@@ -2,6 +2,7 @@
 use mpm_base::{NoMemory, Octets, Words};
 use stand_ins::{Calls, Files};
 use std::alloc::Global;
+use test_rows::{number_of, words};
 
 /// What is shown besides of a run that opened.
 #[derive(Clone, Copy, Debug, Default)]
@@ -78,7 +79,7 @@ pub fn case_of(alloc: Global, lines: &str) -> Result<Case, NoMemory> {
 
 /// Takes what the line says of the run.
 fn take_line(alloc: Global, case: &mut Case, line: &str) -> Result<(), NoMemory> {
-    let (word, rest) = line.split_once(' ').unwrap_or((line, ""));
+    let (word, rest) = words(line);
     match word {
         "words" => add_words(&mut case.words, rest),
         "file" => begin_file(alloc, case, rest),
@@ -162,8 +163,8 @@ fn add_line(file: &mut Octets, text: &str) -> Result<(), NoMemory> {
 }
 
 /// Puts a text at the end as often as the number before it says.
-fn add_often(file: &mut Octets, words: &str) -> Result<(), NoMemory> {
-    let (count, text) = words.split_once(' ').unwrap_or((words, ""));
+fn add_often(file: &mut Octets, row: &str) -> Result<(), NoMemory> {
+    let (count, text) = words(row);
     for _ in 0..number_of(count) {
         file.add(text.as_bytes())?;
     }
@@ -171,9 +172,9 @@ fn add_often(file: &mut Octets, words: &str) -> Result<(), NoMemory> {
 }
 
 /// Puts a line at the end for each number from the first one up to the second, which isn't among them.
-fn add_each(file: &mut Octets, words: &str) -> Result<(), NoMemory> {
-    let (first, rest) = words.split_once(' ').unwrap_or((words, ""));
-    let (end, text) = rest.split_once(' ').unwrap_or((rest, ""));
+fn add_each(file: &mut Octets, row: &str) -> Result<(), NoMemory> {
+    let (first, rest) = words(row);
+    let (end, text) = words(rest);
     for number in number_of(first)..number_of(end) {
         add_numbered(file, text, number)?;
     }
@@ -190,9 +191,4 @@ fn add_numbered(file: &mut Octets, text: &str, number: u64) -> Result<(), NoMemo
         file.add(part.as_bytes())?;
     }
     file.add(b"\n")
-}
-
-/// The number that the text writes, or 0.
-fn number_of(text: &str) -> u64 {
-    text.parse::<u64>().unwrap_or(0)
 }

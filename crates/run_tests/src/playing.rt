@@ -11,6 +11,7 @@ use std::alloc::Global;
 use std::io::{self, ErrorKind};
 use std::sync::Wait;
 use std::thread::Threads;
+use test_rows::{begin_section, grown, out_of_memory, sections_of};
 
 /// What a front of a script is made of: the script, and which of its waits and accepts fail.
 #[derive(Drop)]
@@ -26,18 +27,11 @@ pub fn play_all<R: Print + Threads + Wait + Sync>(
     alloc: Global,
     input: &str,
 ) -> io::Result<()> {
-    let mut parts = input.split("\n== ");
-    let _ = parts.next();
-    for part in parts {
-        let (title, lines) = part.split_once('\n').unwrap_or((part, ""));
-        println!(rt; "== {title}")?;
-        match case_of(alloc, lines) {
-            Ok(case) => {
-                show_strange(rt, &case)?;
-                play(rt, alloc, case)?;
-            }
-            Err(NoMemory) => return Err(out_of_memory()),
-        }
+    for text in sections_of(input) {
+        let section = begin_section(rt, text)?;
+        let case = grown(case_of(alloc, section.rows))?;
+        show_strange(rt, &case)?;
+        play(rt, alloc, case)?;
     }
     Ok(())
 }
@@ -211,9 +205,4 @@ fn output(alloc: Global, bad_writes: Calls, slow: bool) -> MemSink {
     } else {
         MemSink::make(alloc, bad_writes)
     }
-}
-
-/// The error for want of memory.
-pub fn out_of_memory() -> io::Error {
-    io::Error::from(ErrorKind::OutOfMemory)
 }

@@ -1,8 +1,8 @@
 //! Scripts that are made by hand, line by line.
-use crate::texts::{number_of, words};
 use mpm_base::{ClientAct, CommandWord, LinkCall, NoMemory, Octets, ScriptLine, SiteLine};
 use mpm_script::Script;
 use std::alloc::Global;
+use test_rows::{number_of, words};
 
 /// The script of these lines, each of which ends with `|`.
 pub fn script_by_hand(alloc: Global, row: &str) -> Result<Script, NoMemory> {

@@ -2,13 +2,13 @@
 //! aren't carried through what is shown.
 use crate::by_hand::script_by_hand;
 use crate::links::show_link_call;
-use crate::texts::{grown, number_of, small_of, words};
 use mpm_base::{Addr, Arrival, Bell, ConnName, Front, Line, Moment, NoMemory, Ready, Woke};
 use script_front::{FailingFront, ScriptBell, ScriptFront};
 use stand_ins::{Calls, ScriptLink};
 use std::alloc::Global;
 use std::io::{self, ErrorKind};
 use std::sync::Wait;
+use test_rows::{grown, number_of, small_of, words};
 
 /// A front, the slots of its last wait, and the links that it handed out and that weren't turned away.
 #[derive(Drop)]

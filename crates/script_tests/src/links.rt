@@ -1,10 +1,10 @@
 //! What the links of a front answer and keep. A call of a link stands in a function without any clause, so that what it says isn't
 //! carried through what is shown.
-use crate::texts::{number_of, show_bytes, small_of, words};
 use mpm_base::{Got, Link, Sent};
 use stand_ins::ScriptLink;
 use std::alloc::Global;
 use std::io;
+use test_rows::{number_of, show_bytes, small_of, words};
 
 /// Shows what the link of that number answers to a call of it.
 pub fn show_link_call(

@@ -26,38 +26,30 @@ mod fronts;
 mod links;
 mod scripts;
 mod stores;
-mod texts;
 
 use std::alloc::Global;
 use std::io;
 use std::sync::Wait;
+use test_rows::{Section, begin_section, sections_of};
 
 fn main(rt: HostRuntime) -> io::Result<()> {
     let input = io::read_to_string(rt.alloc(), rt.reader())?;
     show_sections(&rt, rt.alloc(), input.as_str())
 }
 
-/// Shows what comes of each section of the input. What stands before the first one is none.
+/// Shows what comes of each section of the input.
 fn show_sections<R: Print + Wait>(rt: &R, alloc: Global, input: &str) -> io::Result<()> {
-    let mut sections = input.split("\n== ");
-    let _ = sections.next();
-    for section in sections {
+    for text in sections_of(input) {
+        let section = begin_section(rt, text)?;
         show_section(rt, alloc, section)?;
     }
     Ok(())
 }
 
-/// Shows the section's title, and what comes of its rows.
-fn show_section<R: Print + Wait>(rt: &R, alloc: Global, section: &str) -> io::Result<()> {
-    let (title, rows) = section.split_once('\n').unwrap_or((section, ""));
-    println!(rt; "== {title}")?;
-    let (kind, _) = title.split_once(':').unwrap_or((title, ""));
-    show_rows(rt, alloc, kind, rows)
-}
-
-/// Shows what comes of the rows of a section of that kind.
-fn show_rows<R: Print + Wait>(rt: &R, alloc: Global, kind: &str, rows: &str) -> io::Result<()> {
-    match kind {
+/// Shows what comes of the rows of the section.
+fn show_section<R: Print + Wait>(rt: &R, alloc: Global, section: Section<'_>) -> io::Result<()> {
+    let Section { word, rows, .. } = section;
+    match word {
         "script" => scripts::show_scripts(rt, alloc, rows),
         "load" => scripts::show_loads(rt, alloc, rows),
         "store" => stores::show_stores(rt, alloc, rows),

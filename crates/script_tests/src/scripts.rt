@@ -1,11 +1,11 @@
 //! Scripts as they are read, and those of loads.
 ghost use Rattle.std.specs.Prelude.{◌≤◌};
 
-use crate::texts::{grown, show_bytes, small_of, text_of};
 use mpm_base::{ClientAct, NoMemory, ScriptLine, SiteLine};
 use mpm_script::{Script, ScriptFault, load_script, read_script};
 use std::alloc::Global;
 use std::io;
+use test_rows::{Marks, grown, show_bytes, small_of, text_of};
 
 /// Shows the lines of each script, or why it is refused.
 pub fn show_scripts(rt: &impl Print, alloc: Global, rows: &str) -> io::Result<()> {
@@ -18,7 +18,7 @@ pub fn show_scripts(rt: &impl Print, alloc: Global, rows: &str) -> io::Result<()
 
 /// Shows the lines of the script, or why it is refused.
 fn show_script(rt: &impl Print, alloc: Global, row: &str) -> io::Result<()> {
-    let text = grown(text_of(alloc, row))?;
+    let text = grown(text_of(alloc, row, Marks::Controls))?;
     match read(alloc, text.as_slice()) {
         Ok(script) => show_lines(rt, alloc, script.lines()),
         Err(fault) => println!(rt; " {fault:?}"),

@@ -1,11 +1,11 @@
 //! The files of scripts' stores, edition by edition.
-use crate::texts::{grown, show_bytes, text_of};
 use mpm_base::{Octets, Store, StoreFault};
 use mpm_script::{ScriptFault, read_script};
 use script_front::{CONF_NAME, script_store};
 use stand_ins::PlainStore;
 use std::alloc::Global;
 use std::io;
+use test_rows::{Marks, grown, show_bytes, text_of};
 
 /// Shows what the store of each script has at first, and behind each of three renewals.
 pub fn show_stores(rt: &impl Print, alloc: Global, rows: &str) -> io::Result<()> {
@@ -18,7 +18,7 @@ pub fn show_stores(rt: &impl Print, alloc: Global, rows: &str) -> io::Result<()>
 
 /// Shows the same of the store of one script, or why it is refused.
 fn show_store(rt: &impl Print, alloc: Global, row: &str) -> io::Result<()> {
-    let text = grown(text_of(alloc, row))?;
+    let text = grown(text_of(alloc, row, Marks::Controls))?;
     match store_of(alloc, text.as_slice()) {
         Ok(mut store) => show_editions(rt, alloc, &mut store),
         Err(fault) => println!(rt; " {fault:?}"),

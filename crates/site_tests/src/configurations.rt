@@ -1,15 +1,15 @@
 //! Configurations by example.
-use crate::texts::{grown, number_of, text_of};
 use mpm_base::{NoMemory, Octets};
 use mpm_config::{Config, Warnings, carry_limits, read_config, shape_of, warning_text};
 use std::alloc::Global;
 use std::io;
+use test_rows::{Marks, grown, number_of, text_of};
 
 /// Shows what the section asks of each configuration.
 pub fn show_rows(rt: &impl Print, alloc: Global, kind: &str, rows: &str) -> io::Result<()> {
     for row in rows.lines() {
         print!(rt; "{row} => ")?;
-        let text = grown(text_of(alloc, row))?;
+        let text = grown(text_of(alloc, row, Marks::Lines))?;
         show_text(rt, alloc, kind, text.as_slice())?;
     }
     Ok(())
@@ -107,8 +107,8 @@ pub fn show_restarts(rt: &impl Print, alloc: Global, rows: &str) -> io::Result<(
     for row in rows.lines() {
         println!(rt; "{row}")?;
         let (old, new) = row.split_once(" => ").unwrap_or((row, ""));
-        let old = grown(text_of(alloc, old))?;
-        let new = grown(text_of(alloc, new))?;
+        let old = grown(text_of(alloc, old, Marks::Lines))?;
+        let new = grown(text_of(alloc, new, Marks::Lines))?;
         show_restart(rt, alloc, old.as_slice(), new.as_slice())?;
     }
     Ok(())

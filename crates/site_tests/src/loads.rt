@@ -1,12 +1,12 @@
 //! Sites by example: how they are loaded.
 ghost use Rattle.std.specs.Prelude.{None, IfOk, IsUtf8};
 
-use crate::texts::{grown, number_of};
 use file_table::{LoadFault, Site, SiteOrder, load};
 use mpm_base::{Names, NoMemory, Octets, Store, StoreFault};
 use stand_ins::{Calls, Files, MemStore};
 use std::alloc::Global;
 use std::io::{self, ErrorKind};
+use test_rows::{grown, number_of};
 
 /// A site of the folder `htdocs`, whose index is `index.html`.
 fn htdocs(alloc: Global) -> Result<SiteOrder, NoMemory>

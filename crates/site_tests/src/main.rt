@@ -23,27 +23,24 @@ mod paths;
 mod reloads;
 mod scripts;
 mod search;
-mod texts;
 
 use std::alloc::Global;
 use std::io;
+use test_rows::{Section, begin_section, sections_of};
 
 fn main(rt: HostRuntime) -> io::Result<()> {
     let input = io::read_to_string(rt.alloc(), rt.reader())?;
-    let mut sections = input.as_str().split("\n== ");
-    let _ = sections.next();
-    for section in sections {
-        let (title, rows) = section.split_once('\n').unwrap_or((section, ""));
-        println!(&rt; "== {title}")?;
-        let (kind, _) = title.split_once(':').unwrap_or((title, ""));
-        show_section(&rt, rt.alloc(), kind, rows)?;
+    for text in sections_of(input.as_str()) {
+        let section = begin_section(&rt, text)?;
+        show_section(&rt, rt.alloc(), section)?;
     }
     Ok(())
 }
 
-/// Shows what comes of the rows of a section of that kind.
-fn show_section(rt: &impl Print, alloc: Global, kind: &str, rows: &str) -> io::Result<()> {
-    match kind {
+/// Shows what comes of the rows of the section.
+fn show_section(rt: &impl Print, alloc: Global, section: Section<'_>) -> io::Result<()> {
+    let Section { word, rows, .. } = section;
+    match word {
         "bytes" => configurations::show_bytes(rt, alloc, rows),
         "long" => configurations::show_long(rt, alloc, rows),
         "restart" => configurations::show_restarts(rt, alloc, rows),
@@ -58,6 +55,6 @@ fn show_section(rt: &impl Print, alloc: Global, kind: &str, rows: &str) -> io::R
         "reload-crowd" => reloads::show_crowd(rt, alloc),
         "crowd" => loads::show_crowd(rt, alloc),
         "search" => search::show_search(rt, alloc, rows),
-        _ => configurations::show_rows(rt, alloc, kind, rows),
+        _ => configurations::show_rows(rt, alloc, word, rows),
     }
 }

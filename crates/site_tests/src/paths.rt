@@ -1,10 +1,10 @@
 //! Sites by example: what paths name, and the types of files.
 use crate::loads::{named, site_of};
-use crate::texts::grown;
 use file_table::{Found, Site, bytes, content_type, find};
 use stand_ins::Calls;
 use std::alloc::Global;
 use std::io;
+use test_rows::grown;
 
 /// Shows what each path names in the site of these files.
 pub fn show_paths(rt: &impl Print, alloc: Global, rows: &str) -> io::Result<()> {

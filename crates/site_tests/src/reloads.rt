@@ -1,6 +1,5 @@
 //! Restarts by example.
 use crate::loads::{CrowdedStore, named, sized};
-use crate::texts::{grown, number_of, text_of};
 use file_table::LoadFault;
 use mpm_base::{NoMemory, Store};
 use mpm_config::{read_config, shape_of};
@@ -8,6 +7,7 @@ use restart_control::{Plan, ReloadFault, reload};
 use stand_ins::{Calls, Files, MemStore};
 use std::alloc::Global;
 use std::io;
+use test_rows::{Marks, grown, number_of, text_of};
 
 /// The name of the configuration.
 const CONF_NAME: &str = "httpd.conf";
@@ -77,10 +77,10 @@ pub fn show_restarts(rt: &impl Print, alloc: Global, rows: &str) -> io::Result<(
             None => (row, None),
         };
         if let Some(new) = new {
-            let new = grown(text_of(alloc, new))?;
+            let new = grown(text_of(alloc, new, Marks::Lines))?;
             grown(files.set(CONF_NAME, new.as_slice()))?;
         }
-        let old = grown(text_of(alloc, old))?;
+        let old = grown(text_of(alloc, old, Marks::Lines))?;
         let mut store = grown(store_before(alloc, old.as_slice(), files, Calls::make(alloc)))?;
         show_reload(rt, alloc, &mut store, old.as_slice())?;
     }

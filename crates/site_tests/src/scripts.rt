@@ -1,16 +1,16 @@
 //! The configuration that a script writes.
-use crate::texts::{grown, text_of};
 use mpm_base::Store;
 use mpm_script::read_script;
 use script_front::script_store;
 use std::alloc::Global;
 use std::io;
+use test_rows::{Marks, grown, text_of};
 
 /// Shows the configuration of each script, at first and once its store was renewed twice.
 pub fn show_scripts(rt: &impl Print, alloc: Global, rows: &str) -> io::Result<()> {
     for row in rows.lines() {
         print!(rt; "{row} =>")?;
-        let text = grown(text_of(alloc, row))?;
+        let text = grown(text_of(alloc, row, Marks::Lines))?;
         show_edition(rt, alloc, text.as_slice(), 0)?;
         show_edition(rt, alloc, text.as_slice(), 2)?;
         println!(rt; "")?;

@@ -1,12 +1,12 @@
 //! The search among the names of a site.
 ghost use Rattle.std.specs.Prelude.{◌<◌, IfOk};
 
-use crate::texts::grown;
 use file_table::{Named, count_before};
 use mpm_base::{NoMemory, Octets};
 use std::alloc::Global;
 use std::cell::Cell;
 use std::io;
+use test_rows::grown;
 
 /// A name that counts how often it is looked at.
 #[derive(Drop)]

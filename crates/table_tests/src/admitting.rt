@@ -1,8 +1,8 @@
 //! The rule of admission, and its choice.
-use crate::texts::{small_of, words};
 use admission::{ChildCount, admits, pick};
 use std::alloc::{AllocError, Global};
 use std::io;
+use test_rows::{small_of, words};
 
 /// Shows whether a child takes a further connection: of each row its workers, its factor, its idle workers and its open connections.
 pub fn show_admits(rt: &impl Print, rows: &str) -> io::Result<()> {

@@ -1,6 +1,7 @@
 //! Calls of timeout queues, as rows write them and as numbers ask for them, and what they answer.
-use crate::texts::{kind_of, name_of, number_of, words};
+use crate::names::KINDS;
 use mpm_base::{ConnName, Kind, Moment};
+use test_rows::{listed_as, listed_at, name_of, number_of, words};
 
 /// A call of the queues.
 #[derive(Clone, Copy, Debug)]
@@ -32,7 +33,7 @@ pub fn call_of(row: &str) -> Option<Call> {
     let (name, more) = words(rest);
     let (kind, deadline) = words(more);
     match word {
-        "park" => Some(Call::Park(name_of(name), kind_of(kind)?, number_of(deadline))),
+        "park" => Some(Call::Park(name_of(name), listed_as(&KINDS, kind)?, number_of(deadline))),
         "unpark" => Some(Call::Unpark(name_of(name))),
         "overdue" => Some(Call::Overdue(number_of(rest))),
         "next" => Some(Call::Next),
@@ -50,21 +51,10 @@ pub fn call_from(number: u64, slots: u32) -> Call {
     match number % 4 {
         0 => {
             let deadline = number / 256 % 1_024 * 8_193 + slot;
-            Call::Park(name, kind_from(number / 262_144), deadline)
+            Call::Park(name, listed_at(&KINDS, number / 262_144), deadline)
         }
         1 => Call::Unpark(name),
         2 => Call::Overdue(number / 4 % (1_024 * 8_193)),
         _ => Call::Next,
-    }
-}
-
-/// The kind that a number asks for.
-pub fn kind_from(number: u64) -> Kind {
-    match number % 5 {
-        0 => Kind::Reading,
-        1 => Kind::KeepAlive,
-        2 => Kind::Writing,
-        3 => Kind::Linger,
-        _ => Kind::ShortLinger,
     }
 }

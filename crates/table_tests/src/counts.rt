@@ -64,19 +64,12 @@ fn is_carried(row: &Row) -> bool {
     matches!(row.place, Place::Queued | Place::Working(_, _))
 }
 
+pub fn is_parked_as(row: &Row, kind: Kind) -> bool {
+    row.place == Place::Parked(kind)
+}
+
 pub fn is_closing(row: &Row) -> bool {
-    matches!(
-        row.place,
-        Place::Parked(Kind::Linger) | Place::Parked(Kind::ShortLinger)
-    )
-}
-
-pub fn is_parked_as_writing(row: &Row) -> bool {
-    matches!(row.place, Place::Parked(Kind::Writing))
-}
-
-pub fn is_parked_as_keep_alive(row: &Row) -> bool {
-    matches!(row.place, Place::Parked(Kind::KeepAlive))
+    is_parked_as(row, Kind::Linger) || is_parked_as(row, Kind::ShortLinger)
 }
 
 pub fn is_in_cell(row: &Row, child: u32, number: u32) -> bool {
@@ -101,10 +94,13 @@ fn counted_totals(rows: &[Row]) -> Totals {
             .any(|row| matches!(row.place, Place::Held) || is_carried(row)),
         live_count: rows.iter().filter(|row| is_live(row)).count(),
         working: rows.iter().filter(|row| is_working(row)).count(),
-        writing: rows.iter().filter(|row| is_parked_as_writing(row)).count(),
+        writing: rows
+            .iter()
+            .filter(|row| is_parked_as(row, Kind::Writing))
+            .count(),
         keep_alive: rows
             .iter()
-            .filter(|row| is_parked_as_keep_alive(row))
+            .filter(|row| is_parked_as(row, Kind::KeepAlive))
             .count(),
         closing: rows.iter().filter(|row| is_closing(row)).count(),
     }

@@ -1,8 +1,9 @@
 //! Events of the machine as rows write them, by the names that they have.
-use crate::texts::{kind_of, name_of, number_of, small_of, words};
-use conn_machine::{BoxedShape, Commanded, Event, Refusal, Why};
-use mpm_base::{Ask, Cause, NoMemory, Shape, Tail};
+use crate::names::{CAUSES, KINDS, REFUSALS, TAILS, WHYS};
+use conn_machine::{BoxedShape, Commanded, Event};
+use mpm_base::{Ask, NoMemory, Shape};
 use std::alloc::Global;
+use test_rows::{listed_as, name_of, number_of, small_of, words};
 
 /// The event that the text writes.
 pub fn event_of(alloc: Global, text: &str) -> Result<Option<Event>, NoMemory> {
@@ -24,12 +25,12 @@ fn small_event_of(word: &str, rest: &str) -> Option<Event> {
     let (name, more) = words(rest);
     match word {
         "Accept" => Some(Event::Accept(small_of(rest))),
-        "Park" => Some(Event::Park(name_of(name), kind_of(more)?)),
+        "Park" => Some(Event::Park(name_of(name), listed_as(&KINDS, more)?)),
         "Hold" => Some(Event::Hold(name_of(name))),
         "Queue" => Some(Event::Queue(name_of(name))),
         "Start" => Some(Event::Start(name_of(name))),
         "Answer" => Some(Event::Answer(name_of(name), ask_of(more))),
-        "Linger" => Some(Event::Linger(name_of(name), cause_of(more)?)),
+        "Linger" => Some(Event::Linger(name_of(name), listed_as(&CAUSES, more)?)),
         "Close" => close_of(name, more),
         "Ready" => Some(Event::Ready(small_of(rest))),
         "Tick" => Some(Event::Tick(number_of(rest))),
@@ -42,17 +43,17 @@ fn small_event_of(word: &str, rest: &str) -> Option<Event> {
 /// The close of the connection of that name, for a cause and with a tail.
 fn close_of(name: &str, text: &str) -> Option<Event> {
     let (cause, tail) = words(text);
-    let cause = cause_of(cause)?;
-    let tail = tail_of(tail)?;
+    let cause = listed_as(&CAUSES, cause)?;
+    let tail = listed_as(&TAILS, tail)?;
     Some(Event::Close(name_of(name), cause, tail))
 }
 
 /// The command that the words write, where it is no restart.
 fn command_of(word: &str, rest: &str) -> Option<Commanded> {
     match word {
-        "Refused" => Some(Commanded::Refused(refusal_of(rest)?)),
+        "Refused" => Some(Commanded::Refused(listed_as(&REFUSALS, rest)?)),
         "GracefulStop" => Some(Commanded::GracefulStop(rest.parse::<u64>().ok())),
-        "Stop" => Some(Commanded::Stop(why_of(rest)?)),
+        "Stop" => Some(Commanded::Stop(listed_as(&WHYS, rest)?)),
         _ => None,
     }
 }
@@ -103,60 +104,5 @@ pub fn shape_of(text: &str) -> Shape {
         most: small_of(most),
         target: small_of(target),
         children: small_of(children),
-    }
-}
-
-/// Why the service of a connection ended, by its name.
-fn cause_of(text: &str) -> Option<Cause> {
-    match text {
-        "ClientDone" => Some(Cause::ClientDone),
-        "LastSent" => Some(Cause::LastSent),
-        "KeepAliveLate" => Some(Cause::KeepAliveLate),
-        "ReadLate" => Some(Cause::ReadLate),
-        "WriteLate" => Some(Cause::WriteLate),
-        "Retiring" => Some(Cause::Retiring),
-        "LinkFailed" => Some(Cause::LinkFailed),
-        "Stopped" => Some(Cause::Stopped),
-        "NoMemory" => Some(Cause::NoMemory),
-        _ => None,
-    }
-}
-
-/// How a link was left, by its name.
-fn tail_of(text: &str) -> Option<Tail> {
-    match text {
-        "Direct" => Some(Tail::Direct),
-        "Drained" => Some(Tail::Drained),
-        "Sated" => Some(Tail::Sated),
-        "Late" => Some(Tail::Late),
-        "Failed" => Some(Tail::Failed),
-        "Halted" => Some(Tail::Halted),
-        "NoMemory" => Some(Tail::NoMemory),
-        _ => None,
-    }
-}
-
-/// Why a `graceful` changed nothing, by its name.
-fn refusal_of(text: &str) -> Option<Refusal> {
-    match text {
-        "Late" => Some(Refusal::Late),
-        "Absent" => Some(Refusal::Absent),
-        "Conf" => Some(Refusal::Conf),
-        "Site" => Some(Refusal::Site),
-        "Store" => Some(Refusal::Store),
-        "NoMemory" => Some(Refusal::NoMemory),
-        _ => None,
-    }
-}
-
-/// Why the server stopped, by its name.
-fn why_of(text: &str) -> Option<Why> {
-    match text {
-        "Asked" => Some(Why::Asked),
-        "Overdue" => Some(Why::Overdue),
-        "FrontEnded" => Some(Why::FrontEnded),
-        "FrontFailed" => Some(Why::FrontFailed),
-        "NoMemory" => Some(Why::NoMemory),
-        _ => None,
     }
 }

@@ -1,5 +1,5 @@
 //! Tests of the crates of the table, by their public calls alone: the event table, the counts that are kept beside its rows, the rule
-//! of admission, the queues of those that wait, and rings of slots. The file `stdin` has events and calls, section by section, and
+//! of admission, the queues of those that wait, rings of slots, and slots with items. The file `stdin` has events and calls, section by section, and
 //! `stdout` what must come of each.
 //!
 //! In the input a line that begins with `== ` begins a section: the words up to a colon say what its rows are, and the rest is its
@@ -25,7 +25,8 @@
 //!   numbers, their own number, and `stops` where they don't run.
 //! - `queues SLOTS`: the calls `park NAME KIND DEADLINE`, `unpark NAME`, `overdue MOMENT` and `next`.
 //! - `rings SLOTS`: the calls `file SLOT RING`, or `file SLOT` into no ring, `first RING` and `ring of SLOT`.
-//! - `queues-as-a-list SLOTS`, `rings-as-a-list SLOTS`: a seed, and a number of calls that numbers from it ask for. Behind each of them
+//! - `slots SLOTS`: the calls `put ITEM`, `take NAME`, `write NAME ITEM`, `next` and `free`.
+//! - `queues-as-a-list SLOTS`, `rings-as-a-list SLOTS`, `slots-as-a-list SLOTS`: a seed, and a number of calls that numbers from it ask for. Behind each of them
 //!   they are compared with a plain list.
 #![tactic(auto)]
 
@@ -33,48 +34,39 @@ mod admitting;
 mod calls;
 mod counts;
 mod events;
+mod names;
 mod noted;
-mod numbers;
 mod pages;
 mod plain_queues;
 mod plain_rings;
+mod plain_slots;
 mod played;
 mod queues;
 mod random_events;
 mod records;
 mod shown;
 mod slot_rings;
+mod slots;
 mod tables;
-mod texts;
 
 use std::alloc::Global;
 use std::io;
+use test_rows::{Section, begin_section, sections_of};
 
 fn main(rt: HostRuntime) -> io::Result<()> {
     let input = io::read_to_string(rt.alloc(), rt.reader())?;
-    let mut sections = input.as_str().split("\n== ");
-    let _ = sections.next();
-    for section in sections {
-        let (title, rows) = section.split_once('\n').unwrap_or((section, ""));
-        println!(&rt; "== {title}")?;
-        let (kind, _) = title.split_once(':').unwrap_or((title, ""));
-        let (word, rest) = texts::words(kind);
-        show_section(&rt, rt.alloc(), word, rest, rows)?;
+    for text in sections_of(input.as_str()) {
+        let section = begin_section(&rt, text)?;
+        show_section(&rt, rt.alloc(), section)?;
     }
     Ok(())
 }
 
-/// Shows what comes of the rows of a section of that kind.
-fn show_section(
-    rt: &impl Print,
-    alloc: Global,
-    word: &str,
-    rest: &str,
-    rows: &str,
-) -> io::Result<()> {
+/// Shows what comes of the rows of the section.
+fn show_section(rt: &impl Print, alloc: Global, section: Section<'_>) -> io::Result<()> {
+    let Section { word, rest, rows } = section;
     match word {
-        "may" => tables::show_allowed(rt, alloc, rest, rows),
-        "step" => tables::show_steps(rt, alloc, rest, rows),
+        "may" | "step" => tables::show_last_events(rt, alloc, section),
         "play" => tables::show_play(rt, alloc, rest, rows),
         "bounds" => tables::show_bounds(rt, alloc, rows),
         "counts" => played::show_counts(rt, alloc, rest, rows),
@@ -85,6 +77,8 @@ fn show_section(
         "queues-as-a-list" => queues::show_same_queues(rt, alloc, rest, rows),
         "rings" => slot_rings::show_slot_rings(rt, alloc, rest, rows),
         "rings-as-a-list" => slot_rings::show_same_rings(rt, alloc, rest, rows),
+        "slots" => slots::show_slots(rt, alloc, rest, rows),
+        "slots-as-a-list" => slots::show_same_slots(rt, alloc, rest, rows),
         "record" => records::show_records(rt, alloc, rows),
         _ => records::show_laws(rt),
     }

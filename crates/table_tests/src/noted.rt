@@ -26,18 +26,22 @@ impl NotesBySlot {
         self.items.get(slot as usize)
     }
 
-    /// The event was done, and this is the note of its response, where there is one.
+    /// The event was done. An answer has the note of its response.
     pub fn follow(&mut self, event: &Event, note: Option<Note>) -> Result<(), NoMemory> {
-        match *event {
-            Event::Answer(name, _) => match note {
-                Some(note) => self.add(name.slot, note),
-                None => Ok(()),
-            },
-            Event::Close(name, _, _) => {
-                self.clear(name.slot);
+        let slot = match *event {
+            Event::Answer(name, _) => name.slot,
+            Event::Close(name, _, _) => name.slot,
+            _ => return Ok(()),
+        };
+        let Some(notes) = self.items.get_mut(slot as usize) else {
+            return Ok(());
+        };
+        match note {
+            Some(note) => notes.push(note),
+            None => {
+                notes.clear();
                 Ok(())
             }
-            _ => Ok(()),
         }
     }
 
@@ -48,21 +52,6 @@ impl NotesBySlot {
         match note.page {
             Some(ref page) => Some(page.snapshot()),
             None => None,
-        }
-    }
-
-    /// Puts a note at the end of those of the slot.
-    fn add(&mut self, slot: u32, note: Note) -> Result<(), NoMemory> {
-        match self.items.get_mut(slot as usize) {
-            Some(notes) => notes.push(note),
-            None => Ok(()),
-        }
-    }
-
-    /// Drops the notes of the slot.
-    fn clear(&mut self, slot: u32) {
-        if let Some(notes) = self.items.get_mut(slot as usize) {
-            notes.clear();
         }
     }
 }

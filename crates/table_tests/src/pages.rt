@@ -1,13 +1,10 @@
 //! What a status page shows of a state, and what a look at each row shows.
-use crate::counts::{
-    is_closing, is_in_cell, is_live, is_parked_as_keep_alive, is_parked_as_writing,
-};
-use crate::numbers::small;
-use crate::texts::grown;
+use crate::counts::{is_closing, is_in_cell, is_live, is_parked_as};
 use conn_machine::{Child, ChildPhase, Phase, Place, Row, State};
-use mpm_base::{NoMemory, Octets, Snapshot};
+use mpm_base::{Kind, NoMemory, Octets, Snapshot};
 use std::alloc::Global;
 use std::io;
+use test_rows::{grown, small};
 
 /// The numbers of a page.
 #[derive(Clone, Copy, Debug, PartialEq)]
@@ -110,10 +107,13 @@ fn plain_numbers(state: &State, letters: &[u8]) -> Numbers {
             .count(),
         idle: letters.iter().filter(|letter| **letter == b'_').count(),
         total: rows.iter().filter(|row| is_live(row)).count(),
-        writing: rows.iter().filter(|row| is_parked_as_writing(row)).count(),
+        writing: rows
+            .iter()
+            .filter(|row| is_parked_as(row, Kind::Writing))
+            .count(),
         keep_alive: rows
             .iter()
-            .filter(|row| is_parked_as_keep_alive(row))
+            .filter(|row| is_parked_as(row, Kind::KeepAlive))
             .count(),
         closing: rows.iter().filter(|row| is_closing(row)).count(),
     }

@@ -1,16 +1,15 @@
 //! Changes that numbers ask for, behind each of which the counts that are kept are compared with what a look at each row counts, and what
 //! a status page shows with what that shows.
-use crate::calls::kind_from;
 use crate::counts::{has_live, show_other};
-use crate::numbers::{NumberStream, below, small};
+use crate::names::{CAUSES, KINDS, PHASES};
 use crate::pages::show_other_page;
-use crate::random_events::{cause_from, event_from};
+use crate::random_events::event_from;
 use crate::tables::Table;
-use crate::texts::{grown, number_of, small_of, words};
-use conn_machine::{Event, Phase, Rows, State};
+use conn_machine::{Event, Rows, State};
 use mpm_base::{NoMemory, Note};
 use std::alloc::Global;
 use std::io;
+use test_rows::{NumberStream, below, grown, listed_at, number_of, small, small_of, words};
 
 /// How many events were allowed, and how many of them were answers that are a status page.
 #[derive(Clone, Copy, Debug)]
@@ -183,26 +182,22 @@ fn change_row(rows: &mut Rows, bounds: Bounds, number: u64, detail: u64) {
     }
     match number % 9 {
         0 => rows.take(slot, detail, below(detail, bounds.children), 0),
-        1 => rows.park(slot, kind_from(detail), detail),
+        1 => rows.park(slot, listed_at(&KINDS, detail), detail),
         2 => rows.hold(slot),
         3 => rows.queue(slot),
-        4 => rows.linger(slot, kind_from(detail), detail, cause_from(detail / 8)),
+        4 => rows.linger(
+            slot,
+            listed_at(&KINDS, detail),
+            detail,
+            listed_at(&CAUSES, detail / 8),
+        ),
         5 => rows.close(slot),
         6 => rows.answer(slot, &note_of(detail), false),
-        7 => rows.go_on(slot, phase_from(detail)),
+        7 => rows.go_on(slot, listed_at(&PHASES, detail)),
         _ => {
             let cell = cell_from(rows, slot, bounds, detail);
-            rows.start(slot, cell, phase_from(detail / 64));
+            rows.start(slot, cell, listed_at(&PHASES, detail / 64));
         }
-    }
-}
-
-/// The phase of that number, in their order.
-fn phase_from(number: u64) -> Phase {
-    match number % 3 {
-        0 => Phase::Read,
-        1 => Phase::Write,
-        _ => Phase::Close,
     }
 }
 

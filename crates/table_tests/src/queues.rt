@@ -2,11 +2,10 @@
 ghost use Rattle.std.specs.Prelude.{◌≤◌};
 
 use crate::calls::{Answer, Call, call_from, call_of};
-use crate::numbers::NumberStream;
 use crate::plain_queues::PlainQueues;
-use crate::texts::{grown, number_of, small_of, words};
 use std::alloc::Global;
 use std::io;
+use test_rows::{NumberStream, grown, number_of, small_of, words};
 use timeout_queues::Queues;
 
 /// What the queues answer to the call.
@@ -26,7 +25,7 @@ fn answer_to(queues: &mut Queues, call: Call) -> Answer {
 }
 
 /// So many slots as the text says, at least one and at most 8,192, as both keep them.
-fn slots_of(text: &str) -> u32
+pub fn slots_of(text: &str) -> u32
     ensures some { 1 ≤ result }
     ensures few { result ≤ 8192 }
 {

@@ -1,9 +1,9 @@
 //! Events that numbers ask for. Most fit the place of the connection that they name, so that many of them are allowed.
-use crate::calls::kind_from;
-use crate::numbers::below;
+use crate::names::{CAUSES, KINDS, TAILS};
 use conn_machine::{BoxedShape, Commanded, Event, Place, Refusal, Row, State, Why};
-use mpm_base::{Ask, Cause, ConnName, Kind, NoMemory, Shape, Tail};
+use mpm_base::{Ask, ConnName, Kind, NoMemory, Shape, Tail};
 use std::alloc::Global;
+use test_rows::{below, listed_at};
 
 /// The event that the numbers ask for: the first one says what happens, the second one to which connection, and more.
 pub fn event_from(
@@ -51,7 +51,7 @@ fn event_of_row(row: &Row, slot: u32, number: u64, detail: u64) -> Event {
 /// An event of a connection that the listener holds, or a worker serves.
 fn event_in_hand(row: &Row, name: ConnName, is_served: bool, number: u64, detail: u64) -> Event {
     match number % 8 {
-        0 | 4 => Event::Linger(name, cause_from(detail)),
+        0 | 4 => Event::Linger(name, listed_at(&CAUSES, detail)),
         1 => close_from(row, name, detail),
         2 | 6 if is_served => Event::Answer(name, ask_from(detail)),
         _ => Event::Park(name, kind_after(row, detail)),
@@ -62,7 +62,7 @@ fn event_in_hand(row: &Row, name: ConnName, is_served: bool, number: u64, detail
 fn kind_after(row: &Row, detail: u64) -> Kind {
     match row.from {
         Some(kind) if row.cause.is_some() => kind,
-        _ => kind_from(detail % 3),
+        _ => listed_at(&KINDS, detail % 3),
     }
 }
 
@@ -79,36 +79,8 @@ fn ask_from(detail: u64) -> Ask {
 /// The close of a connection: for its own cause, where it lingers.
 fn close_from(row: &Row, name: ConnName, detail: u64) -> Event {
     match row.cause {
-        Some(cause) => Event::Close(name, cause, tail_from(detail)),
-        None => Event::Close(name, cause_from(detail), Tail::Direct),
-    }
-}
-
-/// The cause of that number, in their order.
-pub fn cause_from(number: u64) -> Cause {
-    match number % 9 {
-        0 => Cause::ClientDone,
-        1 => Cause::LastSent,
-        2 => Cause::KeepAliveLate,
-        3 => Cause::ReadLate,
-        4 => Cause::WriteLate,
-        5 => Cause::Retiring,
-        6 => Cause::LinkFailed,
-        7 => Cause::Stopped,
-        _ => Cause::NoMemory,
-    }
-}
-
-/// The tail of that number, in their order.
-fn tail_from(number: u64) -> Tail {
-    match number % 7 {
-        0 => Tail::Direct,
-        1 => Tail::Drained,
-        2 => Tail::Sated,
-        3 => Tail::Late,
-        4 => Tail::Failed,
-        5 => Tail::Halted,
-        _ => Tail::NoMemory,
+        Some(cause) => Event::Close(name, cause, listed_at(&TAILS, detail)),
+        None => Event::Close(name, listed_at(&CAUSES, detail), Tail::Direct),
     }
 }
 

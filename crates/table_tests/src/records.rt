@@ -1,8 +1,8 @@
 //! The record of a value that never folded, and the laws.
-use crate::texts::{grown, small_of};
 use conn_machine::{Folded, laws, laws_of_runs};
 use std::alloc::Global;
 use std::io;
+use test_rows::{grown, small_of};
 
 /// Shows the record of a value that never folded, for so many passes as each row says.
 pub fn show_records(rt: &impl Print, alloc: Global, rows: &str) -> io::Result<()> {

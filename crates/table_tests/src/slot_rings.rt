@@ -1,12 +1,11 @@
 //! Slots in rings, by example, and that they answer as a plain list does, and so in the order in which they were put there.
 ghost use Rattle.std.specs.Prelude.{◌≡◌, ◌<◌, length};
 
-use crate::numbers::NumberStream;
 use crate::plain_rings::PlainRings;
-use crate::texts::{grown, number_of, small_of, words};
 use mpm_base::NoMemory;
 use std::alloc::Global;
 use std::io;
+use test_rows::{NumberStream, grown, number_of, small_of, words};
 use timeout_queues::SlotRings;
 
 /// Rings of slots, and how many slots there are.
@@ -46,11 +45,6 @@ impl CountedRings {
             None
         }
     }
-
-    /// The ring in which the slot stands.
-    fn ring_of(&self, slot: u32) -> Option<u32> {
-        self.rings.ring_of(slot)
-    }
 }
 
 /// Shows what rings of so many slots answer to each call, where one comes behind the other: `file SLOT RING`, with no ring where it is
@@ -66,7 +60,7 @@ pub fn show_slot_rings(rt: &impl Print, alloc: Global, slots: &str, rows: &str) 
                 println!(rt; "{row} => {filed}")?;
             }
             "first" => println!(rt; "{row} => {:?}", rings.first(small_of(rest)))?,
-            _ => println!(rt; "{row} => {:?}", rings.ring_of(small_of(ring)))?,
+            _ => println!(rt; "{row} => {:?}", rings.rings.ring_of(small_of(ring)))?,
         }
     }
     Ok(())
@@ -121,7 +115,7 @@ fn ring_from(number: u64) -> Option<u32> {
 
 /// What the two answer in two ways of the slot and of the first slot of each ring.
 fn first_other(rings: &CountedRings, plain: &PlainRings, slot: u32) -> Option<&'static str> {
-    if rings.ring_of(slot) != plain.ring_of(slot) {
+    if rings.rings.ring_of(slot) != plain.ring_of(slot) {
         return Some("its ring");
     }
     for ring in 0..128 {

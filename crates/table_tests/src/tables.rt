@@ -5,11 +5,11 @@ use crate::events::{event_of, restart_to, shape_of};
 use crate::noted::NotesBySlot;
 use crate::pages::{show_kinds, show_page};
 use crate::shown::{show_sizes, show_state};
-use crate::texts::{grown, number_of, small_of, words};
 use conn_machine::{Event, Reply, State, is_in_bounds, may, step};
 use mpm_base::{NoMemory, Snapshot};
 use std::alloc::Global;
 use std::io;
+use test_rows::{Section, grown, number_of, small_of, words};
 
 /// A state of a size that the machine takes, with the notes of its responses.
 #[derive(Drop)]
@@ -30,11 +30,6 @@ impl Table {
         let state = State::opening(alloc, slots, children, shape_of(shape))?;
         let notes = NotesBySlot::make(alloc, slots)?;
         Ok(Table { state, notes })
-    }
-
-    /// Whether the state allows the event.
-    pub fn allows(&self, event: &Event) -> bool {
-        may(&self.state, event)
     }
 
     /// Does the event where the state allows it, and gives its reply. It has no clause, so that what `step` says isn't carried through
@@ -58,56 +53,38 @@ impl Table {
     }
 }
 
-/// Shows of each row whether its last event is allowed behind the others, which come behind those of the first row.
-pub fn show_allowed(rt: &impl Print, alloc: Global, opening: &str, rows: &str) -> io::Result<()> {
+/// Shows of each row what comes of its last event behind the others, which come behind those of the first row. In a section `step` that is
+/// the state before it, its reply, and the state behind it; else whether it is allowed.
+pub fn show_last_events(rt: &impl Print, alloc: Global, section: Section<'_>) -> io::Result<()> {
+    let Section { word, rest, rows } = section;
     let (first, rows) = rows.split_once('\n').unwrap_or((rows, ""));
+    let is_step = word == "step";
     for row in rows.lines() {
-        print!(rt; "{row} => ")?;
-        show_last(rt, alloc, opening, first, row)?;
+        print!(rt; "{row}{}", if is_step { "\n" } else { " => " })?;
+        let (before, last) = events_of(row);
+        let mut table = open_behind(rt, alloc, rest, first, before)?;
+        if is_step {
+            show_step(rt, alloc, &mut table, last)?;
+        } else {
+            show_allowed(rt, alloc, &table, last)?;
+        }
     }
     Ok(())
 }
 
-/// Shows whether the last event of the row is allowed behind the others.
-fn show_last(
-    rt: &impl Print,
-    alloc: Global,
-    opening: &str,
-    first: &str,
-    row: &str,
-) -> io::Result<()> {
-    let (before, last) = events_of(row);
-    let table = open_behind(rt, alloc, opening, first, before)?;
-    match grown(event_of(alloc, last))? {
-        Some(event) => println!(rt; "{}", table.allows(&event)),
-        None => println!(rt; "{last} is no event"),
+/// Shows whether the event is allowed.
+fn show_allowed(rt: &impl Print, alloc: Global, table: &Table, event: &str) -> io::Result<()> {
+    match grown(event_of(alloc, event))? {
+        Some(event) => println!(rt; "{}", may(&table.state, &event)),
+        None => println!(rt; "{event} is no event"),
     }
 }
 
-/// Shows of each row the state behind all events but the last, which come behind those of the first row, then the reply to that
-/// event, and the state behind it.
-pub fn show_steps(rt: &impl Print, alloc: Global, opening: &str, rows: &str) -> io::Result<()> {
-    let (first, rows) = rows.split_once('\n').unwrap_or((rows, ""));
-    for row in rows.lines() {
-        println!(rt; "{row}")?;
-        show_step(rt, alloc, opening, first, row)?;
-    }
-    Ok(())
-}
-
-/// Shows the state before the last event of the row, its reply, and the state behind it.
-fn show_step(
-    rt: &impl Print,
-    alloc: Global,
-    opening: &str,
-    first: &str,
-    row: &str,
-) -> io::Result<()> {
-    let (before, last) = events_of(row);
-    let mut table = open_behind(rt, alloc, opening, first, before)?;
-    show_state(rt, &table)?;
-    show_event(rt, alloc, &mut table, last)?;
-    show_state(rt, &table)
+/// Shows the state, the reply to the event, and the state behind it.
+fn show_step(rt: &impl Print, alloc: Global, table: &mut Table, event: &str) -> io::Result<()> {
+    show_state(rt, table)?;
+    show_event(rt, alloc, table, event)?;
+    show_state(rt, table)
 }
 
 /// The state that the words ask for, behind the first events and further ones.
@@ -183,7 +160,7 @@ pub fn show_bounds(rt: &impl Print, alloc: Global, rows: &str) -> io::Result<()>
         println!(rt;
             "{row} => {}, may {}",
             is_in_bounds(&shape),
-            table.allows(&restart)
+            may(&table.state, &restart)
         )?;
     }
     Ok(())

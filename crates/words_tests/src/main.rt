@@ -11,7 +11,8 @@
 use command_words::{NoInvocation, invocation_of};
 use mpm_base::{NoMemory, Words};
 use std::alloc::Global;
-use std::io::{self, ErrorKind};
+use std::io;
+use test_rows::{grown, out_of_memory};
 
 fn main(rt: HostRuntime) -> io::Result<()> {
     let input = io::read_to_string(rt.alloc(), rt.reader())?;
@@ -35,9 +36,7 @@ fn show_line(rt: &impl Print, alloc: Global, line: &str) -> io::Result<()> {
 
 /// Shows the form of the command line.
 fn show_form(rt: &impl Print, alloc: Global, line: &str) -> io::Result<()> {
-    let Ok(words) = words_of(alloc, line) else {
-        return Err(out_of_memory());
-    };
+    let words = grown(words_of(alloc, line))?;
     match invocation_of(alloc, &words) {
         Ok(invocation) => println!(rt; "{invocation:?}"),
         Err(NoInvocation::Unknown) => println!(rt; "none of the forms"),
@@ -54,9 +53,4 @@ fn words_of(alloc: Global, line: &str) -> Result<Words, NoMemory> {
         words.add(if part == "''" { "" } else { part })?;
     }
     Ok(words)
-}
-
-/// The error for want of memory.
-fn out_of_memory() -> io::Error {
-    io::Error::from(ErrorKind::OutOfMemory)
 }

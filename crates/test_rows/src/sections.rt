@@ -1,0 +1,31 @@
+//! The sections of an input.
+use crate::row::words;
+use std::io;
+use std::str::Split;
+
+/// A section of an input: a line that begins with `== `, and the lines behind it.
+#[derive(Clone, Copy)]
+pub struct Section<'a> {
+    /// The first word behind `== `.
+    pub word: &'a str,
+    /// What stands behind that word up to a colon.
+    pub rest: &'a str,
+    /// The lines behind the first one.
+    pub rows: &'a str,
+}
+
+/// The sections of the input. What stands before the first one is none.
+pub fn sections_of(input: &str) -> Split<'_, &'static str> {
+    let mut sections = input.split("\n== ");
+    let _ = sections.next();
+    sections
+}
+
+/// Shows the first line of the section of this text, and gives the section.
+pub fn begin_section<'a>(rt: &impl Print, text: &'a str) -> io::Result<Section<'a>> {
+    let (title, rows) = text.split_once('\n').unwrap_or((text, ""));
+    println!(rt; "== {title}")?;
+    let (kind, _) = title.split_once(':').unwrap_or((title, ""));
+    let (word, rest) = words(kind);
+    Ok(Section { word, rest, rows })
+}
