@@ -389,17 +389,49 @@ def types_of(signature, names):
     return [*kinds, *(["Outcome"] if "Outcome" in names else [])]
 
 
+def fields_of(record):
+    """The fields of a record, by name: each as an item of its file whose text is the field, the fields before it that it names, and the
+    parameters of the record."""
+    head, own, name = [], {}, None
+    margin = len(record.lines[0]) - len(record.lines[0].lstrip()) + 2
+    for line in record.lines:
+        begun = re.match(rf" {{{margin}}}(?:pub )?([^\s:(){{}}]+)\s+:(?:\s|$)", line)
+        name = begun[1] if begun else name
+        own.setdefault(name, head if name is None else []).append(line)
+    head = [re.sub(rf"^\s*(?:{WORDS}\s+)+\S+", "", line) for line in own.pop(None, [])]
+    found = {}
+    for name, lines in own.items():
+        field = found[name] = Definition(record.file, name, record.start)
+        field.said = sum(1 for line in lines if line.strip())
+        words = set(re.findall(r"[^\s(){}]+", " ".join(lines)))
+        field.lines = [*lines, *head]
+        for before in list(found)[:-1]:
+            field.lines += found[before].lines if before in words else []
+    return found
+
+
+def definitions_of(name, within):
+    """The definitions of that name in the specs of these crates."""
+    found = []
+    for crate in within:
+        for at, _, names in os.walk(f"{TOP}/crates/{crate}/specs"):
+            for file in sorted(f"{at}/{it}" for it in names if it.endswith(".antt")):
+                found += page(file).items.get(name, [])
+    return found
+
+
 def found_by(name):
-    """The statements of a name: a clause of run, all of them for `run`, or definitions of this repository, also as crate.name."""
+    """The statements of a name: all clauses of run for `run`; a clause of it; a field of a record that a clause of it names; a definition
+    of this repository; of several, by crate.name or record.field."""
     clauses = clauses_of_run()
     if name == "run":
         return list(clauses.values())
     if name in clauses:
         return [clauses[name]]
-    crate, _, short = name.rpartition(".")
-    found = []
-    for one in [crate] if crate else crates():
-        for at, _, names in os.walk(f"{TOP}/crates/{one}/specs"):
-            for file in sorted(f"{at}/{it}" for it in names if it.endswith(".antt")):
-                found += page(file).items.get(short, [])
-    return found
+    first, _, short = name.rpartition(".")
+    if first and first not in crates():
+        records = definitions_of(first, crates())
+    else:
+        records = [it for clause in clauses.values() for it in led_to(clause) if it.file.endswith(".antt")]
+    fields = {(it.file, it.start): fields_of(it)[short] for it in records if short in fields_of(it)}
+    return list(fields.values()) or definitions_of(short, [first] if first else crates())
