@@ -1,5 +1,5 @@
-"""What the scenes of .ci/sockets and .ci/restart_scenes.py are made of: a server with a folder and ports of its own, its clients, and what
-is expected of both. And the list of the scenes."""
+"""What the scenes of .ci/sockets, .ci/restart_scenes.py and .ci/folder_scenes.py are made of: a server with a folder and ports of its own,
+its clients, and what is expected of both. And the list of the scenes."""
 
 import collections
 import contextlib
@@ -15,6 +15,9 @@ import tempfile
 import time
 
 PROGRAM = "crates/event_server/out/event_server"
+# What each line on standard error begins with, and the file of a server's folder that has them.
+TELLS = "event_server: "
+ERRORS = "errors.txt"
 HOST = "127.0.0.1"
 # Seconds after which what didn't come is a failure. Where all is well nothing is waited for so long.
 DEADLINE = 20
@@ -218,10 +221,10 @@ def free_ports(count):
     return ports
 
 
-def lay_out(folder, files):
+def lay_out(folder, files, root="htdocs"):
     """Makes the files of a site, and where a text stands for the bytes a link to that."""
     for name, content in files.items():
-        path = f"{folder}/htdocs/{name}"
+        path = f"{folder}/{root}/{name}"
         os.makedirs(os.path.dirname(path), exist_ok=True)
         if isinstance(content, str):
             os.symlink(content, path)
@@ -236,18 +239,31 @@ def configure(folder, *lines):
         file.writelines(f"{line}\n" for line in lines)
 
 
+def run_told(folder, *words, **others):
+    """The status with which the program ends, what it prints, and what it says on standard error, of which each line begins alike."""
+    how = {"stdin": subprocess.DEVNULL, "stdout": subprocess.PIPE, "stderr": subprocess.PIPE, "timeout": DEADLINE, **others}
+    told = subprocess.run([PROGRAM, *words], cwd=folder, **how)
+    return told.returncode, told.stdout, told_lines(told.stderr)
+
+
 def run(folder, *words):
     """The status with which the program ends, and what it prints."""
-    told = subprocess.run(
-        [PROGRAM, *words], cwd=folder, stdin=subprocess.DEVNULL, stdout=subprocess.PIPE, stderr=subprocess.STDOUT, timeout=DEADLINE
-    )
-    return told.returncode, told.stdout
+    return run_told(folder, *words)[:2]
+
+
+def told_lines(said):
+    """The lines on standard error, without what each has to begin with."""
+    lines = said.decode().splitlines()
+    expect("lines that don't begin with the program's name", [line for line in lines if not line.startswith(TELLS)], [])
+    return [line.removeprefix(TELLS) for line in lines]
 
 
 def begin(folder, before):
-    """Starts a server by the configuration of the folder, with these words before the program's."""
+    """Starts a server by the configuration of the folder, with these words before the program's. What it says on standard error comes into
+    a file of its own."""
     words = [*before, PROGRAM, "-f", "httpd.conf"]
-    return subprocess.Popen(words, cwd=folder, stdin=subprocess.DEVNULL, stdout=subprocess.PIPE, stderr=subprocess.STDOUT, bufsize=0)
+    with open(f"{folder}/{ERRORS}", "wb") as errors:
+        return subprocess.Popen(words, cwd=folder, stdin=subprocess.DEVNULL, stdout=subprocess.PIPE, stderr=errors, bufsize=0)
 
 
 def end(process):
@@ -257,14 +273,14 @@ def end(process):
     process.stdout.close()
 
 
-def first_line(process):
-    """The first line that the process prints, or what it prints where it ends before."""
+def first_line(process, seconds=DEADLINE):
+    """The first line that the process prints within these seconds, or what it prints where it ends before."""
     line = b""
     poll = select.poll()
     poll.register(process.stdout, select.POLLIN)
     while not line.endswith(b"\n"):
-        if not poll.poll(1000 * DEADLINE):
-            raise Wrong(f"the first line: wanted {short(WARNING)}, and came {short(line)} within {DEADLINE} seconds")
+        if not poll.poll(1000 * seconds):
+            raise Wrong(f"the first line: wanted {short(WARNING)}, and came {short(line)} within {seconds} seconds")
         byte = os.read(process.stdout.fileno(), 1)
         if not byte:
             break
@@ -287,6 +303,11 @@ class Server:
         with connect(self.control) as caller:
             caller.send(line)
             caller.expect_close()
+
+    def told_operator(self):
+        """The lines that the server said on standard error so far."""
+        with open(f"{self.folder}/{ERRORS}", "rb") as file:
+            return told_lines(file.read())
 
     def descriptors(self):
         """How many descriptors the server has."""
@@ -347,8 +368,9 @@ def behind(some, others):
     return list((collections.Counter(some) - collections.Counter(others)).elements())
 
 
-def start(folder, lines, before):
-    """A server that serves the folder by these further lines of configuration. It is started anew where its ports were taken."""
+def start(folder, lines, before=(), seconds=DEADLINE):
+    """A server that serves the folder by these further lines of configuration, once it has begun to, within these seconds. It is started anew
+    where its ports were taken."""
     for _ in range(STARTS):
         port, control = free_ports(2)
         # On a slow machine no client is to be late that isn't meant to be.
@@ -356,7 +378,7 @@ def start(folder, lines, before):
         process = begin(folder, before)
         line = b""
         try:
-            line = first_line(process)
+            line = first_line(process, seconds)
         finally:
             if line != WARNING:
                 end(process)

@@ -1,1 +1,1 @@
-mod ListingLemmas
+mod CapacityLemmas

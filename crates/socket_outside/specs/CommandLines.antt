@@ -25,8 +25,10 @@ IsLineOrNone bytes heard.Nothing = ¬ IsUtf8 bytes
 -- without one are no line, nor is what is no text
 abbrev pub IsHeard : List ℕ → Heard → Type 0
 IsHeard bytes heard.More = (feed_in bytes ≡ None) × (length bytes < 33)
-IsHeard bytes (heard.Line line) = MatchOption (feed_in bytes) ⊥ (λ n. IsLineOrNone (take n bytes) (heard.Line line))
-IsHeard bytes heard.Nothing = MatchOption (feed_in bytes) (33 ≤ length bytes) (λ n. IsLineOrNone (take n bytes) heard.Nothing)
+IsHeard bytes (heard.Line line) =
+    MatchOption (feed_in bytes) ⊥ (λ n. IsLineOrNone (take n bytes) (heard.Line line))
+IsHeard bytes heard.Nothing =
+    MatchOption (feed_in bytes) (33 ≤ length bytes) (λ n. IsLineOrNone (take n bytes) heard.Nothing)
 
 -- the read gave bytes
 abbrev pub gave_bytes : Got → Bool

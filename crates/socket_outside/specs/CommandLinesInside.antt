@@ -11,7 +11,8 @@ pub record HearsOnce (told told' : Option (List Got)) (before bytes : List ℕ) 
   pub last : Got
   pub answers : AnswersMore told told' (last ∷ [])
   pub count : length bytes ≡ length before + count_of_got last
-  pub decides : MatchOption what ((gave_bytes last ≡ true) × IsHeard bytes heard.More) (IsHeardBy last bytes)
+  pub decides : MatchOption what
+      ((gave_bytes last ≡ true) × IsHeard bytes heard.More) (IsHeardBy last bytes)
 
 -- what reads answered that each gave bytes, and if there was one, all bytes so far ask for more
 pub record HasHeard (told told' : Option (List Got)) (bytes : List ℕ) : Type 0 where

@@ -18,7 +18,8 @@ source_of_number n =
 
 -- the event says that there is room to write, and nothing else
 abbrev pub is_room_alone : Event → Bool
-is_room_alone e = is_writable e && not (is_readable e || is_error e || is_read_closed e || is_write_closed e)
+is_room_alone e =
+    is_writable e && not (is_readable e || is_error e || is_read_closed e || is_write_closed e)
 
 -- how long a wait at a moment lasts at most, in milliseconds: not at all where a bell was rung, and a tenth of a second where a
 -- connection is to be asked for again

@@ -46,11 +46,13 @@ has_slot slots slot = list_any (λ given. given == slot) slots
 -- the slots that an event adds to those that were given before: it may add that of its own link, and does where it calls for it
 pub record AddsSlot (e : Event) (old new : List ℕ) : Type 0 where
   pub kept : (slot : ℕ) → has_slot old slot ≡ true → has_slot new slot ≡ true
-  pub only : (slot : ℕ) → has_slot new slot ≡ true → (has_slot old slot || is_of_slot slot (source_of_event e)) ≡ true
+  pub only : (slot : ℕ) → has_slot new slot ≡ true
+      → (has_slot old slot || is_of_slot slot (source_of_event e)) ≡ true
   pub owed : (slot : ℕ) → calls_for slot e ≡ true → has_slot new slot ≡ true
 
 -- the slots that events give, each once: of links for which there is an event, and each for which one calls
 pub record GivesSlots (events : List Event) (slots : List ℕ) : Type 0 where
   pub once : IsDistinct (λ a b. a == b) slots
-  pub only : (slot : ℕ) → has_slot slots slot ≡ true → list_any (λ e. is_of_slot slot (source_of_event e)) events ≡ true
+  pub only : (slot : ℕ) → has_slot slots slot ≡ true
+      → list_any (λ e. is_of_slot slot (source_of_event e)) events ≡ true
   pub owed : (slot : ℕ) → list_any (calls_for slot) events ≡ true → has_slot slots slot ≡ true

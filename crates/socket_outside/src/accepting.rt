@@ -42,7 +42,7 @@ fn accept_one(listener: &TcpListener) -> Result<TcpStream, NoStream> {
     }
 }
 
-/// The next connection that waits. Failed too where 64 were passed over.
+/// The next connection that waits. It answers Failed too where 64 were passed over.
 pub(crate) fn accept_next(listener: &TcpListener) -> Result<TcpStream, NoStream>
     ensures { IfErr result (λ none. none ≢ NoStream.PassedOver) }
 {

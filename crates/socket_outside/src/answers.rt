@@ -14,7 +14,9 @@ pub(crate) const CALLS: u32 = 65;
 
 /// What a read into so much room answers, or none where it was interrupted and is asked again.
 pub fn got_for(answer: io::Result<usize>, room: usize) -> Option<Got>
-    ensures { MatchResult answer (λ n. result ≡ Some (got_of_count n room)) (λ e. result ≡ got_of_error (error_kind e)) }
+    ensures { MatchResult answer
+        (λ n. result ≡ Some (got_of_count n room))
+        (λ e. result ≡ got_of_error (error_kind e)) }
 {
     match answer {
         Ok(0) if room > 0 => Some(Got::End),
@@ -29,7 +31,9 @@ pub fn got_for(answer: io::Result<usize>, room: usize) -> Option<Got>
 
 /// What a write of so many bytes answers, or none where it was interrupted and is asked again.
 pub fn sent_for(answer: io::Result<usize>, size: usize) -> Option<Sent>
-    ensures { MatchResult answer (λ n. result ≡ Some (sent_of_count n size)) (λ e. result ≡ sent_of_error (error_kind e)) }
+    ensures { MatchResult answer
+        (λ n. result ≡ Some (sent_of_count n size))
+        (λ e. result ≡ sent_of_error (error_kind e)) }
 {
     match answer {
         Ok(0) if size > 0 => Some(Sent::Failed),
@@ -54,7 +58,9 @@ pub fn lacks_room(sent: Sent, size: usize) -> bool
 
 /// Whether a wait woke, or none where it was interrupted and is asked again.
 pub fn woke_for(answer: io::Result<()>) -> Option<bool>
-    ensures { MatchResult answer (λ woke. result ≡ Some true) (λ e. result ≡ woke_of_error (error_kind e)) }
+    ensures { MatchResult answer
+        (λ woke. result ≡ Some true)
+        (λ e. result ≡ woke_of_error (error_kind e)) }
 {
     match answer {
         Ok(()) => Some(true),
@@ -65,14 +71,14 @@ pub fn woke_for(answer: io::Result<()>) -> Option<bool>
     }
 }
 
-/// What a half-close answers: of a socket that isn't connected it fails.
+/// What a half-close answers. It fails where the socket isn't connected.
 pub fn shut_for(answer: io::Result<()>) -> bool
     ensures { result ≡ is_ok answer }
 {
     answer.is_ok()
 }
 
-/// Reads once into the front of the buffer. None where it was interrupted.
+/// Reads once into the front of the buffer. It answers None where it was interrupted.
 fn read_once<S: Read>(socket: &mut S, buffer: &mut [u8]) -> Option<Got>
     ensures fits { IfSome result (λ got. FitsBuffer got (length buffer.new)) }
     ensures bytes { MatchOption result
@@ -83,7 +89,7 @@ fn read_once<S: Read>(socket: &mut S, buffer: &mut [u8]) -> Option<Got>
     got_for(answer, buffer.len())
 }
 
-/// Writes once from the front of the piece. None where it was interrupted.
+/// Writes once from the front of the piece. It answers None where it was interrupted.
 fn write_once<S: Write>(socket: &mut S, piece: &[u8]) -> Option<Sent>
     ensures fits { IfSome result (λ sent. FitsPiece sent (length piece.now)) }
     ensures bytes { MatchOption result
@@ -94,7 +100,7 @@ fn write_once<S: Write>(socket: &mut S, piece: &[u8]) -> Option<Sent>
     sent_for(answer, piece.len())
 }
 
-/// Writes once from the front of the one piece followed by the other, by one call. None where it was interrupted.
+/// Writes once from the front of the one piece followed by the other, by one call. It answers None where it was interrupted.
 fn write_pair_once(socket: &TcpStream, first: &[u8], second: &[u8]) -> Option<Sent>
     ensures { IfSome result (λ sent. FitsPiece sent (length (first.now ++ second.now))) }
 {

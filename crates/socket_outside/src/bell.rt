@@ -35,7 +35,8 @@ impl SharedBell {
         }
     }
 
-    /// The front goes into a wait. Whether there was a ring since the last one: then this one is not to last, and needs no waking.
+    /// The front goes into a wait. It answers whether there was a ring since the last one: then this one is not to last, and needs no
+    /// waking.
     pub(crate) fn begin_wait(&self) -> bool {
         self.waits.store(true, Ordering::SeqCst);
         let rung = self.rung.swap(false, Ordering::SeqCst);

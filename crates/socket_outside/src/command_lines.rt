@@ -67,9 +67,11 @@ impl Spoken {
     /// Reads once, behind the bytes so far.
     fn read_more<S: Speaker>(&mut self, speaker: &mut S) -> Got
         ensures bytes { HearsOn self.old self.new (S.left speaker.old) (S.left speaker.new) }
-        ensures tells { AnswersMore (S.answered speaker.old) (S.answered speaker.new) (result ∷ []) }
+        ensures tells { AnswersMore (S.answered speaker.old) (S.answered speaker.new)
+            (result ∷ []) }
         ensures count { length self.new ≡ length self.old + count_of_got result }
-        ensures grows { gave_bytes result ≡ true → length self.old < 33 → length self.old < length self.new }
+        ensures grows { gave_bytes result ≡ true → length self.old < 33
+            → length self.old < length self.new }
     {
         match speaker.speak(&mut self.bytes[self.filled..]) {
             Got::Got(count) => {
@@ -82,9 +84,10 @@ impl Spoken {
         }
     }
 
-    /// Reads once. What is heard then, or none where it gave bytes and more are to come.
+    /// Reads once. It answers what is heard then, or none where it gave bytes and more are to come.
     fn hear_once<S: Speaker>(&mut self, speaker: &mut S) -> Option<Heard>
-        ensures once { HearsOnce (S.answered speaker.old) (S.answered speaker.new) self.old self.new result }
+        ensures once { HearsOnce (S.answered speaker.old) (S.answered speaker.new)
+            self.old self.new result }
         ensures bytes { HearsOn self.old self.new (S.left speaker.old) (S.left speaker.new) }
         ensures grows { result ≡ None → length self.old < length self.new }
         ensures few { result ≡ None → length self.new < 33 }

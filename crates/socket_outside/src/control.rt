@@ -40,7 +40,7 @@ pub(crate) struct ControlPort {
 }
 
 impl ControlPort {
-    /// No socket, connection or line. Takes all its memory here.
+    /// No socket, connection or line. It takes all its memory here.
     pub(crate) fn make(alloc: Global) -> Result<ControlPort, NoMemory> {
         Ok(ControlPort {
             listener: None,
@@ -56,11 +56,6 @@ impl ControlPort {
     {
         self.asks = false;
         self.listener = listener;
-    }
-
-    /// The socket.
-    pub(crate) fn listener(&self) -> Option<&TcpListener> {
-        self.listener.as_ref()
     }
 
     /// Whether a connection may wait that the system is to be asked for again.

@@ -44,7 +44,8 @@ impl LinkCounters {
     /// A read answered this.
     pub(crate) fn read(&mut self, answer: Got)
         ensures faults { RisesWhere (read_failed answer) self.old.faults self.new.faults }
-        ensures late_reads { RisesExactlyWhere (read_late answer) self.old.late_reads self.new.late_reads }
+        ensures late_reads { RisesExactlyWhere (read_late answer)
+            self.old.late_reads self.new.late_reads }
         ensures late_writes { self.new.late_writes ≡ self.old.late_writes }
         ensures ends { RisesExactlyWhere (found_end answer) self.old.ends self.new.ends }
     {
@@ -60,7 +61,8 @@ impl LinkCounters {
     pub(crate) fn write(&mut self, answer: Sent)
         ensures faults { RisesWhere (write_failed answer) self.old.faults self.new.faults }
         ensures late_reads { self.new.late_reads ≡ self.old.late_reads }
-        ensures late_writes { RisesExactlyWhere (write_late answer) self.old.late_writes self.new.late_writes }
+        ensures late_writes { RisesExactlyWhere (write_late answer)
+            self.old.late_writes self.new.late_writes }
         ensures ends { self.new.ends ≡ self.old.ends }
     {
         match answer {

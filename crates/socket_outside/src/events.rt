@@ -78,7 +78,8 @@ fn give(ready: &mut Ready, slot: u32)
     requires distinct { IsDistinct (λ a b. a == b) ready.old }
     requires room { length ready.old < 256 }
     ensures distinct { IsDistinct (λ a b. a == b) ready.new }
-    ensures is { ready.new ≡ (if has_slot ready.old slot then ready.old else ready.old ++ slot ∷ []) }
+    ensures is { ready.new
+        ≡ (if has_slot ready.old slot then ready.old else ready.old ++ slot ∷ []) }
 {
     if !has_slot(ready.slots(), slot) {
         ready.add(slot);
@@ -101,8 +102,10 @@ fn note_event(event: &Event, marks: &RoomMarks, ready: &mut Ready, noticed: &mut
     ensures distinct { IsDistinct (λ a b. a == b) ready.new }
     ensures few { length ready.new ≤ length ready.old + 1 }
     ensures adds { AddsSlot event.now ready.old ready.new }
-    ensures arrivals { noticed.new.arrivals ≡ (noticed.old.arrivals || is_of_listener (source_of_event event.now)) }
-    ensures control { noticed.new.control ≡ (noticed.old.control || is_of_control (source_of_event event.now)) }
+    ensures arrivals { let of_listener = is_of_listener (source_of_event event.now) in
+        noticed.new.arrivals ≡ (noticed.old.arrivals || of_listener) }
+    ensures control { let of_control = is_of_control (source_of_event event.now) in
+        noticed.new.control ≡ (noticed.old.control || of_control) }
 {
     match source_of(event.token()) {
         Source::Listener => noticed.arrivals = true,
@@ -122,8 +125,10 @@ pub(crate) fn give_slots(events: &Events, marks: &RoomMarks, ready: &mut Ready) 
     requires few { length (items events.now) ≤ 256 }
     ensures slots { GivesSlots (items events.now) ready.new }
     ensures few { length ready.new ≤ 256 }
-    ensures arrivals { result.arrivals ≡ list_any (λ e. is_of_listener (source_of_event e)) (items events.now) }
-    ensures control { result.control ≡ list_any (λ e. is_of_control (source_of_event e)) (items events.now) }
+    ensures arrivals { result.arrivals
+        ≡ list_any (λ e. is_of_listener (source_of_event e)) (items events.now) }
+    ensures control { result.control
+        ≡ list_any (λ e. is_of_control (source_of_event e)) (items events.now) }
 {
     let mut noticed = Noticed {
         arrivals: false,

@@ -1,7 +1,7 @@
 //! The front over sockets.
 ghost use Rattle.std.specs.Prelude.{◌≡◌, ◌==◌, ◌≤◌, [], None, false, length};
 ghost use Rattle.std.specs.List.{IsDistinct};
-ghost use Rattle.mpm_base.specs.Front.{Waits, accept_failed};
+ghost use Rattle.mpm_base.specs.Front.{FrontSeen, Waits, accept_failed};
 
 use crate::answers::CALLS;
 use crate::bell::SocketBell;
@@ -13,15 +13,17 @@ use crate::link::SocketLink;
 use crate::sockets::Sockets;
 use mpm_base::{Addr, Arrival, Clock, ConnName, Front, Line, Link, Moment, NoMemory, Ready, Woke};
 use std::alloc::Global;
-use std::net::{Net, SocketAddr};
+use std::net::Net;
 use std::sync::Wait;
 use std::time;
+use system_outside::Operator;
 
 /// Connections, signals and command lines off the system's sockets, and moments off its clock. It tells nothing, and no wait of it
-/// ends by itself.
+/// ends by itself. The operator hears of a bind, and of a dial that failed.
 #[derive(Drop)]
-pub struct SocketFront<'a, R: Net + time::Clock> {
+pub struct SocketFront<'a, R: Net + time::Clock + Eprint> {
     net: &'a R,
+    operator: &'a Operator<'a, R>,
     clock: SystemClock<'a, R>,
     sockets: Sockets,
     // Since the last wait an accept failed, or looked for control connections.
@@ -29,31 +31,23 @@ pub struct SocketFront<'a, R: Net + time::Clock> {
     counters: FrontCounters,
 }
 
-impl<'a, R: Net + time::Clock> SocketFront<'a, R> {
-    /// A front that isn't bound, whose links are watched under so many slots. Takes all its memory here.
+impl<'a, R: Net + time::Clock + Eprint> SocketFront<'a, R> {
+    /// A front that isn't bound, whose links are watched under so many slots. It takes all its memory here.
     pub fn make(
         net: &'a R,
+        operator: &'a Operator<'a, R>,
         alloc: Global,
         clock: SystemClock<'a, R>,
         slots: u32,
     ) -> Result<SocketFront<'a, R>, NoMemory> {
         Ok(SocketFront {
             net,
+            operator,
             clock,
             sockets: Sockets::make(alloc, slots)?,
             pressed: false,
             counters: FrontCounters::make(),
         })
-    }
-
-    /// Where connections are taken, as the system says it: also where it chose the port.
-    pub fn listens_at(&self) -> Option<SocketAddr> {
-        self.sockets.listens_at()
-    }
-
-    /// Where command lines are taken.
-    pub fn control_at(&self) -> Option<SocketAddr> {
-        self.sockets.control_at()
     }
 
     /// Waits until something comes, until the moment or until a bell rings, and gives the slots for which something came.
@@ -70,7 +64,7 @@ impl<'a, R: Net + time::Clock> SocketFront<'a, R> {
     }
 
     #[tactic(auto, using(crate::proofs::EventLemmas::distinct_none))]
-    /// The same, where it is known whether a bell was rung. A wait that is interrupted is asked again, and fails at last.
+    /// Does the same, where it is known whether a bell was rung. A wait that is interrupted is asked again, and fails at last.
     fn poll(&mut self, until: Option<Moment>, pressed: bool, rung: bool, ready: &mut Ready) -> bool
         ensures counters { self.new.counters ≡ self.old.counters }
         ensures none { result ≡ false → ready.new ≡ [] }
@@ -80,12 +74,9 @@ impl<'a, R: Net + time::Clock> SocketFront<'a, R> {
         for _ in 0..CALLS {
             let last = self.clock.last();
             let now = self.clock.now(last);
-            match self
-                .sockets
-                .wait(longest_wait(now, until, pressed, rung), ready)
-            {
-                Some(woke) => return woke,
-                None => (),
+            let longest = longest_wait(now, until, pressed, rung);
+            if let Some(woke) = self.sockets.wait(longest, ready) {
+                return woke;
             }
         }
         ready.clear();
@@ -93,7 +84,7 @@ impl<'a, R: Net + time::Clock> SocketFront<'a, R> {
     }
 }
 
-impl<'a, R: Net + time::Clock> Front for SocketFront<'a, R> {
+impl<'a, R: Net + time::Clock + Eprint> Front for SocketFront<'a, R> {
     type L = SocketLink;
 
     type B = SocketBell;
@@ -101,7 +92,10 @@ impl<'a, R: Net + time::Clock> Front for SocketFront<'a, R> {
     ghost seen = { λ f. record { script = None; told = None; counts = f.counters } };
 
     fn bind(&mut self, listen: Addr, control: Option<u16>) -> bool {
-        let bound = self.sockets.open(self.net, listen, control);
+        let bound = self.sockets.open(self.net, self.operator, listen, control);
+        if bound {
+            self.operator.hear_of_start(self.sockets.listens_at());
+        }
         self.counters.test(bound);
         bound
     }
@@ -117,7 +111,11 @@ impl<'a, R: Net + time::Clock> Front for SocketFront<'a, R> {
         _quiet: bool,
         ready: &mut Ready,
     ) -> Woke
-        ensures waits { Waits (record { script = None; told = None; counts = self.old.counters }) (record { script = None; told = None; counts = self.new.counters }) until _quiet result ready.new }
+        ensures waits { let old : FrontSeen =
+            record { script = None; told = None; counts = self.old.counters } in
+            let new : FrontSeen =
+            record { script = None; told = None; counts = self.new.counters } in
+            Waits old new until _quiet result ready.new }
         ensures once { IsDistinct (λ a b. a == b) ready.new }
     {
         let pressed = self.pressed || self.sockets.asks_control();
@@ -168,12 +166,12 @@ impl<'a, R: Net + time::Clock> Front for SocketFront<'a, R> {
 
     /// Connects to the port, sends the word and a line feed, and reads until the server closes.
     fn dial(&mut self, port: u16, word: &str) -> bool {
-        let dialled = dial(self.net, port, word);
+        let dialled = dial(self.net, self.operator, port, word);
         self.counters.test(dialled);
         dialled
     }
 
-    /// NoMemory also where the system has no bell to give.
+    /// It answers NoMemory also where the system has no bell to give.
     fn bell(&mut self, alloc: Global) -> Result<SocketBell, NoMemory> {
         self.sockets.bell(self.net, alloc)
     }

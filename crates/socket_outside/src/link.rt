@@ -1,6 +1,6 @@
 //! A connection's way to its client over a socket.
 ghost use Rattle.std.specs.Prelude.{◌≡◌, ◌++◌, length, not, true, false, None};
-ghost use Rattle.mpm_base.specs.Link.{OnlyFaults, Writes};
+ghost use Rattle.mpm_base.specs.Link.{LinkSeen, OnlyFaults, Writes};
 ghost use Rattle.socket_outside.specs.Answers.{leaves_some};
 
 use crate::answers::{lacks_room, read_some, shut_for, write_pair_some, write_some};
@@ -23,7 +23,8 @@ pub struct SocketLink {
 impl SocketLink {
     /// The link over the socket, which is non-blocking.
     pub(crate) fn of(socket: TcpStream, marks: Arc<RoomMarks>) -> SocketLink
-        ensures { result.counters ≡ record { faults = 0; late_reads = 0; late_writes = 0; ends = 0 } }
+        ensures { result.counters
+            ≡ record { faults = 0; late_reads = 0; late_writes = 0; ends = 0 } }
     {
         SocketLink {
             socket: Some(socket),
@@ -32,7 +33,7 @@ impl SocketLink {
         }
     }
 
-    /// Has the registry report the slot from now on where the socket becomes readable or writable. False where that failed.
+    /// Has the registry report the slot from now on where the socket becomes readable or writable. It answers false where that failed.
     pub(crate) fn watch(&mut self, registry: &Registry, slot: u32) -> bool
         ensures { OnlyFaults (not result) self.old.counters self.new.counters }
     {
@@ -66,7 +67,7 @@ impl SocketLink {
 impl Link for SocketLink {
     ghost seen = { λ l. record { told = None; counts = l.counters } };
 
-    /// Failed where the link was closed.
+    /// It answers Failed where the link was closed.
     fn read(&mut self, buffer: &mut [u8]) -> Got {
         let got = match &mut self.socket {
             Some(socket) => read_some(socket, buffer),
@@ -76,9 +77,11 @@ impl Link for SocketLink {
         got
     }
 
-    /// Failed where the link was closed. It lacks room from then on exactly where something is left to be written.
+    /// It answers Failed where the link was closed. It lacks room from then on exactly where something is left to be written.
     fn write(&mut self, bytes: &[u8]) -> Sent
-        ensures link { Writes (record { told = None; counts = self.old.counters }) (record { told = None; counts = self.new.counters }) result bytes.now }
+        ensures link { let old : LinkSeen = record { told = None; counts = self.old.counters } in
+            let new : LinkSeen = record { told = None; counts = self.new.counters } in
+            Writes old new result bytes.now }
         ensures room { self.new.room.lacks ≡ leaves_some result (length bytes.now) }
     {
         self.room.set(true);
@@ -91,9 +94,11 @@ impl Link for SocketLink {
         sent
     }
 
-    /// Failed where the link was closed. It lacks room from then on exactly where something is left to be written.
+    /// It answers Failed where the link was closed. It lacks room from then on exactly where something is left to be written.
     fn write_pair(&mut self, first: &[u8], second: &[u8]) -> Sent
-        ensures link { Writes (record { told = None; counts = self.old.counters }) (record { told = None; counts = self.new.counters }) result (first.now ++ second.now) }
+        ensures link { let old : LinkSeen = record { told = None; counts = self.old.counters } in
+            let new : LinkSeen = record { told = None; counts = self.new.counters } in
+            Writes old new result (first.now ++ second.now) }
         ensures room { self.new.room.lacks ≡ leaves_some result (length (first.now ++ second.now)) }
     {
         self.room.set(true);

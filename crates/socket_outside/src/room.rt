@@ -14,7 +14,7 @@ pub(crate) struct RoomMarks {
 }
 
 impl RoomMarks {
-    /// Marks for so many slots, none of which is set. Takes all its memory here.
+    /// Marks for so many slots, none of which is set. It takes all its memory here.
     pub(crate) fn make(alloc: Global, slots: u32) -> Result<RoomMarks, NoMemory> {
         let Ok(mut marks) = Vec::with_capacity(alloc, slots as usize) else {
             return Err(NoMemory);
@@ -52,7 +52,7 @@ pub(crate) struct RoomMark {
 }
 
 impl RoomMark {
-    /// Of a link that isn't watched, and lacks no room.
+    /// The mark of a link that isn't watched, and lacks no room.
     pub(crate) fn of(marks: Arc<RoomMarks>) -> RoomMark
         ensures { result.lacks ≡ false }
     {

@@ -30,8 +30,11 @@ impl<T> ShortQueue<T> {
 
     /// Puts the item behind the others. It comes back where there are so many already.
     pub(crate) fn put(&mut self, item: T) -> Option<T>
-        ensures items { self.new.queue.items ≡ (if nat_lt (length self.old.queue.items) self.old.most then self.old.queue.items ++ item ∷ [] else self.old.queue.items) }
-        ensures back { result ≡ (if nat_lt (length self.old.queue.items) self.old.most then None else Some item) }
+        ensures items { let items = self.old.queue.items in
+            let fits = nat_lt (length items) self.old.most in
+            self.new.queue.items ≡ (if fits then items ++ item ∷ [] else items) }
+        ensures back { let fits = nat_lt (length self.old.queue.items) self.old.most in
+            result ≡ (if fits then None else Some item) }
         ensures most { self.new.most ≡ self.old.most }
     {
         if self.queue.len() < self.most {

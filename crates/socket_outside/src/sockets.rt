@@ -1,5 +1,5 @@
 //! The sockets of a front, and what the system says of them.
-ghost use Rattle.std.specs.Prelude.{◌≡◌, ◌≢◌, ◌==◌, ◌≤◌, ◌&&◌, IfOk, None, Some, [], is_some, length, not, true, false};
+ghost use Rattle.std.specs.Prelude.{◌≡◌, ◌≢◌, ◌==◌, ◌≤◌, ◌&&◌, IfSome, None, Some, [], is_some, length, not, true, false};
 ghost use Rattle.std.specs.List.{IsDistinct};
 ghost use Rattle.mio.specs.Events.{capacity as events_capacity, items};
 ghost use Rattle.mpm_base.specs.Front.{Hands};
@@ -21,6 +21,7 @@ use std::io;
 use std::net::{Ipv4Addr, Net, SocketAddr};
 use std::sync::Arc;
 use std::time::Duration;
+use system_outside::Operator;
 
 /// How many events one wait takes at most.
 const MOST_EVENTS: usize = 256;
@@ -48,7 +49,7 @@ struct Opened {
 }
 
 impl Sockets {
-    /// No sockets, and marks for so many slots. Takes all its memory here.
+    /// No sockets, and marks for so many slots. It takes all its memory here.
     pub(crate) fn make(alloc: Global, slots: u32) -> Result<Sockets, NoMemory> {
         let Ok(events) = Events::with_capacity(alloc, MOST_EVENTS) else {
             return Err(NoMemory);
@@ -70,50 +71,53 @@ impl Sockets {
 
     /// Where connections are taken, as the system says it.
     pub(crate) fn listens_at(&self) -> Option<SocketAddr> {
-        local_address(self.listener.as_ref())
+        self.listener.as_ref()?.local_addr().ok()
     }
 
-    /// Where command lines are taken.
-    pub(crate) fn control_at(&self) -> Option<SocketAddr> {
-        local_address(self.control.listener())
-    }
-
-    /// Gives up the sockets that are open, and opens these. False where one can't be opened: then none is open.
-    pub(crate) fn open<R: Net>(&mut self, net: &R, listen: Addr, control: Option<u16>) -> bool
+    /// Gives up the sockets that are open, and opens these. It answers false where one can't be opened, of which the operator hears: then
+    /// none is open.
+    pub(crate) fn open<R: Net + Eprint>(
+        &mut self,
+        net: &R,
+        operator: &Operator<'_, R>,
+        listen: Addr,
+        control: Option<u16>,
+    ) -> bool
         ensures listens { is_some self.new.listener ≡ result }
         ensures controls { is_some self.new.control.listener ≡ (result && is_some control) }
         ensures asks { self.new.asks ≡ result }
     {
         self.give_up();
-        if !self.begin(net) {
+        let address = SocketAddr::from((Ipv4Addr::from(listen.host), listen.port));
+        if let Err(error) = self.begin(net) {
+            operator.hear_of_fault("listen on", address, error);
             return false;
         }
         let opened = match &self.poll {
-            Some(poll) => open_sockets(net, poll.registry(), listen, control),
+            Some(poll) => open_sockets(net, operator, poll.registry(), address, control),
             None => return false,
         };
         match opened {
-            Ok(opened) => {
+            Some(opened) => {
                 self.listener = Some(opened.listener);
                 self.control.open(opened.control);
                 self.asks = true;
                 true
             }
-            Err(_) => false,
+            None => false,
         }
     }
 
-    /// Begins to wait for what is watched, where it didn't yet. False where that failed.
-    fn begin<R: Net>(&mut self, net: &R) -> bool
+    /// Begins to wait for what is watched, where it didn't yet.
+    fn begin<R: Net>(&mut self, net: &R) -> io::Result<()>
         ensures listener { self.new.listener ≡ self.old.listener }
         ensures control { self.new.control ≡ self.old.control }
         ensures asks { self.new.asks ≡ self.old.asks }
     {
-        if self.poll.is_some() {
-            return true;
+        if self.poll.is_none() {
+            self.poll = Some(Poll::new(net)?);
         }
-        self.poll = Poll::new(net).ok();
-        self.poll.is_some()
+        Ok(())
     }
 
     /// Gives up all sockets.
@@ -126,7 +130,7 @@ impl Sockets {
         self.control.open(None);
     }
 
-    /// The bell that brings a wait back. NoMemory where the system has none to give.
+    /// The bell that brings a wait back. It answers NoMemory also where the system has none to give.
     pub(crate) fn bell<R: Net>(&mut self, net: &R, alloc: Global) -> Result<SocketBell, NoMemory> {
         self.hang_bell(net, alloc)?;
         let Some(bell) = &self.bell else {
@@ -143,7 +147,7 @@ impl Sockets {
         if self.bell.is_some() {
             return Ok(());
         }
-        self.begin(net);
+        let _ = self.begin(net);
         let Some(poll) = &self.poll else {
             return Err(NoMemory);
         };
@@ -157,7 +161,7 @@ impl Sockets {
         Ok(())
     }
 
-    /// A wait begins. Whether a bell was rung since the last one.
+    /// A wait begins. It answers whether a bell was rung since the last one.
     pub(crate) fn begin_wait(&self) -> bool {
         match &self.bell {
             Some(bell) => bell.begin_wait(),
@@ -199,7 +203,7 @@ impl Sockets {
         self.control.take_line()
     }
 
-    /// Has the slot given from now on where something comes for the link. False where that failed.
+    /// Has the slot given from now on where something comes for the link. It answers false where that failed.
     pub(crate) fn watch(&self, link: &mut SocketLink, slot: u32) -> bool
         ensures { OnlyFaults (not result) link.old.counters link.new.counters }
     {
@@ -211,12 +215,13 @@ impl Sockets {
 
     #[tactic(auto, using(crate::proofs::EventLemmas::distinct_none))]
     /// Waits so many milliseconds at most, and gives the slots for which something came. Where it took as many events as it can,
-    /// more may have come, and the list is filled up with numbers that no slot has. False where the wait failed, and None where it
-    /// was interrupted and is asked again.
+    /// more may have come, and the list is filled up with numbers that no slot has. It answers false where the wait failed, and
+    /// None where it was interrupted and is asked again.
     pub(crate) fn wait(&mut self, longest: Option<u64>, ready: &mut Ready) -> Option<bool>
         ensures none { result ≢ Some true → ready.new ≡ [] }
         ensures few { length ready.new ≤ 256 }
-        ensures full { result ≡ Some true → length (items self.new.events) ≡ 256 → length ready.new ≡ 256 }
+        ensures full { result ≡ Some true → length (items self.new.events) ≡ 256
+            → length ready.new ≡ 256 }
         ensures once { IsDistinct (λ a b. a == b) ready.new }
     {
         ready.clear();
@@ -266,13 +271,26 @@ impl Sockets {
     }
 }
 
-/// The address of the socket.
-fn local_address(listener: Option<&TcpListener>) -> Option<SocketAddr> {
-    listener?.local_addr().ok()
+/// A listening socket at the address, which is watched under the token. It answers None where that failed, of which the
+/// operator hears.
+fn listen_at<R: Net + Eprint>(
+    net: &R,
+    operator: &Operator<'_, R>,
+    registry: &Registry,
+    address: SocketAddr,
+    token: Token,
+) -> Option<TcpListener> {
+    match watched_listener(net, registry, address, token) {
+        Ok(listener) => Some(listener),
+        Err(error) => {
+            operator.hear_of_fault("listen on", address, error);
+            None
+        }
+    }
 }
 
 /// A listening socket at the address, which is watched under the token.
-fn listen_at<R: Net>(
+fn watched_listener<R: Net>(
     net: &R,
     registry: &Registry,
     address: SocketAddr,
@@ -284,22 +302,22 @@ fn listen_at<R: Net>(
 }
 
 /// The listening socket, and behind it that of command lines on this machine, both watched.
-fn open_sockets<R: Net>(
+fn open_sockets<R: Net + Eprint>(
     net: &R,
+    operator: &Operator<'_, R>,
     registry: &Registry,
-    listen: Addr,
+    address: SocketAddr,
     control: Option<u16>,
-) -> io::Result<Opened>
-    ensures { IfOk result (λ opened. is_some opened.control ≡ is_some control) }
+) -> Option<Opened>
+    ensures { IfSome result (λ opened. is_some opened.control ≡ is_some control) }
 {
-    let address = SocketAddr::from((Ipv4Addr::from(listen.host), listen.port));
-    let listener = listen_at(net, registry, address, LISTENER)?;
+    let listener = listen_at(net, operator, registry, address, LISTENER)?;
     let control = match control {
         Some(port) => {
             let address = SocketAddr::from((Ipv4Addr::LOCALHOST, port));
-            Some(listen_at(net, registry, address, CONTROL)?)
+            Some(listen_at(net, operator, registry, address, CONTROL)?)
         }
         None => None,
     };
-    Ok(Opened { listener, control })
+    Some(Opened { listener, control })
 }

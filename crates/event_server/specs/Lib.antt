@@ -1,6 +1,0 @@
-pub mod Entry
-pub mod Fault
-pub mod Listing
-pub mod Output
-pub mod WholeFile
-pub mod WholeFileInside
