@@ -1,5 +1,5 @@
 -- A clock: the moments that it was told, and what it answered.
-use Rattle.std.specs.Prelude.{◌≡◌, ℕ, List, [], ◌∷◌, ◌++◌, Option, option_map}
+use Rattle.std.specs.Prelude.{◌≡◌, ℕ, List, [], ◌∷◌, ◌++◌, map, Option, option_map}
 
 -- the moment that a call of the clock was told
 abbrev pub asked_at : ℕ × ℕ → ℕ
@@ -8,3 +8,11 @@ asked_at call = call.0
 -- told that moment the clock answered this: where it tells its calls, they are those before and this one
 abbrev pub Answers : Option (List (ℕ × ℕ)) → Option (List (ℕ × ℕ)) → ℕ → ℕ → Type 0
 Answers told told' at answer = told' ≡ option_map (λ calls. calls ++ (at, answer) ∷ []) told
+
+-- the clock was told this moment, and answered it
+abbrev pub echo : ℕ → ℕ × ℕ
+echo moment = (moment, moment)
+
+-- each call was answered with what it was told
+abbrev pub AreEchoes : List (ℕ × ℕ) → Type 0
+AreEchoes calls = calls ≡ map echo (map asked_at calls)

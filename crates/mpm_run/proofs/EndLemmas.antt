@@ -6,7 +6,7 @@ use Rattle.mpm_base.specs.Count.{NeverFalls, Rises}
 use Rattle.mpm_script.specs.Clients.{clients_of, names_of, sent_by}
 use Rattle.mpm_base.specs.Front.{FrontTold, FrontSeen}
 use Rattle.mpm_base.specs.Sink.{SinkSeen}
-use Rattle.script_front.specs.ScriptClock.{AreEchoes, echo}
+use Rattle.mpm_base.specs.Clock.{AreEchoes, echo}
 use Rattle.script_front.specs.ScriptFront.{SeenFront, IsOfScript}
 use Rattle.mpm_base.specs.declared.script_line.ScriptLine.{ScriptLine}
 use Rattle.conn_machine.specs.declared.event.Why.TheVariants as why

@@ -5,7 +5,7 @@ use Rattle.std.specs.List.{flat_map, list_any, reduce}
 use Rattle.mpm_base.specs.Front.{FrontTold, TellsOn, WaitTold, earlier}
 use Rattle.mpm_base.specs.declared.front.Woke.{Woke}
 use Rattle.mpm_base.specs.declared.front.Woke.TheVariants as woke
-use Rattle.script_front.specs.ScriptClock.{AreEchoes, echo}
+use Rattle.mpm_base.specs.Clock.{AreEchoes, echo}
 use Rattle.conn_machine.specs.declared.event.Entry.{Entry}
 use Rattle.conn_machine.specs.declared.event.Event.{Event}
 use Rattle.conn_machine.specs.declared.event.Event.TheVariants as event

@@ -11,7 +11,7 @@ use Rattle.mpm_script.specs.Clients.{clients_of, names_of}
 use Rattle.mpm_script.specs.Script.{ScriptIs}
 use Rattle.mpm_script.specs.declared.script.ScriptFault.{ScriptFault}
 use Rattle.mpm_script.specs.declared.script.ScriptFault.TheVariants as script
-use Rattle.script_front.specs.ScriptClock.{echo}
+use Rattle.mpm_base.specs.Clock.{echo}
 use Rattle.script_front.specs.Editions.{conf_name, editions_of}
 use Rattle.script_front.specs.ScriptFront.{SeenFront, comings_of, front_seen, new_front}
 use Rattle.stand_ins.specs.PlainStore.{SeenStore, no_store_counts}

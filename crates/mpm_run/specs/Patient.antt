@@ -10,7 +10,7 @@ use Rattle.conn_machine.specs.declared.state.State.{State}
 use Rattle.conn_machine.specs.Rows.{is_parked}
 use Rattle.conn_machine.specs.States.{is_signalled}
 use Rattle.conn_machine.specs.Table.{may_retire, next}
-use Rattle.script_front.specs.ScriptClock.{AreEchoes}
+use Rattle.mpm_base.specs.Clock.{AreEchoes}
 use Rattle.board.specs.Book.{SeenBook}
 use Rattle.board.specs.Finds.{acceptable, has_to_be_drained, is_due, is_let_go, is_quiet, next_deadline_of, startable}
 use Rattle.mpm_run.specs.Times.{moment_for}

@@ -2,7 +2,7 @@
 use Rattle.std.proofs.Common.{◌≡◌, ℕ, Bool, true, false, cond, length, arith, List, [], ◌∷◌, ◌++◌, ◌==◌, get_or, refl, sym, ap, subst, ◌∙◌, Option, None, Some, MatchOption}
 use Rattle.std.specs.Prelude.{codes}
 use Rattle.mpm_base.specs.CommandWord.{command_word}
-use Rattle.mpm_base.specs.Digits.{decimal}
+use Rattle.mpm_base.specs.Digits.{number_in_digits}
 use Rattle.std.proofs.lemmas.Bool.{false≢true}
 use Rattle.std.proofs.lemmas.List.{append_cancel_left}
 use Rattle.mpm_script.specs.Escapes.{Spells}
@@ -63,14 +63,14 @@ IsNumberBehind word text n = (digits : List ℕ) × (text ≡ word ++ digits) ×
 one_number : (word text : List ℕ) (n m : ℕ) → IsNumberBehind word text n → IsNumberBehind word text m → n ≡ m
 one_number word text n m h k =
     let same : h.0 ≡ k.0 = append_cancel_left word h.0 k.0 (sym h.1 ∙ k.1) in
-    let value : Some n ≡ Some m = sym h.2 ∙ ap (λ ds. decimal 15 ds) same ∙ k.2 in
+    let value : Some n ≡ Some m = sym h.2 ∙ ap (λ ds. number_in_digits 15 ds) same ∙ k.2 in
     cc
 
 -- no number is the word of all
 all_no_digits : (digits : List ℕ) (n : ℕ) → codes " all" ≡ codes " " ++ digits → ¬ (IsNumber digits n)
 all_no_digits digits n e number =
     let word : codes "all" ≡ digits = append_cancel_left (codes " ") (codes "all") digits e in
-    let read : decimal 15 (codes "all") ≡ Some n = ap (λ ds. decimal 15 ds) word ∙ number in
+    let read : number_in_digits 15 (codes "all") ≡ Some n = ap (λ ds. number_in_digits 15 ds) word ∙ number in
     absurd (cc)
 
 -- ---- what happens to a link

@@ -4,7 +4,7 @@ use Rattle.std.specs.Char.{is_ascii_lowercase, is_ascii_digit}
 use Rattle.std.specs.List.{AllPass}
 use Rattle.mpm_script.specs.Escapes.{Spells}
 use Rattle.mpm_base.specs.CommandWord.{command_word}
-use Rattle.mpm_base.specs.Digits.{decimal}
+use Rattle.mpm_base.specs.Digits.{number_in_digits}
 use Rattle.mpm_base.specs.Moment.{greatest_moment}
 use Rattle.mpm_base.specs.declared.script_line.LinkCall.{LinkCall}
 use Rattle.mpm_base.specs.declared.script_line.LinkCall.TheVariants as call
@@ -39,7 +39,7 @@ pub record IsFileName (name : List ℕ) : Type 0 where
 
 -- NUMBER: 1 to 15 decimal digits, of which the first ones may be zeros, and their value
 abbrev pub IsNumber : List ℕ → ℕ → Type 0
-IsNumber digits n = decimal 15 digits ≡ Some n
+IsNumber digits n = number_in_digits 15 digits ≡ Some n
 
 -- ## What happens to a link
 

@@ -4,7 +4,7 @@ ghost use Rattle.std.specs.List.{prefix_len};
 ghost use Rattle.mpm_script.specs.ScriptLine.{is_name_byte, is_file_byte, IsName, IsFileName, IsNumber};
 ghost use Rattle.mpm_script.specs.LineWordsInside.{IsNamed, IsFiled};
 
-use mpm_base::decimal;
+use mpm_base::number_in_digits;
 
 const LONGEST_NAME: usize = 16;
 
@@ -17,7 +17,7 @@ pub(crate) fn number(text: &[u8]) -> Option<u64>
     ensures some { IfSome result (IsNumber text.now) }
     ensures none { IfNone result ((n : ℕ) → ¬ IsNumber text.now n) }
 {
-    decimal(text, MOST_DIGITS)
+    number_in_digits(text, MOST_DIGITS)
 }
 
 fn is_name_byte(byte: u8) -> bool

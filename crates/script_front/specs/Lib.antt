@@ -5,6 +5,5 @@ pub mod FailingFrontInside
 pub mod NameChainsInside
 pub mod PlayedFrontInside
 pub mod PlayedPartsInside
-pub mod ScriptClock
 pub mod ScriptFront
 pub mod Signals

@@ -1,7 +1,6 @@
 //! The clock that goes with the front of a script.
 ghost use Rattle.std.specs.Prelude.{◌≡◌, Some, [], ◌∷◌, ◌++◌};
-ghost use Rattle.mpm_base.specs.Clock.{Answers};
-ghost use Rattle.script_front.specs.ScriptClock.{AreEchoes};
+ghost use Rattle.mpm_base.specs.Clock.{Answers, AreEchoes};
 
 use http_server::Log;
 use mpm_base::{Clock, Moment};
@@ -21,7 +20,7 @@ impl Model for ScriptClock {
 
     ghost view = { λ c. c.calls.items };
 
-    ghost use Rattle.script_front.specs.ScriptClock.{AreEchoes};
+    ghost use Rattle.mpm_base.specs.Clock.{AreEchoes};
 
     ghost invariant = { λ c. AreEchoes c.calls.items };
 }

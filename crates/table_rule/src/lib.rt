@@ -17,8 +17,8 @@ mod view;
 mod words;
 
 pub use steps::{
-    CreditStep, DrawStep, GiveStep, IdleStep, Joined, NewPass, ReleaseStep, RestStep,
-    TakeStep, Tie, TryStep, UncreditStep, UndoStep, WakeStep,
+    CreditStep, DrawStep, GiveStep, IdleStep, Joined, NewPass, ReleaseStep, RestStep, TakeStep,
+    Tie, TryStep, UncreditStep, UndoStep, WakeStep,
 };
 pub use trail::Step;
 pub use view::{Draws, Hand, LastLeft, Origin, Past, View, Who};
