@@ -70,7 +70,7 @@ fn place_of_index(site: &Site, name: &[u8]) -> Option<usize>
 fn find_index(site: &Site, name: &[u8]) -> Found
     ensures { result
         ≡ file_or (place_of_file (further_name name.now site.now.index) site.now.files)
-            Found.Missing }
+        Found.Missing }
 {
     let _few = site.files();
     match place_of_index(site, name) {
