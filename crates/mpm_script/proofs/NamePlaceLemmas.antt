@@ -54,10 +54,10 @@ place-map name_of name [] = refl
 place-map name_of name (x ∷ xs) = grind (arith, nat_tests, common_steps, place-map name_of name xs)
 
 -- a further name behind the others
-position-kept : {X : Type 0} (p : X → Bool) (xs : List X) (y : X) (i : ℕ) → position p xs ≡ Some i → position p (xs ++ y ∷ []) ≡ Some i
+pub position-kept : {X : Type 0} (p : X → Bool) (xs : List X) (y : X) (i : ℕ) → position p xs ≡ Some i → position p (xs ++ y ∷ []) ≡ Some i
 position-kept p xs y i at = grind (arith, nat_tests, position_or_len_push p xs y, length_push xs y, prefix_len-le-length (λ x. not (p x)) xs)
 
-position-new : {X : Type 0} (p : X → Bool) (xs : List X) (y : X) → position p xs ≡ None → position p (xs ++ y ∷ []) ≡ cond (p y) (Some (length xs)) None
+pub position-new : {X : Type 0} (p : X → Bool) (xs : List X) (y : X) → position p xs ≡ None → position p (xs ++ y ∷ []) ≡ cond (p y) (Some (length xs)) None
 position-new p xs y none = grind (arith, nat_tests, position_or_len_push p xs y, length_push xs y, prefix_len-le-length (λ x. not (p x)) xs)
 
 -- what a map finds where a name is put into it

@@ -12,7 +12,8 @@ use std::alloc::Global;
 
 /// Whether the line makes a connection whose name was used; the names are those of the lines before it.
 pub(crate) fn is_repeated(names: &NamePlaces, line: &ScriptLine) -> bool
-    ensures { (before : List Line) → names.now ≡ names_of before → result ≡ is_repeated before line.now }
+    ensures { (before : List Line) → names.now ≡ names_of before →
+        result ≡ is_repeated before line.now }
 {
     match line {
         ScriptLine::Conn(name) => has_name(names, name.as_slice()),
@@ -22,7 +23,8 @@ pub(crate) fn is_repeated(names: &NamePlaces, line: &ScriptLine) -> bool
 
 /// Whether the line names a connection that no earlier line makes; the names are those of the lines before it.
 pub(crate) fn is_unknown(names: &NamePlaces, line: &ScriptLine) -> bool
-    ensures { (before : List Line) → names.now ≡ names_of before → result ≡ is_unknown before line.now }
+    ensures { (before : List Line) → names.now ≡ names_of before →
+        result ≡ is_unknown before line.now }
 {
     match line {
         ScriptLine::Client(name, _) => !has_name(names, name.as_slice()),
@@ -32,7 +34,8 @@ pub(crate) fn is_unknown(names: &NamePlaces, line: &ScriptLine) -> bool
 
 /// Whether the line goes back behind the moment, which is that of the lines before it.
 pub(crate) fn is_backwards(moment: Moment, line: &ScriptLine) -> bool
-    ensures { (before : List Line) → moment ≡ moment_from 0 before → result ≡ is_backwards before line.now }
+    ensures { (before : List Line) → moment ≡ moment_from 0 before →
+        result ≡ is_backwards before line.now }
 {
     match line {
         ScriptLine::At(later) => *later < moment,

@@ -9,7 +9,8 @@ use std::alloc::Global;
 
 // The bytes that the text spells, or None where it spells none.
 pub(crate) fn spelled(alloc: Global, text: &[u8]) -> Result<Option<Octets>, NoMemory>
-    ensures { IfOk result (λ read. MatchOption read ((bytes : List ℕ) → ¬ Spells text.now bytes) (Spells text.now)) }
+    ensures { IfOk result
+        (λ read. MatchOption read ((bytes : List ℕ) → ¬ Spells text.now bytes) (Spells text.now)) }
 {
     let mut bytes = Octets::make(alloc);
     let mut rest = text;

@@ -21,7 +21,8 @@ use std::alloc::Global;
 
 /// The line that the text is, without its line feed; None where it is none.
 pub(crate) fn line_of(alloc: Global, text: &[u8]) -> Result<Option<ScriptLine>, NoMemory>
-    ensures { IfOk result (λ line. MatchOption line ((l : Line) → ¬ IsLine text.now l) (IsLine text.now)) }
+    ensures { IfOk result
+        (λ line. MatchOption line ((l : Line) → ¬ IsLine text.now l) (IsLine text.now)) }
 {
     if let Some(moment) = at_line(text) {
         return Ok(Some(ScriptLine::At(moment)));
@@ -43,7 +44,8 @@ pub(crate) fn line_of(alloc: Global, text: &[u8]) -> Result<Option<ScriptLine>, 
 
 /// A law of lines: a text is one line at most.
 pub fn one_line()
-    ensures { (text : List ℕ) (line other : Line) → IsLine text line → IsLine text other → line ≡ other }
+    ensures { (text : List ℕ) (line other : Line) → IsLine text line → IsLine text other →
+        line ≡ other }
 {}
 
 fn at_line(text: &[u8]) -> Option<Moment>
@@ -117,8 +119,10 @@ fn bare_line<'a>(text: &'a [u8], word: &[u8]) -> Option<&'a [u8]>
 }
 
 fn room_line(text: &[u8]) -> Option<(&[u8], Option<u64>)>
-    ensures some { IfSome result (λ client. IsLine text.now (line.Client client.0.now (act.Room client.1))) }
-    ensures none { IfNone result ((name : List ℕ) (room : Option ℕ) → ¬ IsLine text.now (line.Client name (act.Room room))) }
+    ensures some { IfSome result
+        (λ client. IsLine text.now (line.Client client.0.now (act.Room client.1))) }
+    ensures none { IfNone result
+        ((name : List ℕ) (room : Option ℕ) → ¬ IsLine text.now (line.Client name (act.Room room))) }
 {
     let (name, behind) = named(text, b"room ")?;
     Some((name, room(behind)?))
@@ -136,8 +140,11 @@ fn room(behind: &[u8]) -> Option<Option<u64>>
 }
 
 fn fail_line(text: &[u8]) -> Option<(&[u8], LinkCall, u64)>
-    ensures some { IfSome result (λ client. IsLine text.now (line.Client client.0.now (act.Fail client.1 client.2))) }
-    ensures none { IfNone result ((name : List ℕ) (which : Call) (n : ℕ) → ¬ IsLine text.now (line.Client name (act.Fail which n))) }
+    ensures some { IfSome result
+        (λ client. IsLine text.now (line.Client client.0.now (act.Fail client.1 client.2))) }
+    ensures none { IfNone result
+        ((name : List ℕ) (which : Call) (n : ℕ) →
+        ¬ IsLine text.now (line.Client name (act.Fail which n))) }
 {
     let (name, behind) = named(text, b"fail ")?;
     let (which, number) = failing(behind)?;
@@ -147,7 +154,8 @@ fn fail_line(text: &[u8]) -> Option<(&[u8], LinkCall, u64)>
 // The call that fails, as it is written behind a name.
 fn failing(behind: &[u8]) -> Option<(LinkCall, u64)>
     ensures some { IfSome result (λ call. IsBehindName (act.Fail call.0 call.1) behind.now) }
-    ensures none { IfNone result ((which : Call) (n : ℕ) → ¬ IsBehindName (act.Fail which n) behind.now) }
+    ensures none { IfNone result
+        ((which : Call) (n : ℕ) → ¬ IsBehindName (act.Fail which n) behind.now) }
 {
     match behind.strip_prefix(b" read ") {
         Some(digits) => Some((LinkCall::Read, number(digits)?)),

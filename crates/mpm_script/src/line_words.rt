@@ -51,7 +51,8 @@ pub(crate) fn is_file_name(text: &[u8]) -> bool
 /// The name behind the word, and what stands behind the name.
 pub(crate) fn named<'a>(text: &'a [u8], word: &[u8]) -> Option<(&'a [u8], &'a [u8])>
     ensures some { IfSome result (λ cut. IsNamed word.now text.now cut.0.now cut.1.now) }
-    ensures none { IfNone result ((name behind : List ℕ) → ¬ IsNamed word.now text.now name behind) }
+    ensures none { IfNone result
+        ((name behind : List ℕ) → ¬ IsNamed word.now text.now name behind) }
 {
     let rest = text.strip_prefix(word)?;
     let (name, behind) = rest.split_at(name_len(rest));

@@ -42,7 +42,8 @@ fn add_files(alloc: Global, script: &mut Script) -> Result<(), NoMemory>
 
 /// Puts the lines of so many connections at the end.
 fn add_connections(alloc: Global, script: &mut Script, count: u32) -> Result<(), NoMemory>
-    ensures { OnOk result (script.new ≡ script.old ++ flat_map load_connection (range_with_len 0 count)) }
+    ensures { OnOk result
+        (script.new ≡ script.old ++ flat_map load_connection (range_with_len 0 count)) }
 {
     for number in 0..count {
         add_connection(alloc, script, number)?;

@@ -10,7 +10,7 @@ use std::marker::Model;
 
 /// Names in the order in which they were added, as contracts see it. Where one stands first is found by a map, and so in a
 /// time that doesn't grow with their number.
-#[derive(Drop)]
+#[derive(Debug, Drop)]
 pub struct NamePlaces {
     places: HashMap<Vec<u8>, usize>,
     names: Vec<Octets>,
@@ -52,7 +52,8 @@ impl NamePlaces {
 
         // So that name stands there, and where there is no place none of the names is this one.
         ensures named { IfSome result (λ place. IsNamedAt name.now place self.now) }
-        ensures missing { IfNone result (AllByRecursion (λ other. bytes_eq name.now other ≡ false) self.now) }
+        ensures missing { IfNone result
+            (AllByRecursion (λ other. bytes_eq name.now other ≡ false) self.now) }
     {
         self.found(name)
     }

@@ -127,7 +127,8 @@ pub fn read_script(alloc: Global, bytes: &[u8]) -> Result<Script, ScriptFault>
 
 /// A law of scripts: bytes have one answer, unless memory lacks.
 pub fn one_answer()
-    ensures { (bytes : List ℕ) (answer other : Result (List Line) Fault) → ScriptIs bytes answer → ScriptIs bytes other
+    ensures { (bytes : List ℕ) (answer other : Result (List Line) Fault) → ScriptIs bytes answer →
+        ScriptIs bytes other
         → IsSureAnswer answer → IsSureAnswer other → answer ≡ other }
 {
     one_line();
@@ -140,7 +141,9 @@ pub fn file_names_are_texts()
 
 // The line that the bytes begin with, and the bytes behind it; None where they begin with none.
 fn next_line(alloc: Global, bytes: &[u8]) -> Result<Option<(ScriptLine, &[u8])>, NoMemory>
-    ensures { IfOk result (λ next. MatchOption next ((line : Line) (rest : List ℕ) → ¬ BeginsWithLine bytes.now line rest)
+    ensures { IfOk result
+        (λ next.
+        MatchOption next ((line : Line) (rest : List ℕ) → ¬ BeginsWithLine bytes.now line rest)
         (λ next. BeginsWithLine bytes.now next.0 next.1.now)) }
 {
     let Some((text, rest)) = first_line(bytes) else {

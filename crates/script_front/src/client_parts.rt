@@ -28,8 +28,10 @@ pub(crate) struct ClientParts {
 pub(crate) fn parts_of(alloc: Global, lines: &[ScriptLine]) -> Result<ClientParts, NoMemory>
     ensures chains { IfOk result (λ parts. parts.chains ≡ names_of lines.now) }
     ensures waiting { IfOk result (λ parts. plans parts.awaited.items ≡ plans_of lines.now) }
-    ensures clients { IfOk result (λ parts. parts.clients.items ≡ map new_client (names_of lines.now)) }
-    ensures watched { IfOk result (λ parts. parts.watched.items ≡ map no_name_yet (names_of lines.now)) }
+    ensures clients { IfOk result
+        (λ parts. parts.clients.items ≡ map new_client (names_of lines.now)) }
+    ensures watched { IfOk result
+        (λ parts. parts.watched.items ≡ map no_name_yet (names_of lines.now)) }
 {
     let mut parts = named_parts(alloc, lines)?;
     hear_lines(&parts.chains, lines, &mut parts.awaited)?;
@@ -39,9 +41,12 @@ pub(crate) fn parts_of(alloc: Global, lines: &[ScriptLine]) -> Result<ClientPart
 /// The clients of the lines, of whose links nothing is said yet.
 fn named_parts(alloc: Global, lines: &[ScriptLine]) -> Result<ClientParts, NoMemory>
     ensures chains { IfOk result (λ parts. parts.chains ≡ names_of lines.now) }
-    ensures waiting { IfOk result (λ parts. plans parts.awaited.items ≡ map (plan_after []) (names_of lines.now)) }
-    ensures clients { IfOk result (λ parts. parts.clients.items ≡ map new_client (names_of lines.now)) }
-    ensures watched { IfOk result (λ parts. parts.watched.items ≡ map no_name_yet (names_of lines.now)) }
+    ensures waiting { IfOk result
+        (λ parts. plans parts.awaited.items ≡ map (plan_after []) (names_of lines.now)) }
+    ensures clients { IfOk result
+        (λ parts. parts.clients.items ≡ map new_client (names_of lines.now)) }
+    ensures watched { IfOk result
+        (λ parts. parts.watched.items ≡ map no_name_yet (names_of lines.now)) }
 {
     let mut parts = ClientParts {
         chains: NameChains::make(alloc),
@@ -61,9 +66,12 @@ impl ClientParts {
     /// Puts a client behind the others. Where memory lacks a part of it may be there.
     fn add(&mut self, alloc: Global, name: &[u8]) -> Result<(), NoMemory>
         ensures chains { OnOk result (self.new.chains ≡ self.old.chains ++ name.now ∷ []) }
-        ensures waiting { OnOk result (plans self.new.awaited.items ≡ plans self.old.awaited.items ++ new_plan ∷ []) }
-        ensures clients { OnOk result (self.new.clients.items ≡ self.old.clients.items ++ new_client name.now ∷ []) }
-        ensures watched { OnOk result (self.new.watched.items ≡ self.old.watched.items ++ None ∷ []) }
+        ensures waiting { OnOk result
+            (plans self.new.awaited.items ≡ plans self.old.awaited.items ++ new_plan ∷ []) }
+        ensures clients { OnOk result
+            (self.new.clients.items ≡ self.old.clients.items ++ new_client name.now ∷ []) }
+        ensures watched { OnOk result
+            (self.new.watched.items ≡ self.old.watched.items ++ None ∷ []) }
     {
         let wire = Arc::new(alloc, Wire::make())?;
         let theirs = Arc::try_clone(&wire)?;

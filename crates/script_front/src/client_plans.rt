@@ -89,7 +89,9 @@ fn hear_act(
 ) -> Result<(), NoMemory>
     requires { length awaited.old.items ≡ length chains.now }
     ensures each { OnOk result (length awaited.new.items ≡ length chains.now) }
-    ensures tells { OnOk result (TellsPlans (said.Client name.now act.now) chains.now (plans awaited.old.items) (plans awaited.new.items)) }
+    ensures tells { OnOk result
+        (TellsPlans (said.Client name.now act.now) chains.now (plans awaited.old.items)
+        (plans awaited.new.items)) }
 {
     let mut next = chains.last(name);
     'places: while let Some(place) = next {

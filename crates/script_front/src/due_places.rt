@@ -50,7 +50,8 @@ impl DuePlaces {
     pub(crate) fn take(&mut self) -> Option<usize>
         requires { AreMarked self.old }
         ensures some { IfSome result (λ place. TakesLowest place self.old self.new) }
-        ensures none { IfNone result (AreUnmarked self.old.marks.items 0 (length self.old.marks.items)) }
+        ensures none { IfNone result
+            (AreUnmarked self.old.marks.items 0 (length self.old.marks.items)) }
         ensures same { IfNone result (self.new.marks.items ≡ self.old.marks.items) }
         ensures marked { AreMarked self.new }
     {
@@ -74,8 +75,10 @@ impl DuePlaces {
         requires marked { AreMarked self.old }
         requires within { 64 * block < self.old.high }
         requires before { AreUnmarked self.old.marks.items self.old.low (64 * block) }
-        ensures some { IfSome result (λ place. IsLowest self.old.marks.items self.old.low (64 * block + 64) place) }
-        ensures none { IfNone result (AreUnmarked self.old.marks.items self.old.low (64 * block + 64)) }
+        ensures some { IfSome result
+            (λ place. IsLowest self.old.marks.items self.old.low (64 * block + 64) place) }
+        ensures none { IfNone result
+            (AreUnmarked self.old.marks.items self.old.low (64 * block + 64)) }
         ensures marks { self.new.marks.items ≡ self.old.marks.items }
         ensures low { self.new.low ≡ self.old.low }
         ensures high { self.new.high ≡ self.old.high }

@@ -39,8 +39,11 @@ pub fn script_store(alloc: Global, script: &Script) -> Result<PlainStore, NoMemo
 /// A law of the editions of a script: each has the file of the configuration. The first one's is what the lines of the site
 /// before all others make of it.
 pub fn editions_have_a_configuration()
-    ensures opening { (lines : List Line) → bytes_of conf_name (editions_of lines).files ≡ Some (conf_of (opening_lines lines)) }
-    ensures later { (lines : List Line) → All (λ (files : List SeenFile). IsSome (bytes_of conf_name files)) (editions_of lines).later }
+    ensures opening { (lines : List Line) →
+        bytes_of conf_name (editions_of lines).files ≡ Some (conf_of (opening_lines lines)) }
+    ensures later { (lines : List Line) →
+        All (λ (files : List SeenFile). IsSome (bytes_of conf_name files))
+        (editions_of lines).later }
 {}
 
 /// The lines of the site before the first other line.
@@ -123,7 +126,9 @@ fn set_conf(conf: &mut Octets, bytes: &[u8]) -> Result<(), NoMemory>
 /// What the line does to the other files happens; the configuration's file stands before them.
 fn change_files(files: &mut Files, line: &ScriptLine) -> Result<(), NoMemory>
     requires { HasTextName line.now }
-    ensures { OnOk result ((conf : List ℕ) (others : List SeenFile) → files.old ≡ conf_file conf ∷ others → files.new ≡ conf_file conf ∷ fold files_after others (site_in line.now)) }
+    ensures { OnOk result
+        ((conf : List ℕ) (others : List SeenFile) → files.old ≡ conf_file conf ∷ others →
+        files.new ≡ conf_file conf ∷ fold files_after others (site_in line.now)) }
 {
     match line {
         ScriptLine::Site(site) => change_site_files(files, site),
@@ -134,7 +139,9 @@ fn change_files(files: &mut Files, line: &ScriptLine) -> Result<(), NoMemory>
 /// The same of a line of the site.
 fn change_site_files(files: &mut Files, site: &SiteLine) -> Result<(), NoMemory>
     requires { NamesText site.now }
-    ensures { OnOk result ((conf : List ℕ) (others : List SeenFile) → files.old ≡ conf_file conf ∷ others → files.new ≡ conf_file conf ∷ files_after others site.now) }
+    ensures { OnOk result
+        ((conf : List ℕ) (others : List SeenFile) → files.old ≡ conf_file conf ∷ others →
+        files.new ≡ conf_file conf ∷ files_after others site.now) }
 {
     match site {
         SiteLine::File(name, bytes) if !is_conf_name(name) => {

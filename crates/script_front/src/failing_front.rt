@@ -46,7 +46,8 @@ impl Model for FailingFront {
 
     ghost use Rattle.script_front.specs.FailingFrontInside.{FailOnlyListed};
 
-    ghost invariant = { λ f. FailOnlyListed f.bad_waits f.bad_accepts f.failed_waits f.failed_accepts };
+    ghost invariant = { λ f.
+        FailOnlyListed f.bad_waits f.bad_accepts f.failed_waits f.failed_accepts };
 }
 
 impl ScriptFront {
@@ -115,9 +116,16 @@ impl Front for FailingFront {
 
     /// The call does not fail.
     fn bind(&mut self, listen: Addr, control: Option<u16>) -> bool
-        ensures binds { Binds (failing_front_seen self.old) (failing_front_seen self.new) listen control result }
+        ensures binds { Binds (failing_front_seen self.old)
+            (failing_front_seen self.new) listen control result }
         ensures sure { result ≡ true }
-        ensures rest { self.new ≡ record self.old { front = record self.old.front { told = after_bind true listen control self.old.front.told } } }
+        ensures rest { self.new
+            ≡ record self.old {
+              front =
+                  record self.old.front {
+                    told = after_bind true listen control self.old.front.told;
+                  };
+            } }
     {
         self.front.bind(listen, control)
     }
@@ -131,7 +139,8 @@ impl Front for FailingFront {
         quiet: bool,
         ready: &mut Ready,
     ) -> Woke
-        ensures waits { Waits (failing_front_seen self.old) (failing_front_seen self.new) until quiet result ready.new }
+        ensures waits { Waits (failing_front_seen self.old)
+            (failing_front_seen self.new) until quiet result ready.new }
         ensures plays { PlaysUnlessListed self.old self.new until quiet result ready.new }
     {
         self.made_waits = self.made_waits.saturating_add(1);
@@ -144,13 +153,23 @@ impl Front for FailingFront {
 
     /// A listed accept fails, whatever waits to be taken, and hands nothing out.
     fn accept(&mut self) -> Arrival<ScriptLink>
-        ensures accepts { Accepts (λ (l : SeenScriptLink). telling_link l.told l.counts) (failing_front_seen self.old) (failing_front_seen self.new) result }
+        ensures accepts { Accepts (λ (l : SeenScriptLink). telling_link l.told l.counts)
+            (failing_front_seen self.old) (failing_front_seen self.new) result }
         ensures fails { accept_failed result ≡ next_accept_fails self.old }
         ensures some { is_handed result
-            ≡ (not (next_accept_fails self.old) && (not self.old.front.told.hushed && nat_lt self.old.front.told.accepted self.old.front.told.arrived)) }
+            ≡ (not (next_accept_fails self.old) &&
+            (not self.old.front.told.hushed
+            && nat_lt self.old.front.told.accepted self.old.front.told.arrived)) }
         ensures link { HandsPaced self.old.front result }
-        ensures counts { self.new.accept_faults ≡ (if next_accept_fails self.old then next_count self.old.accept_faults else self.old.accept_faults) }
-        ensures rest { self.new ≡ record self.old { front = record self.old.front { told = self.new.front.told }; accepts = next_count self.old.accepts; accept_faults = self.new.accept_faults } }
+        ensures counts { self.new.accept_faults
+            ≡ (if next_accept_fails self.old then next_count self.old.accept_faults
+            else self.old.accept_faults) }
+        ensures rest { self.new
+            ≡ record self.old {
+              front = record self.old.front { told = self.new.front.told };
+              accepts = next_count self.old.accepts;
+              accept_faults = self.new.accept_faults;
+            } }
     {
         self.made_accepts = self.made_accepts.saturating_add(1);
         if self.bad_accepts.has(self.made_accepts) {
@@ -163,17 +182,33 @@ impl Front for FailingFront {
 
     /// A signal is due at once where bytes came before, or the end has.
     fn watch(&mut self, name: ConnName, link: &mut ScriptLink) -> bool
-        ensures watches { Watches (failing_front_seen self.old) (failing_front_seen self.new) name (telling_link link.old.told link.old.counts) (telling_link link.new.told link.new.counts) result }
+        ensures watches { Watches (failing_front_seen self.old) (failing_front_seen self.new) name
+            (telling_link link.old.told link.old.counts)
+            (telling_link link.new.told link.new.counts) result }
         ensures sure { result ≡ true }
-        ensures rest { self.new ≡ record self.old { front = record self.old.front { clients = after_watch_of link.old.told.rank self.old.front.clients; names = slice_set self.old.front.names link.old.told.rank (Some name); told = self.new.front.told } } }
+        ensures rest { self.new
+            ≡ record self.old {
+              front = record self.old.front {
+                clients = after_watch_of link.old.told.rank self.old.front.clients;
+                names = slice_set self.old.front.names link.old.told.rank (Some name);
+                told = self.new.front.told;
+              };
+            } }
     {
         self.front.watch(name, link)
     }
 
     /// The front finds such a link closed as it finds any other.
     fn turn_away(&mut self, link: ScriptLink)
-        ensures seen { failing_front_seen self.new ≡ front_after_turning_away (Some link.told) (failing_front_seen self.old) }
-        ensures rest { self.new ≡ record self.old { front = record self.old.front { told = after_turning_away (Some link.told) self.old.front.told } } }
+        ensures seen { failing_front_seen self.new
+            ≡ front_after_turning_away (Some link.told) (failing_front_seen self.old) }
+        ensures rest { self.new
+            ≡ record self.old {
+              front = record self.old.front {
+                told = after_turning_away
+                    (Some link.told) self.old.front.told;
+              };
+            } }
     {
         self.front.turn_away(link);
     }
@@ -181,25 +216,43 @@ impl Front for FailingFront {
     /// No further link is handed out.
     fn hush(&mut self)
         ensures seen { failing_front_seen self.new ≡ after_hush (failing_front_seen self.old) }
-        ensures rest { self.new ≡ record self.old { front = record self.old.front { told = hushed_front self.old.front.told } } }
+        ensures rest { self.new
+            ≡ record self.old {
+              front =
+                  record self.old.front { told = hushed_front self.old.front.told };
+            } }
     {
         self.front.hush();
     }
 
     /// The word of each command of the script is a line, which comes with the lines around the command.
     fn command(&mut self) -> Option<Line>
-        ensures commands { Commands (failing_front_seen self.old) (failing_front_seen self.new) result }
+        ensures commands { Commands (failing_front_seen self.old)
+            (failing_front_seen self.new) result }
         ensures line { result ≡ slice_get self.old.front.told.lines self.old.front.told.read }
-        ensures rest { self.new ≡ record self.old { front = record self.old.front { told = after_command (is_some result) self.old.front.told } } }
+        ensures rest { self.new
+            ≡ record self.old {
+              front = record self.old.front {
+                told = after_command
+                    (is_some result) self.old.front.told;
+              };
+            } }
     {
         self.front.command()
     }
 
     /// The call does not fail.
     fn dial(&mut self, port: u16, word: &str) -> bool
-        ensures dials { Dials (failing_front_seen self.old) (failing_front_seen self.new) port word.now result }
+        ensures dials { Dials (failing_front_seen self.old)
+            (failing_front_seen self.new) port word.now result }
         ensures sure { result ≡ true }
-        ensures rest { self.new ≡ record self.old { front = record self.old.front { told = after_dial port word.now true self.old.front.told } } }
+        ensures rest { self.new
+            ≡ record self.old {
+              front =
+                  record self.old.front {
+                    told = after_dial port word.now true self.old.front.told;
+                  };
+            } }
     {
         self.front.dial(port, word)
     }

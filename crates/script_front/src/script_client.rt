@@ -30,7 +30,8 @@ impl Model for ScriptClient {
 
     ghost Value = { SeenClient };
 
-    ghost view = { λ c. record { name = c.name; came = c.came; ended = c.ended; due = c.due; closed = c.closed } };
+    ghost view = { λ c.
+        record { name = c.name; came = c.came; ended = c.ended; due = c.due; closed = c.closed } };
 }
 
 impl ScriptClient {
@@ -124,7 +125,9 @@ pub(crate) fn happen(
     ensures clients { clients.new ≡ map (client_after_lines lines.now) clients.old }
     ensures each { length due.new.marks.items ≡ length due.old.marks.items }
     ensures marked { AreMarked due.new }
-    ensures covers { (watched : List (Option Name)) → Covers due.old.marks.items clients.old watched → Covers due.new.marks.items clients.new watched }
+    ensures covers { (watched : List (Option Name)) →
+        Covers due.old.marks.items clients.old watched →
+        Covers due.new.marks.items clients.new watched }
 {
     for line in lines {
         if let Some((name, act)) = act_in(line) {
@@ -155,10 +158,13 @@ fn act_on(
     requires named { map (λ client. client.name) clients.old ≡ chains.now }
     requires each { length due.old.marks.items ≡ length clients.old }
     requires marked { AreMarked due.old }
-    ensures clients { clients.new ≡ map (client_after_line (said.Client name.now act.now)) clients.old }
+    ensures clients { clients.new
+        ≡ map (client_after_line (said.Client name.now act.now)) clients.old }
     ensures each { length due.new.marks.items ≡ length due.old.marks.items }
     ensures marked { AreMarked due.new }
-    ensures covers { (watched : List (Option Name)) → Covers due.old.marks.items clients.old watched → Covers due.new.marks.items clients.new watched }
+    ensures covers { (watched : List (Option Name)) →
+        Covers due.old.marks.items clients.old watched →
+        Covers due.new.marks.items clients.new watched }
 {
     let mut next = chains.last(name);
     'places: while let Some(place) = next {

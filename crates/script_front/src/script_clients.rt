@@ -34,7 +34,14 @@ impl Model for ScriptClients {
 
     ghost Value = { SeenClients };
 
-    ghost view = { λ c. record { waiting = map (λ awaited. awaited.plan) c.awaited.items; clients = c.clients.items; watched = c.names.items } };
+    ghost view = { λ c.
+        record {
+          waiting = map
+              (λ awaited.
+              awaited.plan) c.awaited.items;
+          clients = c.clients.items;
+          watched = c.names.items;
+        } };
 
     ghost use Rattle.script_front.specs.PlayedPartsInside.{AreClients};
 
@@ -45,8 +52,10 @@ impl ScriptClients {
     /// The clients of the script. No link was handed out.
     pub(crate) fn make(alloc: Global, lines: &[ScriptLine]) -> Result<ScriptClients, NoMemory>
         ensures waiting { IfOk result (λ clients. clients.waiting ≡ plans_of lines.now) }
-        ensures clients { IfOk result (λ clients. clients.clients ≡ map new_client (names_of lines.now)) }
-        ensures watched { IfOk result (λ clients. clients.watched ≡ map no_name_yet (names_of lines.now)) }
+        ensures clients { IfOk result
+            (λ clients. clients.clients ≡ map new_client (names_of lines.now)) }
+        ensures watched { IfOk result
+            (λ clients. clients.watched ≡ map no_name_yet (names_of lines.now)) }
     {
         let parts = parts_of(alloc, lines)?;
         let due = DuePlaces::make(alloc, parts.clients.len())?;
@@ -78,7 +87,11 @@ impl ScriptClients {
 
     /// The link of that number, from 0, is watched under the name.
     pub(crate) fn watch(&mut self, number: usize, name: ConnName)
-        ensures { self.new ≡ record self.old { clients = after_watch_of number self.old.clients; watched = slice_set self.old.watched number (Some name) } }
+        ensures { self.new
+            ≡ record self.old {
+              clients = after_watch_of number self.old.clients;
+              watched = slice_set self.old.watched number (Some name);
+            } }
     {
         if number < self.clients.len() {
             self.names[number] = Some(name);
@@ -89,7 +102,8 @@ impl ScriptClients {
 
     /// These lines happen to the clients that they name.
     pub(crate) fn happen(&mut self, lines: &[ScriptLine])
-        ensures { self.new ≡ record self.old { clients = map (client_after_lines lines.now) self.old.clients } }
+        ensures { self.new
+            ≡ record self.old { clients = map (client_after_lines lines.now) self.old.clients } }
     {
         happen(
             &self.chains,

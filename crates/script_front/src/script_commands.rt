@@ -74,7 +74,9 @@ impl ScriptCommands {
     pub(crate) fn next(&mut self) -> Option<CommandWord>
         ensures some { IfSome result (λ word. self.old.read < self.old.came) }
         ensures next { IfSome result (λ word. self.old.unread ≡ word ∷ self.new.unread) }
-        ensures rest { IfSome result (λ word. self.new ≡ record self.old { unread = self.new.unread; read = self.old.read + 1 }) }
+        ensures rest { IfSome result
+            (λ word.
+            self.new ≡ record self.old { unread = self.new.unread; read = self.old.read + 1 }) }
         ensures none { IfNone result (self.old.read ≡ self.old.came) }
         ensures same { IfNone result (self.new ≡ self.old) }
     {

@@ -89,7 +89,9 @@ impl Model for ScriptFront {
       ends = f.ends;
     } };
 
-    ghost invariant = { λ f. ArePlayed f.script f.happened f.begun f.moment f.arrived f.accepted f.hushed f.clients f.commands f.ends };
+    ghost invariant = { λ f.
+        ArePlayed f.script f.happened f.begun f.moment f.arrived f.accepted f.hushed
+        f.clients f.commands f.ends };
 }
 
 impl ScriptFront {
@@ -156,7 +158,8 @@ impl ScriptFront {
     fn pass(&mut self, count: usize)
         requires few { count ≤ self.old.told.left }
         requires next { lines_now (drop count (to_come self.old)) ≡ 0 }
-        requires past { next_coming self.old.told.moment (comings_of (take count (to_come self.old))) ≡ None }
+        requires past { next_coming self.old.told.moment
+            (comings_of (take count (to_come self.old))) ≡ None }
         ensures { self.new ≡ with_lines count self.old }
     {
         let lines = next_lines(self.script.lines(), self.happened, count);
@@ -168,8 +171,11 @@ impl ScriptFront {
 
     /// In the first wait the lines before the first `at` happen. Whether any did.
     fn begin(&mut self) -> bool
-        ensures begins { result ≡ true → (self.old.begun ≡ false) × (0 < lines_now (to_come self.old)) × (self.new ≡ with_begun (with_lines (lines_now (to_come self.old)) self.old)) }
-        ensures goes_on { result ≡ false → (lines_now (to_come self.old) ≡ 0) × (self.new ≡ with_begun self.old) }
+        ensures begins { result ≡ true → (self.old.begun ≡ false)
+            × (0 < lines_now (to_come self.old))
+            × (self.new ≡ with_begun (with_lines (lines_now (to_come self.old)) self.old)) }
+        ensures goes_on { result ≡ false → (lines_now (to_come self.old) ≡ 0)
+            × (self.new ≡ with_begun self.old) }
     {
         if self.begun {
             return false;
@@ -212,8 +218,10 @@ impl ScriptFront {
     /// Whether all lines have happened, each command line was read, each connection was handed out or listening was stopped, and
     /// each link that was handed out was found closed.
     fn is_over(&mut self) -> bool
-        ensures over { result ≡ true → HasAllTaken self.new.told × (all_taken_closed self.new ≡ true) }
-        ensures unclosed { result ≡ false → HasAllTaken self.new.told → all_taken_closed self.new ≡ false }
+        ensures over { result ≡ true → HasAllTaken self.new.told
+            × (all_taken_closed self.new ≡ true) }
+        ensures unclosed { result ≡ false → HasAllTaken self.new.told →
+            all_taken_closed self.new ≡ false }
         ensures looks { AllLook self.old.clients self.new.clients }
         ensures state { self.new ≡ with_clients self.new.clients self.old }
     {
@@ -245,7 +253,8 @@ impl ScriptFront {
         requires { ready.old ≡ [] }
         ensures plays { Plays self.old self.new until quiet result ready.new }
         ensures rest { KeepsRest result self.old self.new }
-        ensures over { 0 < self.old.ends → ready.new ≡ [] × StandsStill self.old.told self.new.told }
+        ensures over { 0 < self.old.ends → ready.new ≡ []
+            × StandsStill self.old.told self.new.told }
     {
         if self.ends > 0 {
             self.end();
@@ -331,7 +340,8 @@ impl Front for ScriptFront {
     fn bind(&mut self, listen: Addr, control: Option<u16>) -> bool
         ensures binds { Binds (front_seen self.old) (front_seen self.new) listen control result }
         ensures sure { result ≡ true }
-        ensures rest { self.new ≡ record self.old { told = after_bind true listen control self.old.told } }
+        ensures rest { self.new
+            ≡ record self.old { told = after_bind true listen control self.old.told } }
     {
         self.binds = self.binds.and(&listen, &control);
         true
@@ -348,7 +358,8 @@ impl Front for ScriptFront {
         quiet: bool,
         ready: &mut Ready,
     ) -> Woke
-        ensures waits { Waits (front_seen self.old) (front_seen self.new) until quiet result ready.new }
+        ensures waits { Waits (front_seen self.old)
+            (front_seen self.new) until quiet result ready.new }
         ensures plays { Plays self.old self.new until quiet result ready.new }
     {
         let _ = rt;
@@ -369,8 +380,10 @@ impl Front for ScriptFront {
     }
 
     fn accept(&mut self) -> Arrival<ScriptLink>
-        ensures accepts { Accepts (λ (l : SeenScriptLink). telling_link l.told l.counts) (front_seen self.old) (front_seen self.new) result }
-        ensures some { is_handed result ≡ (not self.old.told.hushed && nat_lt self.old.told.accepted self.old.told.arrived) }
+        ensures accepts { Accepts (λ (l : SeenScriptLink). telling_link l.told l.counts)
+            (front_seen self.old) (front_seen self.new) result }
+        ensures some { is_handed result
+            ≡ (not self.old.told.hushed && nat_lt self.old.told.accepted self.old.told.arrived) }
         ensures never { accept_failed result ≡ false }
         ensures link { HandsPaced self.old result }
         ensures rest { self.new ≡ record self.old { told = self.new.told } }
@@ -399,9 +412,16 @@ impl Front for ScriptFront {
 
     /// A signal is due at once where bytes came before, or the end has.
     fn watch(&mut self, name: ConnName, link: &mut ScriptLink) -> bool
-        ensures watches { Watches (front_seen self.old) (front_seen self.new) name (telling_link link.old.told link.old.counts) (telling_link link.new.told link.new.counts) result }
+        ensures watches { Watches (front_seen self.old) (front_seen self.new) name
+            (telling_link link.old.told link.old.counts)
+            (telling_link link.new.told link.new.counts) result }
         ensures sure { result ≡ true }
-        ensures rest { self.new ≡ record self.old { clients = after_watch_of link.old.told.rank self.old.clients; names = slice_set self.old.names link.old.told.rank (Some name); told = self.new.told } }
+        ensures rest { self.new
+            ≡ record self.old {
+              clients = after_watch_of link.old.told.rank self.old.clients;
+              names = slice_set self.old.names link.old.told.rank (Some name);
+              told = self.new.told;
+            } }
     {
         self.clients.watch(link.rank() as usize, name);
         self.watches = self.watches.and(&link.rank(), &name);
@@ -410,8 +430,10 @@ impl Front for ScriptFront {
 
     /// The front finds such a link closed as it finds any other.
     fn turn_away(&mut self, link: ScriptLink)
-        ensures seen { front_seen self.new ≡ front_after_turning_away (Some link.told) (front_seen self.old) }
-        ensures rest { self.new ≡ record self.old { told = after_turning_away (Some link.told) self.old.told } }
+        ensures seen { front_seen self.new
+            ≡ front_after_turning_away (Some link.told) (front_seen self.old) }
+        ensures rest { self.new
+            ≡ record self.old { told = after_turning_away (Some link.told) self.old.told } }
     {
         let mut link = link;
         link.close();
@@ -430,7 +452,8 @@ impl Front for ScriptFront {
     fn command(&mut self) -> Option<Line>
         ensures commands { Commands (front_seen self.old) (front_seen self.new) result }
         ensures line { result ≡ slice_get self.old.told.lines self.old.told.read }
-        ensures rest { self.new ≡ record self.old { told = after_command (is_some result) self.old.told } }
+        ensures rest { self.new
+            ≡ record self.old { told = after_command (is_some result) self.old.told } }
     {
         let word = self.commands.next()?;
         Some(line_of(word))
@@ -440,7 +463,8 @@ impl Front for ScriptFront {
     fn dial(&mut self, port: u16, word: &str) -> bool
         ensures dials { Dials (front_seen self.old) (front_seen self.new) port word.now result }
         ensures sure { result ≡ true }
-        ensures rest { self.new ≡ record self.old { told = after_dial port word.now true self.old.told } }
+        ensures rest { self.new
+            ≡ record self.old { told = after_dial port word.now true self.old.told } }
     {
         let told = log_of(word);
         self.dials = self.dials.and(&port, &told);

@@ -46,7 +46,8 @@ impl Files {
         // So the file has these bytes now, and each other its own.
         ensures found { OnOk result (bytes_of name.now self.new ≡ Some bytes.now) }
         ensures others { OnOk result
-            ((other : List ℕ) → other ≢ name.now → bytes_of other self.new ≡ bytes_of other self.old) }
+            ((other : List ℕ) → other ≢ name.now →
+            bytes_of other self.new ≡ bytes_of other self.old) }
     {
         let bytes = Octets::of(self.alloc, bytes)?;
         if let Some(place) = place_of(&self.items, name) {
@@ -64,7 +65,8 @@ impl Files {
 
         // So there is no such file now, and each other has its own bytes.
         ensures missing { bytes_of name.now self.new ≡ None }
-        ensures others { (other : List ℕ) → other ≢ name.now → bytes_of other self.new ≡ bytes_of other self.old }
+        ensures others { (other : List ℕ) → other ≢ name.now →
+            bytes_of other self.new ≡ bytes_of other self.old }
     {
         self.items
             .retain(|file| file.name.as_slice() != name.as_bytes());

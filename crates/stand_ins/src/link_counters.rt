@@ -53,7 +53,8 @@ impl LinkCounters {
     pub(crate) fn read(&mut self, answer: Got)
         ensures is { self.new ≡ count_read answer self.old }
         ensures faults { RisesWhere (read_failed answer) self.old.faults self.new.faults }
-        ensures late_reads { RisesExactlyWhere (read_late answer) self.old.late_reads self.new.late_reads }
+        ensures late_reads { RisesExactlyWhere
+            (read_late answer) self.old.late_reads self.new.late_reads }
         ensures late_writes { self.new.late_writes ≡ self.old.late_writes }
         ensures ends { RisesExactlyWhere (found_end answer) self.old.ends self.new.ends }
     {
@@ -70,7 +71,8 @@ impl LinkCounters {
         ensures is { self.new ≡ count_write answer self.old }
         ensures faults { RisesWhere (write_failed answer) self.old.faults self.new.faults }
         ensures late_reads { self.new.late_reads ≡ self.old.late_reads }
-        ensures late_writes { RisesExactlyWhere (write_late answer) self.old.late_writes self.new.late_writes }
+        ensures late_writes { RisesExactlyWhere
+            (write_late answer) self.old.late_writes self.new.late_writes }
         ensures ends { self.new.ends ≡ self.old.ends }
     {
         match answer {

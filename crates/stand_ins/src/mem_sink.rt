@@ -77,7 +77,8 @@ impl Sink for MemSink {
 
     /// Answers Failed where the call is listed, or memory for the bytes lacks.
     fn write(&mut self, bytes: &[u8]) -> Put
-        ensures sink { Puts (telling_sink self.old.bytes self.old.faults) (telling_sink self.new.bytes self.new.faults) result bytes.now }
+        ensures sink { Puts (telling_sink self.old.bytes self.old.faults)
+            (telling_sink self.new.bytes self.new.faults) result bytes.now }
         ensures answer { PutsUnless (next_is_listed self.old.fails self.old.writes) result
             (taken_at_once self.old.slow (length bytes.now)) }
         ensures state { self.new ≡ sink_after_write result bytes.now self.old }

@@ -50,7 +50,8 @@ impl MemStore {
 
     /// Puts an edition behind all others. Where memory lacks nothing changes, and the files are dropped.
     pub fn later(&mut self, files: Files) -> Result<(), NoMemory>
-        ensures ok { OnOk result (self.new ≡ record self.old { told = with_edition files self.old.told }) }
+        ensures ok { OnOk result
+            (self.new ≡ record self.old { told = with_edition files self.old.told }) }
         ensures err { OnErr result (self.new ≡ self.old) }
     {
         self.inner.later(files)
@@ -68,7 +69,8 @@ impl Store for MemStore {
     ghost seen = { λ s. telling_store s.told s.counts };
 
     fn renew(&mut self)
-        ensures store { Renews (telling_store self.old.told self.old.counts) (telling_store self.new.told self.new.counts) }
+        ensures store { Renews (telling_store self.old.told self.old.counts)
+            (telling_store self.new.told self.new.counts) }
         ensures state { self.new ≡ record self.old { told = after_renew self.old.told } }
     {
         self.inner.renew();
@@ -77,7 +79,8 @@ impl Store for MemStore {
     /// Answers Failed where the call is listed, then Many where there are more names, and else the names or
     /// NoMemory.
     fn names(&mut self, alloc: Global, under: &str, most: u32) -> Result<Names, StoreFault>
-        ensures store { ListsNames (telling_store self.old.told self.old.counts) (telling_store self.new.told self.new.counts) under.now most result }
+        ensures store { ListsNames (telling_store self.old.told self.old.counts)
+            (telling_store self.new.told self.new.counts) under.now most result }
         ensures answer { AnswersUnlessNoMemory result
             (failed_where (next_is_listed self.old.fails self.old.calls)
             (names_answer (names_under under.now self.old.told.files) most)) }
@@ -94,7 +97,8 @@ impl Store for MemStore {
     /// Answers Failed where the call is listed, then Missing where the file isn't there, Large where it has
     /// more bytes, and else its bytes or NoMemory.
     fn read(&mut self, alloc: Global, name: &str, most: u64) -> Result<Octets, StoreFault>
-        ensures store { ReadsFile (telling_store self.old.told self.old.counts) (telling_store self.new.told self.new.counts) name.now most result }
+        ensures store { ReadsFile (telling_store self.old.told self.old.counts)
+            (telling_store self.new.told self.new.counts) name.now most result }
         ensures answer { AnswersUnlessNoMemory result
             (failed_where (next_is_listed self.old.fails self.old.calls)
             (file_answer (bytes_of name.now self.old.told.files) most)) }

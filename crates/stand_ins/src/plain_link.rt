@@ -50,7 +50,8 @@ impl Model for PlainLink {
       ends = l.ended;
     } };
 
-    ghost invariant = { λ l. (l.given ≤ length l.coming) × (l.half_closed ≡ 0 → l.given_before_shut ≡ l.given) × (l.given_before_shut ≤ l.given) };
+    ghost invariant = { λ l. (l.given ≤ length l.coming)
+        × (l.half_closed ≡ 0 → l.given_before_shut ≡ l.given) × (l.given_before_shut ≤ l.given) };
 }
 
 impl PlainLink {
@@ -159,8 +160,10 @@ impl Link for PlainLink {
 
     /// Answers NotReady and End only where no byte is left, and `Got(0)` only into an empty buffer.
     fn read(&mut self, buffer: &mut [u8]) -> Got
-        ensures link { Reads (telling_link self.old.told self.old.counts) (telling_link self.new.told self.new.counts) result buffer.new }
-        ensures answer { result ≡ read_answer self.old.told.coming self.old.ends (length buffer.old) }
+        ensures link { Reads (telling_link self.old.told self.old.counts)
+            (telling_link self.new.told self.new.counts) result buffer.new }
+        ensures answer { result
+            ≡ read_answer self.old.told.coming self.old.ends (length buffer.old) }
         ensures buffer { buffer.new ≡ buffer_after_read result self.old.told.coming buffer.old }
         ensures state { self.new ≡ link_after_read result self.old }
     {
@@ -180,7 +183,8 @@ impl Link for PlainLink {
 
     /// Takes the whole piece, or answers NotReady where memory for it lacks.
     fn write(&mut self, bytes: &[u8]) -> Sent
-        ensures link { Writes (telling_link self.old.told self.old.counts) (telling_link self.new.told self.new.counts) result bytes.now }
+        ensures link { Writes (telling_link self.old.told self.old.counts)
+            (telling_link self.new.told self.new.counts) result bytes.now }
         ensures answer { TakesWhole result (length bytes.now) }
         ensures state { self.new ≡ link_after_write result bytes.now self.old }
     {
@@ -195,7 +199,8 @@ impl Link for PlainLink {
 
     /// Takes the whole of both pieces, or answers NotReady where memory for it lacks.
     fn write_pair(&mut self, first: &[u8], second: &[u8]) -> Sent
-        ensures link { Writes (telling_link self.old.told self.old.counts) (telling_link self.new.told self.new.counts) result (first.now ++ second.now) }
+        ensures link { Writes (telling_link self.old.told self.old.counts)
+            (telling_link self.new.told self.new.counts) result (first.now ++ second.now) }
         ensures answer { TakesWhole result (length (first.now ++ second.now)) }
         ensures state { self.new ≡ link_after_write result (first.now ++ second.now) self.old }
     {
@@ -210,7 +215,8 @@ impl Link for PlainLink {
     }
 
     fn shut(&mut self) -> bool
-        ensures link { Shuts (telling_link self.old.told self.old.counts) (telling_link self.new.told self.new.counts) result }
+        ensures link { Shuts (telling_link self.old.told self.old.counts)
+            (telling_link self.new.told self.new.counts) result }
         ensures answer { result ≡ true }
         ensures state { self.new ≡ record self.old { told = after_shut true self.old.told } }
     {
@@ -219,7 +225,8 @@ impl Link for PlainLink {
     }
 
     fn close(&mut self)
-        ensures link { Closes (telling_link self.old.told self.old.counts) (telling_link self.new.told self.new.counts) }
+        ensures link { Closes (telling_link self.old.told self.old.counts)
+            (telling_link self.new.told self.new.counts) }
         ensures state { self.new ≡ record self.old { told = after_close self.old.told } }
     {
         self.closed = self.closed.saturating_add(1);

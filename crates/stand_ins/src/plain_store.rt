@@ -42,7 +42,8 @@ impl PlainStore {
 
     /// Puts an edition behind all others. Where memory lacks nothing changes, and the files are dropped.
     pub fn later(&mut self, files: Files) -> Result<(), NoMemory>
-        ensures ok { OnOk result (self.new ≡ record self.old { told = with_edition files self.old.told }) }
+        ensures ok { OnOk result
+            (self.new ≡ record self.old { told = with_edition files self.old.told }) }
         ensures err { OnErr result (self.new ≡ self.old) }
     {
         self.editions.push_back(files)?;
@@ -110,7 +111,8 @@ fn copy_names(alloc: Global, files: &[File], folder: &str) -> Result<Names, NoMe
 
 /// The names below a folder, at most so many.
 fn list_names(alloc: Global, files: &Files, folder: &str, most: u32) -> Result<Names, StoreFault>
-    ensures answer { AnswersUnlessNoMemory result (names_answer (names_under folder.now files.now) most) }
+    ensures answer { AnswersUnlessNoMemory result
+        (names_answer (names_under folder.now files.now) most) }
     ensures utf8 { IfOk result (λ names. All IsUtf8 names) }
     ensures below { IfOk result (All (λ name. lies_under folder.now name ≡ true)) }
 {
@@ -138,7 +140,8 @@ impl Store for PlainStore {
     ghost seen = { λ s. telling_store s.told s.counts };
 
     fn renew(&mut self)
-        ensures store { Renews (telling_store self.old.told self.old.counts) (telling_store self.new.told self.new.counts) }
+        ensures store { Renews (telling_store self.old.told self.old.counts)
+            (telling_store self.new.told self.new.counts) }
         ensures state { self.new ≡ record self.old { told = after_renew self.old.told } }
     {
         if let Some(next) = self.editions.pop_front() {
@@ -148,10 +151,12 @@ impl Store for PlainStore {
 
     /// Answers Many where there are more names, and else the names or NoMemory.
     fn names(&mut self, alloc: Global, under: &str, most: u32) -> Result<Names, StoreFault>
-        ensures store { ListsNames (telling_store self.old.told self.old.counts) (telling_store self.new.told self.new.counts) under.now most result }
+        ensures store { ListsNames (telling_store self.old.told self.old.counts)
+            (telling_store self.new.told self.new.counts) under.now most result }
         ensures answer { AnswersUnlessNoMemory result
             (names_answer (names_under under.now self.old.told.files) most) }
-        ensures state { self.new ≡ record self.old { counts = count_answer result self.old.counts } }
+        ensures state { self.new
+            ≡ record self.old { counts = count_answer result self.old.counts } }
     {
         let answer = list_names(alloc, &self.current, under, most);
         if was_refused(&answer) {
@@ -163,10 +168,12 @@ impl Store for PlainStore {
     /// Answers Missing where the file isn't there, Large where it has more bytes, and else its bytes or
     /// NoMemory.
     fn read(&mut self, alloc: Global, name: &str, most: u64) -> Result<Octets, StoreFault>
-        ensures store { ReadsFile (telling_store self.old.told self.old.counts) (telling_store self.new.told self.new.counts) name.now most result }
+        ensures store { ReadsFile (telling_store self.old.told self.old.counts)
+            (telling_store self.new.told self.new.counts) name.now most result }
         ensures answer { AnswersUnlessNoMemory result
             (file_answer (bytes_of name.now self.old.told.files) most) }
-        ensures state { self.new ≡ record self.old { counts = count_answer result self.old.counts } }
+        ensures state { self.new
+            ≡ record self.old { counts = count_answer result self.old.counts } }
     {
         let answer = read_file(alloc, &self.current, name, most);
         if was_refused(&answer) {

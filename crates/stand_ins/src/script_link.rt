@@ -164,7 +164,8 @@ impl ScriptLink {
     /// Whether the next read is to fail.
     fn read_fails(&self) -> bool
         ensures only { result ≡ true → read_may_fail self.now ≡ true }
-        ensures unpaced { self.now.paced ≡ false → result ≡ next_is_listed self.now.fail_reads self.now.reads }
+        ensures unpaced { self.now.paced ≡ false →
+            result ≡ next_is_listed self.now.fail_reads self.now.reads }
     {
         let number = self.read_calls.saturating_add(1);
         self.is_dropped() || is_failing(&self.wire, LinkCall::Read, &self.bad_reads, number)
@@ -172,7 +173,8 @@ impl ScriptLink {
 
     /// Whether the next write is to fail, but for want of memory.
     fn write_fails(&self) -> bool
-        ensures { self.now.paced ≡ false → result ≡ next_is_listed self.now.fail_writes self.now.writes }
+        ensures { self.now.paced ≡ false →
+            result ≡ next_is_listed self.now.fail_writes self.now.writes }
     {
         let number = self.write_calls.saturating_add(1);
         self.is_dropped() || is_failing(&self.wire, LinkCall::Write, &self.bad_writes, number)
@@ -221,7 +223,8 @@ fn read_by(inner: &mut PlainLink, wire: &Option<Arc<Wire>>, buffer: &mut [u8]) -
     ensures fits { FitsBuffer result (length buffer.new) }
     ensures buffer { buffer.new ≡ buffer_after_read result inner.old.told.coming buffer.old }
     ensures never { read_failed result ≡ false }
-    ensures answer { is_some wire.now ≡ false → result ≡ read_answer inner.old.told.coming inner.old.ends (length buffer.old) }
+    ensures answer { is_some wire.now ≡ false →
+        result ≡ read_answer inner.old.told.coming inner.old.ends (length buffer.old) }
 {
     match wire {
         Some(wire) => read_came(inner, wire, buffer),
@@ -278,7 +281,8 @@ fn write_pair_by(
     ensures told { inner.new.told ≡ after_write result (first.now ++ second.now) inner.old.told }
     ensures ends { inner.new.ends ≡ inner.old.ends }
     ensures fits { FitsPiece result (length (first.now ++ second.now)) }
-    ensures answer { is_some wire.now ≡ false → TakesWholeUnless false result (length (first.now ++ second.now)) }
+    ensures answer { is_some wire.now ≡ false →
+        TakesWholeUnless false result (length (first.now ++ second.now)) }
 {
     let taken = inner.sent().len();
     let of_first = room_for(wire, taken, first.len());
@@ -302,9 +306,11 @@ impl Link for ScriptLink {
     /// Gives what came by now. Answers NotReady where there is none at this moment, End only where no byte is left and the
     /// end has come, and Failed only where the call is listed, or the script drops the link.
     fn read(&mut self, buffer: &mut [u8]) -> Got
-        ensures link { Reads (telling_link self.old.told self.old.counts) (telling_link self.new.told self.new.counts) result buffer.new }
+        ensures link { Reads (telling_link self.old.told self.old.counts)
+            (telling_link self.new.told self.new.counts) result buffer.new }
         ensures failed { read_failed result ≡ true → read_may_fail self.old ≡ true }
-        ensures answer { self.old.paced ≡ false → result ≡ script_read_answer self.old (length buffer.old) }
+        ensures answer { self.old.paced ≡ false →
+            result ≡ script_read_answer self.old (length buffer.old) }
         ensures buffer { buffer.new ≡ buffer_after_read result self.old.told.coming buffer.old }
         ensures state { self.new ≡ script_link_after_read result self.old }
     {
@@ -322,8 +328,11 @@ impl Link for ScriptLink {
     /// Takes as much of the piece as there is room for. Answers NotReady where there is none for a piece that is not
     /// empty, and Failed where the call is listed, the script drops the link, or memory for the piece lacks.
     fn write(&mut self, bytes: &[u8]) -> Sent
-        ensures link { Writes (telling_link self.old.told self.old.counts) (telling_link self.new.told self.new.counts) result bytes.now }
-        ensures answer { self.old.paced ≡ false → TakesWholeUnless (next_is_listed self.old.fail_writes self.old.writes) result (length bytes.now) }
+        ensures link { Writes (telling_link self.old.told self.old.counts)
+            (telling_link self.new.told self.new.counts) result bytes.now }
+        ensures answer { self.old.paced ≡ false →
+            TakesWholeUnless (next_is_listed self.old.fail_writes self.old.writes) result
+            (length bytes.now) }
         ensures state { self.new ≡ script_link_after_write result bytes.now self.old }
     {
         let fails = self.write_fails();
@@ -339,9 +348,13 @@ impl Link for ScriptLink {
 
     /// Takes as much of the one piece followed by the other as there is room for, by one write, as `write` takes of one piece.
     fn write_pair(&mut self, first: &[u8], second: &[u8]) -> Sent
-        ensures link { Writes (telling_link self.old.told self.old.counts) (telling_link self.new.told self.new.counts) result (first.now ++ second.now) }
-        ensures answer { self.old.paced ≡ false → TakesWholeUnless (next_is_listed self.old.fail_writes self.old.writes) result (length (first.now ++ second.now)) }
-        ensures state { self.new ≡ script_link_after_write result (first.now ++ second.now) self.old }
+        ensures link { Writes (telling_link self.old.told self.old.counts)
+            (telling_link self.new.told self.new.counts) result (first.now ++ second.now) }
+        ensures answer { self.old.paced ≡ false →
+            TakesWholeUnless (next_is_listed self.old.fail_writes self.old.writes) result
+            (length (first.now ++ second.now)) }
+        ensures state { self.new
+            ≡ script_link_after_write result (first.now ++ second.now) self.old }
     {
         let fails = self.write_fails();
         self.write_calls = self.write_calls.saturating_add(1);
@@ -356,7 +369,8 @@ impl Link for ScriptLink {
 
     /// Answers false only where the script drops the link.
     fn shut(&mut self) -> bool
-        ensures link { Shuts (telling_link self.old.told self.old.counts) (telling_link self.new.told self.new.counts) result }
+        ensures link { Shuts (telling_link self.old.told self.old.counts)
+            (telling_link self.new.told self.new.counts) result }
         ensures answer { self.old.drops ≡ false → result ≡ true }
         ensures state { self.new ≡ script_link_after_shut result self.old }
     {
@@ -366,7 +380,8 @@ impl Link for ScriptLink {
     }
 
     fn close(&mut self)
-        ensures link { Closes (telling_link self.old.told self.old.counts) (telling_link self.new.told self.new.counts) }
+        ensures link { Closes (telling_link self.old.told self.old.counts)
+            (telling_link self.new.told self.new.counts) }
         ensures state { self.new ≡ record self.old { told = after_close self.old.told } }
     {
         self.inner.close();
