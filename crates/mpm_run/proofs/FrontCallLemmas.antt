@@ -9,7 +9,7 @@ use Rattle.mpm_run.specs.Watched.{IsHushed}
 use Rattle.mpm_run.specs.ListenInside.{Follows, IsInStep, KeepsStep, OnlyReads, contacts, contacts_of}
 use Rattle.mpm_run.specs.Stops.{HasFailedLast, HasGivenAll}
 use Rattle.mpm_run.specs.Times.{waits_of}
-use Rattle.mpm_run.proofs.CountLemmas.{exactly-stays, where-stays}
+use Rattle.run_report.proofs.CountLemmas.{exactly-stays, where-stays}
 use Rattle.mpm_run.proofs.FrontLemmas.{clients-mapped, comings-mapped}
 
 -- ## A watch

@@ -20,7 +20,7 @@ use Rattle.mpm_run.specs.ListenInside.{AsksFor, Follows, HandsOutEach, IsArrival
 use Rattle.mpm_run.specs.Outside.{clients_told, comings_told}
 use Rattle.mpm_run.specs.Stops.{HasFailedLast, HasGivenAll}
 use Rattle.mpm_run.specs.Times.{IsInTime, waits_of}
-use Rattle.mpm_run.proofs.CountLemmas.{exactly-stays, where-stays}
+use Rattle.run_report.proofs.CountLemmas.{exactly-stays, where-stays}
 
 -- ## The front is still the one that it was
 

@@ -31,7 +31,7 @@ use Rattle.mpm_run.specs.declared.edition.Edition.{Edition}
 use Rattle.mpm_run.specs.declared.edition.NamedConfig.{NamedConfig}
 use Rattle.mpm_run.proofs.AskedLemmas.{asked-silent, startless-orders}
 use Rattle.mpm_run.proofs.CommandLemmas.{heeded-line, heeded-none, read-none, stopped-line}
-use Rattle.mpm_run.proofs.CountLemmas.{rises-behind}
+use Rattle.run_report.proofs.CountLemmas.{rises-behind}
 use Rattle.mpm_run.proofs.EditionLemmas.{newest-acts}
 use Rattle.mpm_run.proofs.FrontLemmas.{follows-same, follows-trans}
 use Rattle.mpm_run.proofs.FrontCallLemmas.{follows-command, follows-hushed, reads-command, reads-same, reads-trans}

@@ -11,7 +11,7 @@ use Rattle.mpm_run.specs.FoldsInside.{FoldsJoin}
 use Rattle.mpm_run.specs.Generations.{Opening, known_edition, made_edition, renewed}
 use Rattle.mpm_run.specs.ListenInside.{IsKnownOfFront, clients_known}
 use Rattle.mpm_run.specs.OrdersInside.{KnowsComing, ServesNewest, known_outside, opening_by}
-use Rattle.mpm_run.specs.Sites.{head_limits_of}
+use Rattle.mpm_run.specs.Generations.{head_limits_of}
 use Rattle.mpm_run.specs.Standing.{DoesAllBut, HasStood, StandsSo, later_edition, standing}
 use Rattle.mpm_run.specs.declared.edition.Edition.{Edition}
 use Rattle.mpm_run.specs.declared.edition.NamedConfig.{NamedConfig}

@@ -27,7 +27,7 @@ use Rattle.mpm_run.proofs.BrokenLemmas.{ends-silently}
 use Rattle.mpm_run.proofs.ChildrenLemmas.{begins-broken, begins-more, begins-round, begins-waited}
 use Rattle.mpm_run.proofs.ClosingLemmas.{GoesOnFrom}
 use Rattle.mpm_run.proofs.CommandLemmas.{heeded-wait, heeds-asked, heeds-ended, heeds-failed, heeds-gone, heeds-none, heeds-overdue}
-use Rattle.mpm_run.proofs.CountLemmas.{rises-behind}
+use Rattle.run_report.proofs.CountLemmas.{rises-behind}
 use Rattle.mpm_run.proofs.FrontLemmas.{all-taken, each-handed, failed-last, only-takes, step-listens, takes-same}
 use Rattle.mpm_run.proofs.LinkLemmas.{hands-step}
 use Rattle.mpm_run.proofs.PaceLemmas.{HasPatience, IsAfter, KeepsPace, abreast-round, pace-broken, pace-round, pace-served, pace-started, pace-timed, patience-started, patience-waited, served-patience}

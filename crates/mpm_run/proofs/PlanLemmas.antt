@@ -16,11 +16,11 @@ use Rattle.restart_control.specs.declared.plan.Plan.{Plan}
 use Rattle.restart_control.specs.declared.reload_fault.ReloadFault.{ReloadFault}
 use Rattle.restart_control.specs.declared.reload_fault.ReloadFault.TheVariants as fault
 use Rattle.conn_machine.specs.declared.state.State.{State}
-use Rattle.mpm_run.specs.Configured.{most_config}
+use Rattle.restart_control.specs.Reload.{most_config}
 use Rattle.mpm_run.specs.Generations.{Opening, carried, config_among, config_at, config_in, edition_of_files, made_edition, renewed}
 use Rattle.mpm_run.specs.Orders.{HasNoConfig, HasNoSite, HasShape, HasSite, IsRefusedAs, MakesSite, may_begin, shape_by}
 use Rattle.mpm_run.specs.OrdersInside.{reason_for}
-use Rattle.mpm_run.specs.Sites.{head_limits_of}
+use Rattle.mpm_run.specs.Generations.{head_limits_of}
 use Rattle.mpm_run.specs.Standing.{HasTimeout, KnowsLater, later_edition}
 
 -- ## Editions of a store

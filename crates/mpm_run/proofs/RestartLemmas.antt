@@ -38,7 +38,7 @@ use Rattle.mpm_run.specs.Orders.{EndsUntil, HasShape, HasSite, IsRefusedAs, endi
 use Rattle.mpm_run.specs.OrdersInside.{Begins, Carries, KnowsComing, Refuses, ServesNewest, StandsBehind, BreaksBehind, reason_for}
 use Rattle.mpm_run.specs.RoundInside.{DoesOrders}
 use Rattle.mpm_run.specs.Served.{all_entries}
-use Rattle.mpm_run.specs.Sites.{head_limits_of}
+use Rattle.mpm_run.specs.Generations.{head_limits_of}
 use Rattle.mpm_run.specs.Standing.{HasTimeout, Standing, StandsBroken, StandsOn, StandsSo, standing}
 use Rattle.mpm_run.specs.Stores.{RisesBy, is_store_refusal}
 use Rattle.mpm_run.specs.declared.edition.Edition.{Edition}

@@ -21,7 +21,7 @@ use Rattle.mpm_run.specs.Tells.{AllReceive}
 use Rattle.mpm_run.specs.Times.{AreBehind, IsInTime, IsInformed, SignalsAre, TicksAre, waits_of}
 use Rattle.mpm_run.specs.Watched.{AreClosedAtOnce, AreWatched, IsBoundOnce, IsHushed, IsOpenedAndHushed, link_watched}
 use Rattle.mpm_run.specs.declared.run_numbers.RunNumbers.{RunNumbers}
-use Rattle.mpm_run.proofs.CountLemmas.{rises-behind}
+use Rattle.run_report.proofs.CountLemmas.{rises-behind}
 
 -- nothing was asked of the front but to be bound, and nothing of the clock
 pub record IsIdle (told : Option FrontTold) (calls : Option (List (ℕ × ℕ))) : Type 0 where

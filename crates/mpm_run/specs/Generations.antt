@@ -8,11 +8,11 @@ use Rattle.mpm_base.specs.declared.store.File.{File}
 use Rattle.mpm_config.specs.Config.{Configuration, with_limits}
 use Rattle.mpm_config.specs.Reading.{ConfigAndWarnings, config_of}
 use Rattle.mpm_config.specs.declared.fault.ConfFault.{ConfFault}
+use Rattle.http_read.specs.declared.request.Limits.{Limits}
 use Rattle.file_table.specs.Site.{SeenSite}
 use Rattle.conn_state.specs.Known.{KnownEdition, KnownOutside}
 use Rattle.conn_state.specs.Known.{This, Of}
-use Rattle.mpm_run.specs.Configured.{most_config}
-use Rattle.mpm_run.specs.Sites.{head_limits_of, order_of}
+use Rattle.restart_control.specs.Reload.{most_config, order_of}
 
 -- what a server opened by: the name of its configuration in the store, that configuration, and its site; and what was seen of the store
 -- and of the front then
@@ -52,6 +52,10 @@ config_at o zero = Some (Some o.config)
 config_at o (suc n) = option_map (λ t. config_among o.config o.name (renewed (suc n) t).files) o.store.told
 
 -- ## What connections are served by
+
+-- how long the head of a request may be: LimitRequestLine, LimitRequestFieldSize and LimitRequestFields
+abbrev pub head_limits_of : Configuration → Limits
+head_limits_of c = record { line = c.current.line; field = c.current.field; fields = c.current.fields }
 
 -- what connections are served by of a generation that has this configuration and is made of these files
 abbrev pub edition_of_files : List File → Configuration → KnownEdition

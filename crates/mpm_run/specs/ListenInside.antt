@@ -1,42 +1,42 @@
 -- What the listener keeps on its way, of its front, its clock and its table, and how its turns end.
-use Rattle.std.specs.Prelude.{◌≡◌, ◌<◌, ℕ, List, Option, IfSome, option_map, is_none, is_some, min, ◌⊎◌, ◌↔◌, ◌≤◌, Bool, true, false, not, [], ◌∷◌, None, Some, slice_get, length, Result, Ok, Err}
-use Rattle.mpm_base.specs.Clock.{Answers}
-use Rattle.mpm_base.specs.Front.{Binds, FrontTold, FrontSeen, BoundTold, DialTold, WaitTold, HasNoneToTake}
-use Rattle.mpm_base.specs.declared.front.Woke.{Woke}
-use Rattle.mpm_base.specs.declared.front.Woke.TheVariants as woke
-use Rattle.std.specs.List.{list_any}
-use Rattle.mpm_base.specs.Count.{NeverFalls, Rises, greatest_count, next_count}
-use Rattle.mpm_base.specs.Link.{LinkTold}
-use Rattle.mpm_base.specs.declared.conn.ConnName.{ConnName}
-use Rattle.conn_machine.specs.declared.row.Row.{Row}
+use Rattle.board.specs.Book.{SeenBook}
+use Rattle.board.specs.Finds.{acceptable}
+use Rattle.board.specs.declared.faults.BoardFault.{BoardFault}
+use Rattle.conn_machine.specs.Made.{IsOpened}
+use Rattle.conn_machine.specs.Rows.{is_held, is_lingering, is_parked, live_row}
+use Rattle.conn_machine.specs.States.{is_halted, is_over, is_overdue, is_serving}
 use Rattle.conn_machine.specs.declared.event.Why.{Why}
-use Rattle.conn_machine.specs.declared.event.Why.TheVariants as why
+use Rattle.conn_machine.specs.declared.row.Row.{Row}
 use Rattle.conn_machine.specs.declared.state.Going.{Going}
 use Rattle.conn_machine.specs.declared.state.Going.TheVariants.{Ending, Halted}
 use Rattle.conn_machine.specs.declared.state.State.{State}
-use Rattle.conn_machine.specs.Rows.{is_held, is_lingering, is_parked, live_row}
-use Rattle.conn_machine.specs.States.{is_halted, is_over, is_overdue, is_serving}
-use Rattle.conn_machine.specs.Made.{IsOpened}
 use Rattle.conn_state.specs.Conn.{IsFresh}
 use Rattle.conn_state.specs.Known.{KnownOutside}
-use Rattle.board.specs.declared.faults.BoardFault.{BoardFault}
-use Rattle.board.specs.Book.{SeenBook}
-use Rattle.board.specs.Finds.{acceptable}
-use Rattle.worker_group.specs.Service.{RefusalLasts}
-use Rattle.mpm_run.specs.declared.listen.End.{End}
-use Rattle.mpm_run.specs.declared.listen.End.TheVariants as end
-use Rattle.mpm_run.specs.declared.run_numbers.RunNumbers.{RunNumbers}
-use Rattle.mpm_run.specs.declared.server.OpenFault.{OpenFault}
-use Rattle.mpm_run.specs.declared.server.OpenFault.TheVariants as opening
+use Rattle.mpm_base.specs.Clock.{Answers}
+use Rattle.mpm_base.specs.Count.{NeverFalls, Rises, greatest_count, next_count}
+use Rattle.mpm_base.specs.Front.{Binds, FrontTold, FrontSeen, BoundTold, DialTold, WaitTold, HasNoneToTake}
+use Rattle.mpm_base.specs.Link.{LinkTold}
+use Rattle.mpm_base.specs.declared.conn.ConnName.{ConnName}
+use Rattle.mpm_base.specs.declared.front.Woke.{Woke}
 use Rattle.mpm_run.specs.Commands.{NoneStops, StopsAtLast, lines_read}
 use Rattle.mpm_run.specs.Links.{HandsOutTaken, TakesLinks, TurnsOneAway}
 use Rattle.mpm_run.specs.Listen.{HasNoLive, IsClosedDown}
 use Rattle.mpm_run.specs.Outside.{clients_told, comings_told}
 use Rattle.mpm_run.specs.Patient.{IsAtRest}
 use Rattle.mpm_run.specs.Started.{BeginsWithStarts}
-use Rattle.mpm_run.specs.Stops.{HasEndedGracefully, HasFailedLast, HasTakenAll, StoppedFor}
+use Rattle.mpm_run.specs.Stops.{HasFailedLast, HasTakenAll, StoppedFor}
 use Rattle.mpm_run.specs.Times.{IsInformed, IsInformedOfTime, IsInformedSoFar}
 use Rattle.mpm_run.specs.Watched.{AreWatched, accepted_names}
+use Rattle.mpm_run.specs.declared.listen.End.{End}
+use Rattle.mpm_run.specs.declared.run_numbers.RunNumbers.{RunNumbers}
+use Rattle.mpm_run.specs.declared.server.OpenFault.{OpenFault}
+use Rattle.std.specs.List.{list_any}
+use Rattle.std.specs.Prelude.{◌≡◌, ◌<◌, ℕ, List, Option, IfSome, option_map, is_none, is_some, min, ◌⊎◌, ◌↔◌, ◌≤◌, Bool, true, false, not, [], ◌∷◌, None, Some, slice_get, length, Result, Ok, Err}
+use Rattle.worker_group.specs.Service.{RefusalLasts}
+use Rattle.conn_machine.specs.declared.event.Why.TheVariants as why
+use Rattle.mpm_base.specs.declared.front.Woke.TheVariants as woke
+use Rattle.mpm_run.specs.declared.listen.End.TheVariants as end
+use Rattle.mpm_run.specs.declared.server.OpenFault.TheVariants as opening
 
 -- what a front was bound to, and its dials
 abbrev pub contacts : FrontTold → List BoundTold × List DialTold
@@ -290,12 +290,6 @@ NoneParked s = (slot : ℕ) (r : Row) → slice_get s.rows slot ≡ Some r → i
 -- the next wait may let time pass exactly where nothing is left to be done
 abbrev pub IsRestful : Bool → State → Type 0
 IsRestful quiet s = (quiet ≡ true) ↔ IsAtRest s
-
--- the server stopped for one of these, or ended
-abbrev pub IsEnd : Going → Type 0
-IsEnd going =
-    (going ≡ Halted why.FrontEnded) ⊎ (going ≡ Halted why.Asked) ⊎ (going ≡ Halted why.FrontFailed) ⊎ (going ≡ Halted why.NoMemory)
-    ⊎ HasEndedGracefully going
 
 -- it stopped for one of these, and closed down
 pub record HasStopped (old new : FrontSeen) (s : State) : Type 0 where

@@ -20,7 +20,7 @@ use Rattle.conn_machine.specs.Events.{begins_generation, is_order}
 use Rattle.conn_machine.specs.States.{is_serving, later}
 use Rattle.conn_machine.specs.Table.{greatest_generation, next}
 use Rattle.mpm_run.specs.Generations.{Opening, config_among, config_at, config_in, renewed}
-use Rattle.mpm_run.specs.Sites.{order_of}
+use Rattle.restart_control.specs.Reload.{order_of}
 
 -- ## Numbers
 

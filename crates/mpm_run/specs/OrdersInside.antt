@@ -19,7 +19,7 @@ use Rattle.conn_machine.specs.declared.event.Refusal.TheVariants as refusal
 use Rattle.mpm_run.specs.Generations.{Opening, known_edition}
 use Rattle.mpm_run.specs.Outside.{clients_told}
 use Rattle.mpm_run.specs.Orders.{shape_by}
-use Rattle.mpm_run.specs.Sites.{head_limits_of}
+use Rattle.mpm_run.specs.Generations.{head_limits_of}
 use Rattle.mpm_run.specs.Standing.{KnowsLater, Standing, StandsBroken, StandsOn}
 use Rattle.mpm_run.specs.declared.edition.Edition.{Edition}
 use Rattle.mpm_run.specs.declared.edition.NamedConfig.{NamedConfig}

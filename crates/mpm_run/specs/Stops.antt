@@ -1,15 +1,16 @@
 -- Why a server stopped, as its front shows it.
-use Rattle.std.specs.Prelude.{◌≡◌, ◌⊎◌, ℕ, List, [], ◌∷◌, ◌++◌, IfSome, Option, length}
-use Rattle.mpm_base.specs.Count.{Rises}
-use Rattle.mpm_base.specs.Front.{FrontSeen, FrontTold, WaitTold}
-use Rattle.mpm_base.specs.declared.front.Woke.TheVariants as woke
-use Rattle.conn_machine.specs.declared.event.Why.TheVariants as why
+use Rattle.conn_machine.specs.Events.{count_events}
 use Rattle.conn_machine.specs.declared.event.Entry.{Entry}
 use Rattle.conn_machine.specs.declared.state.Going.{Going}
-use Rattle.conn_machine.specs.declared.state.Going.TheVariants.{Ending, Halted}
+use Rattle.conn_machine.specs.declared.state.Going.TheVariants.{Halted}
 use Rattle.conn_machine.specs.declared.state.State.{State}
-use Rattle.conn_machine.specs.Events.{count_events}
+use Rattle.mpm_base.specs.Count.{Rises}
+use Rattle.mpm_base.specs.Front.{FrontSeen, FrontTold, WaitTold}
 use Rattle.mpm_run.specs.Commands.{is_graceful_stop}
+use Rattle.run_report.specs.Endings.{HasEndedGracefully}
+use Rattle.std.specs.Prelude.{◌≡◌, ◌⊎◌, List, [], ◌∷◌, ◌++◌, IfSome, length}
+use Rattle.conn_machine.specs.declared.event.Why.TheVariants as why
+use Rattle.mpm_base.specs.declared.front.Woke.TheVariants as woke
 
 -- all has happened, each command line was read, and the table took each connection that was handed out
 pub record HasGivenAll (s : State) (t : FrontTold) : Type 0 where
@@ -44,10 +45,6 @@ pub record HasFrontFailed (old new : FrontSeen) (s : State) : Type 0 where
   pub going : s.going ≡ Halted why.FrontFailed
   pub failed : Rises old.counts.faults new.counts.faults
   pub last : IfSome new.told HasFailedLast
-
--- the server was asked to end: it ends still, as it has to when all is gone, or its time was over
-abbrev pub HasEndedGracefully : Going → Type 0
-HasEndedGracefully going = ((until : Option ℕ) × (going ≡ Ending until)) ⊎ (going ≡ Halted why.Overdue)
 
 -- why it stopped: nothing more could come, it was asked to, a wait failed, memory lacked, or it ended gracefully
 abbrev pub StoppedFor : FrontSeen → FrontSeen → State → Type 0

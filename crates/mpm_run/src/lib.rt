@@ -16,29 +16,19 @@
 
 mod closing;
 mod command_run;
-mod config_reading;
 mod config_test;
-mod counting;
 mod edition;
-mod exit_status;
 mod folding;
 mod listen;
 mod orders;
 mod outcome;
-mod refusal;
-mod report;
-mod reporting;
 mod round;
 mod run_numbers;
 mod script_run;
 mod serve_run;
 mod server;
-mod site_loading;
-mod texts;
 mod top_call;
-mod writing;
 
-pub use counting::tally;
 pub use outcome::{Outcome, Scripted, lacks_memory};
-pub use report::{Tally, report_text};
+pub use run_report::{Tally, report_text, tally};
 pub use top_call::run;

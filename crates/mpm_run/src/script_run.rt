@@ -1,32 +1,35 @@
 //! The run of a script: `--script FILE`, and `--load N`.
 ghost use Rattle.std.specs.Prelude.{◌≡◌, ◌≤◌, ◌⊎◌, ℕ, List, false, None, IfSome, IsSome, IsNone};
-ghost use Rattle.mpm_script.specs.FileNames.{HaveTextNames};
-ghost use Rattle.mpm_script.specs.Load.{load_lines};
+ghost use Rattle.command_words.specs.Invocations.{IsLoadWords, IsScriptWords};
 ghost use Rattle.file_table.specs.Load.{is_store_fault};
+ghost use Rattle.mpm_base.specs.Store.{StoreSeen};
+ghost use Rattle.mpm_run.specs.Generations.{head_limits_of};
+ghost use Rattle.mpm_run.specs.Played.{IsLeftOfRun};
+ghost use Rattle.mpm_run.specs.PlayedInside.{EndsScript, HasRunScript, IsPlayed, IsPlayedStatus, IsServedRun};
+ghost use Rattle.mpm_run.specs.ScriptRefusals.{fault_at};
+ghost use Rattle.mpm_run.specs.ScriptsInside.{IsConfigRefusalOf, IsOfText, IsRefusalOf, IsScriptConfig, IsSiteRefusalOf, RefusesConfig, RefusesLoad, RefusesSite};
+ghost use Rattle.mpm_script.specs.FileNames.{HaveTextNames};
+ghost use Rattle.run_opening.specs.Calls.{seen_call};
+ghost use Rattle.run_opening.specs.Configured.{warnings_of};
+ghost use Rattle.run_opening.specs.Refusals.{EndsSilently};
+ghost use Rattle.run_report.specs.Endings.{EndsAs};
 ghost use Rattle.script_front.specs.Editions.{editions_of, store_of};
-ghost use Rattle.mpm_run.specs.Configured.{warnings_of};
-ghost use Rattle.mpm_run.specs.ConfiguredInside.{IsOfText, IsScriptConfig};
-ghost use Rattle.mpm_run.specs.Calls.{seen_call};
-ghost use Rattle.mpm_run.specs.ExitStatuses.{EndsAs, EndsConfigRefused, EndsRefused, EndsSilently, EndsSiteRefused, EndsUnread, HasPlayed, fault_at};
-ghost use Rattle.mpm_run.specs.ExitStatusesInside.{HasRunScript, IsConfigRefusalOf, IsLeftOfRun, IsPlayed, IsPlayedStatus, IsRefusalOf, IsScriptStatus, RefusesConfig};
-ghost use Rattle.command_words.specs.Invocations.{IsScriptWords};
-ghost use Rattle.mpm_run.specs.Sites.{head_limits_of};
-ghost use Rattle.mpm_run.specs.SitesInside.{IsServedRun, IsSiteRefusalOf, RefusesLoad, RefusesSite};
 
-use crate::config_reading::{MOST_CONFIG, NoConfig, config_from};
 use crate::edition::{Edition, NamedConfig};
-use crate::outcome::{Ending, Scripted, no_memory};
-use crate::refusal::{refuse_config, refuse_script, refuse_site, refuse_unread};
-use crate::reporting::report_run;
+use crate::outcome::Scripted;
 use crate::run_numbers::head_limits_of;
 use crate::server::{OpenFault, ServedRun, run_server};
-use crate::site_loading::load_site;
-use crate::texts::ScriptRefusal;
 use board::laws::{ended_connections_join, generations_keep_their_editions};
 use file_table::LoadFault;
 use mpm_base::{Gate, NoMemory, Octets, Sink, Store, StoreFault};
 use mpm_config::Config;
 use mpm_script::{Script, ScriptFault, load_script, read_script};
+use restart_control::{MOST_CONFIG, load_site};
+use run_opening::{
+    Ending, NoConfig, config_from, no_memory, refuse_config, refuse_script, refuse_site,
+    refuse_unread,
+};
+use run_report::{ScriptRefusal, report_run};
 use script_front::{
     CONF_NAME, ScriptClock, ScriptFront, editions_have_a_configuration, script_store,
 };
@@ -48,16 +51,10 @@ pub fn run_script<R: Wait, D: Store, G: Gate, K: Sink>(
     gate: &G,
     out: &mut K,
 ) -> Ending<Scripted>
-    ensures kept { (words : List (List ℕ)) → IsScriptWords words name.now → IfSome result.left (λ s. HasPlayed (seen_call words (D.seen store.old) (D.seen store.new) (K.seen out.old) (K.seen out.new) result.shown) s.config s.board s.front s.store) }
-    ensures left { IfSome result.left IsLeftOfRun }
-    ensures ends { IfSome result.left (λ s. EndsAs (K.seen out.old) (K.seen out.new) s.config s.board result.status) }
-    ensures opened { (result.status ≡ 0) ⊎ (result.status ≡ 5) → IsSome result.left }
-    ensures known { IsScriptStatus result.status }
-    ensures misconfigured { (words : List (List ℕ)) → IsScriptWords words name.now → result.status ≡ 1 → EndsConfigRefused (seen_call words (D.seen store.old) (D.seen store.new) (K.seen out.old) (K.seen out.new) result.shown) }
-    ensures unread { (words : List (List ℕ)) → IsScriptWords words name.now → result.status ≡ 3 → EndsUnread (seen_call words (D.seen store.old) (D.seen store.new) (K.seen out.old) (K.seen out.new) result.shown) }
-    ensures site_refused { (words : List (List ℕ)) → IsScriptWords words name.now → result.status ≡ 9 → EndsSiteRefused (seen_call words (D.seen store.old) (D.seen store.new) (K.seen out.old) (K.seen out.new) result.shown) }
-    ensures refused { (words : List (List ℕ)) → IsScriptWords words name.now → result.status ≡ 8 → EndsRefused (seen_call words (D.seen store.old) (D.seen store.new) (K.seen out.old) (K.seen out.new) result.shown) }
-    ensures silent { result.status ≡ 6 → IsNone result.left → EndsSilently (K.seen out.old) (K.seen out.new) result.shown }
+    ensures { (words : List (List ℕ)) → IsScriptWords words name.now → EndsScript
+        (seen_call words (D.seen store.old) (D.seen store.new)
+        (K.seen out.old) (K.seen out.new) result.shown)
+        result.status result.left }
 {
     let bytes = match store.read(alloc, name, MOST_SCRIPT) {
         Ok(bytes) => bytes,
@@ -82,15 +79,9 @@ pub fn run_load<R: Wait, G: Gate, K: Sink>(
 ) -> Ending<Scripted>
     requires some { 1 ≤ count }
     requires few { count ≤ 100_000 }
-    ensures kept { IfSome result.left (IsPlayed (load_lines count)) }
-    ensures left { IfSome result.left IsLeftOfRun }
-    ensures ends { IfSome result.left (λ s. EndsAs (K.seen out.old) (K.seen out.new) s.config s.board result.status) }
-    ensures opened { (result.status ≡ 0) ⊎ (result.status ≡ 5) → IsSome result.left }
-    ensures shown { IsSome result.left → result.shown ≡ None }
-    ensures known { IsPlayedStatus result.status ⊎ (result.status ≡ 1) ⊎ (result.status ≡ 9) }
-    ensures misconfigured { result.status ≡ 1 → IsConfigRefusalOf (K.seen out.old) (K.seen out.new) (load_lines count) result.shown }
-    ensures site_refused { result.status ≡ 9 → IsSiteRefusalOf (K.seen out.old) (K.seen out.new) (load_lines count) result.shown }
-    ensures silent { result.status ≡ 6 → IsNone result.left → EndsSilently (K.seen out.old) (K.seen out.new) result.shown }
+    ensures { (words : List (List ℕ)) (store : StoreSeen) → IsLoadWords words count → EndsScript
+        (seen_call words store store (K.seen out.old) (K.seen out.new) result.shown)
+        result.status result.left }
 {
     match load_script(alloc, count) {
         Ok(script) => play_script(rt, alloc, script, gate, out),
@@ -102,8 +93,10 @@ pub fn run_load<R: Wait, G: Gate, K: Sink>(
 fn refuse_for<K: Sink>(alloc: Global, fault: ScriptFault, out: &mut K) -> Ending<Scripted>
     ensures known { (result.status ≡ 8) ⊎ (result.status ≡ 6) }
     ensures scripted { IsNone result.left }
-    ensures refused { result.status ≡ 8 → IsRefusalOf (K.seen out.old) (K.seen out.new) fault result.shown }
-    ensures silent { result.status ≡ 6 → EndsSilently (K.seen out.old) (K.seen out.new) result.shown }
+    ensures refused { result.status ≡ 8 →
+        IsRefusalOf (K.seen out.old) (K.seen out.new) fault result.shown }
+    ensures silent { result.status ≡ 6 →
+        EndsSilently (K.seen out.old) (K.seen out.new) result.shown }
 {
     match refusal_at(fault) {
         Some((line, why)) => refuse_script(alloc, why, line, out),
@@ -134,13 +127,17 @@ fn play_script<R: Wait, G: Gate, K: Sink>(
     requires { HaveTextNames script }
     ensures kept { IfSome result.left (λ s. IsPlayed script s) }
     ensures left { IfSome result.left IsLeftOfRun }
-    ensures ends { IfSome result.left (λ s. EndsAs (K.seen out.old) (K.seen out.new) s.config s.board result.status) }
+    ensures ends { IfSome result.left (λ s.
+        EndsAs (K.seen out.old) (K.seen out.new) (warnings_of s.config) s.board result.status) }
     ensures opened { (result.status ≡ 0) ⊎ (result.status ≡ 5) → IsSome result.left }
     ensures shown { IsSome result.left → result.shown ≡ None }
     ensures known { IsPlayedStatus result.status ⊎ (result.status ≡ 1) ⊎ (result.status ≡ 9) }
-    ensures misconfigured { result.status ≡ 1 → IsConfigRefusalOf (K.seen out.old) (K.seen out.new) script result.shown }
-    ensures site_refused { result.status ≡ 9 → IsSiteRefusalOf (K.seen out.old) (K.seen out.new) script result.shown }
-    ensures silent { result.status ≡ 6 → IsNone result.left → EndsSilently (K.seen out.old) (K.seen out.new) result.shown }
+    ensures misconfigured { result.status ≡ 1 →
+        IsConfigRefusalOf (K.seen out.old) (K.seen out.new) script result.shown }
+    ensures site_refused { result.status ≡ 9 →
+        IsSiteRefusalOf (K.seen out.old) (K.seen out.new) script result.shown }
+    ensures silent { result.status ≡ 6 → IsNone result.left →
+        EndsSilently (K.seen out.old) (K.seen out.new) result.shown }
 {
     let Ok(mut store) = script_store(alloc, &script) else {
         return no_memory();
@@ -166,12 +163,15 @@ fn play_site<R: Wait, G: Gate, K: Sink>(
     requires store { store.told ≡ editions_of script }
     ensures kept { IfSome result.left (λ s. IsServedRun script config s) }
     ensures left { IfSome result.left IsLeftOfRun }
-    ensures ends { IfSome result.left (λ s. EndsAs (K.seen out.old) (K.seen out.new) s.config s.board result.status) }
+    ensures ends { IfSome result.left (λ s.
+        EndsAs (K.seen out.old) (K.seen out.new) (warnings_of s.config) s.board result.status) }
     ensures opened { (result.status ≡ 0) ⊎ (result.status ≡ 5) → IsSome result.left }
     ensures shown { IsSome result.left → result.shown ≡ None }
     ensures known { IsPlayedStatus result.status ⊎ (result.status ≡ 9) }
-    ensures site_refused { result.status ≡ 9 → RefusesSite (K.seen out.old) (K.seen out.new) script config result.shown }
-    ensures silent { result.status ≡ 6 → IsNone result.left → EndsSilently (K.seen out.old) (K.seen out.new) result.shown }
+    ensures site_refused { result.status ≡ 9 →
+        RefusesSite (K.seen out.old) (K.seen out.new) script config result.shown }
+    ensures silent { result.status ≡ 6 → IsNone result.left →
+        EndsSilently (K.seen out.old) (K.seen out.new) result.shown }
 {
     let mut store = store;
     let answer = load_site(alloc, &mut store, &config);
@@ -201,8 +201,10 @@ fn refuse_unloaded<K: Sink>(
     requires { is_store_fault fault ≡ false }
     ensures known { (result.status ≡ 9) ⊎ (result.status ≡ 6) }
     ensures scripted { IsNone result.left }
-    ensures refused { result.status ≡ 9 → RefusesLoad (K.seen out.old) (K.seen out.new) config.entry.now fault result.shown }
-    ensures silent { result.status ≡ 6 → EndsSilently (K.seen out.old) (K.seen out.new) result.shown }
+    ensures refused { result.status ≡ 9 →
+        RefusesLoad (K.seen out.old) (K.seen out.new) config.entry.now fault result.shown }
+    ensures silent { result.status ≡ 6 →
+        EndsSilently (K.seen out.old) (K.seen out.new) result.shown }
 {
     match fault {
         LoadFault::TooMany => refuse_site(alloc, config.root.as_slice(), out),
@@ -217,8 +219,10 @@ fn refuse_unconfigured<K: Sink>(alloc: Global, why: NoConfig, out: &mut K) -> En
     requires { IsOfText why }
     ensures known { (result.status ≡ 1) ⊎ (result.status ≡ 6) }
     ensures scripted { IsNone result.left }
-    ensures refused { result.status ≡ 1 → RefusesConfig (K.seen out.old) (K.seen out.new) why result.shown }
-    ensures silent { result.status ≡ 6 → EndsSilently (K.seen out.old) (K.seen out.new) result.shown }
+    ensures refused { result.status ≡ 1 →
+        RefusesConfig (K.seen out.old) (K.seen out.new) why result.shown }
+    ensures silent { result.status ≡ 6 →
+        EndsSilently (K.seen out.old) (K.seen out.new) result.shown }
 {
     match why {
         NoConfig::Refused(why, number) => refuse_config(alloc, why, number, out),
@@ -259,15 +263,18 @@ fn serve_script<R: Wait, G: Gate, K: Sink>(
     requires faults { store.counts.faults ≡ 0 }
     requires limits { edition.limits ≡ head_limits_of config }
     requires timeout { edition.stop_ms ≡ config.current.stop_ms }
-    ensures kept { IfSome result.left (λ s. HasRunScript script config edition.site.value s.board s.front s.store) }
+    ensures kept { IfSome result.left (λ s.
+        HasRunScript script config edition.site.value s.board s.front s.store) }
     ensures script { IfSome result.left (λ s. s.front.script ≡ script) }
     ensures config { IfSome result.left (λ s. s.config ≡ config) }
     ensures left { IfSome result.left IsLeftOfRun }
-    ensures ends { IfSome result.left (λ s. EndsAs (K.seen out.old) (K.seen out.new) s.config s.board result.status) }
+    ensures ends { IfSome result.left (λ s.
+        EndsAs (K.seen out.old) (K.seen out.new) (warnings_of s.config) s.board result.status) }
     ensures opened { (result.status ≡ 0) ⊎ (result.status ≡ 5) → IsSome result.left }
     ensures shown { result.shown ≡ None }
     ensures known { IsPlayedStatus result.status }
-    ensures silent { IsNone result.left → EndsSilently (K.seen out.old) (K.seen out.new) result.shown }
+    ensures silent { IsNone result.left →
+        EndsSilently (K.seen out.old) (K.seen out.new) result.shown }
 {
     let mut store = store;
     let Ok(mut front) = ScriptFront::make(alloc, script) else {

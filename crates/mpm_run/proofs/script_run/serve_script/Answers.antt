@@ -1,11 +1,14 @@
+use Rattle.run_opening.specs.Configured.{warnings_of}
 use Rattle.std.proofs.Common.{◌≡◌, ◌∙◌, ℕ, List, Some, refl, ap, sym, subst}
 use Rattle.mpm_base.specs.declared.script_line.ScriptLine.{ScriptLine}
 use Rattle.mpm_script.specs.Clients.{clients_of}
 use Rattle.script_front.specs.ScriptFront.{SeenFront, comings_of, front_seen}
-use Rattle.mpm_run.specs.ExitStatusesInside.{WritesAll}
+use Rattle.run_report.specs.EndingsInside.{WritesAll}
 use Rattle.mpm_run.specs.Patient.{HasNothingCome}
-use Rattle.mpm_run.proofs.EndLemmas.{ends-as, has-end, keeps-time, never-failed, patience-of, played-status, stopped-end}
-use Rattle.mpm_run.proofs.ServeLemmas.{has-run_script}
+use Rattle.run_report.proofs.EndingLemmas.{ends-as}
+use Rattle.mpm_run.proofs.LeftLemmas.{never-failed, stopped-end}
+use Rattle.mpm_run.proofs.PlayedLemmas.{has-end, keeps-time, patience-of, played-status}
+use Rattle.mpm_run.proofs.PlayedLemmas.{has-run_script}
 use Rattle.mpm_run.proofs.script_run.serve_script.Goals as goal
 
 pub returns-in-Ok-answer-clause-kept : goal.returns-in-Ok-answer-clause-kept
@@ -48,7 +51,7 @@ returns-in-Ok-answer-clause-ends g c =
     let mid = g.K.Sink.seen c.run_server-answer.new.out in
     let served = c.in-Ok-answer.served in
     let kept = c.in-Ok-answer.ensures in
-    ends-as old mid (g.K.Sink.seen c.report_run-status.new.out) c.args.config served.board served.written c.report_run-status.result
+    ends-as old mid (g.K.Sink.seen c.report_run-status.new.out) (warnings_of c.args.config) served.board served.written c.report_run-status.result
     (subst (λ (text : List ℕ). WritesAll old mid text served.written) (c.as_slice.ensures ∙ c.requires.told) kept.written) kept.faults
     (stopped-end (front_seen c.in-Ok.front) (front_seen c.run_server-answer.new.front) served.board.book.state kept.outside.stopped)
     c.report_run-status.ensures.stopped c.report_run-status.ensures.report c.report_run-status.ensures.lacking
