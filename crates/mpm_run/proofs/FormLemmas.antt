@@ -1,15 +1,14 @@
 -- What each form of the command line makes of what its parts leave.
-use Rattle.std.proofs.Common.{◌≡◌, ◌≢◌, ◌≤◌, ◌⊎◌, inl, inr, ℕ, List, Option, None, Some, IfSome, IsNone, IsSome, IsSomeAnd, refl, arith}
+use Rattle.std.proofs.Common.{◌≡◌, ◌⊎◌, inl, inr, ℕ, List, Option, None, Some, IfSome, IsSome, IsSomeAnd, refl, arith}
 use Rattle.mpm_base.specs.Front.{FrontSeen}
-use Rattle.mpm_base.specs.declared.script_line.CommandWord.{CommandWord}
 use Rattle.board.specs.Board.{SeenBoard}
 use Rattle.command_words.specs.Invocations.{IsNoInvocation}
 use Rattle.run_opening.specs.Calls.{Call}
 use Rattle.run_opening.specs.Refusals.{EndsSilently}
 use Rattle.run_opening.specs.RefusalsInside.{RefusesRun}
 use Rattle.run_report.specs.Texts.{usage}
-use Rattle.mpm_run.specs.ExitStatuses.{Causes, EndsConfigRefused, EndsUnread, IsExitStatus, Leaves}
-use Rattle.mpm_run.specs.ExitStatusesInside.{EndsSend, EndsServe, EndsTest, IsSentStatus, IsServedStatus, IsTestStatus}
+use Rattle.mpm_run.specs.ExitStatuses.{Causes, EndsConfigRefused, EndsUnread, Leaves}
+use Rattle.mpm_run.specs.ExitStatusesInside.{EndsSend, EndsServe, EndsTest}
 use Rattle.mpm_run.specs.PlayedInside.{EndsScript}
 use Rattle.mpm_run.specs.declared.outcome.Scripted.{Scripted}
 

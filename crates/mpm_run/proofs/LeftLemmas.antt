@@ -8,7 +8,7 @@ use Rattle.conn_machine.specs.declared.state.State.{State}
 use Rattle.board.specs.Book.{SeenBook}
 use Rattle.board.specs.Board.{SeenBoard, AreOfOutside, EndedOfOutside}
 use Rattle.run_report.specs.EndingsInside.{IsEnd}
-use Rattle.mpm_run.specs.Stops.{HasEnded, StoppedFor, TakesEach}
+use Rattle.listener.specs.Stops.{HasEnded, StoppedFor, TakesEach}
 use Rattle.run_report.proofs.CountLemmas.{never-rises}
 use Rattle.mpm_base.specs.Count.{NeverFalls}
 use Rattle.mpm_base.specs.Store.{StoreSeen, StoreTold}
@@ -16,16 +16,16 @@ use Rattle.conn_machine.specs.declared.event.Entry.{Entry}
 use Rattle.conn_state.specs.Answered.{SeenEnded}
 use Rattle.conn_state.specs.Known.{KnownOutside}
 use Rattle.board.specs.Editions.{GenerationsKeepTheirEditions, KeepsEditions}
-use Rattle.mpm_run.specs.Commands.{DoesLines}
+use Rattle.listener.specs.Commands.{DoesLines}
 use Rattle.mpm_run.specs.Runs.{KeepsLines}
 use Rattle.mpm_run.specs.RunsInside.{HasRunBy}
-use Rattle.mpm_run.specs.FirstNumbers.{numbers_of}
-use Rattle.mpm_run.specs.Generations.{Opening, renewed}
-use Rattle.mpm_run.specs.Listen.{HasClosedAll, IsRunFrom}
-use Rattle.mpm_run.specs.OrdersInside.{known_outside}
-use Rattle.mpm_run.specs.Served.{all_entries}
-use Rattle.mpm_run.specs.Standing.{HasStood, standing}
-use Rattle.mpm_run.specs.Stores.{IsRenewed, KeepsStore, RisesBy}
+use Rattle.listener.specs.FirstNumbers.{numbers_of}
+use Rattle.listener.specs.Generations.{Opening, renewed}
+use Rattle.listener.specs.Listen.{HasClosedAll, IsRunFrom}
+use Rattle.listener.specs.OrdersInside.{known_outside}
+use Rattle.listener.specs.Served.{all_entries}
+use Rattle.listener.specs.StandingInside.{HasStood, standing}
+use Rattle.listener.specs.Stores.{IsRenewed, KeepsStore, RisesBy}
 use Rattle.mpm_run.proofs.ServedLemmas.{serves-editions}
 
 -- ## Why the server stopped

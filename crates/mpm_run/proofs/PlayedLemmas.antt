@@ -13,12 +13,12 @@ use Rattle.conn_machine.specs.declared.state.Going.TheVariants.{Halted}
 use Rattle.board.specs.Book.{SeenBook}
 use Rattle.board.specs.Board.{SeenBoard, AreOfOutside, EndedOfOutside}
 use Rattle.run_report.specs.EndingsInside.{IsEnd}
-use Rattle.mpm_run.specs.Patient.{ArePatient, IsPatientRun}
-use Rattle.mpm_run.specs.Stops.{HasEnded, HasGivenAll, StoppedFor}
+use Rattle.listener.specs.Patient.{ArePatient, IsPatientRun}
+use Rattle.listener.specs.Stops.{HasEnded, HasGivenAll, StoppedFor}
 use Rattle.run_report.specs.Endings.{MayEndWith}
 use Rattle.mpm_run.specs.Played.{HasEnd, KeepsTime}
 use Rattle.mpm_run.specs.PlayedInside.{IsPlayedStatus, HasRunScript}
-use Rattle.mpm_run.specs.Times.{IsInTime, WasInformed, waits_of}
+use Rattle.listener.specs.Times.{IsInTime, WasInformed, waits_of}
 use Rattle.run_report.proofs.EndingLemmas.{may-end}
 use Rattle.mpm_base.specs.Store.{StoreCounts, StoreTold, telling_store}
 use Rattle.mpm_config.specs.Config.{Configuration}
@@ -28,14 +28,14 @@ use Rattle.file_table.specs.Site.{SeenSite}
 use Rattle.conn_state.specs.Answered.{SeenEnded}
 use Rattle.conn_state.specs.Known.{KnownOutside}
 use Rattle.board.specs.Editions.{GenerationsKeepTheirEditions, KeepsEditions}
-use Rattle.mpm_run.specs.FirstNumbers.{numbers_of, opened_by}
-use Rattle.mpm_run.specs.Generations.{Opening}
-use Rattle.mpm_run.specs.Listen.{HasClosedAll, IsRunFrom}
-use Rattle.mpm_run.specs.OrdersInside.{known_outside}
-use Rattle.mpm_run.specs.Served.{all_entries, whole_book}
-use Rattle.mpm_run.specs.Standing.{HasStood, standing}
-use Rattle.mpm_run.specs.Tells.{AllReceive}
-use Rattle.mpm_run.proofs.RunLemmas.{known-receive}
+use Rattle.listener.specs.FirstNumbers.{numbers_of, opened_by}
+use Rattle.listener.specs.Generations.{Opening}
+use Rattle.listener.specs.Listen.{HasClosedAll, IsRunFrom}
+use Rattle.listener.specs.OrdersInside.{known_outside}
+use Rattle.listener.specs.Served.{all_entries, whole_book}
+use Rattle.listener.specs.StandingInside.{HasStood, standing}
+use Rattle.listener.specs.Tells.{AllReceive}
+use Rattle.listener.proofs.RunLemmas.{known-receive}
 use Rattle.mpm_run.proofs.ServedLemmas.{ordered-reopened, served-reopened, serves-editions}
 
 -- ## With which exit status

@@ -21,11 +21,11 @@ use Rattle.mpm_run.specs.ExitStatuses.{EndsSiteRefused, EndsUnbound, EndsUnread,
 use Rattle.mpm_run.specs.RunsInside.{HasRunBy}
 use Rattle.mpm_run.specs.ExitStatusesInside.{LeavesUnbound, RefusesFolder, IsOpenedStatus, EndsServe}
 use Rattle.run_opening.specs.RefusalsInside.{RefusesRun}
-use Rattle.mpm_run.specs.FirstNumbers.{numbers_of, opened_by}
-use Rattle.mpm_run.specs.Generations.{Opening}
+use Rattle.listener.specs.FirstNumbers.{numbers_of, opened_by}
+use Rattle.listener.specs.Generations.{Opening}
 use Rattle.command_words.specs.Invocations.{IsServeWords}
-use Rattle.mpm_run.specs.Outside.{KeepsOutside}
-use Rattle.mpm_run.specs.Served.{all_entries, whole_book}
+use Rattle.listener.specs.Outside.{KeepsOutside}
+use Rattle.listener.specs.Served.{all_entries, whole_book}
 use Rattle.run_opening.specs.Sites.{IsSiteRefusedOf}
 use Rattle.run_report.specs.Texts.{front_fault}
 use Rattle.run_opening.proofs.ConfigLemmas.{accepted-still}

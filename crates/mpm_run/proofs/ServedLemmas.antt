@@ -21,13 +21,13 @@ use Rattle.board.specs.Board.{EndedOfOutside, SeenBoard}
 use Rattle.board.specs.Book.{SeenBook}
 use Rattle.board.specs.Editions.{GenerationsKeepTheirEditions, KeepsEditions}
 use Rattle.board.specs.ReportLine.{line_of}
-use Rattle.mpm_run.specs.FirstNumbers.{folded_by, opened_by}
-use Rattle.mpm_run.specs.Generations.{Opening, config_among, config_at, known_edition, known_editions, made_edition, renewed}
-use Rattle.mpm_run.specs.Listen.{HasFolded}
-use Rattle.mpm_run.specs.Orders.{AreOrdered, HasNoConfig, HasNoSite, IsDoneBy, IsOrdered, IsRefusedAs, MakesSite, edition_with, ending_by, orders_with, shape_by}
-use Rattle.mpm_run.specs.OrdersInside.{known_outside}
-use Rattle.mpm_run.specs.Served.{AreServedIn, ServesByEditions, all_entries, whole_book}
-use Rattle.mpm_run.specs.declared.run_numbers.RunNumbers.{RunNumbers}
+use Rattle.listener.specs.FirstNumbers.{folded_by, opened_by}
+use Rattle.listener.specs.Generations.{Opening, config_among, config_at, known_edition, known_editions, made_edition, renewed}
+use Rattle.listener.specs.Listen.{HasFolded}
+use Rattle.listener.specs.Orders.{AreOrdered, HasNoConfig, HasNoSite, IsDoneBy, IsOrdered, IsRefusedAs, MakesSite, edition_with, ending_by, orders_with, shape_by}
+use Rattle.listener.specs.OrdersInside.{known_outside}
+use Rattle.listener.specs.Served.{AreServedIn, ServesByEditions, all_entries, whole_book}
+use Rattle.listener.specs.declared.run_numbers.RunNumbers.{RunNumbers}
 
 -- ## Each connection that ended
 

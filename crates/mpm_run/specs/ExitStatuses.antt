@@ -7,13 +7,13 @@ use Rattle.mpm_base.specs.Count.{Rises}
 use Rattle.mpm_base.specs.Front.{Binds, Dials, FrontSeen}
 use Rattle.mpm_base.specs.declared.script_line.CommandWord.{CommandWord}
 use Rattle.mpm_config.specs.Config.{Configuration}
-use Rattle.mpm_run.specs.Commands.{GivesLines}
-use Rattle.mpm_run.specs.FirstNumbers.{numbers_of}
-use Rattle.mpm_run.specs.Generations.{Opening}
-use Rattle.mpm_run.specs.Outside.{KeepsOutside}
+use Rattle.listener.specs.Commands.{GivesLines}
+use Rattle.listener.specs.FirstNumbers.{numbers_of}
+use Rattle.listener.specs.Generations.{Opening}
+use Rattle.listener.specs.Outside.{KeepsOutside}
 use Rattle.mpm_run.specs.Runs.{HasRun, entries_of_run, KeepsLines}
 use Rattle.mpm_run.specs.ScriptRefusals.{EndsMisconfigured, EndsScriptSiteRefused, EndsRefused}
-use Rattle.mpm_run.specs.Stores.{KeepsStore}
+use Rattle.listener.specs.Stores.{KeepsStore}
 use Rattle.mpm_run.specs.declared.outcome.Scripted.{Scripted}
 use Rattle.restart_control.specs.Reload.{most_config}
 use Rattle.run_opening.specs.Calls.{Call, HadConfigAccepted, HasConfigAccepted, HasFile, IsRefusedAsLarge, IsFileUnread, KeepsFiles, HasSiteRefused, LoadsSite, StoreFailed}

@@ -7,14 +7,14 @@ use Rattle.mpm_base.specs.Front.{moments_of}
 use Rattle.mpm_base.specs.Store.{StoreSeen, telling_store}
 use Rattle.mpm_base.specs.declared.script_line.ScriptLine.{ScriptLine}
 use Rattle.mpm_config.specs.Config.{Configuration}
-use Rattle.mpm_run.specs.Commands.{is_graceful_stop, HeedsLines}
-use Rattle.mpm_run.specs.Generations.{Opening}
-use Rattle.mpm_run.specs.Patient.{ArePatient}
+use Rattle.listener.specs.Commands.{is_graceful_stop, HeedsLines}
+use Rattle.listener.specs.Generations.{Opening}
+use Rattle.listener.specs.Patient.{ArePatient}
 use Rattle.mpm_run.specs.Runs.{HasRun, entries_of_run, KeepsLines}
 use Rattle.mpm_run.specs.Scripts.{PlaysLines, HasConfig, HasScriptSite}
-use Rattle.mpm_run.specs.Stores.{KeepsStore}
-use Rattle.mpm_run.specs.Tells.{AllReceive}
-use Rattle.mpm_run.specs.Times.{WasInformed}
+use Rattle.listener.specs.Stores.{KeepsStore}
+use Rattle.listener.specs.Tells.{AllReceive}
+use Rattle.listener.specs.Times.{WasInformed}
 use Rattle.mpm_script.specs.Clients.{clients_of, names_of}
 use Rattle.run_opening.specs.Calls.{Call}
 use Rattle.run_opening.specs.Configured.{Configures}
@@ -24,10 +24,10 @@ use Rattle.script_front.specs.ScriptFront.{SeenFront, comings_of, front_seen, ne
 use Rattle.stand_ins.specs.PlainStore.{SeenStore, no_store_counts}
 use Rattle.std.specs.Prelude.{◌≡◌, ℕ, ◌<◌, List, length, map, Some, None, ◌≢◌}
 use Rattle.conn_machine.specs.declared.event.Why.TheVariants as why
-use Rattle.mpm_run.specs.FirstNumbers.{numbers_of}
-use Rattle.mpm_run.specs.Links.{KeepsLinks}
-use Rattle.mpm_run.specs.Started.{IsStartedFirst}
-use Rattle.mpm_run.specs.Watched.{AreWatched, IsOpenedAndHushed}
+use Rattle.listener.specs.FirstNumbers.{numbers_of}
+use Rattle.listener.specs.Links.{KeepsLinks}
+use Rattle.listener.specs.StartedFirst.{IsStartedFirst}
+use Rattle.listener.specs.Watched.{AreWatched, IsOpenedAndHushed}
 use Rattle.mpm_run.specs.declared.outcome.Scripted.{Scripted}
 
 -- what is seen of a script's store before its run

@@ -6,12 +6,12 @@ use Rattle.file_table.specs.Site.{SeenSite}
 use Rattle.mpm_base.specs.Store.{telling_store}
 use Rattle.mpm_base.specs.declared.script_line.ScriptLine.{ScriptLine}
 use Rattle.mpm_config.specs.Config.{Configuration}
-use Rattle.mpm_run.specs.Commands.{is_graceful_stop}
+use Rattle.listener.specs.Commands.{is_graceful_stop}
 use Rattle.mpm_run.specs.Played.{opening_store, script_opening, HasPlayed, IsLeftOfRun}
 use Rattle.mpm_run.specs.Runs.{HasRun, KeepsLines, entries_of_run}
 use Rattle.mpm_run.specs.Scripts.{HasConfig, HasScriptSite}
-use Rattle.mpm_run.specs.Stores.{KeepsStore}
-use Rattle.mpm_run.specs.Tells.{AllReceive}
+use Rattle.listener.specs.Stores.{KeepsStore}
+use Rattle.listener.specs.Tells.{AllReceive}
 use Rattle.mpm_run.specs.declared.outcome.Scripted.{Scripted}
 use Rattle.mpm_script.specs.Clients.{clients_of, names_of}
 use Rattle.run_opening.specs.Configured.{Configures, warnings_of}

@@ -2,13 +2,13 @@
 use Rattle.board.specs.Board.{SeenBoard}
 use Rattle.conn_machine.specs.declared.event.Entry.{Entry}
 use Rattle.mpm_base.specs.Front.{FrontTold}
-use Rattle.mpm_run.specs.Commands.{DoesLines}
-use Rattle.mpm_run.specs.FirstNumbers.{numbers_of, opened_by}
-use Rattle.mpm_run.specs.Generations.{Opening}
-use Rattle.mpm_run.specs.Listen.{HasClosedAll, HasFolded, IsRunFrom}
-use Rattle.mpm_run.specs.Orders.{AreOrdered}
-use Rattle.mpm_run.specs.Served.{ServesByEditions, all_entries}
-use Rattle.mpm_run.specs.Stops.{TakesEach}
+use Rattle.listener.specs.Commands.{DoesLines}
+use Rattle.listener.specs.FirstNumbers.{numbers_of, opened_by}
+use Rattle.listener.specs.Generations.{Opening}
+use Rattle.listener.specs.Listen.{HasClosedAll, HasFolded, IsRunFrom}
+use Rattle.listener.specs.Orders.{AreOrdered}
+use Rattle.listener.specs.Served.{ServesByEditions, all_entries}
+use Rattle.listener.specs.Stops.{TakesEach}
 use Rattle.std.specs.Prelude.{List}
 
 -- what is left of a run that opened so: its history, and what was folded before; it closed each connection that it took, and each child is

@@ -2,10 +2,10 @@
 use Rattle.board.specs.Board.{SeenBoard}
 use Rattle.mpm_base.specs.Front.{FrontSeen}
 use Rattle.mpm_base.specs.Store.{StoreSeen}
-use Rattle.mpm_run.specs.Commands.{GivesLines}
-use Rattle.mpm_run.specs.Generations.{Opening}
+use Rattle.listener.specs.Commands.{GivesLines}
+use Rattle.listener.specs.Generations.{Opening}
 use Rattle.mpm_run.specs.Runs.{HasRun, KeepsLines, entries_of_run}
-use Rattle.mpm_run.specs.Stores.{KeepsStore}
+use Rattle.listener.specs.Stores.{KeepsStore}
 use Rattle.std.specs.Prelude.{IfSome}
 
 -- what is left is of a run that opened so, over the front and the store that it left so: what the command lines ask for was done, the front

@@ -2,7 +2,7 @@
 ghost use Rattle.std.specs.Prelude.{◌≡◌, ℕ, List};
 ghost use Rattle.command_words.specs.Invocations.{IsSendWords};
 ghost use Rattle.mpm_run.specs.ExitStatusesInside.{EndsSend};
-ghost use Rattle.mpm_run.specs.Outside.{clients_told, comings_told};
+ghost use Rattle.listener.specs.Outside.{clients_told, comings_told};
 ghost use Rattle.run_opening.specs.Calls.{seen_call};
 
 use mpm_base::{CommandWord, Front, Sink, Store};

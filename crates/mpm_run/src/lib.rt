@@ -14,19 +14,11 @@
 //! could come the whole script was played.
 #![tactic(auto)]
 
-mod closing;
 mod command_run;
 mod config_test;
-mod edition;
-mod folding;
-mod listen;
-mod orders;
 mod outcome;
-mod round;
-mod run_numbers;
 mod script_run;
 mod serve_run;
-mod server;
 mod top_call;
 
 pub use outcome::{Outcome, Scripted, lacks_memory};

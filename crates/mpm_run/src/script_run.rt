@@ -3,7 +3,7 @@ ghost use Rattle.std.specs.Prelude.{◌≡◌, ◌≤◌, ◌⊎◌, ℕ, List, 
 ghost use Rattle.command_words.specs.Invocations.{IsLoadWords, IsScriptWords};
 ghost use Rattle.file_table.specs.Load.{is_store_fault};
 ghost use Rattle.mpm_base.specs.Store.{StoreSeen};
-ghost use Rattle.mpm_run.specs.Generations.{head_limits_of};
+ghost use Rattle.listener.specs.Generations.{head_limits_of};
 ghost use Rattle.mpm_run.specs.Played.{IsLeftOfRun};
 ghost use Rattle.mpm_run.specs.PlayedInside.{EndsScript, HasRunScript, IsPlayed, IsPlayedStatus, IsServedRun};
 ghost use Rattle.mpm_run.specs.ScriptRefusals.{fault_at};
@@ -15,12 +15,10 @@ ghost use Rattle.run_opening.specs.Refusals.{EndsSilently};
 ghost use Rattle.run_report.specs.Endings.{EndsAs};
 ghost use Rattle.script_front.specs.Editions.{editions_of, store_of};
 
-use crate::edition::{Edition, NamedConfig};
 use crate::outcome::Scripted;
-use crate::run_numbers::head_limits_of;
-use crate::server::{OpenFault, ServedRun, run_server};
 use board::laws::{ended_connections_join, generations_keep_their_editions};
 use file_table::LoadFault;
+use listener::{Edition, NamedConfig, OpenFault, ServedRun, head_limits_of, run_server};
 use mpm_base::{Gate, NoMemory, Octets, Sink, Store, StoreFault};
 use mpm_config::Config;
 use mpm_script::{Script, ScriptFault, load_script, read_script};

@@ -2,9 +2,9 @@
 ghost use Rattle.std.specs.Prelude.{◌≡◌, [], IfSome};
 ghost use Rattle.command_words.specs.Invocations.{CallsFront};
 ghost use Rattle.mpm_run.specs.ExitStatuses.{Causes, Leaves};
-ghost use Rattle.mpm_run.specs.Outside.{TellsStill};
+ghost use Rattle.listener.specs.Outside.{TellsStill};
 ghost use Rattle.mpm_run.specs.Played.{IsLeftOfRun};
-ghost use Rattle.mpm_run.specs.Unused.{IsUnused};
+ghost use Rattle.listener.specs.Unused.{IsUnused};
 ghost use Rattle.run_opening.specs.Calls.{seen_call};
 
 use crate::command_run::send_command;

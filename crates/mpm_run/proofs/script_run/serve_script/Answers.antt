@@ -4,11 +4,10 @@ use Rattle.mpm_base.specs.declared.script_line.ScriptLine.{ScriptLine}
 use Rattle.mpm_script.specs.Clients.{clients_of}
 use Rattle.script_front.specs.ScriptFront.{SeenFront, comings_of, front_seen}
 use Rattle.run_report.specs.EndingsInside.{WritesAll}
-use Rattle.mpm_run.specs.Patient.{HasNothingCome}
+use Rattle.listener.specs.Patient.{HasNothingCome}
 use Rattle.run_report.proofs.EndingLemmas.{ends-as}
 use Rattle.mpm_run.proofs.LeftLemmas.{never-failed, stopped-end}
-use Rattle.mpm_run.proofs.PlayedLemmas.{has-end, keeps-time, patience-of, played-status}
-use Rattle.mpm_run.proofs.PlayedLemmas.{has-run_script}
+use Rattle.mpm_run.proofs.PlayedLemmas.{has-end, keeps-time, patience-of, played-status, has-run_script}
 use Rattle.mpm_run.proofs.script_run.serve_script.Goals as goal
 
 pub returns-in-Ok-answer-clause-kept : goal.returns-in-Ok-answer-clause-kept
