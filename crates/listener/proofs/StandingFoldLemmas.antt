@@ -11,7 +11,7 @@ use Rattle.listener.specs.FirstNumbers.{opened_by}
 use Rattle.listener.specs.FoldsInside.{FoldsJoin, ShowsForFolds}
 use Rattle.listener.specs.Listen.{HasFolded}
 use Rattle.listener.specs.Served.{whole_book}
-use Rattle.listener.specs.StandingInside.{FoldsOn, standing}
+use Rattle.listener.specs.StandingInside.{StandsOverFold, standing}
 use Rattle.listener.specs.declared.run_numbers.RunNumbers.{RunNumbers}
 use Rattle.listener.proofs.FoldedRunLemmas.{has-joined}
 use Rattle.listener.proofs.StandingLemmas.{KeepsPast, keeps-plain, same-lines, stands-past}
@@ -34,7 +34,7 @@ outside-joined joins editions stays known n b shows f outside =
 
 -- it stands over a fold as before
 pub stands-folded : FoldsJoin → GenerationsKeepTheirEditions → OutsideStays → (known : Option KnownOutside) (b : SeenBoard) → ShowsForFolds known b
-    → FoldsOn known b.book (folded_book (map line_of b.ended) b.book)
+    → StandsOverFold known b.book (folded_book (map line_of b.ended) b.book)
 stands-folded joins editions stays known b shows c stop_ms store front o n opened asked stood =
     let old = standing stop_ms store front b.book in
     let new = standing stop_ms store front (folded_book (map line_of b.ended) b.book) in

@@ -20,7 +20,7 @@ use Rattle.http_read.specs.declared.request.Limits.{Limits}
 use Rattle.listener.specs.ListenInside.{IsWatching}
 use Rattle.listener.specs.Patient.{IsPatientRun}
 use Rattle.rounds.specs.PartsInside.{NoneHas, StartsAsAsked}
-use Rattle.listener.specs.StandingInside.{FoldsOn}
+use Rattle.listener.specs.StandingInside.{StandsOverFold}
 use Rattle.listener.specs.Times.{IsInformed}
 
 -- the laws of folds, and of histories and connections that ended, as one fact: what a fold counted and what comes behind it are together
@@ -60,7 +60,7 @@ pub record ListensOn (known : Option KnownOutside) (old new : SeenBoard) : Type 
   pub informed : (waits : Option (List WaitTold)) (calls : Option (List (ℕ × ℕ))) → IsInformed waits calls old.book → IsInformed waits calls new.book
   pub watched : (told : Option FrontTold) → IsWatching told old.book → IsWatching told new.book
   pub patient : (told : Option FrontTold) (calls : Option (List (ℕ × ℕ))) → IsPatientRun told calls old.book → IsPatientRun told calls new.book
-  pub folded : FoldsOn known old.book new.book
+  pub folded : StandsOverFold known old.book new.book
   pub orders : orders_in new.book ≡ orders_in old.book
   pub edition : (limits : Limits) (site : SeenSite) → IsOfGeneration known old.book old.book.state.newest limits site → IsOfGeneration known new.book new.book.state.newest limits site
   pub unfolded : new.book.folded.entries ≡ 0 → new ≡ old

@@ -29,7 +29,7 @@ use Rattle.mpm_base.specs.declared.front.Woke.TheVariants as woke
 use Rattle.rounds.specs.declared.ends.End.TheVariants as end
 use Rattle.listener.specs.declared.server.OpenFault.TheVariants as opening
 use Rattle.rounds.specs.TableInside.{asked_children}
-use Rattle.rounds.specs.EndsInside.{IsGone}
+use Rattle.rounds.specs.EndsInside.{IsAllGone}
 
 -- what a front was bound to, and its dials
 abbrev pub contacts : FrontTold → List BoundTold × List DialTold
@@ -184,7 +184,7 @@ TurnsEnd (Ok end.Asked) old new b = (is_halted b.state.going ≡ false) × Rises
 TurnsEnd (Ok end.Failed) old new b =
     (is_halted b.state.going ≡ false) × Rises old.counts.faults new.counts.faults × IfSome new.told HasFailedLast
 TurnsEnd (Ok end.Overdue) old new b = is_over b.state.moment b.state.going ≡ true
-TurnsEnd (Ok end.Gone) old new b = IsGone b.state
+TurnsEnd (Ok end.Gone) old new b = IsAllGone b.state
 TurnsEnd (Err fault) old new b = RefusalLasts fault b
 
 -- what the turns did of all that the waits and the clock gave: where they were broken off the last of it may be missing, and where the time
@@ -208,7 +208,7 @@ TakesInTo None old new s = TookAll new.told s × HasReadAll new.told × IfSome n
 TakesInTo (Some end.Asked) old new s =
     (is_halted s.going ≡ false) × Rises old.counts.commands new.counts.commands × IfSome new.told HasOneToHeed
 TakesInTo (Some end.Overdue) old new s = (is_over s.moment s.going ≡ true) × IfSome new.told HasNoneToHeed
-TakesInTo (Some end.Gone) old new s = IsGone s × IfSome new.told HasNoneToHeed
+TakesInTo (Some end.Gone) old new s = IsAllGone s × IfSome new.told HasNoneToHeed
 TakesInTo (Some end.Ended) old new s = ⊥
 TakesInTo (Some end.Failed) old new s = ⊥
 

@@ -117,8 +117,8 @@ pub record StandsBroken (known : Option KnownOutside) (c : NamedConfig) (old new
   pub stands : StandsOn known c left 0 old new
 
 -- it stands so over a book behind a fold, whatever is left, where it stood so over the one before
-abbrev pub FoldsOn : Option KnownOutside → SeenBook → SeenBook → Type 0
-FoldsOn known old new =
+abbrev pub StandsOverFold : Option KnownOutside → SeenBook → SeenBook → Type 0
+StandsOverFold known old new =
     (c : NamedConfig) (stop_ms : ℕ) (store : StoreSeen) (front : FrontSeen) →
     StandsOn known c [] 0 (standing stop_ms store front old) (standing stop_ms store front new)
 

@@ -5,13 +5,13 @@ use Rattle.board.specs.Book.{SeenBook}
 use Rattle.worker_group.specs.Acts.{ActsInSteps}
 use Rattle.rounds.specs.declared.ends.End.{End}
 use Rattle.rounds.specs.declared.ends.End.TheVariants as end
-use Rattle.rounds.specs.EndsInside.{IsGone, MustHalt, is_at_end}
+use Rattle.rounds.specs.EndsInside.{IsAllGone, MustHalt, is_at_end}
 use Rattle.rounds.specs.PartsInside.{GoesDown, NoneHas}
 use Rattle.rounds.proofs.ActLemmas.{retires-none}
 
 -- ## A graceful stop that is at its end
 
-down-here : ActsInSteps → (b : SeenBook) → NoneHas b → IsGone b.state → GoesDown (Ok end.Gone) b b
+down-here : ActsInSteps → (b : SeenBook) → NoneHas b → IsAllGone b.state → GoesDown (Ok end.Gone) b b
 down-here steps b free gone = record {
   halted = b;
   closed = b;

@@ -1,5 +1,5 @@
 -- That nothing is left behind a graceful stop once each child is gone.
-use Rattle.std.proofs.Common.{◌≡◌, ℕ, zero, suc, Bool, true, false, not, ◌||◌, List, [], ◌∷◌, Option, Some, slice_get, refl, sym, ◌∙◌}
+use Rattle.std.proofs.Common.{◌≡◌, ℕ, zero, suc, Bool, true, false, not, ◌||◌, List, [], ◌∷◌, Option, Some, slice_get, refl, sym, ap, ◌∙◌}
 use Rattle.std.specs.List.{list_any}
 use Rattle.conn_machine.specs.declared.child.Child.{Child}
 use Rattle.conn_machine.specs.declared.row.Row.{Row}
@@ -11,7 +11,7 @@ use Rattle.conn_machine.specs.Rows.{is_live}
 use Rattle.conn_machine.specs.Sound.{IsSound}
 use Rattle.conn_machine.specs.States.{is_halted, is_serving}
 use Rattle.rounds.specs.ClosedDown.{AllEmpty, HasNoLive}
-use Rattle.rounds.specs.EndsInside.{IsGone}
+use Rattle.rounds.specs.EndsInside.{IsAllGone}
 
 -- ## Children
 
@@ -25,6 +25,16 @@ empty-at (c ∷ children) zero none =
     (empty-first c (is_empty c.phase) (list_any (λ (x : Child). not (is_empty x.phase)) children) refl none).0
 empty-at (c ∷ children) (suc k) none =
     empty-at children k (empty-first c (is_empty c.phase) (list_any (λ (x : Child). not (is_empty x.phase)) children) refl none).1
+
+none-more : (empty rest : Bool) → empty ≡ true → rest ≡ false → (not empty || rest) ≡ false
+none-more true rest is none = none
+none-more false rest is none = absurd (cc)
+
+none-left : (children : List Child) → ((k : ℕ) → is_empty (child_at children k).phase ≡ true)
+    → list_any (λ (c : Child). not (is_empty c.phase)) children ≡ false
+none-left [] empty = refl
+none-left (c ∷ children) empty =
+    none-more (is_empty c.phase) (list_any (λ (x : Child). not (is_empty x.phase)) children) (empty 0) (none-left children (λ k. empty (suc k)))
 
 -- ## Rows
 
@@ -58,8 +68,15 @@ not-any false none = refl
 
 -- it is at its end where it takes no connections, and each child is gone
 pub is-gone : (s : State) (some : Bool) → IsSound s → is_halted s.going ≡ false → is_serving s.going ≡ false
-    → some ≡ list_any (λ (c : Child). not (is_empty c.phase)) s.children → not some ≡ true → IsGone s
+    → some ≡ list_any (λ (c : Child). not (is_empty c.phase)) s.children → not some ≡ true → IsAllGone s
 is-gone s some sound up serves is none =
     let empty : AllEmpty s = λ k. empty-at s.children k (sym is ∙ not-any some none) in
     let ending = ends s s.going refl up serves in
     record { until = ending.0; going = ending.1; down = record { live = none-live-gone s sound empty; empty = empty } }
+
+-- where it is at its end it takes no connections, and no child is left
+pub gone-unserving : (s : State) → IsAllGone s → is_serving s.going ≡ false
+gone-unserving s gone = ap is_serving gone.going
+
+pub gone-empty : (s : State) (some : Bool) → some ≡ list_any (λ (c : Child). not (is_empty c.phase)) s.children → IsAllGone s → not some ≡ true
+gone-empty s some is gone = ap not (is ∙ none-left s.children gone.down.empty)

@@ -14,7 +14,7 @@ use Rattle.conn_machine.specs.declared.event.Why.TheVariants as why
 use Rattle.rounds.specs.declared.ends.End.TheVariants as end
 
 -- the server was asked to end, and is at its end: no connection is live, and each child is gone
-pub record IsGone (s : State) : Type 0 where
+pub record IsAllGone (s : State) : Type 0 where
   pub until : Option ℕ
   pub going : s.going ≡ Ending until
   pub down : IsClosedDown s
@@ -26,7 +26,7 @@ MustHalt (Ok end.Ended) b = (is_halted b.state.going ≡ false) × HasNoLive b.s
 MustHalt (Ok end.Asked) b = is_halted b.state.going ≡ false
 MustHalt (Ok end.Failed) b = is_halted b.state.going ≡ false
 MustHalt (Ok end.Overdue) b = is_over b.state.moment b.state.going ≡ true
-MustHalt (Ok end.Gone) b = IsGone b.state
+MustHalt (Ok end.Gone) b = IsAllGone b.state
 MustHalt (Err fault) b = RefusalLasts fault b
 
 -- why the server is stopped at the end of the turns; behind a graceful stop that is at its end it isn't

@@ -1,6 +1,6 @@
 //! The parts of the listener's round: a connection that comes is taken and waits, time passes, slots are signalled, connections
 //! are let go of and served, and children are started and let go of.
-ghost use Rattle.std.specs.Prelude.{◌≡◌, ◌<◌, [], ◌∷◌, None, Some, true, false, not, is_some, max, IfOk, IfErr, OnErr, OnOk};
+ghost use Rattle.std.specs.Prelude.{◌≡◌, ◌↔◌, ◌<◌, [], ◌∷◌, None, Some, true, false, not, is_some, max, IfOk, IfErr, OnErr, OnOk};
 ghost use Rattle.std.specs.List.{list_any};
 ghost use Rattle.mpm_base.specs.Count.{next_count};
 ghost use Rattle.mpm_base.specs.declared.conn.Cause.TheVariants as cause;
@@ -21,7 +21,7 @@ ghost use Rattle.worker_group.specs.InHand.{IsClosable, IsInHand};
 ghost use Rattle.worker_group.specs.Service.{IsUp, LeavesRest, RefusalLasts, left_events};
 ghost use Rattle.rounds.specs.ClosingInside.{IsLateWay, LetsGo};
 ghost use Rattle.rounds.specs.ClosedDown.{HasNoLive, IsClosedDown};
-ghost use Rattle.rounds.specs.EndsInside.{IsGone};
+ghost use Rattle.rounds.specs.EndsInside.{IsAllGone};
 ghost use Rattle.rounds.specs.TableInside.{HasTaken, IsOpening, IsRestful, NoneOverdue, asked_children};
 ghost use Rattle.rounds.specs.AtRest.{NoneDue};
 ghost use Rattle.rounds.specs.PartsInside.{GivesUp, LetsGoOfConns, LetsGoUntil, PassesTime, RetiresSome, ServesSome, SignalsFirst, StartsSome, signal_events, way_of};
@@ -216,7 +216,7 @@ pub fn is_overdue<L: Link, N: Known>(board: &Board<L, N>) -> bool
 /// Whether a graceful stop is at its end: the server takes no connections, and each child is gone.
 pub fn is_gone<L: Link, N: Known>(board: &Board<L, N>) -> bool
     requires { IsUp board.now.book.state.going }
-    ensures { result ≡ true → IsGone board.now.book.state }
+    ensures { (result ≡ true) ↔ IsAllGone board.now.book.state }
 {
     board.show();
     let state = board.state();
