@@ -13,11 +13,11 @@ use Rattle.rounds.specs.AtRest.{IsAtRest}
 use Rattle.listener.specs.StandingInside.{KnowsLater}
 use Rattle.rounds.specs.Started.{BeginsWithStarts}
 use Rattle.listener.specs.Times.{waits_of}
+use Rattle.listener.specs.TurnsInside.{SeenListener}
 use Rattle.listener.proofs.OverLemmas.{IsBeforeTurn}
 use Rattle.listener.proofs.PaceLemmas.{KeepsPace, Rests}
 use Rattle.listener.proofs.StandingTurnLemmas.{stands-on}
 use Rattle.listener.proofs.TurnLemmas.{HasKept, IsBetween}
-use Rattle.listener.proofs.WaitLemmas.{SeenListener}
 
 module _ (known : Option KnownOutside) (a : SeenListener) (b : SeenBoard) (listens : ListensOn known a.board b) where
   kept-folded : (first : SeenListener) → HasKept first a → HasKept first (record a { board = b })

@@ -25,6 +25,7 @@ use Rattle.listener.specs.StandingInside.{TurnsStand, owed_at}
 use Rattle.rounds.specs.Started.{BeginsWithStarts}
 use Rattle.listener.specs.Stops.{HasGivenAll}
 use Rattle.listener.specs.Times.{IsInformed, waits_of}
+use Rattle.listener.specs.TurnsInside.{AreOver, HasPatience, InTime, SeenListener, Watching, stands_at}
 use Rattle.rounds.specs.Moments.{moment_for}
 use Rattle.listener.proofs.BrokenLemmas.{ends-silently}
 use Rattle.listener.proofs.StartedFirstLemmas.{begins-broken, begins-more, begins-round, begins-waited}
@@ -33,11 +34,11 @@ use Rattle.listener.proofs.CommandLemmas.{heeded-wait, heeds-asked, heeds-ended,
 use Rattle.run_report.proofs.CountLemmas.{rises-behind}
 use Rattle.listener.proofs.FrontLemmas.{all-taken, each-handed, failed-last, only-takes, step-listens, takes-same}
 use Rattle.listener.proofs.LinkLemmas.{hands-step}
-use Rattle.listener.proofs.PaceLemmas.{HasPatience, IsAfter, KeepsPace, abreast-round, pace-broken, pace-round, pace-served, pace-started, pace-timed, patience-started, patience-waited, served-patience}
+use Rattle.listener.proofs.PaceLemmas.{IsAfter, KeepsPace, abreast-round, pace-broken, pace-round, pace-served, pace-started, pace-timed, patience-started, patience-waited, served-patience}
 use Rattle.rounds.proofs.PassLemmas.{serves-acts}
 use Rattle.listener.proofs.StandingTurnLemmas.{StandsFrom}
-use Rattle.listener.proofs.TurnLemmas.{HasBroken, HasBrokenOff, HasGoneRound, HasKept, HasServedRows, InTime, IsBetween, Watching, between-idle, between-round, between-served, broken-between, broken-round, did-some, informed-gone, informed-passed, kept-round, kept-waited, stands-round}
-use Rattle.listener.proofs.WaitLemmas.{HasWaited, SeenListener, stands_at}
+use Rattle.listener.proofs.TurnLemmas.{HasBroken, HasBrokenOff, HasGoneRound, HasKept, HasServedRows, IsBetween, between-idle, between-round, between-served, broken-between, broken-round, did-some, informed-gone, informed-passed, kept-round, kept-waited, stands-round}
+use Rattle.listener.proofs.WaitLemmas.{HasWaited}
 
 -- ## What is said of them
 
@@ -49,30 +50,6 @@ pub record IsBeforeTurn (known : Option KnownOutside) (first : SeenListener) (re
   pub heeded : IfSome now.front.told HasNoneToHeed
   pub started : IsOpening first.board.book → now.board.book.folded.entries ≡ 0 → BeginsWithStarts (asked_children first.board.book.base) now.board.book.history
   pub paced : IsAtStart first.front.told first.board.book → KeepsPace rest now
-
--- what is said of turns that are over
-abbrev pub AreOver : Option KnownOutside → Result End BoardFault → SeenListener → SeenListener → Type 0
-AreOver known turns first now =
-    record {
-      stands : TurnsStand known first.config turns (stands_at first) (stands_at now);
-      asked : StartsAsAsked first.board.book now.board.book;
-      passes : now.board.book.passes ≡ first.board.book.passes;
-      free : NoneHas now.board.book;
-      up : IsUp now.board.book.state.going;
-      follows : Follows first.front now.front;
-      contacts : contacts_of now.front.told ≡ contacts_of first.front.told;
-      heeded : IfSome now.front.told (HeedsUntil turns);
-      started : IsOpening first.board.book → HasStarted (waits_of first.front.told) (waits_of now.front.told) first.board.book now.board.book;
-      watched : Watching first → Watching now;
-      step : OnOk turns (IsInStep now.front.told now.board.book.state);
-      listens : IfSome now.front.told (ListensAsServed now.board.book.state);
-      links : OnErr turns (HandsOut now.front.told now.board.book.state);
-      clock : is_some now.calls ≡ is_some first.calls;
-      time : InTime first → InTime now;
-      patient : IsAtStart first.front.told first.board.book → HasPatience now;
-      ends : TurnsEnd turns first.front now.front now.board.book;
-      informed : TurnsInform turns (waits_of now.front.told) now.calls now.board.book;
-    }
 
 -- what holds of a listener whose turns came to this end
 record HasCome (known : Option KnownOutside) (e : End) (first now : SeenListener) : Type 0 where

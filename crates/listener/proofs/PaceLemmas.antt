@@ -31,6 +31,7 @@ use Rattle.rounds.specs.PartsInside.{AreServed, GoesDown, PassesTime, StartsSome
 use Rattle.listener.specs.RoundInside.{BreaksOff, GoesRound, Round, round_events}
 use Rattle.rounds.specs.Moments.{moment_for, ticks_to}
 use Rattle.listener.specs.Times.{ticks_in}
+use Rattle.listener.specs.TurnsInside.{HasPatience, SeenListener}
 use Rattle.listener.proofs.BrokenLemmas.{ends-silently}
 use Rattle.rounds.proofs.ClosingLemmas.{GoesOnFrom, acts-state}
 use Rattle.listener.proofs.EventLemmas.{silent-gone, silent-halts, silent-retires, silent-starts, ticks-round}
@@ -39,17 +40,13 @@ use Rattle.listener.proofs.TimedRoundLemmas.{timed-acts, timed_round}
 use Rattle.listener.proofs.TurnLemmas.{HasServedRows}
 use Rattle.listener.proofs.UnsignalledLemmas.{none-signalled}
 use Rattle.listener.proofs.PatientLemmas.{MomentOf, echoed-before, none-late-then, patient-round, patient-served, patient-silent, patient-weaker, told-before}
-use Rattle.listener.proofs.WaitLemmas.{HasWaited, SeenListener}
+use Rattle.listener.proofs.WaitLemmas.{HasWaited}
 
 -- ## What the listener keeps
 
 -- the table stands at the moment of the front
 abbrev pub Abreast : SeenListener → Type 0
 Abreast l = (steady : IsSteady l.front.told l.calls) → l.board.book.state.moment ≡ moment_for steady.front.moment
-
--- time passed patiently
-abbrev pub HasPatience : SeenListener → Type 0
-HasPatience l = IsPatientRun l.front.told l.calls l.board.book
 
 -- a wait that may let time pass is told of a state in which nothing is left to be done
 pub record Rests (rest : Rest) (l : SeenListener) : Type 0 where

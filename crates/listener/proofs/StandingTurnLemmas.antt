@@ -15,9 +15,10 @@ use Rattle.rounds.specs.declared.ends.Rest.{Rest}
 use Rattle.listener.specs.ListenInside.{HasNoneToHeed}
 use Rattle.rounds.specs.PartsInside.{StartsAsAsked}
 use Rattle.listener.specs.StandingInside.{StandsBroken, StandsOn, StandsSo, standing}
+use Rattle.listener.specs.TurnsInside.{SeenListener, stands_at}
 use Rattle.listener.proofs.CommandlessLemmas.{AreCommandless, commandless-added}
 use Rattle.listener.proofs.StandingLemmas.{acts-stand, broken-behind, broken-none, lines-waited, same-lines, stands-more, stands-past}
-use Rattle.listener.proofs.WaitLemmas.{HasWaited, SeenListener, stands_at}
+use Rattle.listener.proofs.WaitLemmas.{HasWaited}
 
 -- how the run stands now, where it stood so at first
 abbrev pub StandsFrom : Option KnownOutside → List CommandWord → ℕ → SeenListener → SeenListener → Type 0

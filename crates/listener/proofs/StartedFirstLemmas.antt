@@ -21,8 +21,9 @@ use Rattle.listener.specs.RoundInside.{BreaksOff}
 use Rattle.rounds.specs.PartsInside.{RetiresSome, halt_events}
 use Rattle.rounds.specs.Started.{BeginsWithStarts, starts_of}
 use Rattle.listener.specs.StartedFirst.{IsStartedFirst, first_children}
+use Rattle.listener.specs.TurnsInside.{SeenListener}
 use Rattle.listener.proofs.BrokenLemmas.{ends-silently}
-use Rattle.listener.proofs.WaitLemmas.{HasWaited, SeenListener}
+use Rattle.listener.proofs.WaitLemmas.{HasWaited}
 
 -- ## Behind them
 

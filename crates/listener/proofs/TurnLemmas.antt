@@ -21,6 +21,7 @@ use Rattle.rounds.specs.PartsInside.{NoneHas, PassesTime, ServesSome, StartsAsAs
 use Rattle.listener.specs.StandingInside.{StandsBroken, owed_at}
 use Rattle.rounds.specs.Started.{AreAskedFor}
 use Rattle.listener.specs.Times.{IsInTime, IsInformed, IsInformedOfTime, IsInformedSoFar, waits_of}
+use Rattle.listener.specs.TurnsInside.{InTime, SeenListener, Watching, stands_at}
 use Rattle.rounds.specs.Moments.{moment_for}
 use Rattle.rounds.proofs.AddedLemmas.{added-events}
 use Rattle.listener.proofs.StartlessLemmas.{asked-served, asked-silent, startless-time}
@@ -34,17 +35,9 @@ use Rattle.rounds.proofs.PassLemmas.{serves-acts}
 use Rattle.rounds.proofs.ActLemmas.{none-has}
 use Rattle.listener.proofs.StandingTurnLemmas.{StandsFrom, breaks-on, stands-acted, stands-on, stands-waited, unbroken}
 use Rattle.listener.proofs.WatchLemmas.{nobody-served, nobody-started, watched-as, watched-wait}
-use Rattle.listener.proofs.WaitLemmas.{HasWaited, SeenListener, idle-wait, stands_at}
+use Rattle.listener.proofs.WaitLemmas.{HasWaited, idle-wait}
 
 -- ## What holds of it at any time
-
--- the front watches each link that the table took
-abbrev pub Watching : SeenListener → Type 0
-Watching l = IfSome l.front.told (WatchesAll l.board.book)
-
--- the clock was told what the waits gave
-abbrev pub InTime : SeenListener → Type 0
-InTime l = IsInTime (waits_of l.front.told) l.calls
 
 -- what holds of a listener that began as the first, also where its turns were broken off
 pub record HasKept (first now : SeenListener) : Type 0 where

@@ -13,26 +13,7 @@ use Rattle.listener.specs.declared.listen.Pause.{Pause}
 use Rattle.rounds.specs.declared.ends.Rest.{Rest}
 use Rattle.listener.specs.ListenInside.{AsksFor}
 use Rattle.listener.specs.StandingInside.{Standing, standing}
-
--- what is seen of a listener with its front, its clock and its store: the board, the front, the calls of the clock, the slots that the last
--- wait gave, what the newest generation works by, the store, and the configuration by which the server opened
-pub record SeenListener : Type 0 where
-  pub board : SeenBoard
-  pub front : FrontSeen
-  pub calls : Option (List (ℕ × ℕ))
-  pub ready : List ℕ
-  pub edition : Edition
-  pub store : StoreSeen
-  pub config : NamedConfig
-
--- the same, of its parts
-abbrev pub listener_of : SeenBoard → FrontSeen → Option (List (ℕ × ℕ)) → List ℕ → Edition → StoreSeen → NamedConfig → SeenListener
-listener_of board front calls ready edition store config =
-    record { board = board; front = front; calls = calls; ready = ready; edition = edition; store = store; config = config }
-
--- where its run stands
-abbrev pub stands_at : SeenListener → Standing
-stands_at l = standing l.edition.stop_ms l.store l.front l.board.book
+use Rattle.listener.specs.TurnsInside.{SeenListener}
 
 -- the wait was told this and answered that, the moment is the clock's behind the answer, which tells where it did, and the board is the
 -- one that it was; its state is that after the history, and sound. The edition, the store and the configuration are the same

@@ -18,5 +18,6 @@ pub mod Stops
 pub mod Stores
 pub mod Tells
 pub mod Times
+pub mod TurnsInside
 pub mod Unused
 pub mod Watched

@@ -4,6 +4,7 @@ use Rattle.mpm_base.specs.CommandWord.{command_word}
 use Rattle.mpm_base.specs.Front.{Commands, FrontSeen, after_hush}
 use Rattle.mpm_base.specs.Store.{StoreSeen, StoreTold}
 use Rattle.mpm_base.specs.declared.script_line.CommandWord.{CommandWord}
+use Rattle.mpm_base.specs.declared.script_line.CommandWord.TheVariants as word
 use Rattle.conn_machine.specs.declared.event.Commanded.TheVariants.{Graceful, Refused}
 use Rattle.conn_machine.specs.declared.event.Event.TheVariants as event
 use Rattle.conn_machine.specs.Table.{next}
@@ -19,7 +20,7 @@ use Rattle.conn_machine.specs.declared.event.Refusal.TheVariants as refusal
 use Rattle.listener.specs.Generations.{Opening, known_edition, head_limits_of}
 use Rattle.listener.specs.Outside.{clients_told}
 use Rattle.listener.specs.Orders.{shape_by}
-use Rattle.listener.specs.StandingInside.{KnowsLater, Standing, StandsBroken, StandsOn}
+use Rattle.listener.specs.StandingInside.{KnowsLater, Standing, StandsBroken, StandsOn, standing}
 use Rattle.listener.specs.declared.edition.Edition.{Edition}
 use Rattle.listener.specs.declared.edition.NamedConfig.{NamedConfig}
 
@@ -79,13 +80,25 @@ Carries plan old new e e' = Begins plan old new e' ⊎ LacksMemory old new e e'
 
 -- a run stands on over whichever front gave a line of that word, which was done
 abbrev pub StandsBehind : Option KnownOutside → NamedConfig → CommandWord → (FrontSeen → Standing) → (FrontSeen → Standing) → Type 0
-StandsBehind known c word old new =
-    (f f' : FrontSeen) → Commands f f' (Some (command_word word)) → StandsOn known c [] 0 (old f) (new f')
+StandsBehind known c asked old new =
+    (f f' : FrontSeen) → Commands f f' (Some (command_word asked)) → StandsOn known c [] 0 (old f) (new f')
 
 -- the same of one that is broken off
 abbrev pub BreaksBehind : Option KnownOutside → NamedConfig → CommandWord → (FrontSeen → Standing) → (FrontSeen → Standing) → Type 0
-BreaksBehind known c word old new =
-    (f f' : FrontSeen) → Commands f f' (Some (command_word word)) → StandsBroken known c (old f) (new f')
+BreaksBehind known c asked old new =
+    (f f' : FrontSeen) → Commands f f' (Some (command_word asked)) → StandsBroken known c (old f) (new f')
+
+-- behind a line that asks for a graceful stop, which the front gave then, a run stands on from the one book to the other, over whichever store
+abbrev pub EndingStands : Option KnownOutside → NamedConfig → ℕ → FrontSeen → FrontSeen → SeenBook → SeenBook → Type 0
+EndingStands known c stop_ms front front' old new =
+    (f : FrontSeen) (store : StoreSeen) → Commands f front (Some (command_word word.GracefulStop))
+    → StandsOn known c [] 0 (standing stop_ms store f old) (standing stop_ms store front' new)
+
+-- the same of one that is broken off
+abbrev pub EndingBreaks : Option KnownOutside → NamedConfig → ℕ → FrontSeen → FrontSeen → SeenBook → SeenBook → Type 0
+EndingBreaks known c stop_ms front front' old new =
+    (f : FrontSeen) (store : StoreSeen) → Commands f front (Some (command_word word.GracefulStop))
+    → StandsBroken known c (standing stop_ms store f old) (standing stop_ms store front' new)
 
 -- the front is as it was, or listening was stopped
 abbrev pub MayHush : FrontSeen → FrontSeen → Type 0

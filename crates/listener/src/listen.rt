@@ -5,26 +5,22 @@
 //! state it says no more than where it stands in the end, and what the listener alone changes: the moment, how many connections
 //! were taken, which generation is the newest, and how the server goes on. What all orders did since the run opened goes on from
 //! where it stood (`specs/StandingInside.antt`).
-ghost use Rattle.std.specs.Prelude.{◌≡◌, ◌<◌, [], None, true, false, is_some, max, IfOk, IfErr, IfSome, MatchResult, OnErr, OnOk};
+ghost use Rattle.std.specs.Prelude.{◌≡◌, ◌<◌, [], None, true, is_some, max, IfOk, IfErr, IfSome, MatchResult, OnErr, OnOk};
 ghost use Rattle.mpm_base.specs.Count.{next_count};
 ghost use Rattle.mpm_base.specs.Front.{TellsOn, Waits, after_hush};
-ghost use Rattle.conn_machine.specs.States.{is_halted};
 ghost use Rattle.conn_state.specs.Known.{IsOfClient};
 ghost use Rattle.board.specs.Finds.{acceptable, next_deadline_of};
 ghost use Rattle.board.specs.Book.{row_in};
 ghost use Rattle.worker_group.specs.Service.{IsUp, LeavesRest, RefusalLasts};
-ghost use Rattle.listener.specs.Commands.{HeedsLines};
-ghost use Rattle.listener.specs.ListenInside.{AsksFor, Follows, HandedOut, HandsOut, HasNoneToHeed, HasStarted, HasStopped, HeedsUntil, IsArrival, IsAtStart, IsInStep, IsKnownOfFront, IsWatching, ListensAsServed, OnlyReadsAndTakes, OnlyTakes, TakesInTo, TellsAlike, TookAll, TurnsEnd, TurnsInform, contacts_of};
+ghost use Rattle.listener.specs.ListenInside.{AsksFor, Follows, HandsOut, HasNoneToHeed, IsArrival, IsInStep, IsKnownOfFront, IsWatching, ListensAsServed, OnlyReadsAndTakes, OnlyTakes, TakesInTo, TellsAlike, TookAll};
 ghost use Rattle.rounds.specs.TableInside.{IsOpening, IsRestful, asked_children};
 ghost use Rattle.listener.specs.OrdersInside.{KnowsComing, ServesNewest};
-ghost use Rattle.listener.specs.Patient.{IsPatientRun};
 ghost use Rattle.listener.specs.RoundInside.{BreaksOff, EndsTaking, FailsTaking, IsTaking, RoundEnds, TakesSome, TakesUntil};
-ghost use Rattle.rounds.specs.PartsInside.{NoneHas, ServesSome, StartsAsAsked, StartsSome};
-ghost use Rattle.listener.specs.StandingInside.{StandsBroken, StandsOn, StandsToEnd, TurnsStand, owed_at, standing};
+ghost use Rattle.rounds.specs.PartsInside.{ServesSome, StartsSome};
+ghost use Rattle.listener.specs.StandingInside.{StandsBroken, StandsOn, owed_at, standing};
 ghost use Rattle.rounds.specs.Started.{BeginsWithStarts};
-ghost use Rattle.listener.specs.Times.{IsInTime, IsInformed, WasInformed, waits_of};
+ghost use Rattle.listener.specs.TurnsInside.{AreOver, HasListened, MayListen, listener_of};
 ghost use Rattle.rounds.specs.Moments.{moment_for};
-ghost use Rattle.listener.specs.Watched.{IsHushed};
 
 use crate::folding::fold_history;
 use crate::listener_state::Listener;
@@ -62,30 +58,13 @@ impl<'a, 'c, L: Link + Send, N: Known, B: Bell, G: Gate> Listener<'a, 'c, L, N, 
         front: &mut F,
         clock: &mut C,
     )
-        requires named { IsKnownOfFront N.known (F.seen front.old).told }
-        requires passes { 1 < self.old.board.book.passes }
-        requires knows { KnowsComing N.known self.old.board.book self.old.config (D.seen store.old).told }
-        requires serves { ServesNewest N.known self.old.board.book self.old.edition }
-        requires free { NoneHas self.old.board.book }
-        requires going { is_halted self.old.board.book.state.going ≡ false }
-        requires step { IsInStep (F.seen front.old).told self.old.board.book.state }
-        requires heeded { IfSome (F.seen front.old).told HasNoneToHeed }
-        requires informed { IsInformed (waits_of (F.seen front.old).told) (C.told clock.old) self.old.board.book }
-        ensures stands { StandsToEnd N.known self.old.config (standing self.old.edition.stop_ms (D.seen store.old) (F.seen front.old) self.old.board.book) (standing self.new.edition.stop_ms (D.seen store.new) (F.seen front.new) self.new.board.book) }
-        ensures passes { self.new.board.book.passes ≡ self.old.board.book.passes }
-        ensures asked { StartsAsAsked self.old.board.book self.new.board.book }
-        ensures stopped { HasStopped (F.seen front.old) (F.seen front.new) self.new.board.book.state }
-        ensures follows { Follows (F.seen front.old) (F.seen front.new) }
-        ensures contacts { contacts_of (F.seen front.new).told ≡ contacts_of (F.seen front.old).told }
-        ensures hushed { IfSome (F.seen front.new).told IsHushed }
-        ensures heeded { IfSome (F.seen front.new).told (HeedsLines self.new.board.book.state.going) }
-        ensures started { IsOpening self.old.board.book → HasStarted (waits_of (F.seen front.old).told) (waits_of (F.seen front.new).told) self.old.board.book self.new.board.book }
-        ensures watched { IsWatching (F.seen front.old).told self.old.board.book → IsWatching (F.seen front.new).told self.new.board.book }
-        ensures links { HandedOut (F.seen front.new).told self.new.board.book.state }
-        ensures clock { is_some (C.told clock.new) ≡ is_some (C.told clock.old) }
-        ensures time { IsInTime (waits_of (F.seen front.old).told) (C.told clock.old) → IsInTime (waits_of (F.seen front.new).told) (C.told clock.new) }
-        ensures patient { IsAtStart (F.seen front.old).told self.old.board.book → IsPatientRun (F.seen front.new).told (C.told clock.new) self.new.board.book }
-        ensures informed { WasInformed (waits_of (F.seen front.new).told) (C.told clock.new) self.new.board.book }
+        requires { MayListen N.known (listener_of self.old.board (F.seen front.old)
+            (C.told clock.old) self.old.ready self.old.edition (D.seen store.old) self.old.config) }
+        ensures { let first = listener_of self.old.board (F.seen front.old)
+            (C.told clock.old) self.old.ready self.old.edition (D.seen store.old) self.old.config in
+            let now = listener_of self.new.board (F.seen front.new)
+            (C.told clock.new) self.new.ready self.new.edition (D.seen store.new) self.new.config in
+            HasListened N.known first now }
     {
         let turns = self.take_turns(rt, store, front, clock);
         self.hush(front);
@@ -94,7 +73,8 @@ impl<'a, 'c, L: Link + Send, N: Known, B: Bell, G: Gate> Listener<'a, 'c, L, N, 
 
     /// Stops listening, where the front still listens.
     fn hush<F: Front<L = L>>(&self, front: &mut F)
-        requires listens { IfSome (F.seen front.old).told (ListensAsServed self.now.board.book.state) }
+        requires listens { IfSome (F.seen front.old).told
+            (ListensAsServed self.now.board.book.state) }
         ensures { F.seen front.new ≡ after_hush (F.seen front.old) }
     {
         if !self.board.state().going.is_serving() {
@@ -113,33 +93,13 @@ impl<'a, 'c, L: Link + Send, N: Known, B: Bell, G: Gate> Listener<'a, 'c, L, N, 
         front: &mut F,
         clock: &mut C,
     ) -> Result<End, BoardFault>
-        requires named { IsKnownOfFront N.known (F.seen front.old).told }
-        requires passes { 1 < self.old.board.book.passes }
-        requires knows { KnowsComing N.known self.old.board.book self.old.config (D.seen store.old).told }
-        requires serves { ServesNewest N.known self.old.board.book self.old.edition }
-        requires free { NoneHas self.old.board.book }
-        requires going { is_halted self.old.board.book.state.going ≡ false }
-        requires step { IsInStep (F.seen front.old).told self.old.board.book.state }
-        requires heeded { IfSome (F.seen front.old).told HasNoneToHeed }
-        requires informed { IsInformed (waits_of (F.seen front.old).told) (C.told clock.old) self.old.board.book }
-        ensures stands { TurnsStand N.known self.old.config result (standing self.old.edition.stop_ms (D.seen store.old) (F.seen front.old) self.old.board.book) (standing self.new.edition.stop_ms (D.seen store.new) (F.seen front.new) self.new.board.book) }
-        ensures asked { StartsAsAsked self.old.board.book self.new.board.book }
-        ensures passes { self.new.board.book.passes ≡ self.old.board.book.passes }
-        ensures free { NoneHas self.new.board.book }
-        ensures up { IsUp self.new.board.book.state.going }
-        ensures follows { Follows (F.seen front.old) (F.seen front.new) }
-        ensures contacts { contacts_of (F.seen front.new).told ≡ contacts_of (F.seen front.old).told }
-        ensures heeded { IfSome (F.seen front.new).told (HeedsUntil result) }
-        ensures started { IsOpening self.old.board.book → HasStarted (waits_of (F.seen front.old).told) (waits_of (F.seen front.new).told) self.old.board.book self.new.board.book }
-        ensures watched { IsWatching (F.seen front.old).told self.old.board.book → IsWatching (F.seen front.new).told self.new.board.book }
-        ensures step { OnOk result (IsInStep (F.seen front.new).told self.new.board.book.state) }
-        ensures listens { IfSome (F.seen front.new).told (ListensAsServed self.new.board.book.state) }
-        ensures links { OnErr result (HandsOut (F.seen front.new).told self.new.board.book.state) }
-        ensures clock { is_some (C.told clock.new) ≡ is_some (C.told clock.old) }
-        ensures time { IsInTime (waits_of (F.seen front.old).told) (C.told clock.old) → IsInTime (waits_of (F.seen front.new).told) (C.told clock.new) }
-        ensures patient { IsAtStart (F.seen front.old).told self.old.board.book → IsPatientRun (F.seen front.new).told (C.told clock.new) self.new.board.book }
-        ensures ends { TurnsEnd result (F.seen front.old) (F.seen front.new) self.new.board.book }
-        ensures informed { TurnsInform result (waits_of (F.seen front.new).told) (C.told clock.new) self.new.board.book }
+        requires { MayListen N.known (listener_of self.old.board (F.seen front.old)
+            (C.told clock.old) self.old.ready self.old.edition (D.seen store.old) self.old.config) }
+        ensures { let first = listener_of self.old.board (F.seen front.old)
+            (C.told clock.old) self.old.ready self.old.edition (D.seen store.old) self.old.config in
+            let now = listener_of self.new.board (F.seen front.new)
+            (C.told clock.new) self.new.ready self.new.edition (D.seen store.new) self.new.config in
+            AreOver N.known result first now }
     {
         generations_keep_their_editions();
         histories_join();
@@ -173,11 +133,14 @@ impl<'a, 'c, L: Link + Send, N: Known, B: Bell, G: Gate> Listener<'a, 'c, L, N, 
         requires passes { 0 < self.old.board.book.passes }
         requires free { row_in 0 self.old.board.book ≡ None }
         ensures starts { StartsSome self.old.board.book self.new.board.book }
-        ensures first { OnOk result (IsOpening self.old.board.book → BeginsWithStarts (asked_children self.old.board.book.base) self.new.board.book.history) }
+        ensures first { OnOk result
+            (IsOpening self.old.board.book → BeginsWithStarts
+            (asked_children self.old.board.book.base) self.new.board.book.history) }
         ensures going { self.new.board.book.state.going ≡ self.old.board.book.state.going }
         ensures rest { LeavesRest self.old.board.book self.new.board.book }
         ensures others { self.new ≡ record self.old { board = self.new.board } }
-        ensures until { IfOk result (λ rest. rest.until ≡ next_deadline_of self.new.board.book.state) }
+        ensures until { IfOk result
+            (λ rest. rest.until ≡ next_deadline_of self.new.board.book.state) }
         ensures quiet { IfOk result (λ rest. IsRestful rest.quiet self.new.board.book.state) }
         ensures err { IfErr result (λ fault. RefusalLasts fault self.new.board.book) }
     {
@@ -194,7 +157,8 @@ impl<'a, 'c, L: Link + Send, N: Known, B: Bell, G: Gate> Listener<'a, 'c, L, N, 
         requires free { row_in 1 self.old.board.book ≡ None }
         ensures serves { ServesSome self.old.board self.new.board }
         ensures rest { LeavesRest self.old.board.book self.new.board.book }
-        ensures until { IfOk result (λ rest. rest.until ≡ next_deadline_of self.old.board.book.state) }
+        ensures until { IfOk result
+            (λ rest. rest.until ≡ next_deadline_of self.old.board.book.state) }
         ensures quiet { IfOk result (λ rest. IsRestful rest.quiet self.old.board.book.state) }
         ensures others { self.new ≡ record self.old { board = self.new.board } }
         ensures err { IfErr result (λ fault. RefusalLasts fault self.new.board.book) }
@@ -222,28 +186,44 @@ impl<'a, 'c, L: Link + Send, N: Known, B: Bell, G: Gate> Listener<'a, 'c, L, N, 
     ) -> Result<Option<End>, BoardFault>
         requires named { IsKnownOfFront N.known (F.seen front.old).told }
         requires passes { 0 < self.old.board.book.passes }
-        requires knows { KnowsComing N.known self.old.board.book self.old.config (D.seen store.old).told }
+        requires knows { KnowsComing N.known self.old.board.book self.old.config
+            (D.seen store.old).told }
         requires serves { ServesNewest N.known self.old.board.book self.old.edition }
         requires free { row_in 0 self.old.board.book ≡ None }
         requires up { IsUp self.old.board.book.state.going }
         requires step { IsInStep (F.seen front.old).told self.old.board.book.state }
         requires heeded { IfSome (F.seen front.old).told HasNoneToHeed }
-        ensures round { IfOk result (λ ended. RoundEnds ended (moment_for moment) self.old.ready self.old.board.book self.new.board.book) }
-        ensures broken { IfErr result (λ fault. BreaksOff fault (moment_for moment) self.old.ready self.old.board.book self.new.board.book) }
-        ensures stands { MatchResult result
-            (λ ended. StandsOn N.known self.old.config [] (owed_at ended) (standing self.old.edition.stop_ms (D.seen store.old) (F.seen front.old) self.old.board.book) (standing self.new.edition.stop_ms (D.seen store.new) (F.seen front.new) self.new.board.book))
-            (λ fault. StandsBroken N.known self.old.config (standing self.old.edition.stop_ms (D.seen store.old) (F.seen front.old) self.old.board.book) (standing self.new.edition.stop_ms (D.seen store.new) (F.seen front.new) self.new.board.book)) }
-        ensures knows { OnOk result (KnowsComing N.known self.new.board.book self.new.config (D.seen store.new).told) }
+        ensures round { IfOk result
+            (λ ended. RoundEnds ended (moment_for moment) self.old.ready self.old.board.book
+            self.new.board.book) }
+        ensures broken { IfErr result
+            (λ fault. BreaksOff fault (moment_for moment) self.old.ready self.old.board.book
+            self.new.board.book) }
+        ensures stands { let old = standing self.old.edition.stop_ms
+            (D.seen store.old) (F.seen front.old) self.old.board.book in
+            let new = standing self.new.edition.stop_ms
+            (D.seen store.new) (F.seen front.new) self.new.board.book in
+            MatchResult result
+            (λ ended. StandsOn N.known self.old.config [] (owed_at ended) old new)
+            (λ fault. StandsBroken N.known self.old.config old new) }
+        ensures knows { OnOk result
+            (KnowsComing N.known self.new.board.book self.new.config (D.seen store.new).told) }
         ensures serves { OnOk result (ServesNewest N.known self.new.board.book self.new.edition) }
         ensures up { IsUp self.new.board.book.state.going }
-        ensures moment { OnOk result (self.new.board.book.state.moment ≡ max self.old.board.book.state.moment (moment_for moment)) }
+        ensures moment { OnOk result
+            (self.new.board.book.state.moment ≡ max self.old.board.book.state.moment
+            (moment_for moment)) }
         ensures step { OnOk result (IsInStep (F.seen front.new).told self.new.board.book.state) }
-        ensures ends { IfOk result (λ ended. TakesInTo ended (F.seen front.old) (F.seen front.new) self.new.board.book.state) }
+        ensures ends { IfOk result
+            (λ ended. TakesInTo ended (F.seen front.old) (F.seen front.new)
+            self.new.board.book.state) }
         ensures unheeded { OnErr result (IfSome (F.seen front.new).told HasNoneToHeed) }
         ensures follows { Follows (F.seen front.old) (F.seen front.new) }
         ensures front { TellsOn OnlyReadsAndTakes (F.seen front.old).told (F.seen front.new).told }
-        ensures watched { IsWatching (F.seen front.old).told self.old.board.book → IsWatching (F.seen front.new).told self.new.board.book }
-        ensures listens { IfSome (F.seen front.new).told (ListensAsServed self.new.board.book.state) }
+        ensures watched { IsWatching (F.seen front.old).told self.old.board.book
+            → IsWatching (F.seen front.new).told self.new.board.book }
+        ensures listens { IfSome (F.seen front.new).told
+            (ListensAsServed self.new.board.book.state) }
         ensures links { OnErr result (HandsOut (F.seen front.new).told self.new.board.book.state) }
         ensures ready { self.new.ready ≡ self.old.ready }
         ensures config { self.new.config ≡ self.old.config }
@@ -284,7 +264,8 @@ impl<'a, 'c, L: Link + Send, N: Known, B: Bell, G: Gate> Listener<'a, 'c, L, N, 
         requires up { IsUp self.old.board.book.state.going }
         requires step { IsInStep (F.seen front.old).told self.old.board.book.state }
         ensures takes { OnOk result (TakesSome self.old.board.book self.new.board.book) }
-        ensures until { IfErr result (λ fault. TakesUntil fault self.old.board.book self.new.board.book) }
+        ensures until { IfErr result
+            (λ fault. TakesUntil fault self.old.board.book self.new.board.book) }
         ensures going { self.new.board.book.state.going ≡ self.old.board.book.state.going }
         ensures newest { self.new.board.book.state.newest ≡ self.old.board.book.state.newest }
         ensures moment { self.new.board.book.state.moment ≡ self.old.board.book.state.moment }
@@ -292,7 +273,8 @@ impl<'a, 'c, L: Link + Send, N: Known, B: Bell, G: Gate> Listener<'a, 'c, L, N, 
         ensures taken { OnOk result (TookAll (F.seen front.new).told self.new.board.book.state) }
         ensures follows { Follows (F.seen front.old) (F.seen front.new) }
         ensures front { TellsOn OnlyTakes (F.seen front.old).told (F.seen front.new).told }
-        ensures watched { IsWatching (F.seen front.old).told self.old.board.book → IsWatching (F.seen front.new).told self.new.board.book }
+        ensures watched { IsWatching (F.seen front.old).told self.old.board.book
+            → IsWatching (F.seen front.new).told self.new.board.book }
         ensures links { OnErr result (HandsOut (F.seen front.new).told self.new.board.book.state) }
         ensures edition { self.new.edition ≡ self.old.edition }
         ensures ready { self.new.ready ≡ self.old.ready }
@@ -334,17 +316,26 @@ impl<'a, 'c, L: Link + Send, N: Known, B: Bell, G: Gate> Listener<'a, 'c, L, N, 
         requires site { site.value ≡ self.old.edition.site.value }
         requires serves { ServesNewest N.known self.old.board.book self.old.edition }
         requires healthy { (L.seen link).counts.faults ≡ 0 }
-        ensures takes { OnOk result (IsTaking (L.seen link).told (F.seen front.old).told (F.seen front.new).told self.old.board.book self.new.board.book) }
-        ensures until { IfErr result (λ fault. FailsTaking fault self.old.board.book self.new.board.book) }
+        ensures takes { OnOk result
+            (IsTaking (L.seen link).told (F.seen front.old).told (F.seen front.new).told
+            self.old.board.book self.new.board.book) }
+        ensures until { IfErr result
+            (λ fault. FailsTaking fault self.old.board.book self.new.board.book) }
         ensures going { self.new.board.book.state.going ≡ self.old.board.book.state.going }
         ensures newest { self.new.board.book.state.newest ≡ self.old.board.book.state.newest }
         ensures moment { self.new.board.book.state.moment ≡ self.old.board.book.state.moment }
-        ensures taken { OnOk result (self.new.board.book.state.accepted ≡ next_count self.old.board.book.state.accepted) }
-        ensures step { OnOk result (IsInStep (F.seen front.old).told self.new.board.book.state → IsInStep (F.seen front.new).told self.new.board.book.state) }
+        ensures taken { OnOk result
+            (self.new.board.book.state.accepted ≡ next_count self.old.board.book.state.accepted) }
+        ensures step { OnOk result
+            (IsInStep (F.seen front.old).told self.new.board.book.state → IsInStep
+            (F.seen front.new).told self.new.board.book.state) }
         ensures follows { Follows (F.seen front.old) (F.seen front.new) }
         ensures front { TellsOn OnlyTakes (F.seen front.old).told (F.seen front.new).told }
-        ensures watched { IsWatching (F.seen front.old).told self.old.board.book → IsWatching (F.seen front.new).told self.new.board.book }
-        ensures links { OnErr result (EndsTaking (L.seen link).told (F.seen front.old).told (F.seen front.new).told self.old.board.book.state self.new.board.book.state) }
+        ensures watched { IsWatching (F.seen front.old).told self.old.board.book
+            → IsWatching (F.seen front.new).told self.new.board.book }
+        ensures links { OnErr result
+            (EndsTaking (L.seen link).told (F.seen front.old).told (F.seen front.new).told
+            self.old.board.book.state self.new.board.book.state) }
         ensures edition { self.new.edition ≡ self.old.edition }
         ensures ready { self.new.ready ≡ self.old.ready }
         ensures config { self.new.config ≡ self.old.config }
@@ -386,7 +377,8 @@ fn take_pause<R: Wait, L: Link + Send, F: Front<L = L>, C: Clock>(
     rest: Rest,
     present: Moment,
 ) -> Pause
-    ensures waits { Waits (F.seen front.old) (F.seen front.new) rest.until rest.quiet result.woke ready.new }
+    ensures waits { Waits (F.seen front.old) (F.seen front.new) rest.until rest.quiet result.woke
+        ready.new }
     ensures asks { AsksFor result.woke present (C.told clock.old) (C.told clock.new) result.moment }
     ensures clock { is_some (C.told clock.new) ≡ is_some (C.told clock.old) }
 {

@@ -31,7 +31,8 @@ pub struct Listener<'a, 'c, L: Link + Send, N: Known, B: Bell, G: Gate> {
 impl<'a, 'c, L: Link + Send, N: Known, B: Bell, G: Gate> Listener<'a, 'c, L, N, B, G> {
     /// Shows that the state is that after the history, and sound. Does nothing.
     pub(crate) fn show(&self)
-        ensures after { after self.now.board.book.base self.now.board.book.history ≡ self.now.board.book.state }
+        ensures after { after self.now.board.book.base self.now.board.book.history
+            ≡ self.now.board.book.state }
         ensures sound { IsSound self.now.board.book.state }
     {
         show_state(&self.board);

@@ -5,9 +5,7 @@
 //! reason, and all goes on as it was.
 ghost use Rattle.std.specs.Prelude.{◌≡◌, ◌<◌, ◌≤◌, [], None, Some, true, false, IfErr, IfOk, IfSome, MatchResult, OnErr, OnOk};
 ghost use Rattle.mpm_base.specs.Count.{Rises};
-ghost use Rattle.mpm_base.specs.CommandWord.{command_word};
-ghost use Rattle.mpm_base.specs.Front.{Commands, FrontSeen, TellsOn};
-ghost use Rattle.mpm_base.specs.Store.{StoreSeen};
+ghost use Rattle.mpm_base.specs.Front.{TellsOn};
 ghost use Rattle.mpm_base.specs.declared.script_line.CommandWord.TheVariants as word;
 ghost use Rattle.conn_machine.specs.Table.{greatest_generation};
 ghost use Rattle.board.specs.Book.{row_in};
@@ -16,7 +14,7 @@ ghost use Rattle.board.specs.Faults.{IsRefusedFor};
 ghost use Rattle.worker_group.specs.Service.{IsUp, RefusalLasts};
 ghost use Rattle.listener.specs.ListenInside.{Follows, HasNoneToHeed, HasOneToHeed, HasReadAll, IsInStep, IsWatching, OnlyReads};
 ghost use Rattle.listener.specs.Orders as spec;
-ghost use Rattle.listener.specs.OrdersInside.{BreaksBehind, Carries, KnowsComing, MayHush, Refuses, ServesNewest, StandsBehind, owed_by};
+ghost use Rattle.listener.specs.OrdersInside.{BreaksBehind, Carries, EndingBreaks, EndingStands, KnowsComing, MayHush, Refuses, ServesNewest, StandsBehind, owed_by};
 ghost use Rattle.listener.specs.OrdersInside as inside;
 ghost use Rattle.listener.specs.RoundInside.{DoesOrders, DoesUntil};
 ghost use Rattle.listener.specs.StandingInside.{StandsBroken, StandsOn, standing};
@@ -50,29 +48,42 @@ impl<'a, 'c, L: Link + Send, N: Known, B: Bell, G: Gate> Listener<'a, 'c, L, N, 
     ) -> Result<bool, BoardFault>
         requires passes { 0 < self.old.board.book.passes }
         requires free { row_in 0 self.old.board.book ≡ None }
-        requires knows { KnowsComing N.known self.old.board.book self.old.config (D.seen store.old).told }
+        requires knows { KnowsComing N.known self.old.board.book self.old.config
+            (D.seen store.old).told }
         requires serves { ServesNewest N.known self.old.board.book self.old.edition }
         requires up { IsUp self.old.board.book.state.going }
         requires step { IsInStep (F.seen front.old).told self.old.board.book.state }
         requires heeded { IfSome (F.seen front.old).told HasNoneToHeed }
         ensures does { OnOk result (DoesOrders self.old.board.book self.new.board.book) }
-        ensures until { IfErr result (λ fault. DoesUntil fault self.old.board.book self.new.board.book) }
-        ensures stands { MatchResult result
-            (λ asked. StandsOn N.known self.old.config [] (owed_by asked) (standing self.old.edition.stop_ms (D.seen store.old) (F.seen front.old) self.old.board.book) (standing self.new.edition.stop_ms (D.seen store.new) (F.seen front.new) self.new.board.book))
-            (λ fault. StandsBroken N.known self.old.config (standing self.old.edition.stop_ms (D.seen store.old) (F.seen front.old) self.old.board.book) (standing self.new.edition.stop_ms (D.seen store.new) (F.seen front.new) self.new.board.book)) }
-        ensures knows { OnOk result (KnowsComing N.known self.new.board.book self.new.config (D.seen store.new).told) }
+        ensures until { IfErr result
+            (λ fault. DoesUntil fault self.old.board.book self.new.board.book) }
+        ensures stands { let old = standing self.old.edition.stop_ms
+            (D.seen store.old) (F.seen front.old) self.old.board.book in
+            let new = standing self.new.edition.stop_ms
+            (D.seen store.new) (F.seen front.new) self.new.board.book in
+            MatchResult result
+            (λ asked. StandsOn N.known self.old.config [] (owed_by asked) old new)
+            (λ fault. StandsBroken N.known self.old.config old new) }
+        ensures knows { OnOk result
+            (KnowsComing N.known self.new.board.book self.new.config (D.seen store.new).told) }
         ensures serves { ServesNewest N.known self.new.board.book self.new.edition }
         ensures up { IsUp self.new.board.book.state.going }
         ensures moment { self.new.board.book.state.moment ≡ self.old.board.book.state.moment }
         ensures accepted { self.new.board.book.state.accepted ≡ self.old.board.book.state.accepted }
         ensures step { IsInStep (F.seen front.new).told self.new.board.book.state }
-        ensures asked { IfOk result (λ asked. asked ≡ true → Rises (F.seen front.old).counts.commands (F.seen front.new).counts.commands × IfSome (F.seen front.new).told HasOneToHeed) }
-        ensures none { IfOk result (λ asked. asked ≡ false → IfSome (F.seen front.new).told HasNoneToHeed × HasReadAll (F.seen front.new).told) }
+        ensures asked { IfOk result
+            (λ asked. asked ≡ true → Rises (F.seen front.old).counts.commands
+            (F.seen front.new).counts.commands × IfSome (F.seen front.new).told HasOneToHeed) }
+        ensures none { IfOk result
+            (λ asked. asked ≡ false → IfSome (F.seen front.new).told HasNoneToHeed × HasReadAll
+            (F.seen front.new).told) }
         ensures unheeded { OnErr result (IfSome (F.seen front.new).told HasNoneToHeed) }
         ensures follows { Follows (F.seen front.old) (F.seen front.new) }
         ensures front { TellsOn OnlyReads (F.seen front.old).told (F.seen front.new).told }
-        ensures watched { IsWatching (F.seen front.old).told self.old.board.book → IsWatching (F.seen front.new).told self.new.board.book }
-        ensures others { self.new ≡ record self.old { board = self.new.board; edition = self.new.edition } }
+        ensures watched { IsWatching (F.seen front.old).told self.old.board.book
+            → IsWatching (F.seen front.new).told self.new.board.book }
+        ensures others { self.new ≡ record self.old
+            { board = self.new.board; edition = self.new.edition } }
         ensures err { IfErr result (λ fault. RefusalLasts fault self.new.board.book) }
     {
         generations_keep_their_editions();
@@ -96,19 +107,26 @@ impl<'a, 'c, L: Link + Send, N: Known, B: Bell, G: Gate> Listener<'a, 'c, L, N, 
     fn restart<D: Store>(&mut self, store: &mut D) -> Result<(), BoardFault>
         requires passes { 0 < self.old.board.book.passes }
         requires free { row_in 0 self.old.board.book ≡ None }
-        requires knows { KnowsComing N.known self.old.board.book self.old.config (D.seen store.old).told }
+        requires knows { KnowsComing N.known self.old.board.book self.old.config
+            (D.seen store.old).told }
         requires serves { ServesNewest N.known self.old.board.book self.old.edition }
         requires up { IsUp self.old.board.book.state.going }
         ensures does { OnOk result (DoesOrders self.old.board.book self.new.board.book) }
-        ensures stands { OnOk result (StandsBehind N.known self.old.config word.Graceful (λ f. standing self.old.edition.stop_ms (D.seen store.old) f self.old.board.book) (λ f. standing self.new.edition.stop_ms (D.seen store.new) f self.new.board.book)) }
-        ensures broken { OnErr result (BreaksBehind N.known self.old.config word.Graceful (λ f. standing self.old.edition.stop_ms (D.seen store.old) f self.old.board.book) (λ f. standing self.new.edition.stop_ms (D.seen store.new) f self.new.board.book)) }
-        ensures knows { OnOk result (KnowsComing N.known self.new.board.book self.new.config (D.seen store.new).told) }
+        ensures stands { OnOk result (StandsBehind N.known self.old.config word.Graceful
+            (λ f. standing self.old.edition.stop_ms (D.seen store.old) f self.old.board.book)
+            (λ f. standing self.new.edition.stop_ms (D.seen store.new) f self.new.board.book)) }
+        ensures broken { OnErr result (BreaksBehind N.known self.old.config word.Graceful
+            (λ f. standing self.old.edition.stop_ms (D.seen store.old) f self.old.board.book)
+            (λ f. standing self.new.edition.stop_ms (D.seen store.new) f self.new.board.book)) }
+        ensures knows { OnOk result
+            (KnowsComing N.known self.new.board.book self.new.config (D.seen store.new).told) }
         ensures serves { ServesNewest N.known self.new.board.book self.new.edition }
         ensures going { self.new.board.book.state.going ≡ self.old.board.book.state.going }
         ensures moment { self.new.board.book.state.moment ≡ self.old.board.book.state.moment }
         ensures accepted { self.new.board.book.state.accepted ≡ self.old.board.book.state.accepted }
         ensures same { OnErr result (self.new ≡ self.old) }
-        ensures others { self.new ≡ record self.old { board = self.new.board; edition = self.new.edition } }
+        ensures others { self.new ≡ record self.old
+            { board = self.new.board; edition = self.new.edition } }
         ensures why { IfErr result (λ fault. IsRefusedFor fault self.old.board.book) }
     {
         generations_keep_their_editions();
@@ -139,9 +157,12 @@ impl<'a, 'c, L: Link + Send, N: Known, B: Bell, G: Gate> Listener<'a, 'c, L, N, 
         requires passes { 0 < self.old.board.book.passes }
         requires free { row_in 0 self.old.board.book ≡ None }
         requires may { spec.may_begin self.old.board.book.state ≡ true }
-        ensures carries { OnOk result (Carries plan self.old.board.book self.new.board.book self.old.edition self.new.edition) }
+        ensures carries { OnOk result
+            (Carries plan self.old.board.book self.new.board.book self.old.edition
+            self.new.edition) }
         ensures same { OnErr result (self.new ≡ self.old) }
-        ensures others { self.new ≡ record self.old { board = self.new.board; edition = self.new.edition } }
+        ensures others { self.new ≡ record self.old
+            { board = self.new.board; edition = self.new.edition } }
         ensures why { IfErr result (λ fault. IsRefusedFor fault self.old.board.book) }
     {
         generations_keep_their_editions();
@@ -185,8 +206,10 @@ impl<'a, 'c, L: Link + Send, N: Known, B: Bell, G: Gate> Listener<'a, 'c, L, N, 
         requires up { IsUp self.old.board.book.state.going }
         requires step { IsInStep (F.seen front.old).told self.old.board.book.state }
         ensures does { OnOk result (DoesOrders self.old.board.book self.new.board.book) }
-        ensures stands { OnOk result ((f : FrontSeen) (store : StoreSeen) → Commands f (F.seen front.old) (Some (command_word word.GracefulStop)) → StandsOn N.known self.old.config [] 0 (standing self.old.edition.stop_ms store f self.old.board.book) (standing self.old.edition.stop_ms store (F.seen front.new) self.new.board.book)) }
-        ensures broken { OnErr result ((f : FrontSeen) (store : StoreSeen) → Commands f (F.seen front.old) (Some (command_word word.GracefulStop)) → StandsBroken N.known self.old.config (standing self.old.edition.stop_ms store f self.old.board.book) (standing self.old.edition.stop_ms store (F.seen front.new) self.new.board.book)) }
+        ensures stands { OnOk result (EndingStands N.known self.old.config self.old.edition.stop_ms
+            (F.seen front.old) (F.seen front.new) self.old.board.book self.new.board.book) }
+        ensures broken { OnErr result (EndingBreaks N.known self.old.config self.old.edition.stop_ms
+            (F.seen front.old) (F.seen front.new) self.old.board.book self.new.board.book) }
         ensures up { IsUp self.new.board.book.state.going }
         ensures newest { self.new.board.book.state.newest ≡ self.old.board.book.state.newest }
         ensures moment { self.new.board.book.state.moment ≡ self.old.board.book.state.moment }

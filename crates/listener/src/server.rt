@@ -79,19 +79,30 @@ pub fn run_server<
 ) -> Result<ServedRun<L>, OpenFault>
     requires limits { edition.limits ≡ head_limits_of config.config.now }
     requires timeout { edition.stop_ms ≡ config.config.now.current.stop_ms }
-    requires named { N.known ≡ Some (known_outside (opening_by config edition (D.seen store.old) (F.seen front.old))) }
+    requires named { N.known ≡ Some
+        (known_outside (opening_by config edition (D.seen store.old) (F.seen front.old))) }
     requires unused { IfSome (F.seen front.old).told IsUnused }
     requires unasked { IfSome (C.told clock.old) (λ calls. calls ≡ []) }
-    ensures run { IfOk result (λ s. IsRunFrom (opening.numbers_of config.entry.config.now) s.board) }
-    ensures stood { IfOk result (λ s. HasStood N.known (opening_by config.entry edition (D.seen store.old) (F.seen front.old)) (opening.numbers_of config.entry.config.now) (standing 0 (D.seen store.new) (F.seen front.new) s.board.book)) }
+    ensures run { IfOk result
+        (λ s. IsRunFrom (opening.numbers_of config.entry.config.now) s.board) }
+    ensures stood { let opened = opening_by config.entry edition
+        (D.seen store.old) (F.seen front.old) in
+        let numbers = opening.numbers_of config.entry.config.now in
+        IfOk result (λ s. HasStood N.known opened numbers
+        (standing 0 (D.seen store.new) (F.seen front.new) s.board.book)) }
     ensures closed { IfOk result (λ s. HasClosedAll s.board) }
     ensures edition { IfOk result (λ s. AreOfOutside N.known s.board) }
-    ensures outside { IfOk result (λ s. KeepsOutside (opening.numbers_of config.entry.config.now) (F.seen front.old) (F.seen front.new) (C.told clock.new) s.board) }
+    ensures outside { IfOk result
+        (λ s. KeepsOutside (opening.numbers_of config.entry.config.now) (F.seen front.old)
+        (F.seen front.new) (C.told clock.new) s.board) }
     ensures follows { Follows (F.seen front.old) (F.seen front.new) }
     ensures still { is_some (C.told clock.new) ≡ is_some (C.told clock.old) }
-    ensures written { IfOk result (λ s. WritesAll (K.seen out.old) (K.seen out.new) text.now s.written) }
+    ensures written { IfOk result
+        (λ s. WritesAll (K.seen out.old) (K.seen out.new) text.now s.written) }
     ensures faults { IfOk result (λ s. NeverFalls (K.seen out.old).faults (K.seen out.new).faults) }
-    ensures unopened { IfErr result (IsUnopened (opening.numbers_of config.entry.config.now) (F.seen front.old) (F.seen front.new)) }
+    ensures unopened { IfErr result
+        (IsUnopened (opening.numbers_of config.entry.config.now) (F.seen front.old)
+        (F.seen front.new)) }
     ensures store { OnErr result (D.seen store.new ≡ D.seen store.old) }
     ensures clock { OnErr result (C.told clock.new ≡ C.told clock.old) }
     ensures silent { OnErr result (K.seen out.new ≡ K.seen out.old) }
@@ -160,8 +171,13 @@ fn show_run<L: Link, N: Known>(board: &Board<L, N>, numbers: RunNumbers)
     requires asked { AreAskedFor board.now.book.base board.now.book.history }
     ensures run { IsRunFrom numbers board.now }
     ensures closed { IsClosedDown board.now.book.state → HasClosedAll board.now }
-    ensures links { (clients : List (List ℕ)) → clients_known N.known ≡ Some clients → IsClosedDown board.now.book.state → EndsLinks board.now }
-    ensures receive { (clients : List (List ℕ)) → clients_known N.known ≡ Some clients → AllReceive clients board.now.ended }
+    ensures links { (clients : List (List ℕ))
+        → clients_known N.known ≡ Some clients
+        → IsClosedDown board.now.book.state
+        → EndsLinks board.now }
+    ensures receive { (clients : List (List ℕ))
+        → clients_known N.known ≡ Some clients
+        → AllReceive clients board.now.ended }
     ensures outside { AreOfOutside N.known board.now }
 {
     events_keep_states_sound();

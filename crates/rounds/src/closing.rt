@@ -47,7 +47,8 @@ pub(crate) fn let_go_late<L: Link, N: Known>(board: &mut Board<L, N>)
 fn let_go_late_one<L: Link, N: Known>(board: &mut Board<L, N>, name: ConnName)
     requires passes { 0 < board.old.book.passes }
     requires free { row_in 0 board.old.book ≡ None }
-    requires late { lives_and (is_late board.old.book.state name.slot) board.old.book.state.rows name ≡ true }
+    requires late { lives_and (is_late board.old.book.state name.slot) board.old.book.state.rows
+        name ≡ true }
     ensures gone { LetsOneGo IsLateWay name board.old.book board.new.book }
     ensures fewer { late_weight board.new.book.state < late_weight board.old.book.state }
     ensures rest { LeavesRest board.old.book board.new.book }
@@ -82,7 +83,8 @@ fn cause_of_late(kind: Kind) -> Cause
 fn linger_for<L: Link, N: Known>(board: &mut Board<L, N>, conn: Conn<L, N>, cause: Cause)
     requires passes { 0 < board.old.book.passes }
     requires row { row_in 0 board.old.book ≡ Some conn.name }
-    requires edition { IsOfGeneration N.known board.old.book conn.generation conn.reader.limits conn.site }
+    requires edition { IsOfGeneration N.known board.old.book conn.generation conn.reader.limits
+        conn.site }
     requires hand { IsInHand board.old.book.state conn }
     requires open { conn.linger ≡ linger.Open }
     requires allowed { is_allowed board.old.book.state (event.Linger conn.name cause) ≡ true }
@@ -116,7 +118,8 @@ pub(crate) fn let_go_retiring<L: Link, N: Known>(board: &mut Board<L, N>, all_si
 fn let_go_retiring_one<L: Link, N: Known>(board: &mut Board<L, N>, name: ConnName)
     requires passes { 0 < board.old.book.passes }
     requires free { row_in 0 board.old.book ≡ None }
-    requires retires { lives_and (is_let_go board.old.book.state name.slot) board.old.book.state.rows name ≡ true }
+    requires retires { lives_and (is_let_go board.old.book.state name.slot)
+        board.old.book.state.rows name ≡ true }
     ensures gone { LetsOneGo IsRetiringWay name board.old.book board.new.book }
     ensures fewer { serving_count board.new.book.state < serving_count board.old.book.state }
     ensures rest { LeavesRest board.old.book board.new.book }
@@ -149,10 +152,12 @@ fn drain<L: Link, N: Known>(board: &mut Board<L, N>, name: ConnName) -> Result<(
     requires passes { 0 < board.old.book.passes }
     requires free { row_in 0 board.old.book ≡ None }
     requires none_late { NoneOverdue board.old.book.state }
-    requires lingers { lives_and (has_to_be_drained board.old.book.state name.slot) board.old.book.state.rows name ≡ true }
+    requires lingers { lives_and (has_to_be_drained board.old.book.state name.slot)
+        board.old.book.state.rows name ≡ true }
     ensures drains { OnOk result (LetsOneGo IsDrainedWay name board.old.book board.new.book) }
     ensures until { IfErr result (λ fault. GivesUpDrained fault board.old.book board.new.book) }
-    ensures fewer { OnOk result (signal_count board.new.book.state < signal_count board.old.book.state) }
+    ensures fewer { OnOk result
+        (signal_count board.new.book.state < signal_count board.old.book.state) }
     ensures none_late { OnOk result (NoneOverdue board.new.book.state) }
     ensures rest { LeavesRest board.old.book board.new.book }
     ensures err { IfErr result (λ fault. RefusalLasts fault board.new.book) }
@@ -194,14 +199,20 @@ fn linger_on<L: Link, N: Known>(
 ) -> Result<(), BoardFault>
     requires passes { 0 < board.old.book.passes }
     requires row { row_in 0 board.old.book ≡ Some conn.name }
-    requires edition { IsOfGeneration N.known board.old.book conn.generation conn.reader.limits conn.site }
+    requires edition { IsOfGeneration N.known board.old.book conn.generation conn.reader.limits
+        conn.site }
     requires lingers { IsLingeringFor cause board.old.book.state conn }
     requires kind { is_linger_kind kind ≡ true }
-    requires allowed { is_halted board.old.book.state.going ≡ false → is_allowed board.old.book.state (event.Park conn.name kind) ≡ true }
+    requires allowed { is_halted board.old.book.state.going ≡ false
+        → is_allowed board.old.book.state (event.Park conn.name kind) ≡ true }
     requires late { conn.linger ≡ linger.NotReady }
-    ensures parked { OnOk result (Acts 0 (event.Park conn.name kind ∷ []) None board.old.book board.new.book) }
-    ensures state { OnOk result (board.new.book.state ≡ next board.old.book.state (event.Park conn.name kind)) }
-    ensures given_up { IfErr result (λ fault. Acts 0 (lingering_give_up_events fault cause conn.name) None board.old.book board.new.book) }
+    ensures parked { OnOk result
+        (Acts 0 (event.Park conn.name kind ∷ []) None board.old.book board.new.book) }
+    ensures state { OnOk result
+        (board.new.book.state ≡ next board.old.book.state (event.Park conn.name kind)) }
+    ensures given_up { IfErr result
+        (λ fault. Acts 0 (lingering_give_up_events fault cause conn.name) None board.old.book
+        board.new.book) }
     ensures why { IfErr result (λ fault. IsRefusedFor fault board.old.book) }
     ensures lasts { IfErr result (λ fault. RefusalLasts fault board.new.book) }
     ensures rest { LeavesRest board.old.book board.new.book }
@@ -225,10 +236,12 @@ fn give_up_lingering<L: Link, N: Known>(
 )
     requires passes { 0 < board.old.book.passes }
     requires row { row_in 0 board.old.book ≡ Some conn.name }
-    requires edition { IsOfGeneration N.known board.old.book conn.generation conn.reader.limits conn.site }
+    requires edition { IsOfGeneration N.known board.old.book conn.generation conn.reader.limits
+        conn.site }
     requires lingers { IsLingeringFor cause board.old.book.state conn }
     requires why { IsRefusedFor fault board.old.book }
-    ensures acts { Acts 0 (lingering_give_up_events fault cause conn.name) None board.old.book board.new.book }
+    ensures acts { Acts 0 (lingering_give_up_events fault cause conn.name) None board.old.book
+        board.new.book }
     ensures lasts { RefusalLasts fault board.new.book }
     ensures rest { LeavesRest board.old.book board.new.book }
 {

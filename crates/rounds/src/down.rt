@@ -124,7 +124,8 @@ fn stop<L: Link, N: Known>(board: &mut Board<L, N>, fault: BoardFault)
     requires free { row_in 0 board.old.book ≡ None }
     requires must { RefusalLasts fault board.old.book }
     requires up { IsUp board.old.book.state.going }
-    ensures acts { Acts 0 (event.Command (Stop why.NoMemory) ∷ []) None board.old.book board.new.book }
+    ensures acts { Acts 0 (event.Command (Stop why.NoMemory) ∷ []) None board.old.book
+        board.new.book }
     ensures stopped { IsBrokenOff board.new.book.state.going }
     ensures moment { board.new.book.state.moment ≡ board.old.book.state.moment }
     ensures taken { board.new.book.state.accepted ≡ board.old.book.state.accepted }

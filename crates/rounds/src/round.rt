@@ -53,14 +53,20 @@ pub fn settle<L: Link, N: Known>(
 ) -> Result<(), BoardFault>
     requires passes { 0 < board.old.book.passes }
     requires row { row_in 0 board.old.book ≡ Some conn.name }
-    requires edition { IsOfGeneration N.known board.old.book conn.generation conn.reader.limits conn.site }
+    requires edition { IsOfGeneration N.known board.old.book conn.generation conn.reader.limits
+        conn.site }
     requires hand { IsInHand board.old.book.state conn }
-    requires allowed { is_halted board.old.book.state.going ≡ false → is_allowed board.old.book.state (event.Park conn.name Reading) ≡ true }
+    requires allowed { is_halted board.old.book.state.going ≡ false
+        → is_allowed board.old.book.state (event.Park conn.name Reading) ≡ true }
     requires settled { watched ≡ true → IsSettled Reading None conn }
-    requires closable { watched ≡ false → IsClosable board.old.book.state cause.LinkFailed Direct conn }
-    ensures left { OnOk result (Acts 0 (left_events (way_of watched) conn.name) None board.old.book board.new.book) }
-    ensures closed { watched ≡ false → Acts 0 (left_events (way_of false) conn.name) None board.old.book board.new.book }
-    ensures given_up { IfErr result (λ fault. GivesUp fault conn.name board.old.book board.new.book) }
+    requires closable { watched ≡ false
+        → IsClosable board.old.book.state cause.LinkFailed Direct conn }
+    ensures left { OnOk result
+        (Acts 0 (left_events (way_of watched) conn.name) None board.old.book board.new.book) }
+    ensures closed { watched ≡ false
+        → Acts 0 (left_events (way_of false) conn.name) None board.old.book board.new.book }
+    ensures given_up { IfErr result
+        (λ fault. GivesUp fault conn.name board.old.book board.new.book) }
     ensures why { IfErr result (λ fault. IsRefusedFor fault board.old.book) }
     ensures rest { LeavesRest board.old.book board.new.book }
     ensures err { IfErr result (λ fault. RefusalLasts fault board.new.book) }
@@ -77,14 +83,19 @@ pub fn accept<L: Link, N: Known>(board: &mut Board<L, N>) -> Result<Taken, Board
     requires passes { 0 < board.old.book.passes }
     requires free { row_in 0 board.old.book ≡ None }
     requires acceptable { is_some (acceptable board.old.book.state) ≡ true }
-    ensures acts { IfOk result (λ taken. Acts 0 (event.Accept taken.name.slot ∷ []) (Some taken.name) board.old.book board.new.book) }
+    ensures acts { IfOk result
+        (λ taken. Acts 0 (event.Accept taken.name.slot ∷ []) (Some taken.name) board.old.book
+        board.new.book) }
     ensures refused { OnErr result (board.new ≡ board.old) }
     ensures why { IfErr result (λ fault. IsRefusedFor fault board.old.book) }
     ensures going { board.new.book.state.going ≡ board.old.book.state.going }
     ensures newest { board.new.book.state.newest ≡ board.old.book.state.newest }
     ensures generation { IfOk result (λ taken. taken.generation ≡ board.old.book.state.newest) }
-    ensures taken { OnOk result (board.new.book.state.accepted ≡ next_count board.old.book.state.accepted) }
-    ensures held { IfOk result (λ taken. HasTaken board.new.book.state taken.name taken.child taken.generation board.old.book.state.accepted) }
+    ensures taken { OnOk result
+        (board.new.book.state.accepted ≡ next_count board.old.book.state.accepted) }
+    ensures held { IfOk result
+        (λ taken. HasTaken board.new.book.state taken.name taken.child taken.generation
+        board.old.book.state.accepted) }
     ensures moment { board.new.book.state.moment ≡ board.old.book.state.moment }
     ensures err { IfErr result (λ fault. RefusalLasts fault board.new.book) }
 {
@@ -138,7 +149,8 @@ pub fn pass_time<L: Link, N: Known>(
     ensures none { OnOk result (NoneOverdue board.new.book.state) }
     ensures going { board.new.book.state.going ≡ board.old.book.state.going }
     ensures newest { board.new.book.state.newest ≡ board.old.book.state.newest }
-    ensures moment { OnOk result (board.new.book.state.moment ≡ max board.old.book.state.moment (moment_for moment)) }
+    ensures moment { OnOk result
+        (board.new.book.state.moment ≡ max board.old.book.state.moment (moment_for moment)) }
     ensures taken { board.new.book.state.accepted ≡ board.old.book.state.accepted }
     ensures err { IfErr result (λ fault. RefusalLasts fault board.new.book) }
 {
@@ -159,7 +171,8 @@ pub fn signal_all<L: Link, N: Known>(
 ) -> Result<(), BoardFault>
     requires passes { 0 < board.old.book.passes }
     requires free { row_in 0 board.old.book ≡ None }
-    ensures signals { OnOk result (Acts 0 (signal_events board.old.book slots.now) None board.old.book board.new.book) }
+    ensures signals { OnOk result
+        (Acts 0 (signal_events board.old.book slots.now) None board.old.book board.new.book) }
     ensures first { OnErr result (SignalsFirst slots.now board.old.book board.new.book) }
     ensures why { IfErr result (λ fault. IsRefusedFor fault board.new.book) }
     ensures rest { LeavesRest board.old.book board.new.book }
@@ -175,7 +188,8 @@ pub fn signal_all<L: Link, N: Known>(
 fn signal<L: Link, N: Known>(board: &mut Board<L, N>, slot: u32) -> Result<(), BoardFault>
     requires passes { 0 < board.old.book.passes }
     requires free { row_in 0 board.old.book ≡ None }
-    ensures signals { OnOk result (Acts 0 (signal_events board.old.book (slot ∷ [])) None board.old.book board.new.book) }
+    ensures signals { OnOk result
+        (Acts 0 (signal_events board.old.book (slot ∷ [])) None board.old.book board.new.book) }
     ensures rest { LeavesRest board.old.book board.new.book }
     ensures refused { OnErr result (board.new ≡ board.old) }
     ensures why { IfErr result (λ fault. IsRefusedFor fault board.old.book) }
@@ -238,7 +252,9 @@ pub fn start_children<L: Link, N: Known>(board: &mut Board<L, N>) -> Result<(), 
     ensures starts { StartsSome board.old.book board.new.book }
     ensures why { IfErr result (λ fault. IsRefusedFor fault board.new.book) }
     ensures started { OnOk result (startable board.new.book.state ≡ None) }
-    ensures first { OnOk result (IsOpening board.old.book → BeginsWithStarts (asked_children board.old.book.base) board.new.book.history) }
+    ensures first { OnOk result
+        (IsOpening board.old.book → BeginsWithStarts (asked_children board.old.book.base)
+        board.new.book.history) }
     ensures going { board.new.book.state.going ≡ board.old.book.state.going }
     ensures rest { LeavesRest board.old.book board.new.book }
     ensures err { IfErr result (λ fault. RefusalLasts fault board.new.book) }
@@ -280,7 +296,9 @@ pub fn retire_all<L: Link, N: Known>(board: &mut Board<L, N>)
     requires passes { 0 < board.old.book.passes }
     requires free { row_in 0 board.old.book ≡ None }
     ensures retires { RetiresSome board.old.book board.new.book }
-    ensures down { is_halted board.old.book.state.going ≡ true → HasNoLive board.old.book.state → IsClosedDown board.new.book.state }
+    ensures down { is_halted board.old.book.state.going ≡ true
+        → HasNoLive board.old.book.state
+        → IsClosedDown board.new.book.state }
     ensures going { board.new.book.state.going ≡ board.old.book.state.going }
     ensures rest { LeavesRest board.old.book board.new.book }
 {

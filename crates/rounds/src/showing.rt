@@ -13,7 +13,9 @@ use mpm_base::Link;
 
 /// Shows that no connection is live where no pass has one and none waits. Does nothing.
 pub fn show_none_live<L: Link, N: Known>(board: &Board<L, N>)
-    ensures { NoneHas board.now.book → NoneParked board.now.book.state → HasNoLive board.now.book.state }
+    ensures { NoneHas board.now.book
+        → NoneParked board.now.book.state
+        → HasNoLive board.now.book.state }
 {
     each_pass_has_its_own_connection();
     board.show();

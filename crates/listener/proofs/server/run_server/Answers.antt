@@ -1,4 +1,4 @@
-use Rattle.std.proofs.Common.{◌≡◌, ◌⊎◌, refl, ap, sym, subst}
+use Rattle.std.proofs.Common.{◌≡◌, ◌⊎◌, refl, ap, sym, subst, rules}
 use Rattle.conn_machine.specs.declared.state.State.{State}
 use Rattle.board.specs.Board.{SeenBoard}
 use Rattle.board.specs.Book.{SeenBook}
@@ -18,44 +18,43 @@ use Rattle.listener.proofs.OpeningLemmas.{known-front, knows-coming, serves-firs
 use Rattle.listener.proofs.StartedLemmas.{are-watched, asked-opened, binds-true, heeded-opened, idle-bound, informed-opened, keeps-front, nothing-bound, opened-hushed, opens, starts-opened, step-opened, stopped-before, time-opened, unwaited, watching-opened}
 use Rattle.listener.proofs.server.run_server.Goals as goal
 
-pub listen-requires-clause-named : goal.listen-requires-clause-named
-listen-requires-clause-named g c κs within =
-    let n = c.numbers_of-numbers.result in
-    let o = opening_by c.args.config c.args.edition (g.D.Store.seen c.args.store.now) (g.F.Front.seen c.args.front.now) in
-    let binds = binds-true n (g.F.Front.seen c.args.front.now) (g.F.Front.seen c.bell.new.self) (g.F.Front.seen c.bind.new.self) c.bind.result c.bell.ensures.same c.if-not-bind.false c.bind.ensures.binds in
-    named-follows g.N.Known.known (g.F.Front.seen c.args.front.now) (g.F.Front.seen c.bind.new.self) (follows-bind _ _ _ _ _ binds)
-    (known-front g.N.Known.known o c.requires.named)
-
-pub listen-requires-clause-knows : goal.listen-requires-clause-knows
-listen-requires-clause-knows g c κs within =
-    knows-coming g.N.Known.known c.args.config c.args.edition (g.D.Store.seen c.args.store.now) (g.F.Front.seen c.args.front.now) c.numbers_of-numbers.result
-    c.in-Ok-open_board.board.book c.requires.named c.in-Ok-open_board.ensures.book
-
-pub listen-requires-clause-serves : goal.listen-requires-clause-serves
-listen-requires-clause-serves g c κs within =
-    serves-first g.N.Known.known c.args.config c.args.edition (g.D.Store.seen c.args.store.now) (g.F.Front.seen c.args.front.now) c.numbers_of-numbers.result
-    c.in-Ok-open_board.board.book c.requires.named c.in-Ok-open_board.ensures.book c.requires.limits
-
-pub listen-requires-clause-step : goal.listen-requires-clause-step
-listen-requires-clause-step g c κs within =
-    let n = c.numbers_of-numbers.result in
-    let binds = binds-true n (g.F.Front.seen c.args.front.now) (g.F.Front.seen c.bell.new.self) (g.F.Front.seen c.bind.new.self) c.bind.result c.bell.ensures.same c.if-not-bind.false c.bind.ensures.binds in
-    let idle = idle-bound n (g.F.Front.seen c.args.front.now) (g.F.Front.seen c.bind.new.self) (g.C.Clock.told c.args.clock.now) binds c.requires.unused c.requires.unasked in
-    step-opened n (g.F.Front.seen c.bind.new.self).told (g.C.Clock.told c.args.clock.now) c.in-Ok-open_board.board.book c.in-Ok-open_board.ensures.book idle
-
-pub listen-requires-clause-heeded : goal.listen-requires-clause-heeded
-listen-requires-clause-heeded g c κs within =
-    let n = c.numbers_of-numbers.result in
-    let binds = binds-true n (g.F.Front.seen c.args.front.now) (g.F.Front.seen c.bell.new.self) (g.F.Front.seen c.bind.new.self) c.bind.result c.bell.ensures.same c.if-not-bind.false c.bind.ensures.binds in
-    let idle = idle-bound n (g.F.Front.seen c.args.front.now) (g.F.Front.seen c.bind.new.self) (g.C.Clock.told c.args.clock.now) binds c.requires.unused c.requires.unasked in
-    heeded-opened (g.F.Front.seen c.bind.new.self).told (g.C.Clock.told c.args.clock.now) idle
-
-pub listen-requires-clause-informed : goal.listen-requires-clause-informed
-listen-requires-clause-informed g c κs within =
-    let n = c.numbers_of-numbers.result in
-    let binds = binds-true n (g.F.Front.seen c.args.front.now) (g.F.Front.seen c.bell.new.self) (g.F.Front.seen c.bind.new.self) c.bind.result c.bell.ensures.same c.if-not-bind.false c.bind.ensures.binds in
-    let idle = idle-bound n (g.F.Front.seen c.args.front.now) (g.F.Front.seen c.bind.new.self) (g.C.Clock.told c.args.clock.now) binds c.requires.unused c.requires.unasked in
-    informed-opened n (g.F.Front.seen c.bind.new.self).told (g.C.Clock.told c.args.clock.now) c.in-Ok-open_board.board.book c.in-Ok-open_board.ensures.book idle
+pub listen-requires : goal.listen-requires
+listen-requires g c κs within =
+    record {
+      named =
+          let n = c.numbers_of-numbers.result in
+          let o = opening_by c.args.config c.args.edition (g.D.Store.seen c.args.store.now) (g.F.Front.seen c.args.front.now) in
+          let binds = binds-true n (g.F.Front.seen c.args.front.now) (g.F.Front.seen c.bell.new.self) (g.F.Front.seen c.bind.new.self) c.bind.result c.bell.ensures.same c.if-not-bind.false c.bind.ensures.binds in
+          named-follows g.N.Known.known (g.F.Front.seen c.args.front.now) (g.F.Front.seen c.bind.new.self) (follows-bind _ _ _ _ _ binds)
+          (known-front g.N.Known.known o c.requires.named);
+      passes =
+          search rules;
+      knows =
+          knows-coming g.N.Known.known c.args.config c.args.edition (g.D.Store.seen c.args.store.now) (g.F.Front.seen c.args.front.now) c.numbers_of-numbers.result
+          c.in-Ok-open_board.board.book c.requires.named c.in-Ok-open_board.ensures.book;
+      serves =
+          serves-first g.N.Known.known c.args.config c.args.edition (g.D.Store.seen c.args.store.now) (g.F.Front.seen c.args.front.now) c.numbers_of-numbers.result
+          c.in-Ok-open_board.board.book c.requires.named c.in-Ok-open_board.ensures.book c.requires.limits;
+      free =
+          search rules;
+      going =
+          search rules;
+      step =
+          let n = c.numbers_of-numbers.result in
+          let binds = binds-true n (g.F.Front.seen c.args.front.now) (g.F.Front.seen c.bell.new.self) (g.F.Front.seen c.bind.new.self) c.bind.result c.bell.ensures.same c.if-not-bind.false c.bind.ensures.binds in
+          let idle = idle-bound n (g.F.Front.seen c.args.front.now) (g.F.Front.seen c.bind.new.self) (g.C.Clock.told c.args.clock.now) binds c.requires.unused c.requires.unasked in
+          step-opened n (g.F.Front.seen c.bind.new.self).told (g.C.Clock.told c.args.clock.now) c.in-Ok-open_board.board.book c.in-Ok-open_board.ensures.book idle;
+      heeded =
+          let n = c.numbers_of-numbers.result in
+          let binds = binds-true n (g.F.Front.seen c.args.front.now) (g.F.Front.seen c.bell.new.self) (g.F.Front.seen c.bind.new.self) c.bind.result c.bell.ensures.same c.if-not-bind.false c.bind.ensures.binds in
+          let idle = idle-bound n (g.F.Front.seen c.args.front.now) (g.F.Front.seen c.bind.new.self) (g.C.Clock.told c.args.clock.now) binds c.requires.unused c.requires.unasked in
+          heeded-opened (g.F.Front.seen c.bind.new.self).told (g.C.Clock.told c.args.clock.now) idle;
+      informed =
+          let n = c.numbers_of-numbers.result in
+          let binds = binds-true n (g.F.Front.seen c.args.front.now) (g.F.Front.seen c.bell.new.self) (g.F.Front.seen c.bind.new.self) c.bind.result c.bell.ensures.same c.if-not-bind.false c.bind.ensures.binds in
+          let idle = idle-bound n (g.F.Front.seen c.args.front.now) (g.F.Front.seen c.bind.new.self) (g.C.Clock.told c.args.clock.now) binds c.requires.unused c.requires.unasked in
+          informed-opened n (g.F.Front.seen c.bind.new.self).told (g.C.Clock.told c.args.clock.now) c.in-Ok-open_board.board.book c.in-Ok-open_board.ensures.book idle;
+    }
 
 pub show_run-requires-clause-folded : goal.show_run-requires-clause-folded
 show_run-requires-clause-folded g c =

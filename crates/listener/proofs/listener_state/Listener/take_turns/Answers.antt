@@ -2,6 +2,7 @@ use Rattle.std.proofs.Common.{◌≡◌, Option, None, refl, sym, ap, subst, ◌
 use Rattle.rounds.specs.declared.ends.End.{End}
 use Rattle.listener.specs.ListenInside.{TakesInTo}
 use Rattle.listener.specs.RoundInside.{GoesRound, RoundEnds}
+use Rattle.listener.specs.TurnsInside.{listener_of}
 use Rattle.rounds.specs.Moments.{moment_for}
 use Rattle.listener.proofs.CommandLemmas.{heeded-wait}
 use Rattle.listener.proofs.FoldedTurnLemmas.{turn-folded}
@@ -9,7 +10,7 @@ use Rattle.listener.proofs.FrontLemmas.{follows-trans, follows-wait, named-follo
 use Rattle.listener.proofs.OverLemmas.{over-broken, over-ended, over-ended_for, over-failed, over-served, over-started, turn-served, turn-started}
 use Rattle.rounds.proofs.ActLemmas.{none-has}
 use Rattle.listener.proofs.TurnLemmas.{HasGoneRound, HasServedRows, HasTakenIn, between-started}
-use Rattle.listener.proofs.WaitLemmas.{has-waited, listener_of}
+use Rattle.listener.proofs.WaitLemmas.{has-waited}
 use Rattle.listener.proofs.listener_state.Listener.take_turns.Goals as goal
 
 pub loop-init : goal.loop-init

@@ -1,5 +1,5 @@
+use Rattle.listener.specs.TurnsInside.{listener_of}
 use Rattle.listener.proofs.OverLemmas.{IsBeforeTurn}
-use Rattle.listener.proofs.WaitLemmas.{listener_of}
 use Rattle.listener.proofs.listener_state.Listener.take_turns.Given as goal
 
 -- between two turns the server goes on, no pass has a connection, and all that the waits and the clock gave was done; no command line
