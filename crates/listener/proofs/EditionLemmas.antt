@@ -11,7 +11,7 @@ use Rattle.board.specs.Editions.{GenerationsKeepTheirEditions, IsOfGeneration}
 use Rattle.worker_group.specs.Acts.{Acts}
 use Rattle.listener.specs.OrdersInside.{KnowsComing, ServesNewest}
 use Rattle.listener.specs.StandingInside.{KnowsLater}
-use Rattle.listener.specs.declared.edition.Edition.{Edition}
+use Rattle.listener.specs.declared.edition.LoadedEdition.{LoadedEdition}
 use Rattle.listener.specs.declared.edition.NamedConfig.{NamedConfig}
 use Rattle.listener.proofs.CommandlessLemmas.{AreCommandless, orders-kept}
 
@@ -25,7 +25,7 @@ edition-acts law known who es has a b generation limits site acts is =
     law.goes_on known a b acts.entries.0 generation limits site is acts.base acts.folded acts.entries.1
 
 -- and the newest generation its edition, where none began
-pub newest-acts : GenerationsKeepTheirEditions → (known : Option KnownOutside) (who : ℕ) (es : List Event) (has : Option ConnName) (a b : SeenBook) (e : Edition)
+pub newest-acts : GenerationsKeepTheirEditions → (known : Option KnownOutside) (who : ℕ) (es : List Event) (has : Option ConnName) (a b : SeenBook) (e : LoadedEdition)
     → Acts who es has a b → b.state.newest ≡ a.state.newest → ServesNewest known a e → ServesNewest known b e
 newest-acts law known who es has a b e acts newest serves =
     subst (λ (generation : ℕ). IsOfGeneration known b generation e.limits e.site.value) (sym newest)

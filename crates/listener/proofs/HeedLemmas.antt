@@ -24,7 +24,7 @@ use Rattle.listener.specs.RoundInside.{DoesOrders, NoneHalts}
 use Rattle.rounds.specs.PartsInside.{StartsAsAsked}
 use Rattle.listener.specs.Served.{all_entries}
 use Rattle.listener.specs.StandingInside.{KnowsLater, StandsOn, standing}
-use Rattle.listener.specs.declared.edition.Edition.{Edition}
+use Rattle.listener.specs.declared.edition.LoadedEdition.{LoadedEdition}
 use Rattle.listener.specs.declared.edition.NamedConfig.{NamedConfig}
 use Rattle.listener.proofs.StartlessLemmas.{asked-silent, startless-orders}
 use Rattle.listener.proofs.CommandLemmas.{heeded-line, stopped-line}
@@ -268,7 +268,7 @@ pub knows-kept : (known : Option KnownOutside) (c : NamedConfig) (told : Option 
 knows-kept known c told a b same knows =
     subst (λ (orders : ℕ). KnowsLater known orders c.name.now c.config.now told) (sym same) knows
 
-pub serves-kept : GenerationsKeepTheirEditions → (known : Option KnownOutside) (a b : SeenBook) (e : Edition) → DoesOrders a b
+pub serves-kept : GenerationsKeepTheirEditions → (known : Option KnownOutside) (a b : SeenBook) (e : LoadedEdition) → DoesOrders a b
     → b.state.newest ≡ a.state.newest → ServesNewest known a e → ServesNewest known b e
 serves-kept law known a b e does newest serves =
     newest-acts law known 0 (map event.Command does.orders) None a b e does.acts newest serves

@@ -12,7 +12,7 @@ use Rattle.listener.specs.Generations.{Opening, known_edition, made_edition, ren
 use Rattle.listener.specs.ListenInside.{IsKnownOfFront, clients_known}
 use Rattle.listener.specs.OrdersInside.{KnowsComing, ServesNewest, known_outside, opening_by}
 use Rattle.listener.specs.StandingInside.{DoesAllBut, HasStood, StandsSo, later_edition, standing}
-use Rattle.listener.specs.declared.edition.Edition.{Edition}
+use Rattle.listener.specs.declared.edition.LoadedEdition.{LoadedEdition}
 use Rattle.listener.specs.declared.edition.NamedConfig.{NamedConfig}
 use Rattle.listener.specs.declared.run_numbers.RunNumbers.{RunNumbers}
 use Rattle.listener.proofs.StartedLemmas.{IsIdle}
@@ -32,7 +32,7 @@ later-known o number further is =
     (subst (λ (n : ℕ). known_edition o (suc further) ≡ option_map (λ (t : StoreTold). made_edition o.config o.name (renewed n t).files) o.store.told) (sym one) refl)
 
 -- each edition that is still to come
-pub knows-coming : (known : Option KnownOutside) (c : NamedConfig) (e : Edition) (store : StoreSeen) (front : FrontSeen) (n : RunNumbers) (b : SeenBook)
+pub knows-coming : (known : Option KnownOutside) (c : NamedConfig) (e : LoadedEdition) (store : StoreSeen) (front : FrontSeen) (n : RunNumbers) (b : SeenBook)
     → known ≡ Some (known_outside (opening_by c e store front)) → b ≡ opened_book n → KnowsComing known b c store.told
 knows-coming known c e store front n b is opened =
     let o = opening_by c e store front in
@@ -41,7 +41,7 @@ knows-coming known c e store front n b is opened =
     (λ further. later-known o (orders_in b + (further + 1)) further (omega (arith, none)))
 
 -- the first generation is served by what the server opened by
-pub serves-first : (known : Option KnownOutside) (c : NamedConfig) (e : Edition) (store : StoreSeen) (front : FrontSeen) (n : RunNumbers) (b : SeenBook)
+pub serves-first : (known : Option KnownOutside) (c : NamedConfig) (e : LoadedEdition) (store : StoreSeen) (front : FrontSeen) (n : RunNumbers) (b : SeenBook)
     → known ≡ Some (known_outside (opening_by c e store front)) → b ≡ opened_book n → e.limits ≡ head_limits_of c.config.now
     → ServesNewest known b e
 serves-first known c e store front n b is opened limits =
@@ -68,7 +68,7 @@ unrenewed None = refl
 unrenewed (Some t) = refl
 
 -- so it stands where nothing was done yet
-pub stands-opened : FoldsJoin → (known : Option KnownOutside) (c : NamedConfig) (e : Edition) (store : StoreSeen) (old front : FrontSeen)
+pub stands-opened : FoldsJoin → (known : Option KnownOutside) (c : NamedConfig) (e : LoadedEdition) (store : StoreSeen) (old front : FrontSeen)
     (calls : Option (List (ℕ × ℕ))) (n : RunNumbers) (b : SeenBook) → b ≡ opened_book n → e.stop_ms ≡ c.config.now.current.stop_ms
     → front.counts.commands ≡ old.counts.commands → IsIdle front.told calls
     → StandsSo known (opening_by c e store old) n [] 0 (standing e.stop_ms store front b)

@@ -15,7 +15,7 @@ use Rattle.listener.specs.OrdersInside.{KnowsComing, ServesNewest}
 use Rattle.listener.specs.RoundInside.{FailsTaking, TakesSome, TakesUntil}
 use Rattle.rounds.specs.PartsInside.{LetsGoOfConns, LetsGoUntil, PassesTime, RetiresSome, SignalsFirst, StartsAsAsked, StartsSome, signal_events}
 use Rattle.rounds.specs.Moments.{known_slots, ticks_to}
-use Rattle.listener.specs.declared.edition.Edition.{Edition}
+use Rattle.listener.specs.declared.edition.LoadedEdition.{LoadedEdition}
 use Rattle.listener.specs.declared.edition.NamedConfig.{NamedConfig}
 use Rattle.listener.proofs.StartlessLemmas.{asked-silent, startless-departures, startless-gone, startless-held, startless-readies, startless-retires, startless-takes, startless-time}
 use Rattle.listener.proofs.CommandlessLemmas.{AreCommandless, commandless-both, commandless-departures, commandless-gone, commandless-readies, commandless-retires, commandless-starts, commandless-takes, commandless-time}
@@ -140,7 +140,7 @@ orderless-children steps a b c retires starts = orderless-more steps a b c (orde
 -- ## What stays
 
 -- the newest generation has its edition
-pub newest-orderless : GenerationsKeepTheirEditions → (known : Option KnownOutside) (a b : SeenBook) (e : Edition) → ActsOrderless a b
+pub newest-orderless : GenerationsKeepTheirEditions → (known : Option KnownOutside) (a b : SeenBook) (e : LoadedEdition) → ActsOrderless a b
     → b.state.newest ≡ a.state.newest → ServesNewest known a e → ServesNewest known b e
 newest-orderless law known a b e orderless newest serves = newest-acts law known 0 orderless.events None a b e orderless.acts newest serves
 

@@ -40,7 +40,7 @@ use Rattle.listener.specs.RoundInside.{DoesOrders}
 use Rattle.listener.specs.Served.{all_entries}
 use Rattle.listener.specs.StandingInside.{HasTimeout, Standing, StandsBroken, StandsOn, StandsSo, standing, newest_edition}
 use Rattle.listener.specs.Stores.{RisesBy, is_store_refusal}
-use Rattle.listener.specs.declared.edition.Edition.{Edition}
+use Rattle.listener.specs.declared.edition.LoadedEdition.{LoadedEdition}
 use Rattle.listener.specs.declared.edition.NamedConfig.{NamedConfig}
 use Rattle.listener.specs.declared.run_numbers.RunNumbers.{RunNumbers}
 use Rattle.rounds.proofs.AddedLemmas.{added-events}
@@ -62,7 +62,7 @@ pub recorded-one : ActsInSteps → (c : Commanded) (a b : SeenBook) → b ≡ bo
 recorded-one steps c a b is adds row = steps.one 0 (event.Command c) None a b is adds row
 
 -- a generation that begins by a plan
-pub begun-by : ActsInSteps → GenerationsKeepTheirEditions → (plan : Plan) (shape : Shape) (a b : SeenBook) (e : Edition) → shape ≡ shape_by plan.config
+pub begun-by : ActsInSteps → GenerationsKeepTheirEditions → (plan : Plan) (shape : Shape) (a b : SeenBook) (e : LoadedEdition) → shape ≡ shape_by plan.config
     → b ≡ book_with_entry 0 (event.Command (commanded.Graceful shape)) a → AddsOnly 0 a b → row_in 0 b ≡ None → HaveBegun a.base a.folded
     → after a.base a.history ≡ a.state → e.limits ≡ head_limits_of plan.config → e.site.value ≡ plan.site → e.stop_ms ≡ plan.config.current.stop_ms
     → Begins plan a b e
@@ -92,10 +92,10 @@ pub does-refused : (reason : Refusal) (a b : SeenBook) → Refuses reason a b �
 does-refused reason a b refuses = record { orders = commanded.Refused reason ∷ []; none = tt; acts = refuses.acts }
 
 -- a generation began
-pub does-begun : (plan : Plan) (a b : SeenBook) (e : Edition) → Begins plan a b e → DoesOrders a b
+pub does-begun : (plan : Plan) (a b : SeenBook) (e : LoadedEdition) → Begins plan a b e → DoesOrders a b
 does-begun plan a b e begins = record { orders = commanded.Graceful (shape_by plan.config) ∷ []; none = tt; acts = begins.acts }
 
-pub does-carried : (plan : Plan) (a b : SeenBook) (e e' : Edition) → Carries plan a b e e' → DoesOrders a b
+pub does-carried : (plan : Plan) (a b : SeenBook) (e e' : LoadedEdition) → Carries plan a b e e' → DoesOrders a b
 does-carried plan a b e e' (inl begins) = does-begun plan a b e' begins
 does-carried plan a b e e' (inr lacks) = does-refused refusal.NoMemory a b lacks.refuses
 
@@ -186,7 +186,7 @@ cause-stands joins known c ms s s' a b why refuses may now renews cause f f' gav
 
 -- ## A generation that begins
 
-begun-stands : HistoriesJoin → (known : Option KnownOutside) (c : NamedConfig) (ms : ℕ) (s s' : StoreSeen) (a b : SeenBook) (plan : Plan) (e : Edition)
+begun-stands : HistoriesJoin → (known : Option KnownOutside) (c : NamedConfig) (ms : ℕ) (s s' : StoreSeen) (a b : SeenBook) (plan : Plan) (e : LoadedEdition)
     → Begins plan a b e → after a.base a.history ≡ a.state → Renews s s' → IsPlan s'.told c.name.now c.config.now plan
     → StandsBehind known c word.Graceful (λ f. standing ms s f a) (λ f. standing e.stop_ms s' f b)
 begun-stands joins known c ms s s' a b plan e begins now renews plans f f' gave o n opened asked stood =
@@ -206,12 +206,12 @@ begun-stands joins known c ms s s' a b plan e begins now renews plans f f' gave 
       IsDoneAt o number plan = HasShape o number (shape_by plan.config) × HasSite o number
 
 -- what comes of a plan
-pub carried-stands : HistoriesJoin → (known : Option KnownOutside) (c : NamedConfig) (s s' : StoreSeen) (a b : SeenBook) (plan : Plan) (e e' : Edition)
+pub carried-stands : HistoriesJoin → (known : Option KnownOutside) (c : NamedConfig) (s s' : StoreSeen) (a b : SeenBook) (plan : Plan) (e e' : LoadedEdition)
     → Carries plan a b e e' → after a.base a.history ≡ a.state → Renews s s' → IsPlan s'.told c.name.now c.config.now plan
     → StandsBehind known c word.Graceful (λ f. standing e.stop_ms s f a) (λ f. standing e'.stop_ms s' f b)
 carried-stands joins known c s s' a b plan e e' (inl begins) now renews plans = begun-stands joins known c e.stop_ms s s' a b plan e' begins now renews plans
 carried-stands joins known c s s' a b plan e e' (inr lacks) now renews plans =
-    subst (λ (x : Edition). StandsBehind known c word.Graceful (λ f. standing e.stop_ms s f a) (λ f. standing x.stop_ms s' f b)) (sym lacks.same)
+    subst (λ (x : LoadedEdition). StandsBehind known c word.Graceful (λ f. standing e.stop_ms s f a) (λ f. standing x.stop_ms s' f b)) (sym lacks.same)
     (λ f f' gave o n opened asked stood.
     refused-stands joins known o n refusal.NoMemory e.stop_ms s s' f f' a b lacks.refuses gave now stood tt (renewed-once s s' renews))
 
@@ -246,7 +246,7 @@ knows-refused reason known c s s' a b refuses renews knows =
     knows-renewed known (orders_in a) (orders_in b) c.name.now c.config.now s.told s'.told (orders-acts (commanded.Refused reason) a b refl refuses.acts)
     renews.told_is knows
 
-pub knows-carried : (plan : Plan) (known : Option KnownOutside) (c : NamedConfig) (s s' : StoreSeen) (a b : SeenBook) (e e' : Edition) → Carries plan a b e e'
+pub knows-carried : (plan : Plan) (known : Option KnownOutside) (c : NamedConfig) (s s' : StoreSeen) (a b : SeenBook) (e e' : LoadedEdition) → Carries plan a b e e'
     → Renews s s' → KnowsComing known a c s.told → KnowsComing known b c s'.told
 knows-carried plan known c s s' a b e e' (inl begins) renews knows =
     knows-renewed known (orders_in a) (orders_in b) c.name.now c.config.now s.told s'.told
@@ -254,7 +254,7 @@ knows-carried plan known c s s' a b e e' (inl begins) renews knows =
 knows-carried plan known c s s' a b e e' (inr lacks) renews knows = knows-refused refusal.NoMemory known c s s' a b lacks.refuses renews knows
 
 -- connections are served by the plan's edition
-pub serves-begun : (known : Option KnownOutside) (c : NamedConfig) (s s' : StoreSeen) (a b : SeenBook) (plan : Plan) (e : Edition) → Begins plan a b e
+pub serves-begun : (known : Option KnownOutside) (c : NamedConfig) (s s' : StoreSeen) (a b : SeenBook) (plan : Plan) (e : LoadedEdition) → Begins plan a b e
     → Renews s s' → IsPlan s'.told c.name.now c.config.now plan → KnowsComing known a c s.told → ServesNewest known b e
 serves-begun None c s s' a b plan e begins renews plans knows = tt
 serves-begun (Some k) c s s' a b plan e begins renews plans knows =
@@ -267,13 +267,13 @@ serves-begun (Some k) c s s' a b plan e begins renews plans knows =
     })
 
 -- a restart that was refused leaves the newest generation its edition
-pub serves-refused : GenerationsKeepTheirEditions → (reason : Refusal) (known : Option KnownOutside) (a b : SeenBook) (e : Edition) → Refuses reason a b
+pub serves-refused : GenerationsKeepTheirEditions → (reason : Refusal) (known : Option KnownOutside) (a b : SeenBook) (e : LoadedEdition) → Refuses reason a b
     → ServesNewest known a e → ServesNewest known b e
 serves-refused law reason known a b e refuses serves =
     newest-acts law known 0 (event.Command (commanded.Refused reason) ∷ []) None a b e refuses.acts (ap (λ (x : State). x.newest) refuses.state) serves
 
 pub serves-carried : GenerationsKeepTheirEditions → (known : Option KnownOutside) (c : NamedConfig) (s s' : StoreSeen) (a b : SeenBook) (plan : Plan)
-    (e e' : Edition) → Carries plan a b e e' → Renews s s' → IsPlan s'.told c.name.now c.config.now plan → KnowsComing known a c s.told
+    (e e' : LoadedEdition) → Carries plan a b e e' → Renews s s' → IsPlan s'.told c.name.now c.config.now plan → KnowsComing known a c s.told
     → ServesNewest known a e → ServesNewest known b e'
 serves-carried law known c s s' a b plan e e' (inl begins) renews plans knows serves = serves-begun known c s s' a b plan e' begins renews plans knows
 serves-carried law known c s s' a b plan e e' (inr lacks) renews plans knows serves =
@@ -283,7 +283,7 @@ serves-carried law known c s s' a b plan e e' (inr lacks) renews plans knows ser
 
 -- the same of what a call answered that began it, or left all as it was
 pub serves-either : {T : Type 0} → GenerationsKeepTheirEditions → (known : Option KnownOutside) (c : NamedConfig) (s s' : StoreSeen) (a b : SeenBook) (plan : Plan)
-    (e e' : Edition) (result : Result T BoardFault) → OnOk result (Carries plan a b e e') → OnErr result ((b ≡ a) × (e' ≡ e)) → Renews s s'
+    (e e' : LoadedEdition) (result : Result T BoardFault) → OnOk result (Carries plan a b e e') → OnErr result ((b ≡ a) × (e' ≡ e)) → Renews s s'
     → IsPlan s'.told c.name.now c.config.now plan → KnowsComing known a c s.told → ServesNewest known a e → ServesNewest known b e'
 serves-either law known c s s' a b plan e e' (Ok done) carries same renews plans knows serves = serves-carried law known c s s' a b plan e e' carries renews plans knows serves
 serves-either law known c s s' a b plan e e' (Err fault) carries same renews plans knows serves =

@@ -8,7 +8,7 @@ use Rattle.conn_machine.specs.States.{is_serving}
 use Rattle.conn_state.specs.Known.{KnownOutside}
 use Rattle.board.specs.Board.{SeenBoard}
 use Rattle.worker_group.specs.Acts.{Acts}
-use Rattle.listener.specs.declared.edition.Edition.{Edition}
+use Rattle.listener.specs.declared.edition.LoadedEdition.{LoadedEdition}
 use Rattle.listener.specs.declared.edition.NamedConfig.{NamedConfig}
 use Rattle.listener.specs.declared.listen.Pause.{Pause}
 use Rattle.rounds.specs.declared.ends.Rest.{Rest}
@@ -68,5 +68,5 @@ stands-waited rest pause known a w waited heeded o n opened asked stood =
       front = lines-waited rest.until rest.quiet pause.woke w.ready a.front w.front waited.waits heeded;
     }) in
     subst (λ (b : SeenBoard). StandsSo known o n [] 0 (standing w.edition.stop_ms w.store w.front b.book)) (sym waited.board)
-    (subst (λ (e : Edition). StandsSo known o n [] 0 (standing e.stop_ms w.store w.front a.board.book)) (sym waited.edition)
+    (subst (λ (e : LoadedEdition). StandsSo known o n [] 0 (standing e.stop_ms w.store w.front a.board.book)) (sym waited.edition)
     (subst (λ (s : StoreSeen). StandsSo known o n [] 0 (standing a.edition.stop_ms s w.front a.board.book)) (sym waited.store) stands))

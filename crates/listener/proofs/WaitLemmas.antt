@@ -7,7 +7,7 @@ use Rattle.mpm_base.specs.declared.front.Woke.TheVariants as woke
 use Rattle.conn_machine.specs.Runs.{after}
 use Rattle.conn_machine.specs.Sound.{IsSound}
 use Rattle.board.specs.Board.{SeenBoard}
-use Rattle.listener.specs.declared.edition.Edition.{Edition}
+use Rattle.listener.specs.declared.edition.LoadedEdition.{LoadedEdition}
 use Rattle.listener.specs.declared.edition.NamedConfig.{NamedConfig}
 use Rattle.listener.specs.declared.listen.Pause.{Pause}
 use Rattle.rounds.specs.declared.ends.Rest.{Rest}

@@ -21,11 +21,11 @@ use Rattle.listener.specs.Generations.{Opening, known_edition, head_limits_of}
 use Rattle.listener.specs.Outside.{clients_told}
 use Rattle.listener.specs.Orders.{shape_by}
 use Rattle.listener.specs.StandingInside.{KnowsLater, Standing, StandsBroken, StandsOn, standing}
-use Rattle.listener.specs.declared.edition.Edition.{Edition}
+use Rattle.listener.specs.declared.edition.LoadedEdition.{LoadedEdition}
 use Rattle.listener.specs.declared.edition.NamedConfig.{NamedConfig}
 
 -- the limits and the site are those of the edition of the newest generation, where the type knows that
-abbrev pub ServesNewest : Option KnownOutside → SeenBook → Edition → Type 0
+abbrev pub ServesNewest : Option KnownOutside → SeenBook → LoadedEdition → Type 0
 ServesNewest known b e = IsOfGeneration known b b.state.newest e.limits e.site.value
 
 -- the type knows of each edition that is still to come what the store makes of it
@@ -45,7 +45,7 @@ reason_for fault.StoreFault = refusal.Store
 reason_for fault.NoMemory = refusal.NoMemory
 
 -- how a server opens by the configuration and the edition, over this store and this front
-abbrev pub opening_by : NamedConfig → Edition → StoreSeen → FrontSeen → Opening
+abbrev pub opening_by : NamedConfig → LoadedEdition → StoreSeen → FrontSeen → Opening
 opening_by c e store front =
     record { name = c.name.now; config = c.config.now; site = e.site.value; store = store; front = front }
 
@@ -56,7 +56,7 @@ known_outside o = record { clients = clients_told o.front.told; edition = known_
 -- ## A command line
 
 -- a generation began by the plan, with the number of its order as that of its edition, and connections are served by the plan from then on
-pub record Begins (plan : Plan) (old new : SeenBook) (e : Edition) : Type 0 where
+pub record Begins (plan : Plan) (old new : SeenBook) (e : LoadedEdition) : Type 0 where
   pub acts : Acts 0 (event.Command (Graceful (shape_by plan.config)) ∷ []) None old new
   pub state : new.state ≡ next old.state (event.Command (Graceful (shape_by plan.config)))
   pub edition : edition_of new (old.state.newest + 1) ≡ Some (orders_in old + 1)
@@ -70,12 +70,12 @@ pub record Refuses (reason : Refusal) (old new : SeenBook) : Type 0 where
   pub state : new.state ≡ old.state
 
 -- the same for want of memory, and connections are served as before
-pub record LacksMemory (old new : SeenBook) (e e' : Edition) : Type 0 where
+pub record LacksMemory (old new : SeenBook) (e e' : LoadedEdition) : Type 0 where
   pub refuses : Refuses refusal.NoMemory old new
   pub same : e' ≡ e
 
 -- what comes of a plan
-abbrev pub Carries : Plan → SeenBook → SeenBook → Edition → Edition → Type 0
+abbrev pub Carries : Plan → SeenBook → SeenBook → LoadedEdition → LoadedEdition → Type 0
 Carries plan old new e e' = Begins plan old new e' ⊎ LacksMemory old new e e'
 
 -- a run stands on over whichever front gave a line of that word, which was done

@@ -10,7 +10,7 @@ use Rattle.worker_group.specs.Service.{IsUp}
 use Rattle.rounds.specs.declared.ends.End.{End}
 use Rattle.rounds.specs.PartsInside.{NoneHas, StartsAsAsked}
 use Rattle.rounds.specs.TableInside.{IsOpening}
-use Rattle.listener.specs.declared.edition.Edition.{Edition}
+use Rattle.listener.specs.declared.edition.LoadedEdition.{LoadedEdition}
 use Rattle.listener.specs.declared.edition.NamedConfig.{NamedConfig}
 use Rattle.listener.specs.Commands.{HeedsLines}
 use Rattle.listener.specs.ListenInside.{Follows, HandedOut, HandsOut, HasNoneToHeed, HasStarted, HasStopped, HeedsUntil, IsAtStart, IsInStep, IsKnownOfFront, ListensAsServed, TurnsEnd, TurnsInform, WatchesAll, contacts_of}
@@ -29,12 +29,12 @@ pub record SeenListener : Type 0 where
   pub front : FrontSeen
   pub calls : Option (List (ℕ × ℕ))
   pub ready : List ℕ
-  pub edition : Edition
+  pub edition : LoadedEdition
   pub store : StoreSeen
   pub config : NamedConfig
 
 -- the same, of its parts
-abbrev pub listener_of : SeenBoard → FrontSeen → Option (List (ℕ × ℕ)) → List ℕ → Edition → StoreSeen → NamedConfig → SeenListener
+abbrev pub listener_of : SeenBoard → FrontSeen → Option (List (ℕ × ℕ)) → List ℕ → LoadedEdition → StoreSeen → NamedConfig → SeenListener
 listener_of board front calls ready edition store config =
     record { board = board; front = front; calls = calls; ready = ready; edition = edition; store = store; config = config }
 

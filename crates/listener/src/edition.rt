@@ -9,7 +9,7 @@ use std::sync::Arc;
 
 /// What a generation works by, besides its shape, which the table knows.
 #[derive(Drop)]
-pub struct Edition {
+pub struct LoadedEdition {
     /// The limits of the heads of requests.
     pub limits: Limits,
     /// The files that are served. Each connection has a share of them, so they are kept as long as one of the generation is open.
@@ -18,7 +18,7 @@ pub struct Edition {
     pub stop_ms: u64,
 }
 
-impl Edition {
+impl LoadedEdition {
     /// A further share of the site. Refused where the site has as many shares as can be counted.
     pub fn share(&self) -> Result<Arc<Site>, NoMemory>
         ensures { IfOk result (λ site. site.value ≡ self.now.site.value) }

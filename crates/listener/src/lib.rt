@@ -14,6 +14,6 @@ mod orders;
 mod run_numbers;
 mod server;
 
-pub use edition::{Edition, NamedConfig};
+pub use edition::{LoadedEdition, NamedConfig};
 pub use run_numbers::{RunNumbers, head_limits_of, numbers_of};
 pub use server::{OpenFault, ServedRun, run_server};

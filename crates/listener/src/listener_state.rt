@@ -3,7 +3,7 @@ ghost use Rattle.std.specs.Prelude.{◌≡◌, ◌<◌};
 ghost use Rattle.conn_machine.specs.Runs.{after};
 ghost use Rattle.conn_machine.specs.Sound.{IsSound};
 
-use crate::edition::{Edition, NamedConfig};
+use crate::edition::{LoadedEdition, NamedConfig};
 use board::Board;
 use conn_state::Known;
 use mpm_base::{Bell, Gate, Link, Moment, Ready};
@@ -21,7 +21,7 @@ pub struct Listener<'a, 'c, L: Link + Send, N: Known, B: Bell, G: Gate> {
     /// The configuration by which the server opened, and its name.
     pub config: NamedConfig<'c>,
     /// What the newest generation works by, and so what new connections are served by.
-    pub edition: Edition,
+    pub edition: LoadedEdition,
     /// The slots that the last wait gave.
     pub ready: Ready,
     /// What each service passes and rings.

@@ -19,7 +19,7 @@ ghost use Rattle.listener.specs.OrdersInside as inside;
 ghost use Rattle.listener.specs.RoundInside.{DoesOrders, DoesUntil};
 ghost use Rattle.listener.specs.StandingInside.{StandsBroken, StandsOn, standing};
 
-use crate::edition::Edition;
+use crate::edition::LoadedEdition;
 use crate::listener_state::Listener;
 use crate::run_numbers::head_limits_of;
 use board::BoardFault;
@@ -177,7 +177,7 @@ impl<'a, 'c, L: Link + Send, N: Known, B: Bell, G: Gate> Listener<'a, 'c, L, N, 
             return self.refuse(Refusal::NoMemory);
         };
         self.board.command(LISTENER, Order::Graceful(shape))?;
-        self.edition = Edition {
+        self.edition = LoadedEdition {
             limits: head_limits_of(&config),
             site,
             stop_ms: config.now.stop_ms,

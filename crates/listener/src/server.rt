@@ -17,7 +17,7 @@ ghost use Rattle.listener.specs.Outside.{KeepsOutside};
 ghost use Rattle.rounds.specs.Started.{AreAskedFor};
 ghost use Rattle.listener.specs.Tells.{AllReceive};
 
-use crate::edition::{Edition, NamedConfig};
+use crate::edition::{LoadedEdition, NamedConfig};
 use crate::folding::{folds_join, show_for_folds};
 use crate::listener_state::Listener;
 use crate::run_numbers::{RunNumbers, numbers_of};
@@ -69,7 +69,7 @@ pub fn run_server<
     rt: &R,
     alloc: Global,
     config: NamedConfig<'_>,
-    edition: Edition,
+    edition: LoadedEdition,
     store: &mut D,
     front: &mut F,
     clock: &mut C,

@@ -18,7 +18,7 @@ ghost use Rattle.script_front.specs.Editions.{editions_of, store_of};
 use crate::outcome::Scripted;
 use board::laws::{ended_connections_join, generations_keep_their_editions};
 use file_table::LoadFault;
-use listener::{Edition, NamedConfig, OpenFault, ServedRun, head_limits_of, run_server};
+use listener::{LoadedEdition, NamedConfig, OpenFault, ServedRun, head_limits_of, run_server};
 use mpm_base::{Gate, NoMemory, Octets, Sink, Store, StoreFault};
 use mpm_config::Config;
 use mpm_script::{Script, ScriptFault, load_script, read_script};
@@ -181,7 +181,7 @@ fn play_site<R: Wait, G: Gate, K: Sink>(
     let Ok(site) = Arc::new(alloc, site) else {
         return no_memory();
     };
-    let edition = Edition {
+    let edition = LoadedEdition {
         limits: head_limits_of(&config),
         site,
         stop_ms: config.now.stop_ms,
@@ -251,7 +251,7 @@ fn serve_script<R: Wait, G: Gate, K: Sink>(
     script: Script,
     store: PlainStore,
     config: Config,
-    edition: Edition,
+    edition: LoadedEdition,
     told: &Octets,
     gate: &G,
     out: &mut K,

@@ -20,7 +20,7 @@ use board::Board;
 use board::laws::{ended_connections_join, generations_keep_their_editions};
 use conn_state::Nothing;
 use file_table::LoadFault;
-use listener::{Edition, NamedConfig, OpenFault, ServedRun, head_limits_of, run_server};
+use listener::{LoadedEdition, NamedConfig, OpenFault, ServedRun, head_limits_of, run_server};
 use mpm_base::{Clock, Front, Gate, Octets, Sink, Store};
 use mpm_config::Config;
 use restart_control::{MOST_CONFIG, load_site};
@@ -66,7 +66,7 @@ pub fn serve_file<R: Wait, D: Store, F: Front, C: Clock, G: Gate, K: Sink>(
     let Ok(site) = Arc::new(alloc, site) else {
         return no_memory();
     };
-    let edition = Edition {
+    let edition = LoadedEdition {
         limits: head_limits_of(&config),
         site,
         stop_ms: config.now.stop_ms,
@@ -109,7 +109,7 @@ fn serve_edition<R: Wait, D: Store, F: Front, C: Clock, G: Gate, K: Sink>(
     rt: &R,
     alloc: Global,
     config: NamedConfig<'_>,
-    edition: Edition,
+    edition: LoadedEdition,
     told: &Octets,
     store: &mut D,
     front: &mut F,

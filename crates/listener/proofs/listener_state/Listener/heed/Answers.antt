@@ -7,7 +7,7 @@ use Rattle.conn_machine.specs.States.{is_halted}
 use Rattle.listener.specs.ListenInside.{HasNoneToHeed}
 use Rattle.listener.specs.OrdersInside.{ServesNewest}
 use Rattle.listener.specs.StandingInside.{StandsBroken, standing}
-use Rattle.listener.specs.declared.edition.Edition.{Edition}
+use Rattle.listener.specs.declared.edition.LoadedEdition.{LoadedEdition}
 use Rattle.listener.specs.declared.edition.NamedConfig.{NamedConfig}
 use Rattle.listener.proofs.FrontLemmas.{step-kept}
 use Rattle.listener.proofs.HeedLemmas.{HasHeeded, changed, does-asked, ending-other, graceful-other, heeded-dropped, heeded-ended, heeded-may, heeded-more, heeded-restarted, heeded-start, heeded-stopped, knows-kept, none-stops, serves-kept, stands-none, stands-stopped, step-line}
@@ -137,7 +137,7 @@ loop-preserved-in-Continue-branch-2 g c =
           c.loop.self.edition.stop_ms c.end.new.self.edition.stop_ms (g.D.Store.seen c.args.store.now) (g.D.Store.seen c.loop.store)
           (g.D.Store.seen c.loop.store) (g.F.Front.seen c.args.front.now) (g.F.Front.seen c.loop.front) (g.F.Front.seen c.end.new.front)
           c.args.self.now.board.book c.loop.self.board.book c.end.new.self.board.book before.heeded
-          (subst (λ (x : Edition). HasHeeded g.N.Known.known c.args.self.now.config c.loop.self.edition.stop_ms x.stop_ms
+          (subst (λ (x : LoadedEdition). HasHeeded g.N.Known.known c.args.self.now.config c.loop.self.edition.stop_ms x.stop_ms
           (g.D.Store.seen c.loop.store) (g.D.Store.seen c.loop.store) (g.F.Front.seen c.loop.front) (g.F.Front.seen c.end.new.front)
           c.loop.self.board.book c.end.new.self.board.book) (sym same)
           (subst (λ (x : NamedConfig). HasHeeded g.N.Known.known x c.loop.self.edition.stop_ms c.loop.self.edition.stop_ms
@@ -163,7 +163,7 @@ loop-preserved-in-Continue-branch-2 g c =
           (ending-other c.in-Some-command.line is) before.none);
       others =
           c.end.ensures.others ∙ others
-          ∙ ap (λ (e : Edition). record c.args.self.now { board = c.end.new.self.board; edition = e }) (sym same);
+          ∙ ap (λ (e : LoadedEdition). record c.args.self.now { board = c.end.new.self.board; edition = e }) (sym same);
     }
 
 pub returns-in_err-end-in-Ok-GracefulStop-clause-stands : goal.returns-in_err-end-in-Ok-GracefulStop-clause-stands
@@ -179,7 +179,7 @@ returns-in_err-end-in-Ok-GracefulStop-clause-stands g c =
     (standing c.loop.self.edition.stop_ms (g.D.Store.seen c.loop.store) (g.F.Front.seen c.loop.front) c.loop.self.board.book)
     (standing c.end.new.self.edition.stop_ms (g.D.Store.seen c.loop.store) (g.F.Front.seen c.end.new.front) c.end.new.self.board.book)
     before.heeded.stands (does-asked c.args.self.now.board.book c.loop.self.board.book before.heeded.does)
-    (subst (λ (x : Edition). StandsBroken g.N.Known.known c.args.self.now.config
+    (subst (λ (x : LoadedEdition). StandsBroken g.N.Known.known c.args.self.now.config
     (standing c.loop.self.edition.stop_ms (g.D.Store.seen c.loop.store) (g.F.Front.seen c.loop.front) c.loop.self.board.book)
     (standing x.stop_ms (g.D.Store.seen c.loop.store) (g.F.Front.seen c.end.new.front) c.end.new.self.board.book)) (sym same)
     (subst (λ (x : NamedConfig). StandsBroken g.N.Known.known x

@@ -7,7 +7,7 @@ use Rattle.listener.specs.RoundInside.{BreaksOff}
 use Rattle.rounds.specs.PartsInside.{SignalsFirst, signal_events}
 use Rattle.listener.specs.StandingInside.{StandsBroken, standing}
 use Rattle.rounds.specs.Moments.{moment_for}
-use Rattle.listener.specs.declared.edition.Edition.{Edition}
+use Rattle.listener.specs.declared.edition.LoadedEdition.{LoadedEdition}
 use Rattle.listener.specs.declared.edition.NamedConfig.{NamedConfig}
 use Rattle.listener.proofs.CommandLemmas.{all-read, heeded-takes}
 use Rattle.listener.proofs.FrontLemmas.{both-only, follows-same, follows-trans, listens-takes, named-follows, only-reads, only-takes, step-kept, step-listens, takes-same}
@@ -381,7 +381,7 @@ returns-in_err-take_all g c =
       stands =
           let broken : StandsBroken g.N.Known.known c.args.self.now.config (standing c.args.self.now.edition.stop_ms (g.D.Store.seen c.args.store.now) (g.F.Front.seen c.args.front.now) c.args.self.now.board.book) (standing c.take_all.new.self.edition.stop_ms (g.D.Store.seen c.heed.new.store) (g.F.Front.seen c.take_all.new.front) c.take_all.new.self.board.book) =
           broken-after g.N.Known.known c.args.self.now.config (standing c.args.self.now.edition.stop_ms (g.D.Store.seen c.args.store.now) (g.F.Front.seen c.args.front.now) c.args.self.now.board.book) c.heed.new.self.edition.stop_ms c.take_all.new.self.edition.stop_ms (g.D.Store.seen c.heed.new.store) (g.F.Front.seen c.heed.new.front) (g.F.Front.seen c.take_all.new.front) c.heed.new.self.board.book c.take_all.new.self.board.book
-          (orderless-more c.passes_act_in_steps.ensures.acts c.heed.new.self.board.book c.start_children.new.board.book c.take_all.new.self.board.book (orderless-children c.passes_act_in_steps.ensures.acts c.heed.new.self.board.book c.retire_all.new.board.book c.start_children.new.board.book c.retire_all.ensures.retires c.start_children.ensures.starts) (orderless-takes_until c.passes_act_in_steps.ensures.acts c.in_err-take_all.field-0.0 c.start_children.new.board.book c.take_all.new.self.board.book c.in_err-take_all.ensures.until)) (c.take_all.ensures.going ∙ (c.start_children.ensures.going ∙ c.retire_all.ensures.going)) (ap (λ (e : Edition). e.stop_ms) c.take_all.ensures.edition) (lines-taken (g.F.Front.seen c.heed.new.front) (g.F.Front.seen c.take_all.new.front) c.take_all.ensures.front c.take_all.ensures.follows)
+          (orderless-more c.passes_act_in_steps.ensures.acts c.heed.new.self.board.book c.start_children.new.board.book c.take_all.new.self.board.book (orderless-children c.passes_act_in_steps.ensures.acts c.heed.new.self.board.book c.retire_all.new.board.book c.start_children.new.board.book c.retire_all.ensures.retires c.start_children.ensures.starts) (orderless-takes_until c.passes_act_in_steps.ensures.acts c.in_err-take_all.field-0.0 c.start_children.new.board.book c.take_all.new.self.board.book c.in_err-take_all.ensures.until)) (c.take_all.ensures.going ∙ (c.start_children.ensures.going ∙ c.retire_all.ensures.going)) (ap (λ (e : LoadedEdition). e.stop_ms) c.take_all.ensures.edition) (lines-taken (g.F.Front.seen c.heed.new.front) (g.F.Front.seen c.take_all.new.front) c.take_all.ensures.front c.take_all.ensures.follows)
           (stands-orders g.N.Known.known c.args.self.now.config _ false c.args.self.now.edition.stop_ms (g.D.Store.seen c.args.store.now) (g.F.Front.seen c.args.front.now) c.args.self.now.board.book c.let_go_of_conns.new.board.book (standing c.heed.new.self.edition.stop_ms (g.D.Store.seen c.heed.new.store) (g.F.Front.seen c.heed.new.front) c.heed.new.self.board.book) c.if-asked.false
           (orderless-before c.passes_act_in_steps.ensures.acts (moment_for c.args.moment) c.args.self.now.ready c.args.self.now.board.book c.pass_time.new.board.book c.signal_all.new.board.book c.let_go_of_conns.new.board.book c.in_ok-pass_time.ensures.passes (subst (λ (xs : List ℕ). Acts 0 (signal_events c.pass_time.new.board.book xs) None c.pass_time.new.board.book c.signal_all.new.board.book) c.slots.ensures.is c.in_ok-signal_all.ensures.signals) c.in_ok-let_go_of_conns.ensures.gone) (c.let_go_of_conns.ensures.rest.going ∙ c.signal_all.ensures.rest.going ∙ c.pass_time.ensures.going) c.in_ok-asked.ensures.stands) in
           search (rules, broken);
@@ -411,7 +411,7 @@ returns g c =
       round = goes-round c.passes_act_in_steps.ensures.acts (moment_for c.args.moment) c.args.self.now.ready c.args.self.now.board.book c.pass_time.new.board.book c.signal_all.new.board.book c.let_go_of_conns.new.board.book c.heed.new.self.board.book c.retire_all.new.board.book c.start_children.new.board.book c.take_all.new.self.board.book c.in_ok-pass_time.ensures.passes (subst (λ (xs : List ℕ). Acts 0 (signal_events c.pass_time.new.board.book xs) None c.pass_time.new.board.book c.signal_all.new.board.book) c.slots.ensures.is c.in_ok-signal_all.ensures.signals) c.in_ok-let_go_of_conns.ensures.gone c.in_ok-asked.ensures.does c.retire_all.ensures.retires c.start_children.ensures.starts c.in_ok-take_all.ensures.takes;
       broken = search rules;
       stands =
-          stands-behind g.N.Known.known c.args.self.now.config (standing c.args.self.now.edition.stop_ms (g.D.Store.seen c.args.store.now) (g.F.Front.seen c.args.front.now) c.args.self.now.board.book) c.heed.new.self.edition.stop_ms c.take_all.new.self.edition.stop_ms (g.D.Store.seen c.heed.new.store) (g.F.Front.seen c.heed.new.front) (g.F.Front.seen c.take_all.new.front) c.heed.new.self.board.book c.take_all.new.self.board.book (orderless-more c.passes_act_in_steps.ensures.acts c.heed.new.self.board.book c.start_children.new.board.book c.take_all.new.self.board.book (orderless-children c.passes_act_in_steps.ensures.acts c.heed.new.self.board.book c.retire_all.new.board.book c.start_children.new.board.book c.retire_all.ensures.retires c.start_children.ensures.starts) (orderless-takes c.start_children.new.board.book c.take_all.new.self.board.book c.in_ok-take_all.ensures.takes)) (c.take_all.ensures.going ∙ (c.start_children.ensures.going ∙ c.retire_all.ensures.going)) (ap (λ (e : Edition). e.stop_ms) c.take_all.ensures.edition) (lines-taken (g.F.Front.seen c.heed.new.front) (g.F.Front.seen c.take_all.new.front) c.take_all.ensures.front c.take_all.ensures.follows)
+          stands-behind g.N.Known.known c.args.self.now.config (standing c.args.self.now.edition.stop_ms (g.D.Store.seen c.args.store.now) (g.F.Front.seen c.args.front.now) c.args.self.now.board.book) c.heed.new.self.edition.stop_ms c.take_all.new.self.edition.stop_ms (g.D.Store.seen c.heed.new.store) (g.F.Front.seen c.heed.new.front) (g.F.Front.seen c.take_all.new.front) c.heed.new.self.board.book c.take_all.new.self.board.book (orderless-more c.passes_act_in_steps.ensures.acts c.heed.new.self.board.book c.start_children.new.board.book c.take_all.new.self.board.book (orderless-children c.passes_act_in_steps.ensures.acts c.heed.new.self.board.book c.retire_all.new.board.book c.start_children.new.board.book c.retire_all.ensures.retires c.start_children.ensures.starts) (orderless-takes c.start_children.new.board.book c.take_all.new.self.board.book c.in_ok-take_all.ensures.takes)) (c.take_all.ensures.going ∙ (c.start_children.ensures.going ∙ c.retire_all.ensures.going)) (ap (λ (e : LoadedEdition). e.stop_ms) c.take_all.ensures.edition) (lines-taken (g.F.Front.seen c.heed.new.front) (g.F.Front.seen c.take_all.new.front) c.take_all.ensures.front c.take_all.ensures.follows)
           (stands-orders g.N.Known.known c.args.self.now.config _ false c.args.self.now.edition.stop_ms (g.D.Store.seen c.args.store.now) (g.F.Front.seen c.args.front.now) c.args.self.now.board.book c.let_go_of_conns.new.board.book (standing c.heed.new.self.edition.stop_ms (g.D.Store.seen c.heed.new.store) (g.F.Front.seen c.heed.new.front) c.heed.new.self.board.book) c.if-asked.false
           (orderless-before c.passes_act_in_steps.ensures.acts (moment_for c.args.moment) c.args.self.now.ready c.args.self.now.board.book c.pass_time.new.board.book c.signal_all.new.board.book c.let_go_of_conns.new.board.book c.in_ok-pass_time.ensures.passes (subst (λ (xs : List ℕ). Acts 0 (signal_events c.pass_time.new.board.book xs) None c.pass_time.new.board.book c.signal_all.new.board.book) c.slots.ensures.is c.in_ok-signal_all.ensures.signals) c.in_ok-let_go_of_conns.ensures.gone) (c.let_go_of_conns.ensures.rest.going ∙ c.signal_all.ensures.rest.going ∙ c.pass_time.ensures.going) c.in_ok-asked.ensures.stands);
       knows =
