@@ -13,7 +13,7 @@ use Rattle.conn_state.specs.Conn.{SeenConn}
 use Rattle.conn_state.specs.Turns.{TakesNote}
 use Rattle.board.specs.Events.{IsDecided}
 use Rattle.board.specs.Fits.{IsOf}
-use Rattle.board.specs.RowsInside.{RowsChangeAlone}
+use Rattle.conn_machine.specs.HistoryLaws.{RowsChangeOneAtATime}
 use Rattle.board.proofs.BoardLemmas.{LivesAs, lives_as}
 use Rattle.board.proofs.EventLemmas.{in_phase-unused, answer_phase}
 use Rattle.board.proofs.HandLemmas.{live_row-update}
@@ -24,7 +24,7 @@ found-lives rows name row found =
     lives_as rows name (λ (r : Row). true) (ap (λ (o : Option Row). option_map_or (λ (r : Row). true) o false) found)
 
 -- it is found after the response was decided
-answered-found : RowsChangeAlone → (s : State) (name : ConnName) (ask : Ask) (row : Row) → live_row s.rows name ≡ Some row
+answered-found : RowsChangeOneAtATime → (s : State) (name : ConnName) (ask : Ask) (row : Row) → live_row s.rows name ≡ Some row
     → live_row (next s (event.Answer name ask)).rows name ≡ Some (answered_row s name.slot ask row)
 answered-found law s name ask row found =
     let lives = found-lives s.rows name row found in
@@ -42,7 +42,7 @@ decided-note s name ask note row found decided =
     ap (note_for s name.slot ask) same ∙ sym decided.note_is
 
 -- a connection that took the note is still the one of its row
-pub of-answered : RowsChangeAlone → (s : State) (c c' : SeenConn) (ask : Ask) (note : Note) → IsOf s c → IsDecided s c.name ask note
+pub of-answered : RowsChangeOneAtATime → (s : State) (c c' : SeenConn) (ask : Ask) (note : Note) → IsOf s c → IsDecided s c.name ask note
     → TakesNote note c c' → IsOf (next s (event.Answer c.name ask)) c'
 of-answered law s c c' ask note of decided takes =
     let notes : c.notes ++ note ∷ [] ≡ of.row.notes ++ note_for s c.name.slot ask of.row ∷ [] =

@@ -20,7 +20,7 @@ use Rattle.board.specs.Board.{SeenBoard, IsHome, AreHome, conn_at}
 use Rattle.board.specs.BoardInside.{IsBoard}
 use Rattle.board.specs.Layout.{conns_in}
 use Rattle.board.specs.QueuesInside.{waits_in, queues_of}
-use Rattle.board.specs.RowsInside.{RowsChangeAlone}
+use Rattle.conn_machine.specs.HistoryLaws.{RowsChangeOneAtATime}
 use Rattle.board.proofs.QueueLemmas.{queued-set}
 
 -- ## One item
@@ -111,7 +111,7 @@ pub there_of : (known : Option KnownOutside) (book : SeenBook) (slots : List (Sl
 there_of known book slots ended queues room is = record { waiting = is.agrees.waiting; queued = is.queued; has_room = is.has_room }
 
 -- the connection of a slot, once that of this slot was set
-homes_by : RowsChangeAlone → (rows : List Row) (conns : List (Option SeenConn)) (slot : ℕ) (r : Row) (change : Row → Row) (c : Option SeenConn)
+homes_by : RowsChangeOneAtATime → (rows : List Row) (conns : List (Option SeenConn)) (slot : ℕ) (r : Row) (change : Row → Row) (c : Option SeenConn)
     → AreHome rows conns → slice_get rows slot ≡ Some r → IsHome slot (change r) c
     → (j : ℕ) (r' : Row) (same : Bool) → (j == slot) ≡ same → slice_get (update rows slot change) j ≡ Some r'
     → IsHome j r' (conn_at (set conns slot c) j)
@@ -130,14 +130,14 @@ homes_by law rows conns slot r change c are at home j r' false other at' =
     rw (get_or-set_other conns slot j c None differs) (are.homes j r' before)
 
 -- one row, the connection of its slot and what the queues have there change together
-pub there_set : RowsChangeAlone → (rows : List Row) (conns : List (Option SeenConn)) (queues : List (Option ParkedName)) (slot : ℕ) (r : Row) (change : Row → Row)
+pub there_set : RowsChangeOneAtATime → (rows : List Row) (conns : List (Option SeenConn)) (queues : List (Option ParkedName)) (slot : ℕ) (r : Row) (change : Row → Row)
     (c : Option SeenConn) (q : Option ParkedName) (ended ended' room room' : ℕ)
     → AreThere rows conns queues ended room → slice_get rows slot ≡ Some r → IsHome slot (change r) c → waits_in (change r) ≡ q
     → ended' + count_by is_live (update rows slot change) ≤ room'
     → AreThere (update rows slot change) (set conns slot c) (set queues slot q) ended' room'
 there_set law rows conns queues slot r change c q ended ended' room room' there at home waits space = record {
   waiting = record {
-    slots = length-set conns slot c ∙ there.waiting.slots ∙ sym (law.as_many rows slot change);
+    slots = length-set conns slot c ∙ there.waiting.slots ∙ sym (law.length rows slot change);
     homes = λ j r' at'. homes_by law rows conns slot r change c there.waiting at home j r' (j == slot) refl at';
   };
   queued = queued-set queues rows slot r change q there.queued at waits;

@@ -30,7 +30,7 @@ use Rattle.board.specs.BookInside.{IsKept}
 use Rattle.board.specs.EditionsInside.{HasEditions, with_begun}
 use Rattle.board.specs.Faults.{IsOpen}
 use Rattle.board.specs.RoomInside.{row_owes, child_owes, owed_entries, room_with_event, is_sure}
-use Rattle.board.specs.RowsInside.{RowsChangeAlone}
+use Rattle.conn_machine.specs.HistoryLaws.{RowsChangeOneAtATime}
 use Rattle.board.proofs.EditionLemmas.{editions_first, editions_more, editions_same, newest_by}
 use Rattle.board.proofs.RoomLemmas.{room-suffices, owed-sure}
 
@@ -109,7 +109,7 @@ kept_more passes base f history s ahead ahead' editions editions' room room' e b
 }
 
 -- the same, where memory was found for all that may follow
-pub kept_with_room : RowsChangeAlone → GenerationsBeginInOrder → (passes : ℕ) (base : State) (f : Folded) (history history' : List Entry) (s s' : State) (ahead ahead' : Ahead) (editions editions' : List Edition) (room room' : ℕ) (e : Entry)
+pub kept_with_room : RowsChangeOneAtATime → GenerationsBeginInOrder → (passes : ℕ) (base : State) (f : Folded) (history history' : List Entry) (s s' : State) (ahead ahead' : Ahead) (editions editions' : List Edition) (room room' : ℕ) (e : Entry)
     → IsKept passes base f history s ahead editions room → editions' ≡ with_begun e.event s'.newest (f.orders + count_events is_order history + 1) editions
     → IsAhead f history' ahead' → IsStepped s s'
     → history' ≡ history ++ e ∷ [] → s' ≡ next s e.event

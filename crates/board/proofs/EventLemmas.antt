@@ -26,42 +26,37 @@ use Rattle.conn_machine.specs.Sound.{KindFits}
 use Rattle.timeout_queues.specs.Waiting.{ParkedName}
 use Rattle.conn_state.specs.Conn.{SeenConn, IsConn}
 use Rattle.board.specs.Fits.{Fits, IsSettled, IsSettledFrom, LingersFor}
-use Rattle.board.specs.Board.{IsHeldHere, is_home, IsAtHome, IsHome, AreHome, conn_at}
+use Rattle.board.specs.Board.{IsHeldHere, IsAtHome, IsHome, AreHome, conn_at}
 use Rattle.board.specs.QueuesInside.{waits_in, queues_of}
-use Rattle.board.specs.RowsInside.{RowsChangeAlone}
+use Rattle.conn_machine.specs.HistoryLaws.{RowsChangeOneAtATime}
 use Rattle.board.proofs.QueueLemmas.{away-waits, queues-away}
 use Rattle.board.proofs.BoardLemmas.{AreThere, LivesAs, count-update, lives_as, there_set}
 
 -- ## Places
 
--- a row that waits for something to come is at home
-pub parked-home : (p : Place) → is_parked p ≡ true → is_home p ≡ true
-parked-home (Parked kind) at = refl
-parked-home p at = absurd (cc)
-
--- a vacant row isn't at home
-vacant-away : (p : Place) → is_vacant p ≡ true → is_home p ≡ false
+-- a vacant row doesn't wait
+vacant-away : (p : Place) → is_vacant p ≡ true → is_parked p ≡ false
 vacant-away Vacant at = refl
 vacant-away p at = absurd (cc)
 
 -- nor is one that was handed to a worker
-queued-away : (p : Place) → is_queued p ≡ true → is_home p ≡ false
+queued-away : (p : Place) → is_queued p ≡ true → is_parked p ≡ false
 queued-away Queued at = refl
 queued-away p at = absurd (cc)
 
 -- nor is one that is served
-working-away : (p : Place) → is_working p ≡ true → is_home p ≡ false
+working-away : (p : Place) → is_working p ≡ true → is_parked p ≡ false
 working-away (Working cell phase) at = refl
 working-away p at = absurd (cc)
 
 -- nor one that is held or served
-in_hand-away : (p : Place) → (is_held p || is_working p) ≡ true → is_home p ≡ false
+in_hand-away : (p : Place) → (is_held p || is_working p) ≡ true → is_parked p ≡ false
 in_hand-away Held at = refl
 in_hand-away (Working cell phase) at = refl
 in_hand-away p at = absurd (cc)
 
--- the phase of a worker changes neither whether a row is at home
-in_phase-home : (next : Phase) (p : Place) → is_home (in_phase next p) ≡ is_home p
+-- the phase of a worker changes neither whether a row waits
+in_phase-home : (next : Phase) (p : Place) → is_parked (in_phase next p) ≡ is_parked p
 in_phase-home next Vacant = refl
 in_phase-home next Spent = refl
 in_phase-home next Held = refl
@@ -79,18 +74,18 @@ in_phase-unused next Queued = refl
 in_phase-unused next (Working cell phase) = refl
 
 -- a closed row, whether its slot is spent or vacant, is nobody's home and not live
-closed_by : (r : Row) (spent : Bool) → (r.life == greatest_life) ≡ spent → (is_home (closed_row r).place ≡ false) × (is_live (closed_row r) ≡ false)
+closed_by : (r : Row) (spent : Bool) → (r.life == greatest_life) ≡ spent → (is_parked (closed_row r).place ≡ false) × (is_live (closed_row r) ≡ false)
 closed_by r true at = rw at (refl, refl)
 closed_by r false at = rw at (refl, refl)
 
 -- a closed row is no connection's home
-closed-away : (r : Row) → (is_home (closed_row r).place ≡ false) × (is_live (closed_row r) ≡ false)
+closed-away : (r : Row) → (is_parked (closed_row r).place ≡ false) × (is_live (closed_row r) ≡ false)
 closed-away r = closed_by r (r.life == greatest_life) refl
 
 -- ## The connection of a row
 
 -- the board has no connection of a row that isn't at home
-here_away : (p : Place) (r : Row) (c : SeenConn) → IsHeldHere p r c → is_home p ≡ false → ⊥
+here_away : (p : Place) (r : Row) (c : SeenConn) → IsHeldHere p r c → is_parked p ≡ false → ⊥
 here_away Vacant r c here away = here
 here_away Spent r c here away = here
 here_away Held r c here away = here
@@ -99,18 +94,18 @@ here_away Queued r c here away = here
 here_away (Working cell phase) r c here away = here
 
 -- so a slot whose row isn't at home has no connection
-homeless : (slot : ℕ) (r : Row) (c : Option SeenConn) → IsHome slot r c → is_home r.place ≡ false → c ≡ None
+homeless : (slot : ℕ) (r : Row) (c : Option SeenConn) → IsHome slot r c → is_parked r.place ≡ false → c ≡ None
 homeless slot r None home away = refl
 homeless slot r (Some c) home away = absurd (here_away r.place r c home.here away)
 
 -- one that is has its connection
-at_home : (slot : ℕ) (r : Row) (c : Option SeenConn) → IsHome slot r c → is_home r.place ≡ true → (x : SeenConn) × (c ≡ Some x) × IsAtHome slot r x
-at_home slot r None home at = let away : is_home r.place ≡ false = home in absurd (cc)
+at_home : (slot : ℕ) (r : Row) (c : Option SeenConn) → IsHome slot r c → is_parked r.place ≡ true → (x : SeenConn) × (c ≡ Some x) × IsAtHome slot r x
+at_home slot r None home at = let away : is_parked r.place ≡ false = home in absurd (cc)
 at_home slot r (Some c) home at = (c, refl, home)
 
 -- the connection of a row that waits is in the board
 pub home-of : (rows : List Row) (conns : List (Option SeenConn)) (slot : ℕ) (r : Row)
-    → AreHome rows conns → slice_get rows slot ≡ Some r → is_home r.place ≡ true
+    → AreHome rows conns → slice_get rows slot ≡ Some r → is_parked r.place ≡ true
     → (x : SeenConn) × (conn_at conns slot ≡ Some x) × IsAtHome slot r x
 home-of rows conns slot r are at home = at_home slot r (conn_at conns slot) (are.homes slot r at) home
 
@@ -122,8 +117,8 @@ parked-settled p r c at fits here = absurd (cc)
 -- ## Rows that change
 
 -- a row that is not at home changes, and is not at home
-there_away : RowsChangeAlone → (rows : List Row) (conns : List (Option SeenConn)) (queues : List (Option ParkedName)) (slot : ℕ) (r : Row) (change : Row → Row) (ended ended' room room' : ℕ)
-    → AreThere rows conns queues ended room → slice_get rows slot ≡ Some r → is_home r.place ≡ false → is_home (change r).place ≡ false
+there_away : RowsChangeOneAtATime → (rows : List Row) (conns : List (Option SeenConn)) (queues : List (Option ParkedName)) (slot : ℕ) (r : Row) (change : Row → Row) (ended ended' room room' : ℕ)
+    → AreThere rows conns queues ended room → slice_get rows slot ≡ Some r → is_parked r.place ≡ false → is_parked (change r).place ≡ false
     → ended' + count_by is_live (update rows slot change) ≤ room'
     → AreThere (update rows slot change) conns queues ended' room'
 there_away law rows conns queues slot r change ended ended' room room' there at away away' space =
@@ -174,7 +169,7 @@ row_at test None passes = absurd (cc)
 row_at test (Some r) passes = (r, refl, passes)
 
 -- a connection is taken into a vacant slot, once there is room for the end of each
-pub accept-there : RowsChangeAlone → (s : State) (slot : ℕ) (conns : List (Option SeenConn)) (queues : List (Option ParkedName)) (ended room room' : ℕ)
+pub accept-there : RowsChangeOneAtATime → (s : State) (slot : ℕ) (conns : List (Option SeenConn)) (queues : List (Option ParkedName)) (ended room room' : ℕ)
     → is_allowed s (event.Accept slot) ≡ true → AreThere s.rows conns queues ended room → ended + (count_by is_live s.rows + 1) ≤ room'
     → AreThere (next s (event.Accept slot)).rows conns queues ended room'
 accept-there law s slot conns queues ended room room' may there space =
@@ -186,7 +181,7 @@ accept-there law s slot conns queues ended room room' may there space =
     (omega (arith, few, space))
 
 -- a connection waits, and is as one that waits so
-pub park-there : RowsChangeAlone → (s : State) (name : ConnName) (kind : Kind) (conns : List (Option SeenConn)) (queues : List (Option ParkedName)) (c : SeenConn) (r : Row) (ended room : ℕ)
+pub park-there : RowsChangeOneAtATime → (s : State) (name : ConnName) (kind : Kind) (conns : List (Option SeenConn)) (queues : List (Option ParkedName)) (c : SeenConn) (r : Row) (ended room : ℕ)
     → is_allowed s (event.Park name kind) ≡ true → AreThere s.rows conns queues ended room → live_row s.rows name ≡ Some r → c.name ≡ name
     → Fits c r → IsSettled kind r.cause c
     → AreThere (next s (event.Park name kind)).rows (set conns name.slot (Some c)) (set queues name.slot (waits_in (parked_row s kind r))) ended room
@@ -217,7 +212,7 @@ pub linger-lives : (s : State) (name : ConnName) (why : Cause) → is_allowed s 
 linger-lives s name why may = lives_as s.rows name (λ r. not (is_lingering r) && linger_cause_fits s why (is_signalled s name.slot) r) may
 
 -- a connection lingers, for a cause that it shows
-pub linger-there : RowsChangeAlone → (s : State) (name : ConnName) (why : Cause) (conns : List (Option SeenConn)) (queues : List (Option ParkedName)) (c : SeenConn) (r : Row) (ended room : ℕ)
+pub linger-there : RowsChangeOneAtATime → (s : State) (name : ConnName) (why : Cause) (conns : List (Option SeenConn)) (queues : List (Option ParkedName)) (c : SeenConn) (r : Row) (ended room : ℕ)
     → is_allowed s (event.Linger name why) ≡ true → AreThere s.rows conns queues ended room → live_row s.rows name ≡ Some r → c.name ≡ name
     → Fits c r → LingersFor why c → IsConn c
     → AreThere (next s (event.Linger name why)).rows (set conns name.slot (Some c)) (set queues name.slot (waits_in (lingering_row s why r))) ended room
@@ -237,7 +232,7 @@ linger-there law s name why conns queues c r ended room may there found name_is 
     (omega (arith, count, there.has_room))
 
 -- the listener takes a connection that waits
-pub hold-there : RowsChangeAlone → (s : State) (name : ConnName) (conns : List (Option SeenConn)) (queues : List (Option ParkedName)) (ended room : ℕ)
+pub hold-there : RowsChangeOneAtATime → (s : State) (name : ConnName) (conns : List (Option SeenConn)) (queues : List (Option ParkedName)) (ended room : ℕ)
     → is_allowed s (event.Hold name) ≡ true → AreThere s.rows conns queues ended room
     → AreThere (next s (event.Hold name)).rows (set conns name.slot None) (set queues name.slot None) ended room
 hold-there law s name conns queues ended room may there =
@@ -253,7 +248,7 @@ queue-parked s r may =
     (and_parts (is_parked r.place) (not (is_lingering r)) parts.0).0
 
 -- a connection that waits is handed to the workers of its child
-pub queue-there : RowsChangeAlone → (s : State) (name : ConnName) (conns : List (Option SeenConn)) (queues : List (Option ParkedName)) (ended room : ℕ)
+pub queue-there : RowsChangeOneAtATime → (s : State) (name : ConnName) (conns : List (Option SeenConn)) (queues : List (Option ParkedName)) (ended room : ℕ)
     → is_allowed s (event.Queue name) ≡ true → AreThere s.rows conns queues ended room
     → AreThere (next s (event.Queue name)).rows (set conns name.slot None) (set queues name.slot None) ended room
 queue-there law s name conns queues ended room may there =
@@ -264,7 +259,7 @@ queue-there law s name conns queues ended room may there =
     (omega (arith, count, there.has_room))
 
 -- a worker begins to serve a connection that was handed out
-pub start-there : RowsChangeAlone → (s : State) (name : ConnName) (conns : List (Option SeenConn)) (queues : List (Option ParkedName)) (ended room : ℕ)
+pub start-there : RowsChangeOneAtATime → (s : State) (name : ConnName) (conns : List (Option SeenConn)) (queues : List (Option ParkedName)) (ended room : ℕ)
     → is_allowed s (event.Start name) ≡ true → AreThere s.rows conns queues ended room
     → AreThere (next s (event.Start name)).rows conns queues ended room
 start-there law s name conns queues ended room may there =
@@ -278,7 +273,7 @@ abbrev pub answer_phase : State → Ask → Row → Phase
 answer_phase s ask r = if is_last_for s ask r then phase.Close else phase.Write
 
 -- a response is decided
-pub answer-there : RowsChangeAlone → (s : State) (name : ConnName) (ask : Ask) (conns : List (Option SeenConn)) (queues : List (Option ParkedName)) (ended room : ℕ)
+pub answer-there : RowsChangeOneAtATime → (s : State) (name : ConnName) (ask : Ask) (conns : List (Option SeenConn)) (queues : List (Option ParkedName)) (ended room : ℕ)
     → is_allowed s (event.Answer name ask) ≡ true → AreThere s.rows conns queues ended room
     → AreThere (next s (event.Answer name ask)).rows conns queues ended room
 answer-there law s name ask conns queues ended room may there =
@@ -292,7 +287,7 @@ answer-there law s name ask conns queues ended room may there =
     (in_phase-home (answer_phase s ask r) r.place ∙ away) (omega (arith, count, there.has_room))
 
 -- a connection ends, which takes the room that was left for it
-pub close-there : RowsChangeAlone → (s : State) (name : ConnName) (why : Cause) (how : Tail) (conns : List (Option SeenConn)) (queues : List (Option ParkedName)) (ended room room' : ℕ)
+pub close-there : RowsChangeOneAtATime → (s : State) (name : ConnName) (why : Cause) (how : Tail) (conns : List (Option SeenConn)) (queues : List (Option ParkedName)) (ended room room' : ℕ)
     → is_allowed s (event.Close name why how) ≡ true → AreThere s.rows conns queues ended room → room ≤ room'
     → AreThere (next s (event.Close name why how)).rows conns queues (ended + 1) room'
 close-there law s name why how conns queues ended room room' may there more =
@@ -352,7 +347,7 @@ opening-there slots room = record {
     slots = length-replicate slots None ∙ sym (length-replicate slots unused_row);
     homes = λ slot r at.
         let same : unused_row ≡ r = get-replicate slots slot unused_row r at in
-        rw (get_or-alike {X = Option SeenConn} slots slot None) (subst (λ (x : Row). is_home x.place ≡ false) same refl);
+        rw (get_or-alike {X = Option SeenConn} slots slot None) (subst (λ (x : Row). is_parked x.place ≡ false) same refl);
   };
   queued = none-waits slots;
   has_room = omega (arith, none-live slots);

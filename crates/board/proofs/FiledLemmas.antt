@@ -22,7 +22,7 @@ use Rattle.conn_machine.specs.States.{child_of, is_signalled, opening_state, unu
 use Rattle.conn_machine.specs.Table.{may_be_queued, next, taken_row, parked_row, held_row, queued_row, served_row, answered_row, lingering_row, closed_row}
 use Rattle.board.specs.FiledInside.{AreFiled, FindsInChild, FindsInRing, refiled_rings, refiled_by, ring_of_child, ring_of_row, slot_of_event}
 use Rattle.board.specs.Finds.{FindsRow, has_to_be_drained, is_due, is_let_go}
-use Rattle.board.specs.RowsInside.{RowsChangeAlone}
+use Rattle.conn_machine.specs.HistoryLaws.{RowsChangeOneAtATime}
 use Rattle.board.proofs.EventLemmas.{get-replicate, get_or-alike}
 
 -- ## One item
@@ -49,7 +49,7 @@ pub record StaysBut (touched : Option ℕ) (s s' : State) : Type 0 where
   pub signals : (j : ℕ) → touched ≢ Some j → is_signalled s' j ≡ is_signalled s j
 
 -- where one row changed, the others are the same
-rows_but : RowsChangeAlone → (rows : List Row) (slot : ℕ) (change : Row → Row) (j : ℕ) → Some slot ≢ Some j
+rows_but : RowsChangeOneAtATime → (rows : List Row) (slot : ℕ) (change : Row → Row) (j : ℕ) → Some slot ≢ Some j
     → slice_get (update rows slot change) j ≡ slice_get rows j
 rows_but law rows slot change j differs = law.others rows slot j change (λ same. differs (ap Some (sym same)))
 
@@ -59,7 +59,7 @@ signals_but : (signals : List Bool) (slot : ℕ) (b : Bool) (j : ℕ) → Some s
 signals_but signals slot b j differs = get_or-set_other signals slot j b false (λ same. differs (ap Some (sym same)))
 
 -- an event changes the row and the signal of its slot alone
-stays_but : RowsChangeAlone → (s : State) (e : Event) → StaysBut (slot_of_event e) s (next s e)
+stays_but : RowsChangeOneAtATime → (s : State) (e : Event) → StaysBut (slot_of_event e) s (next s e)
 stays_but law s (event.Accept slot) = record {
   rows = rows_but law s.rows slot (taken_row s);
   signals = signals_but s.signals slot false;
@@ -142,7 +142,7 @@ filed_again (Some slot) s s' rings are sizes stays =
     filed_if s s' rings slot (slice_get s'.rows slot) are sizes stays refl
 
 -- so it does after an event, once that of its slot was
-pub filed_on : RowsChangeAlone → (s s' : State) (e : Event) (rings rings' : List (Option ℕ)) (touched : Option ℕ) → AreFiled s rings → s' ≡ next s e
+pub filed_on : RowsChangeOneAtATime → (s s' : State) (e : Event) (rings rings' : List (Option ℕ)) (touched : Option ℕ) → AreFiled s rings → s' ≡ next s e
     → length s'.rows ≡ length s.rows → touched ≡ slot_of_event e → rings' ≡ refiled_rings s' rings touched → AreFiled s' rings'
 filed_on law s s' e rings rings' touched are state_is sizes slot_is rings_is =
     let stays : StaysBut (slot_of_event e) s s' = subst (StaysBut (slot_of_event e) s) (sym state_is) (stays_but law s e) in

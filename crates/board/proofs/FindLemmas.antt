@@ -13,7 +13,7 @@ use Rattle.conn_machine.specs.Children.{is_stopping}
 use Rattle.conn_machine.specs.Sound.{HaveDeadlinesInRange}
 use Rattle.conn_machine.specs.States.{is_overdue}
 use Rattle.conn_machine.specs.Table.{may_retire}
-use Rattle.timeout_queues.specs.Waiting.{ParkedName, IsOverdue, overdue_at}
+use Rattle.timeout_queues.specs.Waiting.{ParkedName, IsPastDeadline, overdue_at}
 use Rattle.board.specs.Finds.{FindsRow, is_waiting}
 use Rattle.board.specs.QueuesInside.{queues_of}
 use Rattle.board.proofs.BoardLemmas.{lives_as}
@@ -28,7 +28,7 @@ false_beside false none = refl
 
 -- what the queues answer for the greatest moment is a row that waits
 pub waiting-finds : (s : State) (queues : List (Option ParkedName)) (now : ℕ) (o : Option ConnName) → queues ≡ queues_of s.rows
-    → HaveDeadlinesInRange s.rows → greatest_moment ≤ now → (IsNone o ↔ (overdue_at now queues ≡ [])) → IfSome o (IsOverdue queues now)
+    → HaveDeadlinesInRange s.rows → greatest_moment ≤ now → (IsNone o ↔ (overdue_at now queues ≡ [])) → IfSome o (IsPastDeadline queues now)
     → FindsRow is_waiting s o
 waiting-finds s queues now None queued range most none late = λ slot r at.
     let due : nat_le r.deadline now ≡ true = le-leb r.deadline now (omega (arith, range slot r at, most)) in

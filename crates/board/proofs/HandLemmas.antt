@@ -31,18 +31,18 @@ use Rattle.board.specs.Book.{SeenBook}
 use Rattle.board.specs.Faults.{IsNotTakenFor, IsRefusedFor, accept_fault}
 use Rattle.board.specs.Finds.{cause_of}
 use Rattle.board.specs.Fits.{Fits, IsOnItsWay, IsTakenUp, IsSettledFrom}
-use Rattle.board.specs.Board.{SeenBoard, AreHome, IsAtHome, IsHeldHere, conn_at, is_home}
+use Rattle.board.specs.Board.{SeenBoard, AreHome, IsAtHome, IsHeldHere, conn_at}
 use Rattle.board.specs.QueuesInside.{waits_in, queues_of, waits_under}
-use Rattle.board.specs.RowsInside.{RowsChangeAlone}
+use Rattle.conn_machine.specs.HistoryLaws.{RowsChangeOneAtATime}
 use Rattle.board.specs.Events.{IsDecided}
 use Rattle.board.proofs.BoardLemmas.{LivesAs, get-below, lives_as}
 use Rattle.board.proofs.QueueLemmas.{is-free, is-parked}
-use Rattle.board.proofs.EventLemmas.{parked-home, home-of, linger-lives, parked-settled, queue-parked}
+use Rattle.board.proofs.EventLemmas.{home-of, linger-lives, parked-settled, queue-parked}
 
 -- ## A connection that is handed out
 
 -- the row of the name, once it was changed and is still live
-pub live_row-update : RowsChangeAlone → (rows : List Row) (name : ConnName) (r : Row) (change : Row → Row) → slice_get rows name.slot ≡ Some r
+pub live_row-update : RowsChangeOneAtATime → (rows : List Row) (name : ConnName) (r : Row) (change : Row → Row) → slice_get rows name.slot ≡ Some r
     → is_live (change r) ≡ true → (change r).life ≡ name.life → live_row (update rows name.slot change) name ≡ Some (change r)
 live_row-update law rows name r change at live life =
     let named : is_live_as name (change r) ≡ true = rw (live, eq-eqb (change r).life name.life life) refl in
@@ -57,7 +57,7 @@ pub record IsGiven (s s' : State) (conns : List (Option SeenConn)) (name : ConnN
   pub handed : IsTakenUp s' conn
 
 -- a connection that waits is handed out, where its row stays what it was but for its place
-given : RowsChangeAlone → (s s' : State) (conns : List (Option SeenConn)) (name : ConnName) (r : Row) (change : Row → Row) (x : SeenConn)
+given : RowsChangeOneAtATime → (s s' : State) (conns : List (Option SeenConn)) (name : ConnName) (r : Row) (change : Row → Row) (x : SeenConn)
     → AreHome s.rows conns → slice_get s.rows name.slot ≡ Some r → r.life ≡ name.life → conn_at conns name.slot ≡ Some x
     → IsAtHome name.slot r x → s'.rows ≡ update s.rows name.slot change → is_live (change r) ≡ true → (change r).life ≡ r.life
     → Fits x (change r) → IsSettledFrom (change r).from (change r).cause x → IsGiven s s' conns name
@@ -92,27 +92,27 @@ hold-parked s signalled r may =
     || is_halted s.going) may).0
 
 -- the listener is given the connection
-pub hold-given : RowsChangeAlone → (s : State) (name : ConnName) (conns : List (Option SeenConn)) → IsSound s → is_allowed s (event.Hold name) ≡ true
+pub hold-given : RowsChangeOneAtATime → (s : State) (name : ConnName) (conns : List (Option SeenConn)) → IsSound s → is_allowed s (event.Hold name) ≡ true
     → AreHome s.rows conns → IsGiven s (next s (event.Hold name)) conns name
 hold-given law s name conns sound may are =
     let lives = lives_as s.rows name (may_be_held s (is_signalled s name.slot)) may in
     let r = lives.row in
     let parked = hold-parked s (is_signalled s name.slot) r lives.passes in
-    let here = home-of s.rows conns name.slot r are lives.at (parked-home r.place parked) in
+    let here = home-of s.rows conns name.slot r are lives.at parked in
     let fits = here.2.fits in
     given law s (next s (event.Hold name)) conns name r held_row here.0 are lives.at lives.life here.1 here.2 refl refl refl
     (record { child = fits.child; generation = fits.generation; notes = fits.notes; rank = fits.rank })
     (parked-settled r.place r here.0 parked (sound.kinds name.slot r lives.at lives.live) here.2.here)
 
 -- the worker of a queue is given the connection
-pub queue-given : RowsChangeAlone → (s : State) (name : ConnName) (conns : List (Option SeenConn)) → IsSound s → is_allowed s (event.Queue name) ≡ true
+pub queue-given : RowsChangeOneAtATime → (s : State) (name : ConnName) (conns : List (Option SeenConn)) → IsSound s → is_allowed s (event.Queue name) ≡ true
     → AreHome s.rows conns → IsGiven s (next s (event.Queue name)) conns name
 queue-given law s name conns sound may are =
     let lives = lives_as s.rows name (may_be_queued s)
     (and_parts (not (is_halted s.going) && is_signalled s name.slot) (lives_and (may_be_queued s) s.rows name) may).1 in
     let r = lives.row in
     let parked = queue-parked s r lives.passes in
-    let here = home-of s.rows conns name.slot r are lives.at (parked-home r.place parked) in
+    let here = home-of s.rows conns name.slot r are lives.at parked in
     let fits = here.2.fits in
     given law s (next s (event.Queue name)) conns name r queued_row here.0 are lives.at lives.life here.1 here.2 refl refl refl
     (record { child = fits.child; generation = fits.generation; notes = fits.notes; rank = fits.rank })
@@ -147,7 +147,7 @@ queue-unparked s name queues queues' found may queued is gone =
     unparked queues queues' s.rows name lives.row found queued lives.found (queue-parked s lives.row lives.passes) is gone
 
 -- what may wait doesn't wait yet
-wait-away : (moment : ℕ) (kind : Kind) (r : Row) (p : Place) → r.place ≡ p → may_wait moment kind r ≡ true → is_home p ≡ false
+wait-away : (moment : ℕ) (kind : Kind) (r : Row) (p : Place) → r.place ≡ p → may_wait moment kind r ≡ true → is_parked p ≡ false
 wait-away moment Reading r (Parked now) at may = let never : false ≡ true = rw at at may in absurd (cc)
 wait-away moment KeepAlive r (Parked now) at may = let never : false ≡ true = rw at at may in absurd (cc)
 wait-away moment Writing r (Parked now) at may = let never : false ≡ true = rw at at may in absurd (cc)
@@ -167,7 +167,7 @@ park-free s name kind queues may queued =
     is-free queues s.rows name.slot lives.row queued lives.at (wait-away s.moment kind lives.row lives.row.place refl lives.passes)
 
 -- once it waits, its row says what stands there
-pub park-parked : RowsChangeAlone → (s : State) (name : ConnName) (kind : Kind) (r : Row) → is_allowed s (event.Park name kind) ≡ true
+pub park-parked : RowsChangeOneAtATime → (s : State) (name : ConnName) (kind : Kind) (r : Row) → is_allowed s (event.Park name kind) ≡ true
     → live_row s.rows name ≡ Some r → waits_under (next s (event.Park name kind)).rows name ≡ waits_in (parked_row s kind r)
 park-parked law s name kind r may found =
     let lives = lives_as s.rows name (may_wait s.moment kind) (and_parts (not (is_halted s.going)) (lives_and (may_wait s.moment kind) s.rows name) may).1 in
@@ -177,7 +177,7 @@ park-parked law s name kind r may found =
 
 -- what may linger doesn't wait yet
 linger-away : (s : State) (why : Cause) (signalled : Bool) (r : Row) (p : Place) → r.place ≡ p → linger_cause_fits s why signalled r ≡ true
-    → is_home p ≡ false
+    → is_parked p ≡ false
 linger-away s cause.ClientDone signalled r (Parked now) at may = absurd (cc)
 linger-away s cause.LastSent signalled r (Parked now) at may = let never : false ≡ true = rw at at may in absurd (cc)
 linger-away s cause.KeepAliveLate signalled r (Parked now) at may = let never : false ≡ true = rw at at may in absurd (cc)
@@ -203,7 +203,7 @@ linger-free s name why queues may queued =
     (linger-away s why (is_signalled s name.slot) lives.row lives.row.place refl fits)
 
 -- once it lingers, its row says what stands there
-pub linger-parked : RowsChangeAlone → (s : State) (name : ConnName) (why : Cause) (r : Row) → is_allowed s (event.Linger name why) ≡ true
+pub linger-parked : RowsChangeOneAtATime → (s : State) (name : ConnName) (why : Cause) (r : Row) → is_allowed s (event.Linger name why) ≡ true
     → live_row s.rows name ≡ Some r → waits_under (next s (event.Linger name why)).rows name ≡ waits_in (lingering_row s why r)
 linger-parked law s name why r may found =
     let lives = linger-lives s name why may in
@@ -239,7 +239,7 @@ queue-open s name conns x may are has =
     let r = lives.row in
     let parts = and_parts (is_parked r.place && not (is_lingering r)) (nat_lt (carried_count s.rows r.child) (child_of s r).shape.threads) lives.passes in
     let stays = (and_parts (is_parked r.place) (not (is_lingering r)) parts.0).1 in
-    let here = home-of s.rows conns name.slot r are lives.at (parked-home r.place (queue-parked s r lives.passes)) in
+    let here = home-of s.rows conns name.slot r are lives.at (queue-parked s r lives.passes) in
     let same : here.0 ≡ x = cc (here.1, has) in
     subst (IsOnItsWay None) same
     (subst (λ (o : Option Cause). IsOnItsWay o here.0) (no-cause r.cause (not-false (is_lingering r) stays)) (way-at r.place r here.0 here.2.here))
@@ -251,7 +251,7 @@ hold-way s name conns x may are has =
     let lives = lives_as s.rows name (may_be_held s (is_signalled s name.slot)) may in
     let r = lives.row in
     let parked = hold-parked s (is_signalled s name.slot) r lives.passes in
-    let here = home-of s.rows conns name.slot r are lives.at (parked-home r.place parked) in
+    let here = home-of s.rows conns name.slot r are lives.at parked in
     let same : here.0 ≡ x = cc (here.1, has) in
     subst (λ (o : Option Cause). IsOnItsWay o x) (sym (cause-found s name r lives.found))
     (subst (IsOnItsWay r.cause) same (way-at r.place r here.0 here.2.here))
@@ -259,7 +259,7 @@ hold-way s name conns x may are has =
 -- ## A connection that was handed out
 
 -- what the row of a name was, and is after one row was changed to another live one of that life
-changed_row : RowsChangeAlone → (rows : List Row) (name : ConnName) (r : Row) (change : Row → Row) (other : ConnName) (row : Row) → slice_get rows name.slot ≡ Some r
+changed_row : RowsChangeOneAtATime → (rows : List Row) (name : ConnName) (r : Row) (change : Row → Row) (other : ConnName) (row : Row) → slice_get rows name.slot ≡ Some r
     → is_live (change r) ≡ true → (change r).life ≡ r.life → live_row rows other ≡ Some row → (same : Bool) → (other.slot == name.slot) ≡ same
     → ((row ≡ r) × (live_row (update rows name.slot change) other ≡ Some (change r))) ⊎ (live_row (update rows name.slot change) other ≡ Some row)
 changed_row law rows name r change other row at live life found true is =
@@ -279,7 +279,7 @@ changed_row law rows name r change other row at live life found false is =
     inr (ap (row_where (is_live_as other)) (law.others rows name.slot other.slot change differs) ∙ found)
 
 -- a connection that was handed out stays so while a worker begins to serve one
-pub start-taken : RowsChangeAlone → (s : State) (name : ConnName) (c : SeenConn) → is_allowed s (event.Start name) ≡ true → IsTakenUp s c
+pub start-taken : RowsChangeOneAtATime → (s : State) (name : ConnName) (c : SeenConn) → is_allowed s (event.Start name) ≡ true → IsTakenUp s c
     → IsTakenUp (next s (event.Start name)) c
 start-taken law s name c may taken =
     let lives = lives_as s.rows name (λ (r : Row). is_queued r.place) may in

@@ -13,8 +13,7 @@ use Rattle.conn_machine.specs.declared.state.State.{State}
 use Rattle.conn_machine.specs.Lists.{update}
 use Rattle.conn_machine.specs.Rows.{is_parked, is_live_as, row_where, live_row, lives_and}
 use Rattle.conn_machine.specs.States.{is_overdue}
-use Rattle.timeout_queues.specs.Waiting.{ParkedName, in_life, parked_of, all_parked, earliest, least_deadline, overdue_at, deadline_of, IsFree, IsOverdue}
-use Rattle.board.specs.Board.{is_home}
+use Rattle.timeout_queues.specs.Waiting.{ParkedName, in_life, parked_of, all_parked, least_deadline, overdue_at, deadline_of, IsFree, IsPastDeadline}
 use Rattle.board.specs.Finds.{FindsRow, IsFirstDue, is_late, waiting_deadlines}
 use Rattle.board.specs.QueuesInside.{waits_at, waits_in, queues_of, waits_under}
 
@@ -54,7 +53,7 @@ queued-set queues rows slot r change q queued at is =
     ∙ sym (map-update waits_in rows slot r change at)
 
 -- a row that isn't at home isn't in the queues
-pub away-waits : (p : Place) (r : Row) → is_home p ≡ false → waits_at p r ≡ None
+pub away-waits : (p : Place) (r : Row) → is_parked p ≡ false → waits_at p r ≡ None
 away-waits Vacant r away = refl
 away-waits Spent r away = refl
 away-waits Held r away = refl
@@ -64,7 +63,7 @@ away-waits (Working cell phase) r away = refl
 
 -- so nothing stands in the queues at its slot
 pub queues-away : (queues : List (Option ParkedName)) (rows : List Row) (slot : ℕ) (r : Row)
-    → queues ≡ queues_of rows → slice_get rows slot ≡ Some r → is_home r.place ≡ false → set queues slot None ≡ queues
+    → queues ≡ queues_of rows → slice_get rows slot ≡ Some r → is_parked r.place ≡ false → set queues slot None ≡ queues
 queues-away queues rows slot r queued at away =
     ap (λ (qs : List (Option ParkedName)). set qs slot None) queued
     ∙ ap (λ (q : Option ParkedName). set (queues_of rows) slot q) (sym (away-waits r.place r away))
@@ -135,7 +134,7 @@ is-parked queues rows name r queued found parked =
 
 -- nothing stands at the slot of a row that doesn't wait
 pub is-free : (queues : List (Option ParkedName)) (rows : List Row) (slot : ℕ) (r : Row) → queues ≡ queues_of rows
-    → slice_get rows slot ≡ Some r → is_home r.place ≡ false → IsFree queues slot
+    → slice_get rows slot ≡ Some r → is_parked r.place ≡ false → IsFree queues slot
 is-free queues rows slot r queued at away =
     ap (λ (qs : List (Option ParkedName)). slice_get qs slot) queued
     ∙ get-map waits_in rows slot r at
@@ -159,26 +158,11 @@ deadlines-queued : (rows : List Row) → map (λ (q : ParkedName). q.deadline) (
 deadlines-queued [] = refl
 deadlines-queued (r ∷ rows) = deadlines-place r rows r.place refl (deadlines-queued rows)
 
--- the least of two numbers and of another, where there is one
-least-three : (n m : ℕ) (o : Option ℕ) → min n (option_map_or (min m) o m) ≡ option_map_or (min (min n m)) o (min n m)
-least-three n m None = refl
-least-three n m (Some k) = omega arith
-
--- the least of a number and others
-least-fold : (n : ℕ) (ns : List ℕ) → option_map_or (min n) (earliest ns) n ≡ fold min n ns
-least-fold n [] = refl
-least-fold n (m ∷ ns) = least-three n m (earliest ns) ∙ least-fold (min n m) ns
-
--- the least of some numbers
-least-reduce : (ns : List ℕ) → earliest ns ≡ reduce min ns
-least-reduce [] = refl
-least-reduce (n ∷ ns) = ap Some (least-fold n ns)
-
 -- the least deadline in the queues is the least of a row that waits
 pub least_waiting : (queues : List (Option ParkedName)) (rows : List Row) → queues ≡ queues_of rows
     → least_deadline queues ≡ reduce min (waiting_deadlines rows)
 least_waiting queues rows queued =
-    ap least_deadline queued ∙ ap earliest (deadlines-queued rows) ∙ least-reduce (waiting_deadlines rows)
+    ap least_deadline queued ∙ ap (reduce min) (deadlines-queued rows)
 
 -- ## What is late
 
@@ -240,14 +224,14 @@ late-found rows now name (Some r) found late =
 
 -- the same of the board's queues
 pub is_late-row : (queues : List (Option ParkedName)) (rows : List Row) (now : ℕ) (name : ConnName) → queues ≡ queues_of rows
-    → IsOverdue queues now name → IsLateRow rows now name
+    → IsPastDeadline queues now name → IsLateRow rows now name
 is_late-row queues rows now name queued late =
     late-found rows now name (live_row rows name) refl
     (subst (λ (q : Option ParkedName). IsSomeAnd q (λ p. p.deadline ≤ now)) (parked_under queues rows name queued) late)
 
 -- the late name with the least deadline is that of a row with the least of those that wait
 pub first_waiting : (queues : List (Option ParkedName)) (rows : List Row) (now : ℕ) (name : ConnName) → queues ≡ queues_of rows
-    → IsOverdue queues now name → deadline_of queues name ≡ least_deadline queues
+    → IsPastDeadline queues now name → deadline_of queues name ≡ least_deadline queues
     → option_map (λ r. r.deadline) (live_row rows name) ≡ reduce min (waiting_deadlines rows)
 first_waiting queues rows now name queued late first =
     sym (is_late-row queues rows now name queued late).deadline
@@ -256,7 +240,7 @@ first_waiting queues rows now name queued late first =
 
 -- what the queues answer for a late name is so of the rows
 pub overdue-finds : (s : State) (queues : List (Option ParkedName)) (now : ℕ) (o : Option ConnName) → queues ≡ queues_of s.rows → now ≡ s.moment
-    → (IsNone o ↔ (overdue_at now queues ≡ [])) → IfSome o (IsOverdue queues now) → FindsRow (is_late s) s o
+    → (IsNone o ↔ (overdue_at now queues ≡ [])) → IfSome o (IsPastDeadline queues now) → FindsRow (is_late s) s o
 overdue-finds s queues now None queued moment none late =
     subst (λ (n : ℕ). (slot : ℕ) (r : Row) → slice_get s.rows slot ≡ Some r → is_overdue n r ≡ false) moment (none_late queues s.rows now queued (none.0 refl))
 overdue-finds s queues now (Some name) queued moment none late =
@@ -264,6 +248,6 @@ overdue-finds s queues now (Some name) queued moment none late =
 
 -- and none that waits has an earlier deadline
 pub overdue-first : (s : State) (queues : List (Option ParkedName)) (now : ℕ) (o : Option ConnName) → queues ≡ queues_of s.rows
-    → IfSome o (IsOverdue queues now) → IfSome o (λ name. deadline_of queues name ≡ least_deadline queues) → IfSome o (IsFirstDue s)
+    → IfSome o (IsPastDeadline queues now) → IfSome o (λ name. deadline_of queues name ≡ least_deadline queues) → IfSome o (IsFirstDue s)
 overdue-first s queues now None queued late first = tt
 overdue-first s queues now (Some name) queued late first = first_waiting queues s.rows now name queued late first

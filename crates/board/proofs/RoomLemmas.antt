@@ -24,7 +24,7 @@ use Rattle.conn_machine.specs.Children.{is_empty, is_running, is_stopping, stopp
 use Rattle.conn_machine.specs.States.{is_halted, is_signalled}
 use Rattle.conn_machine.specs.Table.{is_allowed, next, may_be_held, held_row, served_row, linger_cause_fits, lingering_row, end_fits, closed_row, greatest_life, taken_row, parked_row, queued_row, answered_row}
 use Rattle.board.specs.RoomInside.{place_owes, row_owes, child_owes, owed_entries, room_with_event, is_sure}
-use Rattle.board.specs.RowsInside.{RowsChangeAlone}
+use Rattle.conn_machine.specs.HistoryLaws.{RowsChangeOneAtATime}
 
 -- ## Sums
 
@@ -192,7 +192,7 @@ owed-bound s =
     )
 
 -- an event leaves at most one connection more
-live-next : RowsChangeAlone → (s : State) (e : Event) → count_by is_live (next s e).rows ≤ count_by is_live s.rows + 1
+live-next : RowsChangeOneAtATime → (s : State) (e : Event) → count_by is_live (next s e).rows ≤ count_by is_live s.rows + 1
 live-next law s (event.Accept slot) = law.more is_live s.rows slot (taken_row s)
 live-next law s (event.Park name kind) = law.more is_live s.rows name.slot (parked_row s kind)
 live-next law s (event.Hold name) = law.more is_live s.rows name.slot held_row
@@ -211,7 +211,7 @@ live-next law s (event.Command (Stop why)) = omega arith
 live-next law s (event.Retire k) = omega arith
 
 -- the room that is taken with an event suffices for it and what must follow it
-pub room-suffices : RowsChangeAlone → (s : State) (e : Event) → length (next s e).children ≡ length s.children
+pub room-suffices : RowsChangeOneAtATime → (s : State) (e : Event) → length (next s e).children ≡ length s.children
     → owed_entries (next s e) + 1 ≤ room_with_event s
 room-suffices law s e children = omega (arith, owed-bound (next s e), live-next law s e, children)
 

@@ -19,7 +19,7 @@ use Rattle.conn_machine.specs.Lists.{update}
 use Rattle.conn_machine.specs.Rows.{is_vacant, is_unused, is_held, is_queued, is_working, is_live, is_lingering, lives_and}
 use Rattle.conn_machine.specs.States.{is_signalled, is_halted, is_serving, pick_child, unused_row}
 use Rattle.conn_machine.specs.Table.{is_allowed, next, is_vacant_at, may_wait, may_be_held, may_be_queued, linger_cause_fits, taken_row, parked_row, held_row, queued_row, served_row, answered_row, lingering_row, closed_row, greatest_life, end_fits}
-use Rattle.conn_slots.specs.Slots.{SeenSlots, Slot, next_name, most_lives, is_vacant_slot, vacant_count, unused_slot, item_in, item_of, IsLive, IsNextName, with_item, without_item}
+use Rattle.conn_slots.specs.Slots.{SeenSlots, Slot, next_name, most_lives, is_vacant_slot, vacant_count, unused_slot, item_in, item_of, HasItem, IsNextName, with_item, without_item}
 use Rattle.conn_state.specs.Conn.{SeenConn}
 use Rattle.board.specs.Board.{conn_at}
 use Rattle.board.specs.Layout.{conn_in, conn_of_item, conns_in}
@@ -250,7 +250,7 @@ module _ {T : Type 0} where
 
   -- the name of a live row has an item
   pub live-item : (slots : List (Slot T)) (rows : List Row) (name : ConnName) (test : Row → Bool) → AreUsedAlike slots rows
-      → lives_and test rows name ≡ true → IsLive slots name
+      → lives_and test rows name ≡ true → HasItem slots name
   live-item slots rows name test alike lives =
       let here = taken_slot slots rows name test alike (lives_as rows name test lives) in
       let item = taken_item name here.slot here.slot.item refl here.used in
@@ -259,7 +259,7 @@ module _ {T : Type 0} where
 
   -- so has that of a connection that may be closed
   pub close-live : (s : State) (slots : List (Slot T)) (name : ConnName) (why : Cause) (how : Tail) → is_allowed s (event.Close name why how) ≡ true
-      → AreUsedAlike slots s.rows → IsLive slots name
+      → AreUsedAlike slots s.rows → HasItem slots name
   close-live s slots name why how may alike =
       live-item slots s.rows name (λ (r : Row). (is_held r.place || is_working r.place) && end_fits s why how r) alike may
 
@@ -319,7 +319,7 @@ module _ {T : Type 0} where
   put-slots old slots' name x (Err back) next vacant full given stored = absurd (vacant (full refl))
 
   -- what taking the item of a live name leaves of the slots
-  pub left-slots : (slots slots' : List (Slot T)) (name : ConnName) (o : Option T) → IsLive slots name → o ≡ item_of slots name
+  pub left-slots : (slots slots' : List (Slot T)) (name : ConnName) (o : Option T) → HasItem slots name → o ≡ item_of slots name
       → OnSome o (slots' ≡ without_item slots name) → slots' ≡ without_item slots name
   left-slots slots slots' name None live is left =
       let never : is_some {T = T} None ≡ true = ap is_some is ∙ live in

@@ -15,11 +15,14 @@ use Rattle.board.specs.declared.ahead.Ahead.{Ahead}
 -- the numbers that the entries of the passes have next, behind what was folded and the history
 abbrev pub AreNext : Folded → List ℕ → List Entry → Type 0
 AreNext f ordinals history =
-    (p : ℕ) → p < length ordinals → slice_index ordinals p ≡ slice_index f.ordinals p + length (entries_of p history)
+    (p : ℕ)
+    → p < length ordinals
+    → slice_index ordinals p ≡ slice_index f.ordinals p + length (entries_of p history)
 
 -- the connections that the passes have behind both
 abbrev pub AreInHand : Folded → List (Option ConnName) → List Entry → Type 0
-AreInHand f rows history = (p : ℕ) → p < length rows → slice_index_or rows p None ≡ row_from f p history
+AreInHand f rows history =
+    (p : ℕ) → p < length rows → slice_index_or rows p None ≡ row_from f p history
 
 -- how many responses of the history keep a page
 abbrev pub pages_of : List Entry → ℕ
@@ -62,7 +65,9 @@ pub record CountsEvent (e : Event) (before a : Ahead) : Type 0 where
   pub accepted : a.accepted ≡ with_one (is_accept e) before.accepted
   pub closed : a.closed ≡ with_one (is_close e) before.closed
   pub responses : a.responses ≡ with_one (is_answer e) before.responses
-  pub causes : a.causes ≡ map (λ why. with_one (is_close_for why e) (slice_index before.causes (cause_number why))) causes
+  pub causes : a.causes
+      ≡ map (λ why. with_one (is_close_for why e) (slice_index before.causes (cause_number why)))
+      causes
   pub children : a.children ≡ with_one (is_start_child e) before.children
   pub ticks : a.ticks ≡ with_one (is_tick e) before.ticks
   pub readies : a.readies ≡ with_one (is_ready e) before.readies

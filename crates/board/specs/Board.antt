@@ -10,6 +10,7 @@ use Rattle.conn_machine.specs.declared.event.Event.{Event}
 use Rattle.conn_machine.specs.declared.event.Event.TheVariants as event
 use Rattle.conn_machine.specs.declared.event.Entry.{Entry}
 use Rattle.conn_machine.specs.declared.state.State.{State}
+use Rattle.conn_machine.specs.Rows.{is_parked}
 use Rattle.conn_machine.specs.Table.{next}
 use Rattle.conn_state.specs.Conn.{SeenConn}
 use Rattle.conn_state.specs.Answered.{SeenEnded, IsEnded}
@@ -36,15 +37,6 @@ IsHeldHere (Parked kind) r c = IsSettled kind r.cause c
 IsHeldHere Queued r c = ⊥
 IsHeldHere (Working cell phase) r c = ⊥
 
--- a row of that place waits here
-abbrev pub is_home : Place → Bool
-is_home Vacant = false
-is_home Spent = false
-is_home Held = false
-is_home (Parked kind) = true
-is_home Queued = false
-is_home (Working cell phase) = false
-
 -- the connection is that of the slot's row, which waits, and is as one that waits so
 pub record IsAtHome (slot : ℕ) (r : Row) (c : SeenConn) : Type 0 where
   pub name : c.name ≡ record { slot = slot; life = r.life }
@@ -53,7 +45,7 @@ pub record IsAtHome (slot : ℕ) (r : Row) (c : SeenConn) : Type 0 where
 
 -- the board has the connection of the slot's row exactly where the row waits
 abbrev pub IsHome : ℕ → Row → Option SeenConn → Type 0
-IsHome slot r None = is_home r.place ≡ false
+IsHome slot r None = is_parked r.place ≡ false
 IsHome slot r (Some c) = IsAtHome slot r c
 
 -- the connection of a slot
@@ -63,20 +55,24 @@ conn_at conns slot = slice_index_or conns slot None
 -- each row that waits has its one fitting connection, and there are no others
 pub record AreHome (rows : List Row) (conns : List (Option SeenConn)) : Type 0 where
   pub slots : length conns ≡ length rows
-  pub homes : (slot : ℕ) (r : Row) → slice_get rows slot ≡ Some r → IsHome slot r (conn_at conns slot)
+  pub homes : (slot : ℕ) (r : Row)
+      → slice_get rows slot ≡ Some r
+      → IsHome slot r (conn_at conns slot)
 
 -- ## The connections that ended
 
 -- the first of the connections that ended is the one that the event closes, where it closes one; the others come later
 abbrev pub ClosesFirst : State → Event → (List SeenEnded → Type 0) → List SeenEnded → Type 0
 ClosesFirst s (event.Close name why how) Others [] = ⊥
-ClosesFirst s (event.Close name why how) Others (e ∷ ended) = IsClosing s name why how e × Others ended
+ClosesFirst s (event.Close name why how) Others (e ∷ ended) =
+    IsClosing s name why how e × Others ended
 ClosesFirst s other Others ended = Others ended
 
 -- the connections that ended are those that the entries close, in their order
 abbrev pub AreClosed : State → List Entry → List SeenEnded → Type 0
 AreClosed s [] ended = ended ≡ []
-AreClosed s (entry ∷ entries) ended = ClosesFirst s entry.event (AreClosed (next s entry.event) entries) ended
+AreClosed s (entry ∷ entries) ended =
+    ClosesFirst s entry.event (AreClosed (next s entry.event) entries) ended
 
 -- each of them shows what an ended connection shows
 abbrev pub AreEnded : List SeenEnded → Type 0
@@ -101,18 +97,23 @@ folded_board b = record b { book = folded_book (map line_of b.ended) b.book; end
 
 -- where the type knows the outside, the link is that of one of the clients, and the limits and the site are those of the edition of the
 -- generation
-pub record IsOfOutside (known : Option KnownOutside) (b : SeenBook) (told : Option LinkTold) (generation : ℕ) (limits : Limits) (site : SeenSite) : Type 0 where
+pub record IsOfOutside (known : Option KnownOutside) (b : SeenBook) (told : Option LinkTold)
+    (generation : ℕ) (limits : Limits) (site : SeenSite) : Type 0 where
   pub client : IsOfClient known told
   pub edition : IsOfGeneration known b generation limits site
 
 -- so it is of each connection that the board has
 abbrev pub WaitOfOutside : Option KnownOutside → SeenBook → List (Option SeenConn) → Type 0
-WaitOfOutside known b conns = (slot : ℕ) (c : SeenConn) → conn_at conns slot ≡ Some c → IsOfOutside known b c.told c.generation c.reader.limits c.site
+WaitOfOutside known b conns =
+    (slot : ℕ) (c : SeenConn)
+    → conn_at conns slot ≡ Some c
+    → IsOfOutside known b c.told c.generation c.reader.limits c.site
 
 -- and of each connection that ended
 abbrev pub EndedOfOutside : Option KnownOutside → SeenBook → List SeenEnded → Type 0
 EndedOfOutside known b [] = ⊤
-EndedOfOutside known b (e ∷ ended) = IsOfOutside known b e.told e.generation e.limits e.site × EndedOfOutside known b ended
+EndedOfOutside known b (e ∷ ended) =
+    IsOfOutside known b e.told e.generation e.limits e.site × EndedOfOutside known b ended
 
 -- the same of those that a board has, and of those that ended
 pub record AreOfOutside (known : Option KnownOutside) (b : SeenBoard) : Type 0 where

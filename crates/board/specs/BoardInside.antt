@@ -13,7 +13,9 @@ use Rattle.board.specs.Board.{Agrees, AreOfOutside, SeenBoard}
 
 -- a board whose type knows this agrees with its history, its connections are of the outside, its slots are used as its rows are, its
 -- timeout queues have the rows that wait, and each live connection finds room among those that ended
-pub record IsBoard (known : Option KnownOutside) (b : SeenBoard) (slots : List (Slot (Option SeenConn))) (queues : List (Option ParkedName)) (room : ℕ) : Type 0 where
+pub record IsBoard (known : Option KnownOutside) (b : SeenBoard)
+    (slots : List (Slot (Option SeenConn))) (queues : List (Option ParkedName))
+    (room : ℕ) : Type 0 where
   pub agrees : Agrees b
   pub outside : AreOfOutside known b
   pub used : AreUsedAlike slots b.book.state.rows

@@ -30,7 +30,12 @@ AddsOnly who old new = Adds who old.base old.folded old.history new.history
 -- the entry that the pass makes of an event and its reply after the history, behind what was folded
 abbrev pub numbered_entry : ℕ → Event → Reply → Folded → List Entry → Entry
 numbered_entry who happened answer f history =
-    record { pass = who; ordinal = slice_index f.ordinals who + length (entries_of who history); event = happened; reply = answer }
+    record {
+      pass = who;
+      ordinal = slice_index f.ordinals who + length (entries_of who history);
+      event = happened;
+      reply = answer;
+    }
 
 -- the entry that the pass makes of an event in the state after the history
 abbrev pub entry_of : ℕ → Event → SeenBook → Entry
@@ -53,4 +58,8 @@ pub record HasEntryOf (e : Event) (history : List Entry) : Type 0 where
 -- the present one; the record counts what the history did
 abbrev pub folded_book : List (List ℕ) → SeenBook → SeenBook
 folded_book ended b =
-    record b { base = after b.base b.history; folded = fold_of b.base b.history ended b.folded; history = [] }
+    record b {
+      base = after b.base b.history;
+      folded = fold_of b.base b.history ended b.folded;
+      history = [];
+    }

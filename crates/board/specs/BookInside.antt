@@ -29,7 +29,8 @@ pub record IsFoldedFor (passes : ℕ) (f : Folded) : Type 0 where
 -- one that its pass may make, of so many, and before it each pass had a connection of its own, or none; the numbers of the record that a
 -- fold would make are known, and the editions that were in use or began, of which it would keep those in use; and there is room for what
 -- must follow, which can be counted
-pub record IsKept (passes : ℕ) (base : State) (f : Folded) (history : List Entry) (state : State) (ahead : Ahead) (editions : List Edition) (room : ℕ) : Type 0 where
+pub record IsKept (passes : ℕ) (base : State) (f : Folded) (history : List Entry) (state : State)
+    (ahead : Ahead) (editions : List Edition) (room : ℕ) : Type 0 where
   pub folded : IsFoldedFor passes f
   pub is_history : IsHistory base f history
   pub made : AreMade base f history

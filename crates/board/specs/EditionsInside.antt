@@ -16,11 +16,17 @@ HasRoomFor e many room = begins_generation e ≡ true → many < room
 -- behind the editions that of the generation which the event begins, where it begins one
 abbrev pub with_begun : Event → ℕ → ℕ → List Edition → List Edition
 with_begun e generation order editions =
-    editions ++ (if begins_generation e then record { generation = generation; edition = order } ∷ [] else [])
+    editions
+    ++ (if begins_generation e
+    then record { generation = generation; edition = order } ∷ []
+    else [])
 
 -- of a history behind a record these are the editions of the record and those that began since; the record's are of generations that had
 -- begun before the history, and each generation in use before it has one there
-pub record HasEditions (base : State) (f : Folded) (history : List Entry) (editions : List Edition) : Type 0 where
+pub record HasEditions (base : State) (f : Folded) (history : List Entry)
+    (editions : List Edition) : Type 0 where
   pub all : editions ≡ f.editions ++ begun_editions base.newest f.orders history
   pub begun : HaveBegun base f
-  pub used : (generation : ℕ) → is_in_use base generation ≡ true → (number : ℕ) × (edition_among generation f.editions ≡ Some number)
+  pub used : (generation : ℕ)
+      → is_in_use base generation ≡ true
+      → (number : ℕ) × (edition_among generation f.editions ≡ Some number)

@@ -27,7 +27,9 @@ ring_of_row signalled r = if is_parked r.place then ring_of_waiting signalled r 
 -- each slot stands in the ring of its row
 pub record AreFiled (s : State) (rings : List (Option ℕ)) : Type 0 where
   pub slots : length rings ≡ length s.rows
-  pub filed : (slot : ℕ) (r : Row) → slice_get s.rows slot ≡ Some r → slice_get rings slot ≡ Some (ring_of_row (is_signalled s slot) r)
+  pub filed : (slot : ℕ) (r : Row)
+      → slice_get s.rows slot ≡ Some r
+      → slice_get rings slot ≡ Some (ring_of_row (is_signalled s slot) r)
 
 -- ## What an event changes
 
@@ -68,10 +70,14 @@ pub record IsRowOfRing (s : State) (ring : ℕ) (name : ConnName) : Type 0 where
 
 -- the name is that of a row of the ring, or no row is of it
 abbrev pub FindsInRing : State → ℕ → Option ConnName → Type 0
-FindsInRing s ring None = (slot : ℕ) (r : Row) → slice_get s.rows slot ≡ Some r → ring_of_row (is_signalled s slot) r ≢ Some ring
+FindsInRing s ring None =
+    (slot : ℕ) (r : Row)
+    → slice_get s.rows slot ≡ Some r
+    → ring_of_row (is_signalled s slot) r ≢ Some ring
 FindsInRing s ring (Some name) = IsRowOfRing s ring name
 
 -- the name is that of a live connection whose row passes the test, or no row of the child passes it
 abbrev pub FindsInChild : (ℕ → Row → Bool) → ℕ → State → Option ConnName → Type 0
-FindsInChild test k s None = (slot : ℕ) (r : Row) → slice_get s.rows slot ≡ Some r → r.child ≡ k → test slot r ≡ false
+FindsInChild test k s None =
+    (slot : ℕ) (r : Row) → slice_get s.rows slot ≡ Some r → r.child ≡ k → test slot r ≡ false
 FindsInChild test k s (Some name) = lives_and (test name.slot) s.rows name ≡ true

@@ -19,13 +19,15 @@ use Rattle.conn_machine.specs.Table.{child_passes, may_be_queued, may_retire}
 
 -- the child that the next connection goes to, while the server takes connections and a slot is vacant
 abbrev pub acceptable : State → Option ℕ
-acceptable s = if is_serving s.going && list_any (λ r. is_vacant r.place) s.rows then pick_child s else None
+acceptable s =
+    if is_serving s.going && list_any (λ r. is_vacant r.place) s.rows then pick_child s else None
 
 -- the lowest child that is gone, while the server takes connections and fewer children run than should
 abbrev pub startable : State → Option ℕ
 startable s =
     if is_serving s.going && nat_lt (running_count s.children) s.shape.target
-    then find (child_passes (λ c. is_empty c.phase) s) (range_with_len 0 (length s.children)) else None
+    then find (child_passes (λ c. is_empty c.phase) s) (range_with_len 0 (length s.children))
+    else None
 
 -- the number is that of a child that may be let go of, or there is none
 abbrev pub FindsRetirable : State → Option ℕ → Type 0
@@ -48,7 +50,10 @@ is_due s slot r = is_signalled s slot && may_be_queued s r
 -- the row waits for a further request, for which nothing came, and its child stops
 abbrev pub is_let_go : State → ℕ → Row → Bool
 is_let_go s slot r =
-    is_parked r.place && is_from KeepAlive r && is_stopping (child_of s r).phase && not (is_signalled s slot)
+    is_parked r.place
+    && is_from KeepAlive r
+    && is_stopping (child_of s r).phase
+    && not (is_signalled s slot)
 
 -- the row waits and lingers, and something may have come for it
 abbrev pub has_to_be_drained : State → ℕ → Row → Bool
@@ -88,7 +93,8 @@ waiting_deadlines rows = map (λ r. r.deadline) (filter (λ r. is_parked r.place
 
 -- no row that waits has an earlier deadline than the live row of that name
 abbrev pub IsFirstDue : State → ConnName → Type 0
-IsFirstDue s name = option_map (λ r. r.deadline) (live_row s.rows name) ≡ reduce min (waiting_deadlines s.rows)
+IsFirstDue s name =
+    option_map (λ r. r.deadline) (live_row s.rows name) ≡ reduce min (waiting_deadlines s.rows)
 
 -- the least deadline of a row that waits, the moment at which the server stops among them
 abbrev pub next_deadline_of : State → Option ℕ

@@ -87,11 +87,13 @@ pub record IsTakenUp (s : State) (c : SeenConn) : Type 0 where
 
 -- the notes are those of the row; where memory lacked for its response, the last may be missing
 abbrev pub NotesEnd : Cause → List Note → List Note → Type 0
-NotesEnd cause.NoMemory notes noted = (notes ≡ noted) ⊎ ((note : Note) × (noted ≡ notes ++ note ∷ []))
+NotesEnd cause.NoMemory notes noted =
+    (notes ≡ noted) ⊎ ((note : Note) × (noted ≡ notes ++ note ∷ []))
 NotesEnd other notes noted = notes ≡ noted
 
 -- the connection that ended so is the one of a live row
-pub record IsClosing (s : State) (name : ConnName) (why : Cause) (how : Tail) (e : SeenEnded) : Type 0 where
+pub record IsClosing (s : State) (name : ConnName) (why : Cause) (how : Tail)
+    (e : SeenEnded) : Type 0 where
   pub row : Row
   pub found : live_row s.rows name ≡ Some row
   pub name_is : e.name ≡ name

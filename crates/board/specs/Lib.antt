@@ -1,6 +1,7 @@
 pub mod AheadInside
 pub mod Board
 pub mod BoardInside
+pub mod BoardLaws
 pub mod BoardParts
 pub mod Book
 pub mod BookInside
@@ -9,8 +10,8 @@ pub mod EditionsInside
 pub mod Events
 pub mod Faults
 pub mod FaultsInside
-pub mod Finds
 pub mod FiledInside
+pub mod Finds
 pub mod Fits
 pub mod Layout
 pub mod Ledger
@@ -18,5 +19,4 @@ pub mod QueuesInside
 pub mod Ranks
 pub mod ReportLine
 pub mod RoomInside
-pub mod RowsInside
 pub mod SlotsInside

@@ -43,5 +43,11 @@ codes_of (first ∷ rest) = decimal first.code ++ flat_map further_code rest
 -- the generation, the cause, the tail and the codes of the responses
 abbrev pub line_of : SeenEnded → List ℕ
 line_of e =
-    decimal e.generation ++ codes " " ++ cause_word e.cause ++ codes " " ++ tail_word e.tail ++ codes " "
-    ++ codes_of e.notes ++ codes "\n"
+    decimal e.generation
+    ++ codes " "
+    ++ cause_word e.cause
+    ++ codes " "
+    ++ tail_word e.tail
+    ++ codes " "
+    ++ codes_of e.notes
+    ++ codes "\n"

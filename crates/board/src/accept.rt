@@ -16,7 +16,8 @@ use mpm_base::ConnName;
 pub(crate) fn slot_for_accept<T>(book: &Book, slots: &Slots<T>) -> Result<ConnName, AcceptFault>
     requires { AreUsedAlike slots.now.slots book.now.state.rows }
     ensures ok { OnOk result (IsOpen book.now) }
-    ensures allowed { IfOk result (λ name. is_allowed book.now.state (event.Accept name.slot) ≡ true) }
+    ensures allowed { IfOk result
+        (λ name. is_allowed book.now.state (event.Accept name.slot) ≡ true) }
     ensures next { IfOk result (λ name. next_name slots.now ≡ Some name) }
     ensures unused { IfOk result (λ name. IsNextName slots.now.slots name) }
     ensures vacant { OnOk result (vacant_count slots.now.slots ≢ 0) }

@@ -77,7 +77,8 @@ impl Ahead {
     pub fn next_number(&self, folded: &Folded, history: &[Entry], who: u32) -> u64
         requires ahead { IsAhead folded.now history.now self.now }
         requires who { who < length folded.now.ordinals }
-        ensures { result ≡ slice_index folded.now.ordinals who + length (entries_of who history.now) }
+        ensures { result
+            ≡ slice_index folded.now.ordinals who + length (entries_of who history.now) }
     {
         let _ = folded;
         let _ = history;
@@ -151,7 +152,10 @@ impl Ahead {
         requires places { HasPlacesFor (length folded.old.ordinals) folded.old }
         requires passes { AreOfPasses (length folded.old.ordinals) history.now }
         requires few { folded.old.entries + length history.now < 2 ^ 63 }
-        ensures folded { (base : State) (ended : List (List ℕ)) → folded.new ≡ record (fold_of base history.now ended folded.old) { lines = folded.old.lines; editions = folded.old.editions } }
+        ensures folded { (base : State) (ended : List (List ℕ))
+            → folded.new
+            ≡ record (fold_of base history.now ended folded.old)
+            { lines = folded.old.lines; editions = folded.old.editions } }
         ensures ahead { IsAhead folded.new [] self.new }
     {
         records_go_on_by_folds();

@@ -5,7 +5,6 @@ ghost use Rattle.conn_machine.specs.Shown.{snapshot_of};
 ghost use Rattle.conn_machine.specs.States.{is_halted, opening_state};
 ghost use Rattle.conn_machine.specs.Table.{is_allowed, cell_at, reply, taken_reply};
 ghost use Rattle.conn_machine.specs.Runs.{IsInPassOrderFrom, Run, after, first_row};
-ghost use Rattle.conn_machine.specs.Events.{commanded};
 ghost use Rattle.conn_machine.specs.Folds.{CountsWithin, HasPlacesFor, HaveBegun, may_fold, opening_record};
 ghost use Rattle.conn_machine.specs.Made.{AreMade, AreOfPasses};
 ghost use Rattle.conn_machine.specs.Passes.{EachHasItsOwn};
@@ -32,10 +31,11 @@ use crate::accept::slot_for_accept;
 use crate::book::Book;
 use crate::conns::{put_back, take_out};
 use crate::faults::{AcceptFault, BoardFault};
-use crate::laws::{generations_keep_their_editions, one_row_changes};
+use crate::laws::generations_keep_their_editions;
 use crate::report_line::further_lines;
 use crate::waits::wait_in_queue;
-use conn_machine::{Commanded, Entry, Event, Folded, Kept, Order, Reply, State, Why};
+use conn_machine::laws_of_runs::rows_change_one_at_a_time;
+use conn_machine::{Commanded, Entry, Event, Folded, Kept, Reply, State, Why};
 use conn_slots::Slots;
 use conn_state::{Conn, Ended, Known, Nothing};
 use mpm_base::{Ask, Cause, ConnName, Kind, Link, Moment, NoMemory, Note, Shape, Snapshot};
@@ -124,7 +124,8 @@ impl<L: Link, N: Known> Board<L, N> {
         ensures base { IfOk result (λ board. board.book.base ≡ opening_state slots children shape) }
         ensures folded { IfOk result (λ board. board.book.folded ≡ opening_record passes) }
         ensures history { IfOk result (λ board. board.book.history ≡ []) }
-        ensures state { IfOk result (λ board. board.book.state ≡ opening_state slots children shape) }
+        ensures state { IfOk result
+            (λ board. board.book.state ≡ opening_state slots children shape) }
         ensures passes { IfOk result (λ board. board.book.passes ≡ passes) }
         ensures ended { IfOk result (λ board. board.ended ≡ []) }
         ensures edition { IfOk result (λ board. edition_of board.book 0 ≡ Some 0) }
@@ -271,15 +272,17 @@ impl<L: Link, N: Known> Board<L, N> {
         requires who { who < self.old.book.passes }
         requires listener { who ≡ 0 }
         requires free { row_in who self.old.book ≡ None }
-        ensures ok { IfOk result (λ taken. IsAdded who (event.Accept taken.name.slot) self.old self.new) }
-        ensures taken { IfOk result (λ taken. IsTaken self.old.book.state taken.name taken.child taken.generation) }
+        ensures ok { IfOk result
+            (λ taken. IsAdded who (event.Accept taken.name.slot) self.old self.new) }
+        ensures taken { IfOk result
+            (λ taken. IsTaken self.old.book.state taken.name taken.child taken.generation) }
         ensures why { IfErr result (λ fault. IsNotTakenFor fault self.old.book) }
         ensures err { OnErr result (self.new ≡ self.old) }
         ensures entries { AddsOnly who self.old.book self.new.book }
         ensures row { IfOk result (λ taken. row_in who self.new.book ≡ Some taken.name) }
     {
         let parts = &mut *self.parts;
-        one_row_changes();
+        rows_change_one_at_a_time();
         let next = slot_for_accept(&parts.book, &parts.conns)?;
         let live = parts.book.state().rows.live_count();
         if parts.ended.reserve(live + 1).is_err() {
@@ -312,13 +315,18 @@ impl<L: Link, N: Known> Board<L, N> {
     ) -> Result<(), (BoardFault, Conn<L, N>)>
         requires who { who < self.old.book.passes }
         requires row { row_in who self.old.book ≡ Some conn.name }
-        requires allowed { is_halted self.old.book.state.going ≡ false → is_allowed self.old.book.state (event.Park conn.name kind) ≡ true }
+        requires allowed { is_halted self.old.book.state.going ≡ false
+            → is_allowed self.old.book.state (event.Park conn.name kind) ≡ true }
         requires fits { IsOf self.old.book.state conn }
         requires settled { IsSettled kind (cause_of self.old.book.state conn.name) conn }
         requires turned { FoundNoMore kind conn }
-        requires edition { IsOfGeneration N.known self.old.book conn.generation conn.reader.limits conn.site }
-        ensures ok { OnOk result (IsAdded who (event.Park conn.name kind) self.old (record self.new { conns = self.old.conns })) }
-        ensures parked { OnOk result (self.new.conns ≡ slice_set self.old.conns conn.name.slot (Some conn)) }
+        requires edition { IsOfGeneration N.known self.old.book conn.generation conn.reader.limits
+            conn.site }
+        ensures ok { OnOk result
+            (IsAdded who (event.Park conn.name kind) self.old
+            (record self.new { conns = self.old.conns })) }
+        ensures parked { OnOk result
+            (self.new.conns ≡ slice_set self.old.conns conn.name.slot (Some conn)) }
         ensures why { IfErr result (λ e. IsRefusedFor e.0 self.old.book) }
         ensures back { IfErr result (λ e. e.1 ≡ conn) }
         ensures err { OnErr result (self.new ≡ self.old) }
@@ -326,7 +334,7 @@ impl<L: Link, N: Known> Board<L, N> {
         ensures row { OnOk result (row_in who self.new.book ≡ None) }
     {
         let parts = &mut *self.parts;
-        one_row_changes();
+        rows_change_one_at_a_time();
         conn.show();
         let name = conn.name();
         match parts.book.record(who, Event::Park(name, kind)) {
@@ -344,17 +352,20 @@ impl<L: Link, N: Known> Board<L, N> {
         requires listener { who ≡ 0 }
         requires free { row_in who self.old.book ≡ None }
         requires allowed { is_allowed self.old.book.state (event.Hold name) ≡ true }
-        ensures is { self.new ≡ record (with_recorded who (event.Hold name) self.old) { conns = slice_set self.old.conns name.slot None } }
+        ensures is { self.new
+            ≡ record (with_recorded who (event.Hold name) self.old)
+            { conns = slice_set self.old.conns name.slot None } }
         ensures conn { conn_at self.old.conns name.slot ≡ Some result }
         ensures name { result.name ≡ name }
         ensures handed { IsTakenUp self.new.book.state result }
         ensures way { IsOnItsWay (cause_of self.old.book.state name) result }
-        ensures edition { IsOfGeneration N.known self.new.book result.generation result.reader.limits result.site }
+        ensures edition { IsOfGeneration N.known self.new.book result.generation
+            result.reader.limits result.site }
         ensures entries { AddsOnly who self.old.book self.new.book }
         ensures row { row_in who self.new.book ≡ Some name }
     {
         let parts = &mut *self.parts;
-        one_row_changes();
+        rows_change_one_at_a_time();
         parts.book.show();
         let _ = parts.book.record_sure(who, Event::Hold(name));
         let _ = parts.queues.unpark(name);
@@ -366,21 +377,25 @@ impl<L: Link, N: Known> Board<L, N> {
     pub fn queue(&mut self, who: u32, name: ConnName) -> Result<Conn<L, N>, BoardFault>
         requires who { who < self.old.book.passes }
         requires free { row_in who self.old.book ≡ None }
-        requires allowed { is_halted self.old.book.state.going ≡ false → is_allowed self.old.book.state (event.Queue name) ≡ true }
-        ensures ok { OnOk result (IsAdded who (event.Queue name) self.old (record self.new { conns = self.old.conns })) }
+        requires allowed { is_halted self.old.book.state.going ≡ false
+            → is_allowed self.old.book.state (event.Queue name) ≡ true }
+        ensures ok { OnOk result
+            (IsAdded who (event.Queue name) self.old (record self.new { conns = self.old.conns })) }
         ensures emptied { OnOk result (self.new.conns ≡ slice_set self.old.conns name.slot None) }
         ensures conn { IfOk result (λ conn. conn_at self.old.conns name.slot ≡ Some conn) }
         ensures name { IfOk result (λ conn. conn.name ≡ name) }
         ensures handed { IfOk result (λ conn. IsTakenUp self.new.book.state conn) }
         ensures stays_open { IfOk result (λ conn. conn.linger ≡ linger.Open) }
-        ensures edition { IfOk result (λ conn. IsOfGeneration N.known self.new.book conn.generation conn.reader.limits conn.site) }
+        ensures edition { IfOk result
+            (λ conn. IsOfGeneration N.known self.new.book conn.generation conn.reader.limits
+            conn.site) }
         ensures why { IfErr result (λ fault. IsRefusedFor fault self.old.book) }
         ensures err { OnErr result (self.new ≡ self.old) }
         ensures entries { AddsOnly who self.old.book self.new.book }
         ensures row { OnOk result (row_in who self.new.book ≡ Some name) }
     {
         let parts = &mut *self.parts;
-        one_row_changes();
+        rows_change_one_at_a_time();
         parts.book.show();
         parts.book.record(who, Event::Queue(name))?;
         let _ = parts.queues.unpark(name);
@@ -394,12 +409,14 @@ impl<L: Link, N: Known> Board<L, N> {
         requires allowed { is_allowed self.old.book.state (event.Start name) ≡ true }
         ensures is { self.new ≡ with_recorded who (event.Start name) self.old }
         ensures cell { result ≡ cell_at self.old.book.state name.slot }
-        ensures handed { (c : SeenConn) → IsTakenUp self.old.book.state c → IsTakenUp self.new.book.state c }
+        ensures handed { (c : SeenConn)
+            → IsTakenUp self.old.book.state c
+            → IsTakenUp self.new.book.state c }
         ensures entries { AddsOnly who self.old.book self.new.book }
         ensures row { row_in who self.new.book ≡ Some name }
     {
         let parts = &mut *self.parts;
-        one_row_changes();
+        rows_change_one_at_a_time();
         parts.book.show();
         let Reply::Cell(cell) = parts.book.record_sure(who, Event::Start(name)) else {
             unreachable!()
@@ -411,7 +428,8 @@ impl<L: Link, N: Known> Board<L, N> {
     pub fn answer(&mut self, who: u32, name: ConnName, ask: Ask) -> Result<Note, BoardFault>
         requires who { who < self.old.book.passes }
         requires row { row_in who self.old.book ≡ Some name }
-        requires allowed { is_halted self.old.book.state.going ≡ false → is_allowed self.old.book.state (event.Answer name ask) ≡ true }
+        requires allowed { is_halted self.old.book.state.going ≡ false
+            → is_allowed self.old.book.state (event.Answer name ask) ≡ true }
         ensures ok { OnOk result (IsAdded who (event.Answer name ask) self.old self.new) }
         ensures note { IfOk result (λ note. IsDecided self.old.book.state name ask note) }
         ensures date { IfOk result (λ note. IsSecond note.date) }
@@ -421,7 +439,7 @@ impl<L: Link, N: Known> Board<L, N> {
         ensures row { row_in who self.new.book ≡ Some name }
     {
         let parts = &mut *self.parts;
-        one_row_changes();
+        rows_change_one_at_a_time();
         parts.book.show();
         let note = parts.book.answer(who, name, &ask)?;
         Ok(note)
@@ -436,13 +454,16 @@ impl<L: Link, N: Known> Board<L, N> {
         requires fits { IsOf self.old.book.state conn }
         requires half_closed { conn.linger ≡ linger.Shut }
         requires shows { MayLinger cause conn }
-        requires edition { IsOfGeneration N.known self.old.book conn.generation conn.reader.limits conn.site }
-        ensures is { self.new ≡ record (with_recorded who (event.Linger conn.name cause) self.old) { conns = slice_set self.old.conns conn.name.slot (Some conn) } }
+        requires edition { IsOfGeneration N.known self.old.book conn.generation conn.reader.limits
+            conn.site }
+        ensures is { self.new
+            ≡ record (with_recorded who (event.Linger conn.name cause) self.old)
+            { conns = slice_set self.old.conns conn.name.slot (Some conn) } }
         ensures entries { AddsOnly who self.old.book self.new.book }
         ensures row { row_in who self.new.book ≡ None }
     {
         let parts = &mut *self.parts;
-        one_row_changes();
+        rows_change_one_at_a_time();
         conn.show();
         let name = conn.name();
         let _ = parts.book.record_sure(who, Event::Linger(name, cause));
@@ -454,17 +475,22 @@ impl<L: Link, N: Known> Board<L, N> {
     pub fn close(&mut self, who: u32, ended: Ended<L>)
         requires who { who < self.old.book.passes }
         requires row { row_in who self.old.book ≡ Some ended.name }
-        requires allowed { is_allowed self.old.book.state (event.Close ended.name ended.cause ended.tail) ≡ true }
+        requires allowed { is_allowed self.old.book.state
+            (event.Close ended.name ended.cause ended.tail)
+            ≡ true }
         requires fits { IsClosing self.old.book.state ended.name ended.cause ended.tail ended }
         requires answered { IsEnded ended }
         requires client { IsOfClient N.known ended.told }
-        requires edition { IsOfGeneration N.known self.old.book ended.generation ended.limits ended.site }
-        ensures is { self.new ≡ record (with_recorded who (event.Close ended.name ended.cause ended.tail) self.old) { ended = self.old.ended ++ ended ∷ [] } }
+        requires edition { IsOfGeneration N.known self.old.book ended.generation ended.limits
+            ended.site }
+        ensures is { self.new
+            ≡ record (with_recorded who (event.Close ended.name ended.cause ended.tail) self.old)
+            { ended = self.old.ended ++ ended ∷ [] } }
         ensures entries { AddsOnly who self.old.book self.new.book }
         ensures row { row_in who self.new.book ≡ None }
     {
         let parts = &mut *self.parts;
-        one_row_changes();
+        rows_change_one_at_a_time();
         parts.book.show();
         let _ = parts
             .book
@@ -480,7 +506,8 @@ impl<L: Link, N: Known> Board<L, N> {
     pub fn ready(&mut self, who: u32, slot: u32) -> Result<(), BoardFault>
         requires who { who < self.old.book.passes }
         requires listener { who ≡ 0 }
-        requires allowed { is_halted self.old.book.state.going ≡ false → is_allowed self.old.book.state (event.Ready slot) ≡ true }
+        requires allowed { is_halted self.old.book.state.going ≡ false
+            → is_allowed self.old.book.state (event.Ready slot) ≡ true }
         ensures ok { OnOk result (IsAdded who (event.Ready slot) self.old self.new) }
         ensures why { IfErr result (λ fault. IsRefusedFor fault self.old.book) }
         ensures err { OnErr result (self.new ≡ self.old) }
@@ -496,7 +523,8 @@ impl<L: Link, N: Known> Board<L, N> {
     pub fn tick(&mut self, who: u32, moment: Moment) -> Result<(), BoardFault>
         requires who { who < self.old.book.passes }
         requires listener { who ≡ 0 }
-        requires allowed { is_halted self.old.book.state.going ≡ false → is_allowed self.old.book.state (event.Tick moment) ≡ true }
+        requires allowed { is_halted self.old.book.state.going ≡ false
+            → is_allowed self.old.book.state (event.Tick moment) ≡ true }
         ensures ok { OnOk result (IsAdded who (event.Tick moment) self.old self.new) }
         ensures why { IfErr result (λ fault. IsRefusedFor fault self.old.book) }
         ensures err { OnErr result (self.new ≡ self.old) }
@@ -512,7 +540,8 @@ impl<L: Link, N: Known> Board<L, N> {
     pub fn start_child(&mut self, who: u32, child: u32) -> Result<(), BoardFault>
         requires who { who < self.old.book.passes }
         requires listener { who ≡ 0 }
-        requires allowed { is_halted self.old.book.state.going ≡ false → is_allowed self.old.book.state (event.StartChild child) ≡ true }
+        requires allowed { is_halted self.old.book.state.going ≡ false
+            → is_allowed self.old.book.state (event.StartChild child) ≡ true }
         ensures ok { OnOk result (IsAdded who (event.StartChild child) self.old self.new) }
         ensures why { IfErr result (λ fault. IsRefusedFor fault self.old.book) }
         ensures err { OnErr result (self.new ≡ self.old) }
@@ -525,23 +554,24 @@ impl<L: Link, N: Known> Board<L, N> {
     }
 
     /// A command from outside: a new generation begins, whose number is the one behind the newest and whose edition has the number of this
-    /// order; or the order is recorded as refused; or no connection is taken any more. Takes the room that a new edition needs.
-    pub fn command(&mut self, who: u32, order: Order) -> Result<(), BoardFault>
+    /// order; or the order is recorded as refused; or no connection is taken any more; or the server stops. Takes the room that a new edition needs.
+    pub fn command(&mut self, who: u32, command: Commanded) -> Result<(), BoardFault>
         requires who { who < self.old.book.passes }
         requires listener { who ≡ 0 }
-        requires allowed { is_halted self.old.book.state.going ≡ false → is_allowed self.old.book.state (event.Command (commanded order)) ≡ true }
-        ensures ok { OnOk result (IsAdded who (event.Command (commanded order)) self.old self.new) }
+        requires allowed { is_halted self.old.book.state.going ≡ false
+            → is_allowed self.old.book.state (event.Command command) ≡ true }
+        ensures ok { OnOk result (IsAdded who (event.Command command) self.old self.new) }
         ensures why { IfErr result (λ fault. IsRefusedFor fault self.old.book) }
         ensures err { OnErr result (self.new ≡ self.old) }
         ensures entries { AddsOnly who self.old.book self.new.book }
         ensures row { row_in who self.new.book ≡ row_in who self.old.book }
     {
         let parts = &mut *self.parts;
-        parts.book.record(who, Event::Command(order.commanded()))?;
+        parts.book.record(who, Event::Command(command))?;
         Ok(())
     }
 
-    /// The server stops. Takes no memory.
+    /// The server stops, as by the command. Takes no memory.
     pub fn halt(&mut self, who: u32, why: Why)
         requires who { who < self.old.book.passes }
         requires listener { who ≡ 0 }

@@ -24,11 +24,11 @@ use crate::ahead::Ahead;
 use crate::editions::KnownEditions;
 use crate::faults::BoardFault;
 use crate::filed::{FiledState, step};
-use crate::laws::one_row_changes;
 use conn_machine::laws::{each_pass_has_its_own_connection, events_keep_states_sound};
 use conn_machine::laws_of_runs::{
     folds_are_one_fold, generations_begin_in_order, histories_go_on_by_one_entry,
     passes_add_entries, records_go_on_by_folds, records_open_with_nothing,
+    rows_change_one_at_a_time,
 };
 use conn_machine::{Entry, Event, Folded, Reply, State};
 use mpm_base::{Ask, ConnName, NoMemory, Note, Octets, Shape};
@@ -62,9 +62,16 @@ impl Model for Book {
 
     ghost Value = { SeenBook };
 
-    ghost view = { λ b. record { base = b.base.value; folded = b.folded; history = b.history.items; state = b.state; passes = length b.folded.ordinals } };
+    ghost view = { λ b. record {
+      base = b.base.value;
+      folded = b.folded;
+      history = b.history.items;
+      state = b.state;
+      passes = length b.folded.ordinals;
+    } };
 
-    ghost invariant = { λ b. IsKept (length b.folded.ordinals) b.base.value b.folded b.history.items b.state b.ahead b.editions.items.items (vec_capacity b.history) };
+    ghost invariant = { λ b. IsKept (length b.folded.ordinals) b.base.value b.folded b.history.items
+        b.state b.ahead b.editions.items.items (vec_capacity b.history) };
 }
 
 impl Book {
@@ -183,7 +190,10 @@ impl Book {
     /// the room that was taken.
     pub fn fold(&mut self, lines: Option<Octets>) -> Result<(), NoMemory>
         requires { may_fold self.old.folded self.old.history ≡ true }
-        ensures ok { (ended : List (List ℕ)) → lines_then lines self.old.folded.lines ≡ lines_after ended self.old.folded.closed self.old.folded.lines → OnOk result (self.new ≡ folded_book ended self.old) }
+        ensures ok { (ended : List (List ℕ))
+            → lines_then lines self.old.folded.lines
+            ≡ lines_after ended self.old.folded.closed self.old.folded.lines
+            → OnOk result (self.new ≡ folded_book ended self.old) }
         ensures err { OnErr result (self.new ≡ self.old) }
     {
         each_pass_has_its_own_connection();
@@ -205,18 +215,20 @@ impl Book {
     /// changes.
     pub fn record(&mut self, who: u32, event: Event) -> Result<Reply, BoardFault>
         requires who { who < self.old.passes }
-        requires allowed { is_halted self.old.state.going ≡ false → is_allowed self.old.state event ≡ true }
+        requires allowed { is_halted self.old.state.going ≡ false
+            → is_allowed self.old.state event ≡ true }
         requires role { may_make who (row_in who self.old) event ≡ true }
         ensures ok { OnOk result (IsRecorded who event self.old self.new) }
         ensures entries { AddsOnly who self.old self.new }
-        ensures row { IfOk result (λ answer. row_in who self.new ≡ has_after (row_in who self.old) event answer) }
+        ensures row { IfOk result
+            (λ answer. row_in who self.new ≡ has_after (row_in who self.old) event answer) }
         ensures reply { IfOk result (λ answer. answer ≡ reply self.old.state event) }
         ensures why { IfErr result (λ fault. IsRefusedFor fault self.old) }
         ensures err { OnErr result (self.new ≡ self.old) }
     {
         histories_go_on_by_one_entry();
         passes_add_entries();
-        one_row_changes();
+        rows_change_one_at_a_time();
         generations_begin_in_order();
         if self.state().going.is_halted() {
             return Err(BoardFault::Halted);
@@ -248,7 +260,8 @@ impl Book {
     /// Records that a response is decided, and gives its note, which is made before. Where it is refused nothing changes.
     pub fn answer(&mut self, who: u32, name: ConnName, ask: &Ask) -> Result<Note, BoardFault>
         requires who { who < self.old.passes }
-        requires allowed { is_halted self.old.state.going ≡ false → is_allowed self.old.state (event.Answer name ask.now) ≡ true }
+        requires allowed { is_halted self.old.state.going ≡ false
+            → is_allowed self.old.state (event.Answer name ask.now) ≡ true }
         requires role { may_make who (row_in who self.old) (event.Answer name ask.now) ≡ true }
         ensures ok { OnOk result (IsRecorded who (event.Answer name ask.now) self.old self.new) }
         ensures note { IfOk result (IsDecided self.old.state name ask.now) }
@@ -323,7 +336,8 @@ fn append(
     requires within { CountsWithin folded.now }
     requires countable { folded.now.entries + length history.old.items < 2 ^ 63 }
     requires ahead { IsAhead folded.now history.old.items ahead.old }
-    ensures history { history.new.items ≡ history.old.items ++ numbered_entry who event reply folded.now history.old.items ∷ [] }
+    ensures history { history.new.items
+        ≡ history.old.items ++ numbered_entry who event reply folded.now history.old.items ∷ [] }
     ensures ahead { IsAhead folded.now history.new.items ahead.new }
     ensures room { vec_capacity history.old ≤ vec_capacity history.new }
 {

@@ -1,6 +1,6 @@
 //! The connections in the slots of a board: one that begins to wait, and one that is taken up.
 ghost use Rattle.std.specs.Prelude.{◌≡◌, Some, None};
-ghost use Rattle.conn_slots.specs.Slots.{IsLive, with_item};
+ghost use Rattle.conn_slots.specs.Slots.{HasItem, with_item};
 ghost use Rattle.conn_state.specs.Conn.{SeenConn};
 ghost use Rattle.conn_state.specs.Known.{IsOfClient};
 ghost use Rattle.board.specs.Board.{conn_at};
@@ -15,9 +15,11 @@ pub(crate) fn take_out<L: Link, N: Known>(
     conns: &mut Slots<Option<Conn<L, Nothing>>>,
     name: ConnName,
 ) -> Conn<L, N>
-    requires live { IsLive conns.old.slots name }
+    requires live { HasItem conns.old.slots name }
     requires there { (c : SeenConn) × (conn_at (conns_in conns.old.slots) name.slot ≡ Some c) }
-    requires client { (c : SeenConn) → conn_at (conns_in conns.old.slots) name.slot ≡ Some c → IsOfClient N.known c.told }
+    requires client { (c : SeenConn)
+        → conn_at (conns_in conns.old.slots) name.slot ≡ Some c
+        → IsOfClient N.known c.told }
     ensures conn { conn_at (conns_in conns.old.slots) name.slot ≡ Some result }
     ensures emptied { conns.new.slots ≡ with_item conns.old.slots name None }
 {
@@ -36,7 +38,7 @@ pub(crate) fn put_back<L: Link, N: Known>(
     name: ConnName,
     conn: Conn<L, N>,
 )
-    requires { IsLive conns.old.slots name }
+    requires { HasItem conns.old.slots name }
     ensures { conns.new.slots ≡ with_item conns.old.slots name (Some conn) }
 {
     let Some(place) = conns.get_mut(name) else {

@@ -32,7 +32,8 @@ impl KnownEditions {
     /// Takes the room that the event needs: for one edition more, where it begins a generation.
     pub fn reserve_for(&mut self, event: &Event) -> Result<(), NoMemory>
         ensures same { self.new.items.items ≡ self.old.items.items }
-        ensures room { OnOk result (HasRoomFor event.now (vec_len self.new.items) (vec_capacity self.new.items)) }
+        ensures room { OnOk result
+            (HasRoomFor event.now (vec_len self.new.items) (vec_capacity self.new.items)) }
     {
         if begins_generation(event) && self.items.reserve(1).is_err() {
             return Err(NoMemory);
@@ -43,7 +44,8 @@ impl KnownEditions {
     /// Adds the edition of the generation that the event begins, where it begins one: this generation, by the order of this number.
     pub fn add(&mut self, event: &Event, generation: u32, order: u64)
         requires { HasRoomFor event.now (vec_len self.old.items) (vec_capacity self.old.items) }
-        ensures { self.new.items.items ≡ with_begun event.now generation order self.old.items.items }
+        ensures { self.new.items.items
+            ≡ with_begun event.now generation order self.old.items.items }
     {
         if begins_generation(event) {
             let edition = Edition {
@@ -59,14 +61,16 @@ impl KnownEditions {
 
     /// Those of the generations that are in use, as a record has them.
     pub fn in_use(&self, alloc: Global, state: &State) -> Result<Editions, NoMemory>
-        ensures { IfOk result (λ kept. kept ≡ filter (λ e. is_in_use state.now e.generation) self.now.items.items) }
+        ensures { IfOk result
+            (λ kept. kept ≡ filter (λ e. is_in_use state.now e.generation) self.now.items.items) }
     {
         Editions::in_use(alloc, self.items.as_slice(), state)
     }
 
     /// Drops those of the generations that are not in use. Wants no memory.
     pub fn keep_in_use(&mut self, state: &State)
-        ensures { self.new.items.items ≡ filter (λ e. is_in_use state.now e.generation) self.old.items.items }
+        ensures { self.new.items.items
+            ≡ filter (λ e. is_in_use state.now e.generation) self.old.items.items }
     {
         self.items
             .retain(|edition| state.is_in_use(edition.generation));

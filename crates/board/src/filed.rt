@@ -9,7 +9,7 @@ ghost use Rattle.conn_machine.specs.declared.row.Row.{Row};
 ghost use Rattle.board.specs.Finds.{FindsRow, has_to_be_drained, is_due, is_let_go};
 ghost use Rattle.board.specs.FiledInside.{FindsInChild, FindsInRing, refiled_rings, ring_of_child, ring_of_row, slot_of_event};
 
-use crate::laws::one_row_changes;
+use conn_machine::laws_of_runs::rows_change_one_at_a_time;
 use conn_machine::{Event, Reply, Row, State};
 use mpm_base::{Ask, ConnName, Kind, NoMemory, Note, Shape};
 use std::alloc::Global;
@@ -81,7 +81,10 @@ impl FiledState {
         requires few_rows { length self.old.rows ≤ 8192 }
         requires few_children { length self.old.children ≤ 32 }
         ensures still { self.new ≡ self.old }
-        ensures note { IfOk result (λ note. (r : Row) → slice_get self.old.rows name.slot ≡ Some r → note ≡ note_for self.old name.slot ask.now r) }
+        ensures note { IfOk result
+            (λ note. (r : Row)
+            → slice_get self.old.rows name.slot ≡ Some r
+            → note ≡ note_for self.old name.slot ask.now r) }
     {
         self.state.note_for(alloc, name, ask)
     }
@@ -189,7 +192,7 @@ pub(crate) fn step(alloc: Global, state: &mut FiledState, event: &Event) -> Resu
     ensures sizes { HasSizesOf state.old state.new }
     ensures sized { IsSized state.old → IsSized state.new }
 {
-    one_row_changes();
+    rows_change_one_at_a_time();
     let reply = conn_machine::step(alloc, &mut state.state, event)?;
     refile(&state.state, &mut state.rings, slot_of_event(event));
     Ok(reply)

@@ -148,7 +148,9 @@ fn can_start(state: &State) -> Option<u32>
 /// The lowest child that is gone.
 fn lowest_gone(state: &State) -> Option<u32>
     requires few_children { length state.now.children ≤ 32 }
-    ensures { result ≡ find (child_passes (λ c. is_empty c.phase) state.now) (range_with_len 0 (length state.now.children)) }
+    ensures { result
+        ≡ find (child_passes (λ c. is_empty c.phase) state.now)
+        (range_with_len 0 (length state.now.children)) }
 {
     (0..state.children.len() as u32).find(|child| is_gone(state, *child))
 }
@@ -188,7 +190,9 @@ fn kind(state: &State, name: ConnName) -> Option<Kind>
 /// The least of some moments, once the moment at which the server stops is one of them.
 #[tactic(auto, using(crate::proofs::FindLemmas::reduce_push))]
 fn least_with_ending(least: Option<Moment>, going: Going) -> Option<Moment>
-    ensures { (moments : List ℕ) → least ≡ reduce min moments → result ≡ reduce min (moments ++ ending_moments going) }
+    ensures { (moments : List ℕ)
+        → least ≡ reduce min moments
+        → result ≡ reduce min (moments ++ ending_moments going) }
 {
     match going {
         Going::Ending(Some(until)) => Some(least.map_or(until, |other| until.min(other))),

@@ -19,7 +19,8 @@ pub fn lines_after<L: Link>(
     closed: u64,
     ended: &[Ended<L>],
 ) -> Result<Octets, NoMemory>
-    ensures { IfOk result (λ text. text ≡ lines_after (map line.line_of ended.now) closed lines.now) }
+    ensures { IfOk result
+        (λ text. text ≡ lines_after (map line.line_of ended.now) closed lines.now) }
 {
     let mut text = Octets::of(alloc, lines.as_slice())?;
     for i in 0..(ended.len() as u64).min(MOST_LINES.saturating_sub(closed)) {
@@ -35,7 +36,9 @@ pub(crate) fn further_lines<L: Link>(
     closed: u64,
     ended: &[Ended<L>],
 ) -> Result<Option<Octets>, NoMemory>
-    ensures { IfOk result (λ more. lines_then more lines.now ≡ lines_after (map line.line_of ended.now) closed lines.now) }
+    ensures { IfOk result
+        (λ more. lines_then more lines.now
+        ≡ lines_after (map line.line_of ended.now) closed lines.now) }
 {
     if closed >= MOST_LINES || ended.is_empty() {
         return Ok(None);

@@ -6,7 +6,7 @@ use Rattle.conn_machine.specs.Folds.{opening_record}
 use Rattle.conn_machine.specs.Runs.{Adds}
 use Rattle.table_rule.specs.declared.view.Origin.{Origin}
 use Rattle.table_rule.specs.declared.view.View.{View}
-use Rattle.table_rule.specs.Ledgers.{EndsTurn, IsLedgerLeft}
+use Rattle.table_rule.specs.Ledgers.{EndsTurn, IsLastLeft}
 use Rattle.table_rule.specs.Views.{IsFound, first_view, free_view, given_view, taken_view}
 
 -- a pass of a new lock: pass 0 has drawn the numbers of all
@@ -29,6 +29,7 @@ pub record TookTurn {K : Type 0} (old new : Me (Option K) View) (found : Ledger)
 pub record GaveBack {K : Type 0} (old new : Me (Option K) View) (left : Ledger) : Type 0 where
   pub view : new.0 ≡ given_view old.0 new.0.seen new.0.left
   pub hand : new.1 ≡ []
-  pub adds : Adds old.0.who.number old.0.origin.state (opening_record old.0.origin.passes) old.0.seen new.0.seen
+  pub adds : Adds old.0.who.number old.0.origin.state (opening_record old.0.origin.passes)
+      old.0.seen new.0.seen
   pub ends : EndsTurn old.0 left new.0.seen
-  pub is_left : IsLedgerLeft old.0 left new.0.seen new.0.left
+  pub is_left : IsLastLeft old.0 left new.0.seen new.0.left

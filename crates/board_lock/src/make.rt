@@ -25,8 +25,14 @@ impl<K: Kept> Shared<K> {
         requires new { IsNew (K.ledger kept) }
         requires passes { (K.ledger kept).passes ≡ passes }
         ensures count { IfOk result (λ made. vec_len made.1 ≡ passes) }
-        ensures own { IfOk result (λ made. (p : ℕ) (pass : _) → slice_get made.1.items p ≡ Some pass → pass.seat.table_id ≡ made.0.table.shared.table_id) }
-        ensures fresh { IfOk result (λ made. (p : ℕ) (pass : _) → slice_get made.1.items p ≡ Some pass → pass.seat.me ≡ (fresh_view (origin_of (K.ledger kept)) p, [])) }
+        ensures own { IfOk result
+            (λ made. (p : ℕ) (pass : _)
+            → slice_get made.1.items p ≡ Some pass
+            → pass.seat.table_id ≡ made.0.table.shared.table_id) }
+        ensures fresh { IfOk result
+            (λ made. (p : ℕ) (pass : _)
+            → slice_get made.1.items p ≡ Some pass
+            → pass.seat.me ≡ (fresh_view (origin_of (K.ledger kept)) p, [])) }
         ensures err { IfErr result (λ refused. refused.1 ≡ kept) }
     {
         let Ok(mut all) = Vec::with_capacity(alloc, passes as usize) else {
@@ -57,14 +63,24 @@ impl<K: Kept> Shared<K> {
     /// Makes the passes but for pass 0.
     fn fill(&self, first: &mut Pass<K>, all: &mut Vec<Pass<K>>, passes: u32)
         requires own { first.old.seat.table_id ≡ self.now.table.shared.table_id }
-        requires first { first.old.seat.me ≡ (first_view (origin_of (K.ledger self.now.table.shared.key.value)) 1, []) }
-        requires passes { (1 ≤ passes) × ((K.ledger self.now.table.shared.key.value).passes ≡ passes) }
+        requires first { first.old.seat.me
+            ≡ (first_view (origin_of (K.ledger self.now.table.shared.key.value)) 1, []) }
+        requires passes { (1 ≤ passes)
+            × ((K.ledger self.now.table.shared.key.value).passes ≡ passes) }
         requires room { (vec_len all.old ≡ 0) × (passes ≤ vec_capacity all.old) }
         ensures own { first.new.seat.table_id ≡ first.old.seat.table_id }
-        ensures first { first.new.seat.me ≡ (first_view (origin_of (K.ledger self.now.table.shared.key.value)) passes, []) }
+        ensures first { first.new.seat.me
+            ≡ (first_view (origin_of (K.ledger self.now.table.shared.key.value)) passes, []) }
         ensures count { vec_len all.new + 1 ≡ passes }
         ensures room { passes ≤ vec_capacity all.new }
-        ensures all { (p : ℕ) (pass : _) → slice_get all.new.items p ≡ Some pass → (pass.seat.table_id ≡ self.now.table.shared.table_id) × (pass.seat.me ≡ (free_view (origin_of (K.ledger self.now.table.shared.key.value)) (p + 1) [], [])) }
+        ensures all { (p : ℕ) (pass : _)
+            → slice_get all.new.items p ≡ Some pass
+            → (pass.seat.table_id ≡ self.now.table.shared.table_id)
+            × (pass.seat.me
+            ≡ (
+              free_view (origin_of (K.ledger self.now.table.shared.key.value)) (p + 1) [],
+              [],
+            )) }
     {
         for number in 1..passes {
             let pass = self.next_pass(first, number);
@@ -75,11 +91,19 @@ impl<K: Kept> Shared<K> {
     /// Makes the next pass, of this number.
     fn next_pass(&self, first: &mut Pass<K>, number: u32) -> Pass<K>
         requires own { first.old.seat.table_id ≡ self.now.table.shared.table_id }
-        requires first { first.old.seat.me ≡ (first_view (origin_of (K.ledger self.now.table.shared.key.value)) number, []) }
-        requires number { (1 ≤ number) × (number < (K.ledger self.now.table.shared.key.value).passes) }
+        requires first { first.old.seat.me
+            ≡ (first_view (origin_of (K.ledger self.now.table.shared.key.value)) number, []) }
+        requires number { (1 ≤ number)
+            × (number < (K.ledger self.now.table.shared.key.value).passes) }
         ensures own { first.new.seat.table_id ≡ first.old.seat.table_id }
-        ensures first { first.new.seat.me ≡ (first_view (origin_of (K.ledger self.now.table.shared.key.value)) (number + 1), []) }
-        ensures pass { (result.seat.table_id ≡ first.old.seat.table_id) × (result.seat.me ≡ (free_view (origin_of (K.ledger self.now.table.shared.key.value)) number [], [])) }
+        ensures first { first.new.seat.me
+            ≡ (first_view (origin_of (K.ledger self.now.table.shared.key.value)) (number + 1), []) }
+        ensures pass { (result.seat.table_id ≡ first.old.seat.table_id)
+            × (result.seat.me
+            ≡ (
+              free_view (origin_of (K.ledger self.now.table.shared.key.value)) number [],
+              [],
+            )) }
     {
         let shared = &self.table.shared;
         laws::number_is_drawn::<K>();

@@ -58,7 +58,8 @@ impl<K: Kept> Shared<K> {
         requires own { pass.old.seat.table_id ≡ self.now.table.shared.table_id }
         requires free { HasNoTurn pass.old.seat.me }
         ensures own { pass.new.seat.table_id ≡ pass.old.seat.table_id }
-        ensures turn { MatchOption result (pass.new.seat.me ≡ pass.old.seat.me) (λ turn. TookTurn pass.old.seat.me pass.new.seat.me (K.ledger turn.kept)) }
+        ensures turn { MatchOption result (pass.new.seat.me ≡ pass.old.seat.me)
+            (λ turn. TookTurn pass.old.seat.me pass.new.seat.me (K.ledger turn.kept)) }
     {
         let shared = &self.table.shared;
         let found = shared.peek(0);
@@ -80,7 +81,8 @@ impl<K: Kept> Shared<K> {
         requires own { pass.old.seat.table_id ≡ self.now.table.shared.table_id }
         requires free { HasNoTurn pass.old.seat.me }
         ensures own { pass.new.seat.table_id ≡ pass.old.seat.table_id }
-        ensures turn { MatchOption result (pass.new.seat.me ≡ pass.old.seat.me) (λ turn. TookTurn pass.old.seat.me pass.new.seat.me (K.ledger turn.kept)) }
+        ensures turn { MatchOption result (pass.new.seat.me ≡ pass.old.seat.me)
+            (λ turn. TookTurn pass.old.seat.me pass.new.seat.me (K.ledger turn.kept)) }
     {
         for _ in 0..TRIES {
             if let Some(turn) = self.try_turn(pass) {
@@ -95,7 +97,8 @@ impl<K: Kept> Shared<K> {
         requires own { pass.old.seat.table_id ≡ self.now.table.shared.table_id }
         requires free { HasNoTurn pass.old.seat.me }
         ensures own { pass.new.seat.table_id ≡ pass.old.seat.table_id }
-        ensures turn { MatchOption result (pass.new.seat.me ≡ pass.old.seat.me) (λ turn. TookTurn pass.old.seat.me pass.new.seat.me (K.ledger turn.kept)) }
+        ensures turn { MatchOption result (pass.new.seat.me ≡ pass.old.seat.me)
+            (λ turn. TookTurn pass.old.seat.me pass.new.seat.me (K.ledger turn.kept)) }
     {
         for _ in 0..YIELDS {
             if let Some(turn) = self.try_often(pass) {

@@ -12,7 +12,7 @@ use Rattle.mpm_base.specs.Shape.{is_in_bounds}
 use Rattle.conn_machine.specs.Folds.{opening_record}
 use Rattle.conn_machine.specs.Runs.{AreEntriesOf}
 use Rattle.conn_machine.specs.States.{opening_state}
-use Rattle.table_rule.specs.declared.view.Left.{Left}
+use Rattle.table_rule.specs.declared.view.LastLeft.{LastLeft}
 use Rattle.table_rule.specs.declared.view.Origin.{Origin}
 use Rattle.table_rule.specs.declared.view.View.{View}
 use Rattle.table_rule.specs.Ledgers.{IsSplit, MayGiveBack}
@@ -74,7 +74,7 @@ may_stay v w b took = (
 -- what a pass may add behind a value it may add behind the whole history that the value stands for
 abbrev pub StandsForWhole : Type 0
 StandsForWhole =
-    (origin : Origin) (left : Left) (l : Ledger) (whole added : List Entry) (p : ℕ) → IsSplit origin left l whole → p < origin.passes
+    (origin : Origin) (left : LastLeft) (l : Ledger) (whole added : List Entry) (p : ℕ) → IsSplit origin left l whole → p < origin.passes
     → AreEntriesOf p l.base l.folded l.history added → AreEntriesOf p origin.state (opening_record origin.passes) whole added
 
 -- an entry of pass 0 is one that it may make behind what it has seen

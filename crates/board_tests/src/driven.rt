@@ -2,7 +2,6 @@
 //! answers none, so that another board is made.
 ghost use Rattle.std.specs.Prelude.{◌≡◌, ◌<◌, true, false, None, Some, [], IfSome, OnSome};
 ghost use Rattle.mpm_base.specs.Notes.{says_last};
-ghost use Rattle.conn_machine.specs.Events.{commanded};
 ghost use Rattle.conn_machine.specs.States.{is_halted};
 ghost use Rattle.conn_machine.specs.Table.{is_allowed};
 ghost use Rattle.conn_machine.specs.declared.event.Event.TheVariants.{Command};
@@ -19,7 +18,7 @@ use crate::seen::{ScriptBoard, Seen};
 use board::laws::answered_connections_fit_their_rows;
 use board::{Board, BoardFault};
 use conn_machine::laws_of_runs::records_go_on_by_folds;
-use conn_machine::{Commanded, Event, Order, Why, may};
+use conn_machine::{Commanded, Event, Why, may};
 use conn_state::laws::lingering_connections_keep_their_cause;
 use conn_state::{Conn, LingerTurn, Nothing, ReadTurn, WriteTurn};
 use file_table::Site;
@@ -147,17 +146,17 @@ fn may_ask(board: &ScriptBoard, event: &Event) -> bool
     board.going().is_halted() || may(board.state(), event)
 }
 
-/// The order that the event is, if it is one.
-fn order_of(event: Event) -> Option<Order>
-    ensures { IfSome result (λ order. Command (commanded order) ≡ event) }
+/// The command that the event is, if it is one other than `stop`.
+fn order_of(event: Event) -> Option<Commanded>
+    ensures { IfSome result (λ command. Command command ≡ event) }
 {
     let Event::Command(command) = event else {
         return None;
     };
     match command {
-        Commanded::Graceful(shape) => Some(Order::Graceful(shape)),
-        Commanded::Refused(refusal) => Some(Order::Refused(refusal)),
-        Commanded::GracefulStop(until) => Some(Order::GracefulStop(until)),
+        Commanded::Graceful(shape) => Some(Commanded::Graceful(shape)),
+        Commanded::Refused(refusal) => Some(Commanded::Refused(refusal)),
+        Commanded::GracefulStop(until) => Some(Commanded::GracefulStop(until)),
         Commanded::Stop(_) => None,
     }
 }

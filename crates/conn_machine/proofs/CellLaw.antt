@@ -1,12 +1,15 @@
 -- Two connections that a child serves have different cells.
-use Rattle.std.proofs.Common.{◌≡◌, ◌≤◌, ℕ, zero, suc, Bool, true, List, [], ◌∷◌, count_by, Some, slice_get, refl, ap, ◌∙◌, arith}
+use Rattle.std.proofs.Common.{◌≡◌, ◌≤◌, ℕ, zero, suc, Bool, true, false, List, [], ◌∷◌, count_by, Option, Some, slice_get, refl, ap, subst, sym, ◌∙◌, arith}
 use Rattle.std.proofs.lemmas.Grind.{common_steps}
+use Rattle.std.specs.Option.{option_map_or}
+use Rattle.mpm_base.specs.declared.conn.ConnName.{ConnName}
 use Rattle.conn_machine.specs.declared.row.Phase.{Phase}
 use Rattle.conn_machine.specs.declared.row.Place.TheVariants.{Working}
 use Rattle.conn_machine.specs.declared.row.Row.{Row}
 use Rattle.conn_machine.specs.declared.state.State.{State}
-use Rattle.conn_machine.specs.Rows.{is_served_in}
+use Rattle.conn_machine.specs.Rows.{is_served_in, live_row}
 use Rattle.conn_machine.specs.Sound.{IsSound}
+use Rattle.conn_machine.proofs.OwnRows.{met, some_is}
 
 -- an item that passes is counted
 count_by-some : {X : Type 0} (test : X → Bool) (xs : List X) (i : ℕ) (x : X) → slice_get xs i ≡ Some x → test x ≡ true
@@ -47,3 +50,16 @@ pub cells_differ : (s : State) (slot other cell : ℕ) (r r' : Row) (phase phase
 cells_differ s slot other cell r r' phase phase' sound at at' works works' same =
     at_most_one (is_served_in r'.child cell) s.rows slot other r r' at at'
     (served_in r'.child cell phase r works same) (served_in r'.child cell phase' r' works' refl) (sound.cells.differ r'.child cell)
+
+-- two live connections of a slot are one
+pub names_of_slot : (rows : List Row) (name other : ConnName) (r r' : Row) → live_row rows name ≡ Some r → live_row rows other ≡ Some r'
+    → name.slot ≡ other.slot → name ≡ other
+names_of_slot rows name other r r' first second same =
+    let lives = λ (o : Option Row). option_map_or (λ (x : Row). true) o false in
+    let a = met (λ (x : Row). true) rows name (ap lives first) in
+    let b = met (λ (x : Row). true) rows other (ap lives second) in
+    let there : slice_get rows other.slot ≡ Some a.row = subst (λ (slot : ℕ). slice_get rows slot ≡ Some a.row) same a.at in
+    let row : a.row ≡ b.row = some_is (slice_get rows other.slot) a.row b.row there b.at in
+    let life : name.life ≡ other.life = sym a.life ∙ ap (λ (x : Row). x.life) row ∙ b.life in
+    let moved : name ≡ record name { slot = other.slot } = ap (λ (slot : ℕ). record name { slot = slot }) same in
+    moved ∙ ap (λ (life : ℕ). record other { life = life }) life

@@ -23,7 +23,7 @@ use Rattle.mpm_base.specs.Shape.{is_in_bounds}
 use Rattle.conn_machine.specs.States.{child_of, is_serving, is_halted, is_overdue, unused_row, opening_state}
 use Rattle.mpm_base.specs.Moment.{greatest_moment}
 use Rattle.conn_machine.specs.Table.{may_tick, next_tick, next_ready, child_passes, may_start_child, next_start_child, may_retire, next_retire, greatest_generation, command_fits, may_command, next_command}
-use Rattle.conn_machine.specs.Sound.{IsGone, IsSound}
+use Rattle.conn_machine.specs.Sound.{IsEmptyChild, IsSound}
 use Rattle.conn_machine.proofs.SizeLemmas.{length-update}
 
 -- ---- a list of children after a change
@@ -154,7 +154,7 @@ record IsLike (c c' : Child) : Type 0 where
 record IsFit (s : State) (newest' : ℕ) (going' : Going) (k : ℕ) (c' : Child) : Type 0 where
   newest : is_running c'.phase ≡ true → c'.generation ≡ newest'
   serving : is_running c'.phase ≡ true → is_serving going' ≡ true
-  gone : is_empty c'.phase ≡ true → IsGone s.rows k c'
+  gone : is_empty c'.phase ≡ true → IsEmptyChild s.rows k c'
   shape : is_empty c'.phase ≡ false → is_in_bounds c'.shape ≡ true
   like : (list_any (is_live_in k) s.rows ≡ false) ⊎ IsLike (child_at s.children k) c'
 

@@ -18,7 +18,7 @@ use Rattle.conn_machine.specs.declared.folded.Folded.{Folded}
 use Rattle.conn_machine.specs.declared.state.State.{State}
 use Rattle.conn_machine.specs.Children.{retired_child, started_child, stopped_child}
 use Rattle.conn_machine.specs.Events.{begins_generation, count_events, is_order, is_refused_entry}
-use Rattle.conn_machine.specs.Folds.{HaveBegun, begun_editions, fold_of, is_child_of, is_in_use, orders_from}
+use Rattle.conn_machine.specs.Folds.{HaveBegun, begun_editions, first_edition, fold_of, is_child_of, is_in_use, opening_record, orders_from}
 use Rattle.conn_machine.specs.Lists.{update}
 use Rattle.conn_machine.specs.Runs.{after}
 use Rattle.conn_machine.specs.Table.{next, next_command}
@@ -329,3 +329,10 @@ editions_twice base f a b ended ended' begun =
     ∙ sym (filter-append (used last) first rest)
     ∙ ap (filter (used last)) joined
     ∙ ap (λ s. filter (used s) (f.editions ++ begun_editions base.newest f.orders (a ++ b))) (sym (after-append base a b))
+
+-- the first generation has begun in every state
+pub begun_first : (s : State) (passes : ℕ) → HaveBegun s (opening_record passes)
+begun_first s passes zero e is =
+    let first : first_edition ≡ e = cc in
+    subst (λ (x : Edition). x.generation ≤ s.newest) first (omega arith)
+begun_first s passes (suc place) e is = absurd (cc)

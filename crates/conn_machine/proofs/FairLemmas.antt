@@ -10,7 +10,7 @@ use Rattle.conn_machine.specs.Rows.{is_live, is_live_in, carried_count, is_carri
 use Rattle.conn_machine.specs.Children.{child_at, is_empty}
 use Rattle.conn_machine.specs.States.{child_of}
 use Rattle.mpm_base.specs.Moment.{greatest_moment}
-use Rattle.conn_machine.specs.Sound.{EachLive, IsCarriable, IsAdmissible, IsGone, IsOfChild, CellIsBelow, KindFits, RequestFits, HasSoundNotes, ArrivalsDiffer, HasSoundArrivals, HaveDeadlinesInRange, IsSound}
+use Rattle.conn_machine.specs.Sound.{EachLive, IsCarriable, IsAdmissible, IsEmptyChild, IsOfChild, CellIsBelow, KindFits, RequestFits, HasSoundNotes, ArrivalsDiffer, HasSoundArrivals, HaveDeadlinesInRange, IsSound}
 use Rattle.conn_machine.proofs.UpdateLemmas.{IsUpdated, get_update, count_update, none_update}
 
 -- what the row that takes the place of another owes, in a sound state
@@ -103,7 +103,7 @@ none_gone s k r false mine is same owner gone = rw (same, is) (and-false mine)
 
 -- a child that is gone has no live row
 gone_stays : (s : State) (slot : ℕ) (r : Row) (change : Row → Row) → IsSound s → slice_get s.rows slot ≡ Some r → IsFair s r (change r)
-    → (k : ℕ) → is_empty (child_at s.children k).phase ≡ true → IsGone (update s.rows slot change) k (child_at s.children k)
+    → (k : ℕ) → is_empty (child_at s.children k).phase ≡ true → IsEmptyChild (update s.rows slot change) k (child_at s.children k)
 gone_stays s slot r change sound at fair k gone = record {
   none_live =
       none_update (is_live_in k) s.rows slot r change at

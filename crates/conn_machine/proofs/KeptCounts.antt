@@ -18,7 +18,7 @@ use Rattle.conn_machine.specs.declared.counts.Totals.{Totals}
 use Rattle.conn_machine.specs.declared.row.Phase.{Phase}
 use Rattle.conn_machine.specs.declared.row.Phase.TheVariants.{Read, Write, Close}
 use Rattle.conn_machine.specs.declared.row.Row.{Row}
-use Rattle.conn_machine.specs.Rows.{is_vacant, is_working, is_with_a_pass, is_parked_as, is_closing, is_live, is_carried_by, is_open_in, is_live_in, is_working_in, is_served_in, is_free_cell, lowest_free_cell}
+use Rattle.conn_machine.specs.Rows.{is_vacant, is_working, is_with_a_pass, is_parked_as, is_parked_lingering, is_live, is_carried_by, is_open_in, is_live_in, is_working_in, is_served_in, is_free_cell, lowest_free_cell}
 use Rattle.conn_machine.specs.Shown.{is_served_as, phase_in}
 use Rattle.conn_machine.specs.States.{unused_row}
 use Rattle.conn_machine.specs.CountsInside.{one_if, moved_count, standing_of, changed_totals, CountsAll, no_counts, word_of, told_phase, counts_of, MovesStanding, CountsChild, IsChanged, AreOpeningCounts, IsCounted}
@@ -59,7 +59,7 @@ totals_changed t rows i r r' few below is was = record {
   working = replaced_few (λ (x : Row). is_working x.place) rows i r r' t.working few below is was.working;
   writing = replaced_few (λ (x : Row). is_parked_as Writing x.place) rows i r r' t.writing few below is was.writing;
   keep_alive = replaced_few (λ (x : Row). is_parked_as KeepAlive x.place) rows i r r' t.keep_alive few below is was.keep_alive;
-  closing = replaced_few (λ (x : Row). is_closing x.place) rows i r r' t.closing few below is was.closing;
+  closing = replaced_few (λ (x : Row). is_parked_lingering x.place) rows i r r' t.closing few below is was.closing;
 }
 
 -- ## The counts of one child
@@ -233,7 +233,7 @@ counted_opening counts slots rows few opening is =
             working = sym (count_none (λ (x : Row). is_working x.place) unused_row refl slots);
             writing = sym (count_none (λ (x : Row). is_parked_as Writing x.place) unused_row refl slots);
             keep_alive = sym (count_none (λ (x : Row). is_parked_as KeepAlive x.place) unused_row refl slots);
-            closing = sym (count_none (λ (x : Row). is_closing x.place) unused_row refl slots);
+            closing = sym (count_none (λ (x : Row). is_parked_lingering x.place) unused_row refl slots);
           });
       children = λ exact k. rw (opening.children, nothing_counted 32 k) (unused_child k slots);
     })

@@ -18,7 +18,7 @@ use Rattle.conn_machine.specs.Rows.{is_vacant, is_live, is_lingering, is_linger_
 use Rattle.conn_machine.specs.States.{is_halted, is_signalled}
 use Rattle.conn_machine.specs.Table.{is_allowed, next, may_accept, taken_row, may_wait, may_park, parked_row, wait_until, held_row, queued_row, served_row, answered_row, may_linger, linger_cause_fits, lingering_row, greatest_life, closed_row, next_command}
 use Rattle.conn_machine.specs.Runs.{Run, after}
-use Rattle.conn_machine.specs.Sound.{WaitsFor, IsSound}
+use Rattle.conn_machine.specs.Sound.{KnowsItsKind, IsSound}
 use Rattle.conn_machine.specs.Laws.{StaysLingering}
 use Rattle.conn_machine.proofs.AllowedLemmas.{accept-row}
 use Rattle.conn_machine.proofs.ChangeLaw.{Change, stays, goes_on, answered, taken, closed, spent, is_met, is_made}
@@ -81,7 +81,7 @@ so_parked : (s : State) (name : ConnName) (kind : Kind) (r : Row) → IsSound s 
     → is_lingering r ≡ true → slice_get s.rows name.slot ≡ Some r → StaysSo r (parked_row s kind r)
 so_parked s name kind r sound may live lingers at live' =
     let met = is_met name (may_wait s.moment kind) s.rows r (and_parts (not (is_halted s.going)) _ may).1 at in
-    let waits : WaitsFor kind (parked_row s kind r) = park_kind s kind r (sound_row s name.slot r sound at live) met.passes in
+    let waits : KnowsItsKind kind (parked_row s kind r) = park_kind s kind r (sound_row s name.slot r sound at live) met.passes in
     record { deadline = until_same s kind r (waits.lingers ∙ lingers); cause = refl }
 
 -- a row that lingers isn't led to linger again

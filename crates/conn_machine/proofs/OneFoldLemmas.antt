@@ -20,7 +20,7 @@ use Rattle.conn_machine.specs.Made.{AreMade, AreMadeBehind, AreOfPasses}
 use Rattle.conn_machine.specs.States.{opening_state}
 use Rattle.conn_machine.specs.Runs.{after, entries_of, has_after, is_of_pass, row_after}
 use Rattle.conn_machine.proofs.EditionLemmas.{editions_twice}
-use Rattle.conn_machine.proofs.FoldLemmas.{goes_on, next_goes_on}
+use Rattle.conn_machine.proofs.FoldLemmas.{goes_on, next_goes_on, none_numbered}
 use Rattle.conn_machine.proofs.HistoryLemmas.{entries_of-append}
 
 -- ## Numbers
@@ -207,9 +207,9 @@ within_after base f history ended within = record {
 
 -- ## A fold of nothing
 
-none_numbered : (n first : ℕ) → map (λ (q : ℕ × ℕ). q.1 + length (entries_of q.0 [])) (enumerate_from first (replicate n 0)) ≡ replicate n 0
-none_numbered zero first = refl
-none_numbered (suc n) first = ap (λ (ns : List ℕ). 0 ∷ ns) (none_numbered n (first + 1))
+none_renumbered : (n first : ℕ) → map (λ (q : ℕ × ℕ). q.1 + length (entries_of q.0 [])) (enumerate_from first (replicate n 0)) ≡ replicate n 0
+none_renumbered zero first = refl
+none_renumbered (suc n) first = ap (λ (ns : List ℕ). 0 ∷ ns) (none_renumbered n (first + 1))
 
 none_placed : (n first : ℕ)
     → map (λ (q : ℕ × Option ConnName). row_after q.1 (entries_of q.0 [])) (enumerate_from first (replicate n None)) ≡ replicate n None
@@ -220,5 +220,21 @@ none_placed (suc n) first = ap (λ (rows : List (Option ConnName)). None ∷ row
 pub fold_nothing : (slots children passes : ℕ) (shape : Shape)
     → fold_of (opening_state slots children shape) [] [] (opening_record passes) ≡ opening_record passes
 fold_nothing slots children passes shape =
-    ap (λ (ns : List ℕ). record (fold_of (opening_state slots children shape) [] [] (opening_record passes)) { ordinals = ns }) (none_numbered passes 0)
+    ap (λ (ns : List ℕ). record (fold_of (opening_state slots children shape) [] [] (opening_record passes)) { ordinals = ns }) (none_renumbered passes 0)
     ∙ ap (λ (rows : List (Option ConnName)). record (opening_record passes) { rows = rows }) (none_placed passes 0)
+
+-- the record of a value that never folded counts nothing
+pub within_first : (passes : ℕ) → CountsWithin (opening_record passes)
+within_first passes =
+    let nothing : (count : ℕ) → count ≡ 0 → count ≤ 0 = λ count is. omega arith in
+    record {
+      accepted = omega arith;
+      closed = omega arith;
+      responses = omega arith;
+      causes = λ why. nothing (slice_index (replicate 9 0) (cause_number why)) (none_numbered 9 (cause_number why));
+      children = omega arith;
+      ticks = omega arith;
+      readies = omega arith;
+      orders = omega arith;
+      ordinals = λ p. nothing (slice_index (replicate passes 0) p) (none_numbered passes p);
+    }

@@ -12,14 +12,14 @@ use Rattle.conn_machine.specs.Children.{child_at, is_stopping}
 use Rattle.conn_machine.specs.States.{child_of, is_halted}
 use Rattle.mpm_base.specs.Moment.{greatest_moment}
 use Rattle.conn_machine.specs.Table.{may_wait, wait_until, linger_ms, parked_row, may_be_held, held_row, may_be_queued, queued_row, lingering_row}
-use Rattle.conn_machine.specs.Sound.{KindFits, RequestFits, WaitsFor, IsInService, ExpectsMore, ExpectedMore, is_from_linger}
+use Rattle.conn_machine.specs.Sound.{KindFits, RequestFits, KnowsItsKind, IsInService, ExpectsMore, ExpectedMore, is_from_linger}
 use Rattle.conn_machine.proofs.FairLemmas.{IsFair}
 use Rattle.conn_machine.proofs.RowLemmas.{IsSoundRow, IsParkedFor, parked_for, served_by, held_kind, held_well, in_service, never, still_open}
 
 -- ## What a waiting row says
 
 -- a row that waits and doesn't linger waited for what leads to service
-service_kind : (kind : Kind) (r : Row) → WaitsFor kind r → is_lingering r ≡ false → IsInService r
+service_kind : (kind : Kind) (r : Row) → KnowsItsKind kind r → is_lingering r ≡ false → IsInService r
 service_kind Reading r waits stays = record { stays = stays; from = rw waits.own refl }
 service_kind KeepAlive r waits stays = record { stays = stays; from = rw waits.own refl }
 service_kind Writing r waits stays = record { stays = stays; from = rw waits.own refl }
@@ -43,7 +43,7 @@ same_expected Linger r r' last notes more = tt
 same_expected ShortLinger r r' last notes more = tt
 
 -- what a waiting row waits for
-waits_for : (s : State) (r : Row) (p : IsParkedFor r.place) → IsSoundRow s r → WaitsFor p.kind r
+waits_for : (s : State) (r : Row) (p : IsParkedFor r.place) → IsSoundRow s r → KnowsItsKind p.kind r
 waits_for s r p sound = subst (λ place. KindFits place r) p.place sound.kind
 
 -- and what it expects
@@ -165,7 +165,7 @@ lingers_of true false c d all = absurd (cc)
 lingers_of false false c d all = absurd (cc)
 
 -- the row waits for what it may wait for
-pub park_kind : (s : State) (kind : Kind) (r : Row) → IsSoundRow s r → may_wait s.moment kind r ≡ true → WaitsFor kind (parked_row s kind r)
+pub park_kind : (s : State) (kind : Kind) (r : Row) → IsSoundRow s r → may_wait s.moment kind r ≡ true → KnowsItsKind kind (parked_row s kind r)
 park_kind s Reading r sound may = record { own = refl; lingers = sym (may_read s r sound may).stays }
 park_kind s KeepAlive r sound may = record { own = refl; lingers = sym (may_keep s r sound may).stays }
 park_kind s Writing r sound may = record { own = refl; lingers = sym (in_service s r (served_by r.place may) sound).stays }

@@ -33,7 +33,8 @@ closed_arrival s (event.Retire k) = []
 -- the arrivals of the connections that the entries close, from the state on, in order
 abbrev pub closed_arrivals : State → List Entry → List ℕ
 closed_arrivals s [] = []
-closed_arrivals s (e ∷ entries) = closed_arrival s e.event ++ closed_arrivals (next s e.event) entries
+closed_arrivals s (e ∷ entries) =
+    closed_arrival s e.event ++ closed_arrivals (next s e.event) entries
 
 -- the row is that of a live connection with that arrival
 abbrev pub has_arrival : ℕ → Row → Bool
@@ -42,4 +43,5 @@ has_arrival arrival r = is_live r && r.arrival == arrival
 -- how many connections with that arrival were closed or are live
 abbrev pub arrival_count : State → List Entry → ℕ → ℕ
 arrival_count s history arrival =
-    count_by (λ n. n == arrival) (closed_arrivals s history) + count_by (has_arrival arrival) (after s history).rows
+    count_by (λ n. n == arrival) (closed_arrivals s history)
+    + count_by (has_arrival arrival) (after s history).rows

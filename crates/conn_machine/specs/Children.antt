@@ -25,7 +25,17 @@ is_stopping Stopping = true
 
 -- the numbers of no generation
 abbrev pub no_shape : Shape
-no_shape = record { threads = 0; factor = 0; read_ms = 0; keep_ms = 0; keep = false; most = 0; target = 0; children = 0 }
+no_shape =
+    record {
+      threads = 0;
+      factor = 0;
+      read_ms = 0;
+      keep_ms = 0;
+      keep = false;
+      most = 0;
+      target = 0;
+      children = 0;
+    }
 
 -- a child that was never started
 abbrev pub no_child : Child
@@ -49,7 +59,8 @@ running_count children = count_by (λ c. is_running c.phase) children
 
 -- the child begins to take connections
 abbrev pub started_child : ℕ → Shape → Child → Child
-started_child generation shape c = record { phase = Running; generation = generation; shape = shape }
+started_child generation shape c =
+    record { phase = Running; generation = generation; shape = shape }
 
 -- the child is gone
 abbrev pub retired_child : Child → Child

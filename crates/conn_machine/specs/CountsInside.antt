@@ -11,7 +11,7 @@ use Rattle.conn_machine.specs.declared.row.Phase.TheVariants.{Read, Write, Close
 use Rattle.conn_machine.specs.declared.row.Place.{Place}
 use Rattle.conn_machine.specs.declared.row.Place.TheVariants.{Vacant, Spent, Held, Parked, Queued, Working}
 use Rattle.conn_machine.specs.declared.row.Row.{Row}
-use Rattle.conn_machine.specs.Rows.{is_vacant, is_unused, is_working, is_carried_at, is_with_a_pass, is_in_cell, is_parked_as, is_closing, is_live, is_lingering, is_live_in, is_working_in, is_served_in, carried_count, open_count}
+use Rattle.conn_machine.specs.Rows.{is_vacant, is_unused, is_working, is_carried_at, is_with_a_pass, is_in_cell, is_parked_as, is_parked_lingering, is_live, is_lingering, is_live_in, is_working_in, is_served_in, carried_count, open_count}
 use Rattle.conn_machine.specs.Shown.{is_in_cell_as, is_served_as}
 
 -- ## One number
@@ -42,7 +42,7 @@ changed_totals before now t =
       working = moved_count t.working (is_working before) (is_working now);
       writing = moved_count t.writing (is_parked_as Writing before) (is_parked_as Writing now);
       keep_alive = moved_count t.keep_alive (is_parked_as KeepAlive before) (is_parked_as KeepAlive now);
-      closing = moved_count t.closing (is_closing before) (is_closing now);
+      closing = moved_count t.closing (is_parked_lingering before) (is_parked_lingering now);
     }
 
 -- the numbers are the counts of the rows
@@ -53,14 +53,23 @@ pub record CountsAll (t : Totals) (rows : List Row) : Type 0 where
   pub working : t.working ≡ count_by (λ (r : Row). is_working r.place) rows
   pub writing : t.writing ≡ count_by (λ (r : Row). is_parked_as Writing r.place) rows
   pub keep_alive : t.keep_alive ≡ count_by (λ (r : Row). is_parked_as KeepAlive r.place) rows
-  pub closing : t.closing ≡ count_by (λ (r : Row). is_closing r.place) rows
+  pub closing : t.closing ≡ count_by (λ (r : Row). is_parked_lingering r.place) rows
 
 -- ## The counts of one child
 
 -- nothing is counted
 abbrev pub no_counts : ChildCounts
 no_counts =
-    record { carried = 0; open_rows = 0; live = 0; working = 0; busy = 0; reading = 0; sending = 0; finishing = 0 }
+    record {
+      carried = 0;
+      open_rows = 0;
+      live = 0;
+      working = 0;
+      busy = 0;
+      reading = 0;
+      sending = 0;
+      finishing = 0;
+    }
 
 -- the word of the cells whose workers are in this phase
 abbrev pub word_of : Phase → ChildCounts → ℕ
@@ -84,7 +93,9 @@ has_bit_for word (Working cell phase) = nat_lt cell 64 && bit_at word cell == 0
 -- each word of the child can say it
 abbrev pub has_bits_for : ChildCounts → Place → Bool
 has_bits_for counts place =
-    has_bit_for counts.busy place && has_bit_for counts.reading place && has_bit_for counts.sending place
+    has_bit_for counts.busy place
+    && has_bit_for counts.reading place
+    && has_bit_for counts.sending place
     && has_bit_for counts.finishing place
 
 -- the phase of the worker of the cell, as the words tell it
@@ -97,22 +108,26 @@ told_phase counts c =
 -- the counts of the row's own child, without the row
 pub record LeavesOwn (x : Standing) (old new : ChildCounts) : Type 0 where
   pub carried : new.carried ≡ moved_count old.carried (is_carried_at x.place) false
-  pub open_rows : new.open_rows ≡ moved_count old.open_rows (not (is_unused x.place) && not x.lingering) false
+  pub open_rows : new.open_rows
+      ≡ moved_count old.open_rows (not (is_unused x.place) && not x.lingering) false
   pub live : new.live ≡ moved_count old.live (not (is_unused x.place)) false
   pub working : new.working ≡ moved_count old.working (is_working x.place) false
   pub busy : (c : ℕ) → bit_at new.busy c ≡ bit_at old.busy c - one_if (is_in_cell c x.place)
   pub phases : (phase : Phase) (c : ℕ)
-      → bit_at (word_of phase new) c ≡ bit_at (word_of phase old) c - one_if (is_in_cell_as phase c x.place)
+      → bit_at (word_of phase new) c
+      ≡ bit_at (word_of phase old) c - one_if (is_in_cell_as phase c x.place)
 
 -- the counts of the row's own child, with the row
 pub record EntersOwn (x : Standing) (old new : ChildCounts) : Type 0 where
   pub carried : new.carried ≡ moved_count old.carried false (is_carried_at x.place)
-  pub open_rows : new.open_rows ≡ moved_count old.open_rows false (not (is_unused x.place) && not x.lingering)
+  pub open_rows : new.open_rows
+      ≡ moved_count old.open_rows false (not (is_unused x.place) && not x.lingering)
   pub live : new.live ≡ moved_count old.live false (not (is_unused x.place))
   pub working : new.working ≡ moved_count old.working false (is_working x.place)
   pub busy : (c : ℕ) → bit_at new.busy c ≡ bit_at old.busy c + one_if (is_in_cell c x.place)
   pub phases : (phase : Phase) (c : ℕ)
-      → bit_at (word_of phase new) c ≡ bit_at (word_of phase old) c + one_if (is_in_cell_as phase c x.place)
+      → bit_at (word_of phase new) c
+      ≡ bit_at (word_of phase old) c + one_if (is_in_cell_as phase c x.place)
 
 -- the counts of a child without the row, which may be another child's
 pub record LosesStanding (k : ℕ) (x : Standing) (old new : ChildCounts) : Type 0 where
@@ -137,17 +152,28 @@ pub record CountsChild (kept : ChildCounts) (rows : List Row) (k : ℕ) : Type 0
   pub live : kept.live ≡ count_by (is_live_in k) rows
   pub working : kept.working ≡ count_by (is_working_in k) rows
   pub busy : (c : ℕ) → bit_at kept.busy c ≡ count_by (is_served_in k c) rows
-  pub phases : (phase : Phase) (c : ℕ) → bit_at (word_of phase kept) c ≡ count_by (is_served_as phase k c) rows
+  pub phases : (phase : Phase) (c : ℕ)
+      → bit_at (word_of phase kept) c ≡ count_by (is_served_as phase k c) rows
 
 -- ## All counts
 
 -- the counts can say that a row stands so
 abbrev pub is_countable : List ChildCounts → Standing → Bool
-is_countable children x = nat_lt x.child (length children) && has_bits_for (counts_of children x.child) x.place
+is_countable children x =
+    nat_lt x.child (length children) && has_bits_for (counts_of children x.child) x.place
 
 -- the counts of so many slots, none of which was ever used
 pub record AreOpeningCounts (slots : ℕ) (counts : Counts) : Type 0 where
-  pub totals : counts.totals ≡ record { vacant = slots; live = 0; in_hand = 0; working = 0; writing = 0; keep_alive = 0; closing = 0 }
+  pub totals : counts.totals
+      ≡ record {
+        vacant = slots;
+        live = 0;
+        in_hand = 0;
+        working = 0;
+        writing = 0;
+        keep_alive = 0;
+        closing = 0;
+      }
   pub children : counts.children.items ≡ replicate 32 no_counts
   pub exact : counts.exact ≡ true
 
@@ -155,10 +181,14 @@ pub record AreOpeningCounts (slots : ℕ) (counts : Counts) : Type 0 where
 pub record IsChanged (before now : Standing) (old new : Counts) : Type 0 where
   pub totals : new.totals ≡ changed_totals before.place now.place old.totals
   pub exact : new.exact ≡ true → old.exact ≡ true
-  pub children : new.exact ≡ true → (k : ℕ) → MovesStanding k before now (counts_of old.children.items k) (counts_of new.children.items k)
+  pub children : new.exact ≡ true
+      → (k : ℕ)
+      → MovesStanding k before now (counts_of old.children.items k) (counts_of new.children.items k)
 
 -- the counts are those of the rows; of the children only while they are exact
 pub record IsCounted (counts : Counts) (rows : List Row) : Type 0 where
   pub few : length rows < 2 ^ 32
   pub totals : CountsAll counts.totals rows
-  pub children : counts.exact ≡ true → (k : ℕ) → CountsChild (counts_of counts.children.items k) rows k
+  pub children : counts.exact ≡ true
+      → (k : ℕ)
+      → CountsChild (counts_of counts.children.items k) rows k

@@ -3,13 +3,10 @@ use Rattle.std.specs.Prelude.{◌==◌, ℕ, Bool, true, false, ◌||◌, List, 
 use Rattle.std.specs.List.{count_by}
 use Rattle.mpm_base.specs.declared.conn.Cause.{Cause}
 use Rattle.mpm_base.specs.declared.conn.Cause.TheVariants as cause
-use Rattle.conn_machine.specs.declared.event.Commanded.{Commanded}
-use Rattle.conn_machine.specs.declared.event.Commanded.TheVariants.{Graceful, Refused, GracefulStop}
+use Rattle.conn_machine.specs.declared.event.Commanded.TheVariants.{Graceful, Refused}
 use Rattle.conn_machine.specs.declared.event.Event.{Event}
 use Rattle.conn_machine.specs.declared.event.Event.TheVariants as event
 use Rattle.conn_machine.specs.declared.event.Entry.{Entry}
-use Rattle.conn_machine.specs.declared.event.Order.{Order}
-use Rattle.conn_machine.specs.declared.event.Order.TheVariants as order
 use Rattle.mpm_base.specs.Cause.{cause_number}
 
 -- a connection is taken
@@ -66,12 +63,6 @@ is_refused_entry other = false
 abbrev pub is_order : Event → Bool
 is_order e = begins_generation e || is_refused_entry e
 
--- a command as the board takes it, as the table does
-abbrev pub commanded : Order → Commanded
-commanded (order.Graceful shape) = Graceful shape
-commanded (order.Refused reason) = Refused reason
-commanded (order.GracefulStop until) = GracefulStop until
-
 -- the event closes a connection for the cause
 abbrev pub is_close_for : Cause → Event → Bool
 is_close_for for (event.Close name why how) = cause_number why == cause_number for
@@ -80,8 +71,16 @@ is_close_for for other = false
 -- the causes, in order
 abbrev pub causes : List Cause
 causes =
-    cause.ClientDone ∷ cause.LastSent ∷ cause.KeepAliveLate ∷ cause.ReadLate ∷ cause.WriteLate ∷ cause.Retiring
-    ∷ cause.LinkFailed ∷ cause.Stopped ∷ cause.NoMemory ∷ []
+    cause.ClientDone
+    ∷ cause.LastSent
+    ∷ cause.KeepAliveLate
+    ∷ cause.ReadLate
+    ∷ cause.WriteLate
+    ∷ cause.Retiring
+    ∷ cause.LinkFailed
+    ∷ cause.Stopped
+    ∷ cause.NoMemory
+    ∷ []
 
 -- how many entries have such an event
 abbrev pub count_events : (Event → Bool) → List Entry → ℕ

@@ -45,7 +45,8 @@ pub record HasPlacesFor (passes : ℕ) (f : Folded) : Type 0 where
 
 -- of the pass the later record says what this one and the history behind it say: its next number, and its connection
 pub record GoesOnFrom (p : ℕ) (f : Folded) (history : List Entry) (later : Folded) : Type 0 where
-  pub ordinal : slice_index later.ordinals p ≡ slice_index f.ordinals p + length (entries_of p history)
+  pub ordinal : slice_index later.ordinals p
+      ≡ slice_index f.ordinals p + length (entries_of p history)
   pub row : first_row later p ≡ row_from f p history
 
 -- no number that the record counts is above that of its entries
@@ -84,7 +85,8 @@ orders_from number history = enumerate_from number (filter (λ e. is_order e.eve
 abbrev pub begun_editions : ℕ → ℕ → List Entry → List Edition
 begun_editions newest orders history =
     map (λ p. record { generation = p.0; edition = p.1.0 })
-    (enumerate_from (newest + 1) (filter (λ p. begins_generation p.1.event) (orders_from (orders + 1) history)))
+    (enumerate_from (newest + 1)
+    (filter (λ p. begins_generation p.1.event) (orders_from (orders + 1) history)))
 
 -- the child is there, and of the generation
 abbrev pub is_child_of : ℕ → Child → Bool
@@ -96,14 +98,16 @@ is_in_use s generation = generation == s.newest || list_any (is_child_of generat
 
 -- each edition of the record is that of a generation that has begun in the state
 abbrev pub HaveBegun : State → Folded → Type 0
-HaveBegun s f = (place : ℕ) (e : Edition) → slice_get f.editions place ≡ Some e → e.generation ≤ s.newest
+HaveBegun s f =
+    (place : ℕ) (e : Edition) → slice_get f.editions place ≡ Some e → e.generation ≤ s.newest
 
 -- ## What a fold makes
 
 -- the counts for each cause, with those of the history
 abbrev pub causes_after : List Entry → List ℕ → List ℕ
 causes_after history counts =
-    map (λ why. slice_index counts (cause_number why) + count_events (is_close_for why) history) causes
+    map (λ why. slice_index counts (cause_number why) + count_events (is_close_for why) history)
+    causes
 
 -- the lines of the first 64 connections that ended, where so many had ended before
 abbrev pub lines_after : List (List ℕ) → ℕ → List ℕ → List ℕ
@@ -111,7 +115,8 @@ lines_after ended closed lines = lines ++ flat_map (λ line. line) (take (64 - c
 
 -- the next number of each pass behind the history
 abbrev pub ordinals_after : List Entry → List ℕ → List ℕ
-ordinals_after history ordinals = map (λ p. p.1 + length (entries_of p.0 history)) (enumerate_from 0 ordinals)
+ordinals_after history ordinals =
+    map (λ p. p.1 + length (entries_of p.0 history)) (enumerate_from 0 ordinals)
 
 -- the connection of each pass behind the history
 abbrev pub rows_after : List Entry → List (Option ConnName) → List (Option ConnName)

@@ -3,10 +3,11 @@ pub mod Children
 pub mod CountsInside
 pub mod Events
 pub mod Folds
-pub mod FoldsInside
 pub mod Generations
+pub mod HistoryLaws
 pub mod Laws
 pub mod Lists
+pub mod MachineLaws
 pub mod Made
 pub mod NotesInside
 pub mod Passes

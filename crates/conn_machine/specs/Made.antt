@@ -19,7 +19,8 @@ pub record IsOpened (s : State) : Type 0 where
 -- behind the entries before them, each of these is one that its pass may make where it stands
 abbrev pub AreMadeBehind : State → Folded → List Entry → List Entry → Type 0
 AreMadeBehind base f before [] = ⊤
-AreMadeBehind base f before (e ∷ entries) = IsNextOf e.pass base f before e × AreMadeBehind base f (before ++ e ∷ []) entries
+AreMadeBehind base f before (e ∷ entries) =
+    IsNextOf e.pass base f before e × AreMadeBehind base f (before ++ e ∷ []) entries
 
 -- each entry of the history is one that its pass may make where it stands
 abbrev pub AreMade : State → Folded → List Entry → Type 0

@@ -10,9 +10,19 @@ use Rattle.conn_machine.specs.States.{is_signalled}
 -- each pass has this connection, or none: each of these is live, and the listener holds it, or a worker has it, or will; two
 -- passes have different ones; and each connection that is held, queued or in work is some pass's
 pub record EachHasItsOwn (s : State) (has : ℕ → Option ConnName) : Type 0 where
-  pub live : (p : ℕ) (name : ConnName) → has p ≡ Some name → (r : Row) × (live_row s.rows name ≡ Some r) × (is_with_a_pass r.place ≡ true)
-  pub apart : (p q : ℕ) (name other : ConnName) → has p ≡ Some name → has q ≡ Some other → name.slot ≡ other.slot → p ≡ q
-  pub someone : (slot : ℕ) (r : Row) → slice_get s.rows slot ≡ Some r → is_with_a_pass r.place ≡ true → (p : ℕ) × (name : ConnName) × (has p ≡ Some name) × (name.slot ≡ slot) × (live_row s.rows name ≡ Some r)
+  pub live : (p : ℕ) (name : ConnName)
+      → has p ≡ Some name
+      → (r : Row) × (live_row s.rows name ≡ Some r) × (is_with_a_pass r.place ≡ true)
+  pub apart : (p q : ℕ) (name other : ConnName)
+      → has p ≡ Some name
+      → has q ≡ Some other
+      → name.slot ≡ other.slot
+      → p ≡ q
+  pub someone : (slot : ℕ) (r : Row)
+      → slice_get s.rows slot ≡ Some r
+      → is_with_a_pass r.place ≡ true
+      → (p : ℕ) × (name : ConnName) × (has p ≡ Some name) × (name.slot ≡ slot)
+      × (live_row s.rows name ≡ Some r)
 
 -- no connection is with a pass: the listener holds none, and no worker has one, or will
 pub record HasNoneInHand (s : State) : Type 0 where
@@ -43,4 +53,6 @@ pub record OnlyServes (old new : State) : Type 0 where
   pub shape : new.shape ≡ old.shape
   pub going : new.going ≡ old.going
   pub children : new.children ≡ old.children
-  pub signals : (slot : ℕ) → is_signalled new slot ≡ true → (is_signalled old slot ≡ true) ⊎ (lingers_at new slot ≡ true)
+  pub signals : (slot : ℕ)
+      → is_signalled new slot ≡ true
+      → (is_signalled old slot ≡ true) ⊎ (lingers_at new slot ≡ true)

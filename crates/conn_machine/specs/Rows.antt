@@ -122,8 +122,8 @@ is_parked_as kind Queued = false
 is_parked_as kind (Working cell phase) = false
 
 -- the connection of the place waits, and lingers
-abbrev pub is_closing : Place → Bool
-is_closing place = is_parked_as Linger place || is_parked_as ShortLinger place
+abbrev pub is_parked_lingering : Place → Bool
+is_parked_lingering place = is_parked_as Linger place || is_parked_as ShortLinger place
 
 -- the row waited for this last
 abbrev pub is_from : Kind → Row → Bool
@@ -213,4 +213,5 @@ is_free_cell rows k c = not (list_any (is_served_in k c) rows)
 
 -- the lowest free cell of the child below the number, or that number where none is free
 abbrev pub lowest_free_cell : List Row → ℕ → ℕ → ℕ
-lowest_free_cell rows k threads = unwrap_or (find (is_free_cell rows k) (range_with_len 0 threads)) threads
+lowest_free_cell rows k threads =
+    unwrap_or (find (is_free_cell rows k) (range_with_len 0 threads)) threads

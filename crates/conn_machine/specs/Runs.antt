@@ -22,7 +22,8 @@ after s (e ∷ entries) = after (next s e.event) entries
 -- from the state on, each entry's event is allowed where it stands, and has its reply
 abbrev pub Run : State → List Entry → Type 0
 Run s [] = ⊤
-Run s (e ∷ entries) = (is_allowed s e.event ≡ true) × (e.reply ≡ reply s e.event) × Run (next s e.event) entries
+Run s (e ∷ entries) =
+    (is_allowed s e.event ≡ true) × (e.reply ≡ reply s e.event) × Run (next s e.event) entries
 
 -- ## The order of a pass
 
@@ -37,7 +38,8 @@ entries_of p history = filter (is_of_pass p) history
 -- the entries of the pass are numbered on from this number, in the order of the history
 abbrev pub IsNumberedFrom : ℕ → ℕ → List Entry → Type 0
 IsNumberedFrom first p history =
-    map (λ e. e.ordinal) (entries_of p history) ≡ range_with_len first (length (entries_of p history))
+    map (λ e. e.ordinal) (entries_of p history)
+    ≡ range_with_len first (length (entries_of p history))
 
 -- the entries of each pass are numbered on from its next number in the record
 abbrev pub IsInPassOrderFrom : Folded → List Entry → Type 0
@@ -137,7 +139,8 @@ may_make p had (event.Command c) = p == 0
 may_make p had (event.Retire k) = p == 0
 
 -- after the history, behind the entries that the record counts, the pass may make the entry
-pub record IsNextOf (p : ℕ) (base : State) (f : Folded) (history : List Entry) (e : Entry) : Type 0 where
+pub record IsNextOf (p : ℕ) (base : State) (f : Folded) (history : List Entry)
+    (e : Entry) : Type 0 where
   pub pass : e.pass ≡ p
   pub ordinal : e.ordinal ≡ slice_index f.ordinals p + length (entries_of p history)
   pub is_allowed : is_allowed (after base history) e.event ≡ true
@@ -147,8 +150,10 @@ pub record IsNextOf (p : ℕ) (base : State) (f : Folded) (history : List Entry)
 -- after the history, the pass may make these entries, one after the other
 abbrev pub AreEntriesOf : ℕ → State → Folded → List Entry → List Entry → Type 0
 AreEntriesOf p base f history [] = ⊤
-AreEntriesOf p base f history (e ∷ added) = IsNextOf p base f history e × AreEntriesOf p base f (history ++ e ∷ []) added
+AreEntriesOf p base f history (e ∷ added) =
+    IsNextOf p base f history e × AreEntriesOf p base f (history ++ e ∷ []) added
 
 -- the history went on by entries of the pass
 abbrev pub Adds : ℕ → State → Folded → List Entry → List Entry → Type 0
-Adds p base f old new = (added : List Entry) × (new ≡ old ++ added) × AreEntriesOf p base f old added
+Adds p base f old new =
+    (added : List Entry) × (new ≡ old ++ added) × AreEntriesOf p base f old added

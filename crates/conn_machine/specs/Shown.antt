@@ -14,7 +14,7 @@ use Rattle.conn_machine.specs.declared.child.ChildPhase.{ChildPhase}
 use Rattle.conn_machine.specs.declared.child.ChildPhase.TheVariants.{Empty, Running, Stopping}
 use Rattle.conn_machine.specs.declared.state.State.{State}
 use Rattle.conn_machine.specs.Children.{is_empty}
-use Rattle.conn_machine.specs.Rows.{is_closing, is_live, is_parked_as, is_served_in}
+use Rattle.conn_machine.specs.Rows.{is_parked_lingering, is_live, is_parked_as, is_served_in}
 
 -- ## What a worker does
 
@@ -104,6 +104,6 @@ snapshot_of s =
       total = count_by is_live s.rows;
       writing = count_by (λ (r : Row). is_parked_as Writing r.place) s.rows;
       keep_alive = count_by (λ (r : Row). is_parked_as KeepAlive r.place) s.rows;
-      closing = count_by (λ (r : Row). is_closing r.place) s.rows;
+      closing = count_by (λ (r : Row). is_parked_lingering r.place) s.rows;
       letters = letters s;
     }

@@ -30,8 +30,11 @@ IsCarriable s = (k : ℕ) → carried_count s.rows k ≤ (child_at s.children k)
 -- the one that was taken last, are less than one above it
 abbrev pub IsAdmissible : State → Type 0
 IsAdmissible s =
-    (k : ℕ) → 100 * open_count s.rows k
-    ≤ 100 * (child_at s.children k).shape.threads + (child_at s.children k).shape.factor * (child_at s.children k).shape.threads + 99
+    (k : ℕ)
+    → 100 * open_count s.rows k
+    ≤ 100 * (child_at s.children k).shape.threads
+    + (child_at s.children k).shape.factor * (child_at s.children k).shape.threads
+    + 99
 
 -- ## Children
 
@@ -42,17 +45,22 @@ pub record IsNewest (s : State) (c : Child) : Type 0 where
 
 -- the child is of the newest generation where it runs, and the server takes connections then
 abbrev pub RunsNewest : State → Type 0
-RunsNewest s = (k : ℕ) → is_running (child_at s.children k).phase ≡ true → IsNewest s (child_at s.children k)
+RunsNewest s =
+    (k : ℕ) → is_running (child_at s.children k).phase ≡ true → IsNewest s (child_at s.children k)
 
 -- a child that is gone has no live row and no workers
-pub record IsGone (rows : List Row) (k : ℕ) (c : Child) : Type 0 where
+pub record IsEmptyChild (rows : List Row) (k : ℕ) (c : Child) : Type 0 where
   pub none_live : list_any (is_live_in k) rows ≡ false
   pub none_works : c.shape.threads ≡ 0
 
 -- a child is gone, or works by numbers that a configuration may give; so are the newest numbers
 pub record HasSoundChildren (s : State) : Type 0 where
-  pub gone : (k : ℕ) → is_empty (child_at s.children k).phase ≡ true → IsGone s.rows k (child_at s.children k)
-  pub shapes : (k : ℕ) → is_empty (child_at s.children k).phase ≡ false → is_in_bounds (child_at s.children k).shape ≡ true
+  pub gone : (k : ℕ)
+      → is_empty (child_at s.children k).phase ≡ true
+      → IsEmptyChild s.rows k (child_at s.children k)
+  pub shapes : (k : ℕ)
+      → is_empty (child_at s.children k).phase ≡ false
+      → is_in_bounds (child_at s.children k).shape ≡ true
   pub newest : is_in_bounds s.shape ≡ true
 
 -- the row's child exists and isn't gone, and the row is of its child's generation
@@ -93,7 +101,7 @@ pub record IsInService (r : Row) : Type 0 where
   pub from : is_from_service r ≡ true
 
 -- a row that waits knows its own kind, which is one of lingering exactly where it lingers
-pub record WaitsFor (kind : Kind) (r : Row) : Type 0 where
+pub record KnowsItsKind (kind : Kind) (r : Row) : Type 0 where
   pub own : r.from ≡ Some kind
   pub lingers : is_linger_kind kind ≡ is_lingering r
 
@@ -102,7 +110,7 @@ abbrev pub KindFits : Place → Row → Type 0
 KindFits Vacant r = ⊤
 KindFits Spent r = ⊤
 KindFits Held r = is_from_linger r ≡ is_lingering r
-KindFits (Parked kind) r = WaitsFor kind r
+KindFits (Parked kind) r = KnowsItsKind kind r
 KindFits Queued r = IsInService r
 KindFits (Working cell phase) r = IsInService r
 
@@ -165,7 +173,8 @@ pub record HasSoundArrivals (s : State) : Type 0 where
 
 -- each row's deadline is a moment, also one that a connection left behind
 abbrev pub HaveDeadlinesInRange : List Row → Type 0
-HaveDeadlinesInRange rows = (slot : ℕ) (r : Row) → slice_get rows slot ≡ Some r → r.deadline ≤ greatest_moment
+HaveDeadlinesInRange rows =
+    (slot : ℕ) (r : Row) → slice_get rows slot ≡ Some r → r.deadline ≤ greatest_moment
 
 -- the moment and the deadlines are in range, and the arrivals are numbered while their count can still rise
 pub record HasSoundNumbers (s : State) : Type 0 where

@@ -86,17 +86,21 @@ life_at rows slot = option_map_or (λ r. r.life) (slice_get rows slot) 0
 -- the reply: the name, the child and the generation of the connection
 abbrev pub taken_reply : State → ℕ → Reply
 taken_reply s slot =
-    Took (record { slot = slot; life = life_at s.rows slot }) (picked_child s) (child_at s.children (picked_child s)).generation
+    Took (record { slot = slot; life = life_at s.rows slot }) (picked_child s)
+    (child_at s.children (picked_child s)).generation
 
 -- ## Park: a connection waits
 
 -- the row may wait for this
 abbrev pub may_wait : ℕ → Kind → Row → Bool
-may_wait moment Reading r = (is_held r.place && is_none r.from) || (is_working r.place && not r.last)
+may_wait moment Reading r =
+    (is_held r.place && is_none r.from) || (is_working r.place && not r.last)
 may_wait moment KeepAlive r = is_working r.place && not r.last && has_note r
 may_wait moment Writing r = is_working r.place
-may_wait moment Linger r = is_held r.place && is_lingering r && is_from Linger r && nat_lt moment r.deadline
-may_wait moment ShortLinger r = is_held r.place && is_lingering r && is_from ShortLinger r && nat_lt moment r.deadline
+may_wait moment Linger r =
+    is_held r.place && is_lingering r && is_from Linger r && nat_lt moment r.deadline
+may_wait moment ShortLinger r =
+    is_held r.place && is_lingering r && is_from ShortLinger r && nat_lt moment r.deadline
 
 -- the server has not stopped, and the row may wait for this
 abbrev pub may_park : State → ConnName → Kind → Bool
@@ -121,7 +125,12 @@ mid_after ShortLinger r = r.mid
 -- the row that waits, for this and until its deadline
 abbrev pub parked_row : State → Kind → Row → Row
 parked_row s kind r =
-    record r { place = Parked kind; from = Some kind; deadline = wait_until s kind r; mid = mid_after kind r }
+    record r {
+      place = Parked kind;
+      from = Some kind;
+      deadline = wait_until s kind r;
+      mid = mid_after kind r;
+    }
 
 -- the state after Park
 abbrev pub next_park : State → ConnName → Kind → State
@@ -164,7 +173,9 @@ next_hold s name =
 -- the row waits and does not linger, and a worker of its child is free
 abbrev pub may_be_queued : State → Row → Bool
 may_be_queued s r =
-    is_parked r.place && not (is_lingering r) && nat_lt (carried_count s.rows r.child) (child_of s r).shape.threads
+    is_parked r.place
+    && not (is_lingering r)
+    && nat_lt (carried_count s.rows r.child) (child_of s r).shape.threads
 
 -- the server has not stopped, and the row of that name is signalled and may be queued
 abbrev pub may_queue : State → ConnName → Bool
@@ -178,7 +189,8 @@ queued_row r = record r { place = Queued }
 -- the state after Queue: the signal goes
 abbrev pub next_queue : State → ConnName → State
 next_queue s name =
-    record s { rows = update s.rows name.slot queued_row; signals = slice_set s.signals name.slot false }
+    record s
+    { rows = update s.rows name.slot queued_row; signals = slice_set s.signals name.slot false }
 
 -- ## Start: a worker begins to serve
 
@@ -292,7 +304,8 @@ linger_cause_fits s cause.NoMemory signalled r = false
 -- the row of that name does not linger, and the cause fits
 abbrev pub may_linger : State → ConnName → Cause → Bool
 may_linger s name why =
-    lives_and (λ r. not (is_lingering r) && linger_cause_fits s why (is_signalled s name.slot) r) s.rows name
+    lives_and (λ r. not (is_lingering r) && linger_cause_fits s why (is_signalled s name.slot) r)
+    s.rows name
 
 -- 2 seconds after a refused request, else 30
 abbrev pub linger_ms : Row → ℕ
@@ -359,7 +372,8 @@ direct_cause_fits s cause.NoMemory r = true
 abbrev pub end_fits : State → Cause → Tail → Row → Bool
 end_fits s why how r =
     if is_lingering r
-    then option_map_or (λ c. cause_number c == cause_number why) r.cause false && linger_tail_fits s how r
+    then option_map_or (λ c. cause_number c == cause_number why) r.cause false
+    && linger_tail_fits s how r
     else is_direct how && direct_cause_fits s why r
 
 -- the row of that name is held or served, and cause and tail fit
@@ -381,7 +395,8 @@ closed_row r =
 -- the state after Close: the signal goes
 abbrev pub next_close : State → ConnName → State
 next_close s name =
-    record s { rows = update s.rows name.slot closed_row; signals = slice_set s.signals name.slot false }
+    record s
+    { rows = update s.rows name.slot closed_row; signals = slice_set s.signals name.slot false }
 
 -- ## Ready: something may have come for a slot
 
@@ -465,7 +480,8 @@ abbrev pub next_command : State → Commanded → State
 next_command s (Graceful shape) =
     record s { newest = s.newest + 1; shape = shape; children = all_stopped s.children }
 next_command s (Refused reason) = s
-next_command s (GracefulStop until) = record s { going = Ending until; children = all_stopped s.children }
+next_command s (GracefulStop until) =
+    record s { going = Ending until; children = all_stopped s.children }
 next_command s (Stop reason) = record s { going = Halted reason; children = all_stopped s.children }
 
 -- ## The table

@@ -11,7 +11,21 @@ use mpm_base::{Cause, Kind, Moment, Note};
 impl Row {
     /// A connection arrived, and the listener holds it.
     pub fn take(&mut self, arrival: u64, child: u32, generation: u32)
-        ensures { self.new ≡ record { life = self.old.life; arrival = arrival; child = child; generation = generation; place = Held; from = None; deadline = self.old.deadline; mid = false; last = false; short = false; cause = None; notes = [] } }
+        ensures { self.new
+            ≡ record {
+              life = self.old.life;
+              arrival = arrival;
+              child = child;
+              generation = generation;
+              place = Held;
+              from = None;
+              deadline = self.old.deadline;
+              mid = false;
+              last = false;
+              short = false;
+              cause = None;
+              notes = [];
+            } }
     {
         self.arrival = arrival;
         self.child = child;
@@ -27,7 +41,13 @@ impl Row {
 
     /// It waits for this until the deadline.
     pub fn park(&mut self, kind: Kind, deadline: Moment)
-        ensures { self.new ≡ record self.old { place = Parked kind; from = Some kind; deadline = deadline; mid = mid_after kind self.old } }
+        ensures { self.new
+            ≡ record self.old {
+              place = Parked kind;
+              from = Some kind;
+              deadline = deadline;
+              mid = mid_after kind self.old;
+            } }
     {
         self.place = Place::Parked(kind);
         self.from = Some(kind);
@@ -61,7 +81,14 @@ impl Row {
 
     /// Its service ended for the cause, and its link lingers until the deadline.
     pub fn linger(&mut self, kind: Kind, deadline: Moment, cause: Cause)
-        ensures { self.new ≡ record self.old { place = Parked kind; from = Some kind; deadline = deadline; mid = false; cause = Some cause } }
+        ensures { self.new
+            ≡ record self.old {
+              place = Parked kind;
+              from = Some kind;
+              deadline = deadline;
+              mid = false;
+              cause = Some cause;
+            } }
     {
         self.place = Place::Parked(kind);
         self.from = Some(kind);

@@ -97,7 +97,11 @@ impl Totals {
             before.is_parked_as(Kind::KeepAlive),
             now.is_parked_as(Kind::KeepAlive),
         );
-        self.closing = moved_count(self.closing, before.is_closing(), now.is_closing());
+        self.closing = moved_count(
+            self.closing,
+            before.is_parked_lingering(),
+            now.is_parked_lingering(),
+        );
     }
 }
 
@@ -156,7 +160,8 @@ fn cells_with(word: u64, place: Place) -> u64
 
 /// The word of the cells whose workers are in the phase, without the row that is at the place.
 fn phase_without(word: u64, phase: Phase, place: Place) -> u64
-    ensures { (c : ℕ) → bit_at result c ≡ bit_at word c - spec.one_if (is_in_cell_as phase c place) }
+    ensures { (c : ℕ)
+        → bit_at result c ≡ bit_at word c - spec.one_if (is_in_cell_as phase c place) }
 {
     match place {
         Place::Working(_, own) if phase_number(own) == phase_number(phase) => {
@@ -169,7 +174,8 @@ fn phase_without(word: u64, phase: Phase, place: Place) -> u64
 /// The word of the cells whose workers are in the phase, with a row at the place.
 fn phase_with(word: u64, phase: Phase, place: Place) -> u64
     requires { spec.has_bit_for word place ≡ true }
-    ensures { (c : ℕ) → bit_at result c ≡ bit_at word c + spec.one_if (is_in_cell_as phase c place) }
+    ensures { (c : ℕ)
+        → bit_at result c ≡ bit_at word c + spec.one_if (is_in_cell_as phase c place) }
 {
     match place {
         Place::Working(_, own) if phase_number(own) == phase_number(phase) => {
@@ -316,7 +322,10 @@ impl Counts {
 
     /// The counts of the child, while those of the children are exact.
     pub fn child(&self, child: u32) -> Option<ChildCounts>
-        ensures { result ≡ (if self.now.exact then Some (spec.counts_of self.now.children.items child) else None) }
+        ensures { result
+            ≡ (if self.now.exact
+            then Some (spec.counts_of self.now.children.items child)
+            else None) }
     {
         if !self.exact {
             return None;
@@ -340,7 +349,9 @@ impl Counts {
     fn leave(&mut self, row: Standing)
         ensures totals { self.new.totals ≡ self.old.totals }
         ensures exact { self.new.exact ≡ self.old.exact }
-        ensures children { (k : ℕ) → spec.LosesStanding k row (spec.counts_of self.old.children.items k) (spec.counts_of self.new.children.items k) }
+        ensures children { (k : ℕ)
+            → spec.LosesStanding k row (spec.counts_of self.old.children.items k)
+            (spec.counts_of self.new.children.items k) }
     {
         if (row.child as usize) < self.children.len() {
             let counts = &mut self.children[row.child as usize];
@@ -351,8 +362,12 @@ impl Counts {
     /// The child's counts with the row, where the counts can say it.
     fn enter(&mut self, row: Standing)
         ensures totals { self.new.totals ≡ self.old.totals }
-        ensures exact { self.new.exact ≡ (self.old.exact && spec.is_countable self.old.children.items row) }
-        ensures children { self.new.exact ≡ true → (k : ℕ) → spec.Enters k row (spec.counts_of self.old.children.items k) (spec.counts_of self.new.children.items k) }
+        ensures exact { self.new.exact
+            ≡ (self.old.exact && spec.is_countable self.old.children.items row) }
+        ensures children { self.new.exact ≡ true
+            → (k : ℕ)
+            → spec.Enters k row (spec.counts_of self.old.children.items k)
+            (spec.counts_of self.new.children.items k) }
     {
         if self.is_countable(row) {
             let counts = &mut self.children[row.child as usize];

@@ -1,6 +1,5 @@
 //! The events of the machine, their replies, and the entries of a history.
 ghost use Rattle.std.specs.Prelude.{◌≡◌, IfOk};
-ghost use Rattle.conn_machine.specs.Events as spec;
 
 use mpm_base::{Ask, Cause, ConnName, Kind, Moment, NoMemory, Shape, Tail};
 use std::alloc::Global;
@@ -90,7 +89,7 @@ impl Eq for BoxedShape {
     ghost laws = { shapes_equal_themselves };
 }
 
-/// A command, as the table takes it.
+/// A command from outside.
 #[derive(Debug, Drop, PartialEq, Eq)]
 pub enum Commanded {
     /// A new generation of this shape begins.
@@ -101,30 +100,6 @@ pub enum Commanded {
     GracefulStop(Option<Moment>),
     /// The server stops.
     Stop(Why),
-}
-
-/// A command, as the board takes it. `stop` is none of these: for it the board has a call of its own, which takes no memory.
-#[derive(Debug, Drop, PartialEq, Eq)]
-pub enum Order {
-    /// A new generation of this shape begins.
-    Graceful(BoxedShape),
-    /// A `graceful` was refused.
-    Refused(Refusal),
-    /// No connection is taken any more. What is open may go on until the moment, where there is one.
-    GracefulStop(Option<Moment>),
-}
-
-impl Order {
-    /// The command, as the table takes it.
-    pub fn commanded(self) -> Commanded
-        ensures { result ≡ spec.commanded self }
-    {
-        match self {
-            Order::Graceful(shape) => Commanded::Graceful(shape),
-            Order::Refused(refusal) => Commanded::Refused(refusal),
-            Order::GracefulStop(until) => Commanded::GracefulStop(until),
-        }
-    }
 }
 
 /// An event of the machine.

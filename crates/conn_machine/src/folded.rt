@@ -48,7 +48,8 @@ impl Editions {
 
     /// Those of the editions whose generation is in use, in their order.
     pub fn in_use(alloc: Global, editions: &[Edition], state: &State) -> Result<Editions, NoMemory>
-        ensures { IfOk result (λ kept. kept ≡ filter (λ e. is_in_use state.now e.generation) editions.now) }
+        ensures { IfOk result
+            (λ kept. kept ≡ filter (λ e. is_in_use state.now e.generation) editions.now) }
     {
         let kept = editions
             .iter()

@@ -29,7 +29,7 @@ mod stepping;
 
 pub use child::{Child, ChildPhase, Children};
 pub use conditions::{is_in_bounds, may};
-pub use event::{BoxedShape, Commanded, Entry, Event, Order, Refusal, Reply, Why};
+pub use event::{BoxedShape, Commanded, Entry, Event, Refusal, Reply, Why};
 pub use folded::{Edition, Editions, Folded, Ordinals, PassRows};
 pub use kept::{Kept, Ledger};
 pub use row::{Owner, Phase, Place, Row};

@@ -89,8 +89,8 @@ impl Place {
     }
 
     /// Whether it waits, and lingers.
-    pub fn is_closing(self) -> bool
-        ensures { result ≡ rows.is_closing self }
+    pub fn is_parked_lingering(self) -> bool
+        ensures { result ≡ rows.is_parked_lingering self }
     {
         self.is_parked_as(Kind::Linger) || self.is_parked_as(Kind::ShortLinger)
     }

@@ -1,5 +1,5 @@
-//! The list of rows, its counts, and a change of one row. The counts are kept beside the rows, so that no call goes over these but the
-//! condition of a Tick.
+//! The list of rows, its counts, and a change of one row. The counts are kept beside the rows. A call goes over the rows only where the
+//! numbers of a child aren't exact, as they are in every state that the machine comes to.
 ghost use Rattle.std.specs.Prelude.{◌≡◌, ◌==◌, ◌+◌, ◌≤◌, ◌<◌, false, Some, [], ◌∷◌, ◌++◌, count_by, length, replicate, IfOk, IfSome, OnSome, find, slice_get};
 ghost use Rattle.std.specs.List.{list_any, range_with_len};
 ghost use Rattle.std.specs.Option.{option_copied};
@@ -259,7 +259,7 @@ impl Rows {
 
     /// How many connections linger and wait.
     pub fn closing_count(&self) -> usize
-        ensures { result ≡ count_by (λ r. spec.is_closing r.place) self.now }
+        ensures { result ≡ count_by (λ r. spec.is_parked_lingering r.place) self.now }
     {
         self.counts.totals.closing as usize
     }
@@ -268,7 +268,22 @@ impl Rows {
     #[tactic(auto, using(crate::proofs::ListLemmas::set_is_update))]
     pub fn take(&mut self, slot: u32, arrival: u64, child: u32, generation: u32)
         requires { slot < length self.old }
-        ensures { self.new ≡ update self.old slot (λ r. record { life = r.life; arrival = arrival; child = child; generation = generation; place = Held; from = None; deadline = r.deadline; mid = false; last = false; short = false; cause = None; notes = [] }) }
+        ensures { self.new
+            ≡ update self.old slot
+            (λ r. record {
+              life = r.life;
+              arrival = arrival;
+              child = child;
+              generation = generation;
+              place = Held;
+              from = None;
+              deadline = r.deadline;
+              mid = false;
+              last = false;
+              short = false;
+              cause = None;
+              notes = [];
+            }) }
     {
         let row = &mut self.items[slot as usize];
         let before = row.standing();
@@ -281,7 +296,14 @@ impl Rows {
     #[tactic(auto, using(crate::proofs::ListLemmas::set_is_update))]
     pub fn park(&mut self, slot: u32, kind: Kind, deadline: Moment)
         requires { slot < length self.old }
-        ensures { self.new ≡ update self.old slot (λ r. record r { place = Parked kind; from = Some kind; deadline = deadline; mid = mid_after kind r }) }
+        ensures { self.new
+            ≡ update self.old slot
+            (λ r. record r {
+              place = Parked kind;
+              from = Some kind;
+              deadline = deadline;
+              mid = mid_after kind r;
+            }) }
     {
         let row = &mut self.items[slot as usize];
         let before = row.standing();
@@ -333,7 +355,15 @@ impl Rows {
     #[tactic(auto, using(crate::proofs::ListLemmas::set_is_update))]
     pub fn linger(&mut self, slot: u32, kind: Kind, deadline: Moment, cause: Cause)
         requires { slot < length self.old }
-        ensures { self.new ≡ update self.old slot (λ r. record r { place = Parked kind; from = Some kind; deadline = deadline; mid = false; cause = Some cause }) }
+        ensures { self.new
+            ≡ update self.old slot
+            (λ r. record r {
+              place = Parked kind;
+              from = Some kind;
+              deadline = deadline;
+              mid = false;
+              cause = Some cause;
+            }) }
     {
         let row = &mut self.items[slot as usize];
         let before = row.standing();
@@ -359,7 +389,8 @@ impl Rows {
     #[tactic(auto, using(crate::proofs::ListLemmas::set_is_update))]
     pub fn go_on(&mut self, slot: u32, next: Phase)
         requires { slot < length self.old }
-        ensures { self.new ≡ update self.old slot (λ r. record r { place = spec.in_phase next r.place }) }
+        ensures { self.new
+            ≡ update self.old slot (λ r. record r { place = spec.in_phase next r.place }) }
     {
         let row = &mut self.items[slot as usize];
         let before = row.standing();

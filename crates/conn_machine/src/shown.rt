@@ -45,7 +45,7 @@ fn is_idle_letter(letter: u8) -> bool
 }
 
 /// How many of the letters say that a worker serves a connection.
-fn busy_count(letters: &[u8]) -> usize
+fn busy_letter_count(letters: &[u8]) -> usize
     ensures { result ≡ count_by spec.is_busy_letter letters.now }
 {
     letters
@@ -55,7 +55,7 @@ fn busy_count(letters: &[u8]) -> usize
 }
 
 /// How many of the letters say that a worker may be given one.
-fn idle_count(letters: &[u8]) -> usize
+fn idle_letter_count(letters: &[u8]) -> usize
     ensures { result ≡ count_by spec.is_idle_letter letters.now }
 {
     letters
@@ -106,7 +106,8 @@ impl State {
 
     /// Puts the letters of the child behind the others.
     fn add_letters(&self, letters: &mut Octets, number: u32, child: &Child) -> Result<(), NoMemory>
-        ensures { OnOk result (letters.new ≡ letters.old ++ spec.child_letters self.now (number, child.now)) }
+        ensures { OnOk result
+            (letters.new ≡ letters.old ++ spec.child_letters self.now (number, child.now)) }
     {
         for cell in 0..self.cells_of(child) {
             letters.push(self.letter(number, child.phase, cell))?;
@@ -147,8 +148,8 @@ impl State {
         let letters = self.letters(alloc)?;
         Ok(Snapshot {
             generation: self.newest,
-            busy: as_number(busy_count(letters.as_slice()))?,
-            idle: as_number(idle_count(letters.as_slice()))?,
+            busy: as_number(busy_letter_count(letters.as_slice()))?,
+            idle: as_number(idle_letter_count(letters.as_slice()))?,
             total: self.rows.live_count() as u32,
             writing: self.rows.writing_count() as u32,
             keep_alive: self.rows.keep_alive_count() as u32,
@@ -169,7 +170,8 @@ impl State {
         requires few_rows { length self.old.rows ≤ 8192 }
         requires few_children { length self.old.children ≤ 32 }
         ensures still { self.new ≡ self.old }
-        ensures shown { IfOk result (λ shown. shown ≡ spec.snapshot_of (table.when_sending last name.slot self.old)) }
+        ensures shown { IfOk result
+            (λ shown. shown ≡ spec.snapshot_of (table.when_sending last name.slot self.old)) }
     {
         let Some(row) = self.rows.live(name) else {
             unreachable!()
@@ -189,7 +191,10 @@ impl State {
         requires few_rows { length self.old.rows ≤ 8192 }
         requires few_children { length self.old.children ≤ 32 }
         ensures still { self.new ≡ self.old }
-        ensures note { IfOk result (λ note. (r : Row) → slice_get self.old.rows name.slot ≡ Some r → note ≡ table.note_for self.old name.slot ask.now r) }
+        ensures note { IfOk result
+            (λ note. (r : Row)
+            → slice_get self.old.rows name.slot ≡ Some r
+            → note ≡ table.note_for self.old name.slot ask.now r) }
         ensures sure { ask.now.page ≡ false → IsOk result }
     {
         let Some(row) = self.rows.live(name) else {

@@ -168,7 +168,8 @@ fn answer(alloc: Global, state: &mut State, name: ConnName, ask: &Ask) -> Result
     requires few_rows { length state.old.rows ≤ 8192 }
     requires few_children { length state.old.children ≤ 32 }
     ensures state { OnOk result (state.new ≡ table.next_answer state.old name ask.now) }
-    ensures reply { IfOk result (λ answer. answer ≡ Noted (table.noted_at state.old name.slot ask.now)) }
+    ensures reply { IfOk result
+        (λ answer. answer ≡ Noted (table.noted_at state.old name.slot ask.now)) }
     ensures err { OnErr result (state.new ≡ state.old) }
     ensures sure { ask.now.page ≡ false → IsOk result }
 {

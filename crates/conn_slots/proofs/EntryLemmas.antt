@@ -4,7 +4,7 @@ use Rattle.std.proofs.lemmas.List.{length-map}
 use Rattle.std.proofs.lemmas.Option.{same_Some, slice_get-map, slice_get-get_or, slice_get_within, slice_get_read}
 use Rattle.std.proofs.lemmas.Bool.{eq-eqb, ltb-true}
 use Rattle.mpm_base.specs.declared.conn.ConnName.{ConnName}
-use Rattle.conn_slots.specs.Slots.{Slot, most_lives, is_vacant_slot, IsLive, item_of, name_in}
+use Rattle.conn_slots.specs.Slots.{Slot, most_lives, is_vacant_slot, HasItem, item_of, name_in}
 use Rattle.conn_slots.specs.Layout.{seen_slot}
 use Rattle.conn_slots.specs.declared.Entry.{Entry}
 use Rattle.conn_slots.proofs.LawLemmas.{live_slot, item_at}
@@ -16,7 +16,7 @@ module _ {T : Type 0} where
   seen_at es i e h r = slice_get-map seen_slot es i ∙ rw (slice_get-get_or es i e h, ← r)
 
   -- the entry of a live name
-  pub live_entry : (es : List (Entry T)) (name : ConnName) (e : Entry T) → IsLive (map seen_slot es) name → e ≡ get_or es name.slot e →
+  pub live_entry : (es : List (Entry T)) (name : ConnName) (e : Entry T) → HasItem (map seen_slot es) name → e ≡ get_or es name.slot e →
       (name.slot < length es) × (e.life ≡ name.life) × IsSome e.item
   live_entry es name e live r =
       let s = live_slot (map seen_slot es) name live in
@@ -24,7 +24,7 @@ module _ {T : Type 0} where
       let same = same_Some (seen_slot e) _ (sym (seen_at es name.slot e within r) ∙ s.1) in
       (within, ap (λ (t : Slot T). t.life) same, ap (λ (t : Slot T). is_some t.item) same)
 
-  pub live_item : (es : List (Entry T)) (name : ConnName) (e : Entry T) → IsLive (map seen_slot es) name → e ≡ get_or es name.slot e →
+  pub live_item : (es : List (Entry T)) (name : ConnName) (e : Entry T) → HasItem (map seen_slot es) name → e ≡ get_or es name.slot e →
       item_of (map seen_slot es) name ≡ e.item
   live_item es name e live r =
       let entry = live_entry es name e live r in
@@ -39,7 +39,7 @@ module _ {T : Type 0} where
   item_taken e some = taken e.item e.life some
 
   -- the entry of a live name is the one that was read
-  pub live_read : (es : List (Entry T)) (name : ConnName) (e : Entry T) → IsLive (map seen_slot es) name → e ≡ get_or es name.slot e →
+  pub live_read : (es : List (Entry T)) (name : ConnName) (e : Entry T) → HasItem (map seen_slot es) name → e ≡ get_or es name.slot e →
       slice_get es name.slot ≡ Some e
   live_read es name e live r = slice_get_read es (length es) name.slot e refl (live_entry es name e live r).0 r
 

@@ -3,7 +3,7 @@ use Rattle.std.proofs.Common.{◌≡◌, ◌≢◌, ℕ, zero, suc, ◌+◌, ◌
 use Rattle.std.proofs.lemmas.Bool.{eqb-true, eqb-false, eq-eqb, ne_eqb}
 use Rattle.std.proofs.lemmas.Option.{none-some, same_Some, slice_get_within}
 use Rattle.mpm_base.specs.declared.conn.ConnName.{ConnName}
-use Rattle.conn_slots.specs.Slots.{Slot, item_in, item_of, IsLive, IsNextName, without_item}
+use Rattle.conn_slots.specs.Slots.{Slot, item_in, item_of, HasItem, IsNextName, without_item}
 use Rattle.conn_slots.specs.Changes.{Change, puts, takes, writes, CanBe, after_change, ChangesLead, NeverLiveAgain, WasNeverLive}
 
 module _ {X : Type 0} where
@@ -39,7 +39,7 @@ module _ {T : Type 0} where
       let u = in_some s.life s.item life (nat_eq s.life life) refl h in
       (u.0, ap Some u.1)
 
-  pub live_slot : (slots : List (Slot T)) (name : ConnName) → IsLive slots name →
+  pub live_slot : (slots : List (Slot T)) (name : ConnName) → HasItem slots name →
       (x : T) × (slice_get slots name.slot ≡ Some (record { life = name.life; item = Some x }))
   live_slot slots name h = option_live (slice_get slots name.slot) name.life h
 
@@ -132,7 +132,7 @@ module _ {T : Type 0} where
       λ changes later l. passed_is_dead later name (passed_after slots changes later name l p)
 
   -- a name whose item was taken is never live again
-  pub taken_never_live : (slots : List (Slot T)) (name : ConnName) → IsLive slots name → NeverLiveAgain (without_item slots name) name
+  pub taken_never_live : (slots : List (Slot T)) (name : ConnName) → HasItem slots name → NeverLiveAgain (without_item slots name) name
   taken_never_live slots name live =
       let s = live_slot slots name live in
       let within = slice_get_within slots name.slot _ s.1 in
@@ -144,12 +144,12 @@ module _ {T : Type 0} where
 
   -- a name is live where its slot has its life and an item
   live_at : (slots : List (Slot T)) (name : ConnName) (s : Slot T) → slice_get slots name.slot ≡ Some s →
-      s.life ≡ name.life → IsSome s.item → IsLive slots name
+      s.life ≡ name.life → IsSome s.item → HasItem slots name
   live_at slots name s e same h = rw (item_at slots name s e, eq-eqb s.life name.life same) h
 
   -- a live name stays live, or is passed
   live_after : (slots : List (Slot T)) (changes : List (Change T)) (later : List (Slot T)) (name : ConnName) →
-      ChangesLead slots changes later → IsLive slots name → IsLive later name ⊎ IsPassed later name
+      ChangesLead slots changes later → HasItem slots name → HasItem later name ⊎ IsPassed later name
   live_after slots [] later name l h = inl (rw l h)
   live_after slots (c ∷ cs) later name l h =
       let live = live_slot slots name h in
@@ -158,7 +158,7 @@ module _ {T : Type 0} where
     where
       on : (b : Bool) (t : Slot T) → nat_eq t.life name.life ≡ b → slice_get (after_change slots c) name.slot ≡ Some t →
           name.life ≤ t.life → (t.life ≡ name.life → IsSome t.item) →
-          (IsLive (after_change slots c) name → IsLive later name ⊎ IsPassed later name) → IsLive later name ⊎ IsPassed later name
+          (HasItem (after_change slots c) name → HasItem later name ⊎ IsPassed later name) → HasItem later name ⊎ IsPassed later name
       on true t same e no_fall keeps again =
           let count : t.life ≡ name.life = eqb-true t.life name.life same in
           again (live_at (after_change slots c) name t e count (keeps count))
@@ -170,7 +170,7 @@ module _ {T : Type 0} where
   pub next_never_live : (slots : List (Slot T)) (name : ConnName) → IsNextName slots name → WasNeverLive slots name
   next_never_live slots name n earlier changes l = on (item_of earlier name) refl
     where
-      no_longer : IsLive slots name ⊎ IsPassed slots name → ⊥
+      no_longer : HasItem slots name ⊎ IsPassed slots name → ⊥
       no_longer (inl live) = let s = live_slot slots name live in
           none-some s.0 (ap (λ (t : Slot T). t.item) (same_Some (slot name.life None) (slot name.life (Some s.0)) (sym n ∙ s.1)))
       no_longer (inr p) =

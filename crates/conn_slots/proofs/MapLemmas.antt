@@ -3,7 +3,7 @@ use Rattle.std.proofs.Common.{◌≡◌, ◌≢◌, ℕ, ◌+◌, Bool, true, fa
 use Rattle.std.proofs.lemmas.Bool.{eqb-true, eqb-false, eq-eqb}
 use Rattle.std.proofs.lemmas.Option.{slice_get_within}
 use Rattle.mpm_base.specs.declared.conn.ConnName.{ConnName}
-use Rattle.conn_slots.specs.Slots.{Slot, item_in, item_of, IsLive, IsNextName, with_item, without_item, UpdatesItem}
+use Rattle.conn_slots.specs.Slots.{Slot, item_in, item_of, HasItem, IsNextName, with_item, without_item, UpdatesItem}
 use Rattle.conn_slots.proofs.LawLemmas.{slice_get-set_same, slice_get-set_other, live_slot, item_at}
 
 abbrev conn_name : ℕ → ℕ → ConnName
@@ -46,7 +46,7 @@ module _ {T : Type 0} where
             (λ life ne. (none_in _ life (λ _. refl), none_in is life (λ e. absurd (ne (sym e)))));
       }
 
-  pub take_updates : (slots : List (Slot T)) (name : ConnName) → IsLive slots name → UpdatesItem slots (without_item slots name) name None
+  pub take_updates : (slots : List (Slot T)) (name : ConnName) → HasItem slots name → UpdatesItem slots (without_item slots name) name None
   take_updates slots name live =
       let s = live_slot slots name live in
       let is : Slot T = record { life = name.life + 1; item = None } in record {

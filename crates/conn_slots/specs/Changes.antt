@@ -1,7 +1,7 @@
 -- What calls make of a table of slots, one after another, and which names never have an item again.
 use Rattle.std.specs.Prelude.{◌≡◌, List, [], ◌∷◌, None}
 use Rattle.mpm_base.specs.declared.conn.ConnName.{ConnName}
-use Rattle.conn_slots.specs.Slots.{Slot, item_of, IsLive, IsNextName, with_item, without_item}
+use Rattle.conn_slots.specs.Slots.{Slot, item_of, HasItem, IsNextName, with_item, without_item}
 
 -- a change of the table: an item put under a name, taken from it, or written over the one that it has
 pub data Change (T : Type 0) : Type 0 where
@@ -13,8 +13,8 @@ module _ {T : Type 0} where
   -- an item is put under the next name of a vacant slot, and taken or written under a live name
   abbrev pub CanBe : List (Slot T) → Change T → Type 0
   CanBe slots (puts name _) = IsNextName slots name
-  CanBe slots (takes name) = IsLive slots name
-  CanBe slots (writes name _) = IsLive slots name
+  CanBe slots (takes name) = HasItem slots name
+  CanBe slots (writes name _) = HasItem slots name
 
   -- the table after a change
   abbrev pub after_change : List (Slot T) → Change T → List (Slot T)

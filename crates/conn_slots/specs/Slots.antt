@@ -41,8 +41,8 @@ module _ {T : Type 0} where
   item_of slots name = option_and_then (item_in name.life) (slice_get slots name.slot)
 
   -- the name has an item
-  abbrev pub IsLive : List (Slot T) → ConnName → Type 0
-  IsLive slots name = IsSome (item_of slots name)
+  abbrev pub HasItem : List (Slot T) → ConnName → Type 0
+  HasItem slots name = IsSome (item_of slots name)
 
   -- the name is the next one of a slot that has no item
   abbrev pub IsNextName : List (Slot T) → ConnName → Type 0
@@ -65,6 +65,7 @@ module _ {T : Type 0} where
   without_item slots name = slice_set slots name.slot (record { life = name.life + 1; item = None })
 
   -- the map has this at the name, and at every other name what it had
-  pub record UpdatesItem (old new : List (Slot T)) (name : ConnName) (item : Option T) : Type 0 where
+  pub record UpdatesItem (old new : List (Slot T)) (name : ConnName)
+      (item : Option T) : Type 0 where
     pub changed : item_of new name ≡ item
     pub others : (other : ConnName) → other ≢ name → item_of new other ≡ item_of old other

@@ -10,7 +10,7 @@
 ghost use Rattle.std.specs.Prelude.{◌≡◌, ◌+◌, ◌≤◌, ◌<◌, ◌↔◌, Some, None, is_some, IsTrue, IsSome, IsNone, IfSome, OnSome, IfNone, IsErr, IfOk, IfErr, OnErr};
 ghost use Rattle.std.specs.Option.{option_copied_mut};
 ghost use Rattle.std.specs.Borrow.{sem};
-ghost use Rattle.conn_slots.specs.Slots.{vacant_count, is_vacant_slot, item_of, IsLive, IsNextName, next_name, with_item, without_item, unused_slot, UpdatesItem};
+ghost use Rattle.conn_slots.specs.Slots.{vacant_count, is_vacant_slot, item_of, HasItem, IsNextName, next_name, with_item, without_item, unused_slot, UpdatesItem};
 ghost use Rattle.conn_slots.specs.Layout.{seen_slot};
 ghost use Rattle.conn_slots.specs.TableInside.{IsWithinLives, place_below};
 ghost use Rattle.conn_slots.specs.Changes.{NeverLiveAgain, WasNeverLive};
@@ -166,7 +166,8 @@ impl<T> Slots<T> {
         ensures name { IfOk result (λ name. next_name self.old ≡ Some name) }
         ensures next { IfOk result (λ name. IsNextName self.old.slots name) }
         ensures stored { IfOk result (λ name. self.new.slots ≡ with_item self.old.slots name item) }
-        ensures updates { IfOk result (λ name. UpdatesItem self.old.slots self.new.slots name (Some item)) }
+        ensures updates { IfOk result
+            (λ name. UpdatesItem self.old.slots self.new.slots name (Some item)) }
         ensures never_before { IfOk result (λ name. WasNeverLive self.old.slots name) }
 
         ensures full { IsErr result ↔ (vacant_count self.old.slots ≡ 0) }
@@ -231,7 +232,7 @@ impl<T> Slots<T> {
     }
 
     fn item_mut(&mut self, name: ConnName) -> &mut T
-        requires { IsLive self.old.slots name }
+        requires { HasItem self.old.slots name }
         ensures* writes_back { sem 𝓛 (lends_item T.row self.entry name result) }
         ensures item { item_of self.old.slots name ≡ Some result.now }
     {

@@ -5,5 +5,8 @@ ghost use Rattle.fd_queue.specs.Seats.{WasHolding};
 
 /// Where a seat is alone, so many items stood in the queue as it put and did not take.
 pub fn lone_seats_count_exactly<T>()
-    ensures { (n : ℕ) (v : SeatView T) → v.alone ≡ true → WasHolding n v → n + length v.taken ≡ length v.put }
+    ensures { (n : ℕ) (v : SeatView T)
+        → v.alone ≡ true
+        → WasHolding n v
+        → n + length v.taken ≡ length v.put }
 {}

@@ -71,8 +71,15 @@ impl<T: Drop> FdQueue<T> {
         requires seats { (1 ≤ seats) × (seats ≤ 66) }
         ensures places { IfOk result (λ made. ruled_capacity made.0.ring ≡ places) }
         ensures count { IfOk result (λ made. vec_len made.1 ≡ seats) }
-        ensures seats { IfOk result (λ made. (i : ℕ) (seat : _) → slice_get made.1.items i ≡ Some seat → IsPassOf made.0.ring seat × IsNewSeat (view seat)) }
-        ensures alone { IfOk result (λ made. seats ≡ 1 → (i : ℕ) (seat : _) → slice_get made.1.items i ≡ Some seat → (view seat).alone ≡ true) }
+        ensures seats { IfOk result
+            (λ made. (i : ℕ) (seat : _)
+            → slice_get made.1.items i ≡ Some seat
+            → IsPassOf made.0.ring seat × IsNewSeat (view seat)) }
+        ensures alone { IfOk result
+            (λ made. seats ≡ 1
+            → (i : ℕ) (seat : _)
+            → slice_get made.1.items i ≡ Some seat
+            → (view seat).alone ≡ true) }
     {
         let Ok(mut all) = Vec::with_capacity(alloc, seats as usize) else {
             return Err(NoMemory);
@@ -91,8 +98,13 @@ impl<T: Drop> FdQueue<T> {
         requires seats { 1 ≤ seats }
         requires room { (vec_len all.old ≡ 0) × (seats ≤ vec_capacity all.old) }
         ensures count { vec_len all.new ≡ seats }
-        ensures seats { (i : ℕ) (seat : _) → slice_get all.new.items i ≡ Some seat → IsPassOf self.now.ring seat × IsNewSeat (view seat) }
-        ensures alone { seats ≡ 1 → (i : ℕ) (seat : _) → slice_get all.new.items i ≡ Some seat → (view seat).alone ≡ true }
+        ensures seats { (i : ℕ) (seat : _)
+            → slice_get all.new.items i ≡ Some seat
+            → IsPassOf self.now.ring seat × IsNewSeat (view seat) }
+        ensures alone { seats ≡ 1
+            → (i : ℕ) (seat : _)
+            → slice_get all.new.items i ≡ Some seat
+            → (view seat).alone ≡ true }
     {
         for _ in 1..seats {
             let seat = self.ring.another::<Seats>(&mut first);
@@ -105,8 +117,10 @@ impl<T: Drop> FdQueue<T> {
     pub fn push<R: Wait>(&self, rt: &R, seat: &mut FdSeat<T>, item: Item<T>) -> Result<(), Item<T>>
         requires seat { IsPassOf self.now.ring seat.old }
         ensures seat { IsPassOf self.now.ring seat.new }
-        ensures put { MatchResult result (λ _. PutsItem (view seat.old) item (view seat.new)) (λ back. (back ≡ item) × (view seat.new ≡ view seat.old)) }
-        ensures full { MatchResult result (λ _. ⊤) (λ _. WasHolding (ruled_capacity self.now.ring) (view seat.old)) }
+        ensures put { MatchResult result (λ _. PutsItem (view seat.old) item (view seat.new))
+            (λ back. (back ≡ item) × (view seat.new ≡ view seat.old)) }
+        ensures full { MatchResult result (λ _. ⊤)
+            (λ _. WasHolding (ruled_capacity self.now.ring) (view seat.old)) }
     {
         self.ring.push_as::<PutStep, R>(rt, seat, item)
     }
@@ -115,7 +129,8 @@ impl<T: Drop> FdQueue<T> {
     pub fn pop<R: Wait>(&self, rt: &R, seat: &mut FdSeat<T>) -> Option<Item<T>>
         requires seat { IsPassOf self.now.ring seat.old }
         ensures seat { IsPassOf self.now.ring seat.new }
-        ensures taken { MatchOption result (view seat.new ≡ view seat.old) (λ item. TakesItem (view seat.old) item (view seat.new)) }
+        ensures taken { MatchOption result (view seat.new ≡ view seat.old)
+            (λ item. TakesItem (view seat.old) item (view seat.new)) }
         ensures empty { MatchOption result (WasHolding 0 (view seat.old)) (λ _. ⊤) }
     {
         self.ring.pop_as::<PopStep, R>(rt, seat)

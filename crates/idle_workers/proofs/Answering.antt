@@ -5,7 +5,7 @@ use Rattle.table_rule.specs.declared.view.Hand.{Hand}
 use Rattle.table_rule.specs.declared.view.Past.{Past}
 use Rattle.table_rule.specs.declared.view.View.{View}
 use Rattle.table_rule.specs.IdleWords.{bias}
-use Rattle.table_rule.specs.Pasts.{MakesSteps, StepsOn, moves_of}
+use Rattle.table_rule.specs.Pasts.{MakesSteps, MakesStepOn, moves_of}
 use Rattle.table_rule.specs.Steps.{tried_view}
 use Rattle.table_rule.specs.Views.{IsIdle, with_permit, with_try}
 use Rattle.idle_workers.specs.Found.{ReservesPermit}
@@ -14,7 +14,7 @@ child_is : (k : ℕ) → k + 2 - 2 ≡ k
 child_is k = omega arith
 
 -- a try that found a permit
-pub reserved : (k found : ℕ) (v w : View) → bias < found → StepsOn (k + 2) found (found - 1) v (tried_view (nat_lt bias found) (k + 2 - 2) v) w
+pub reserved : (k found : ℕ) (v w : View) → bias < found → MakesStepOn (k + 2) found (found - 1) v (tried_view (nat_lt bias found) (k + 2 - 2) v) w
     → ReservesPermit k v true w
 reserved k found v w above told =
     let b : nat_lt bias found ≡ true = lt-ltb bias found above in
@@ -29,7 +29,7 @@ reserved k found v w above told =
     }
 
 -- a try that found none
-pub missed : (k found : ℕ) (v w : View) → found ≤ bias → StepsOn (k + 2) found (found - 1) v (tried_view (nat_lt bias found) (k + 2 - 2) v) w
+pub missed : (k found : ℕ) (v w : View) → found ≤ bias → MakesStepOn (k + 2) found (found - 1) v (tried_view (nat_lt bias found) (k + 2 - 2) v) w
     → w ≡ record (with_try (Some k) v) { past = w.past }
 missed k found v w low told =
     told.0 ∙ ap (λ t. record (tried_view t (k + 2 - 2) v) { past = w.past }) (le-ltb bias found low)
@@ -42,7 +42,7 @@ steps_both a b p q r one two =
 
 -- it was undone
 pub undone : (k found again : ℕ) (v w u : View) → IsIdle v → found ≤ bias
-    → StepsOn (k + 2) found (found - 1) v (tried_view (nat_lt bias found) (k + 2 - 2) v) w → StepsOn (k + 2) again (again + 1) w (with_try None w) u
+    → MakesStepOn (k + 2) found (found - 1) v (tried_view (nat_lt bias found) (k + 2 - 2) v) w → MakesStepOn (k + 2) again (again + 1) w (with_try None w) u
     → ReservesPermit k v false u
 undone k found again v w u idle low told back =
     let none : v.hand.trying ≡ None = ap (λ (h : Hand). h.trying) idle.hand in

@@ -9,7 +9,7 @@ use Rattle.conn_machine.specs.Runs.{after}
 use Rattle.table_rule.specs.declared.view.View.{View}
 use Rattle.table_rule.specs.Histories.{threads_of}
 use Rattle.table_rule.specs.IdleWords.{bias}
-use Rattle.table_rule.specs.Pasts.{MakesSteps, StepsOn}
+use Rattle.table_rule.specs.Pasts.{MakesSteps, MakesStepOn}
 use Rattle.table_rule.specs.Steps.{uncredited_view}
 use Rattle.table_rule.specs.Views.{credited_view, with_permit}
 
@@ -21,18 +21,22 @@ pub record ReservesPermit (child : ℕ) (old : View) (done : Bool) (new : View) 
   pub kept : done ≡ true → new ≡ record (with_permit (Some child) old) { past = new.past }
   pub tried : done ≡ true → MakesSteps ((child + 2, found, found - 1) ∷ []) old.past new.past
   pub left : done ≡ false → new ≡ record old { past = new.past }
-  pub undone : done ≡ false → (again : ℕ) × MakesSteps ((child + 2, found, found - 1) ∷ (child + 2, again, again + 1) ∷ []) old.past new.past
+  pub undone : done ≡ false
+      → (again : ℕ)
+      × MakesSteps ((child + 2, found, found - 1) ∷ (child + 2, again, again + 1) ∷ []) old.past
+      new.past
 
 -- the permit went, by one step, which left one more than it found
 abbrev pub ReleasesPermit : ℕ → View → View → Type 0
-ReleasesPermit child old new = (found : ℕ) × StepsOn (child + 2) found (found + 1) old (with_permit None old) new
+ReleasesPermit child old new =
+    (found : ℕ) × MakesStepOn (child + 2) found (found + 1) old (with_permit None old) new
 
 -- the answer is the number that a step found, less the bias, and the step changed nothing; after some history that passes made
 -- as they may, and that goes on from what the pass had seen, at least so many workers of the child carried no connection
 pub record FoundIdle (child : ℕ) (old : View) (count : ℕ) (new : View) : Type 0 where
   pub found : ℕ
   pub answer : count ≡ found - bias
-  pub looked : StepsOn (child + 2) found found old old new
+  pub looked : MakesStepOn (child + 2) found found old old new
   pub history : List Entry
   pub seen : HasSeen old.who.number old.seen history
   pub made : AreMade old.origin.state (opening_record old.origin.passes) history
@@ -40,14 +44,18 @@ pub record FoundIdle (child : ℕ) (old : View) (count : ℕ) (new : View) : Typ
 
 -- the child has the credit of so many workers, by one step, which left so many more than it found
 abbrev pub GivesCredit : ℕ → ℕ → View → View → Type 0
-GivesCredit child threads old new = (found : ℕ) × StepsOn (child + 2) found (found + threads) old (credited_view child threads old) new
+GivesCredit child threads old new =
+    (found : ℕ)
+    × MakesStepOn (child + 2) found (found + threads) old (credited_view child threads old) new
 
 -- the child lost its credit, exactly where a step found the bias and its workers, so that no permit and no try was out, and left
 -- the bias; else it left what it found
-pub record TakesCreditBack (child threads : ℕ) (old : View) (done : Bool) (new : View) : Type 0 where
+pub record TakesCreditBack (child threads : ℕ) (old : View) (done : Bool)
+    (new : View) : Type 0 where
   pub found : ℕ
   pub answer : done ≡ (found == bias + threads)
-  pub tried : StepsOn (child + 2) found (either done bias found) old (uncredited_view done child old) new
+  pub tried : MakesStepOn (child + 2) found (either done bias found) old
+      (uncredited_view done child old) new
 
 -- the child may be given the credit of so many workers: the pass is the listener's, and has the turn; the child has no
 -- credit, and so many workers in what the turn found

@@ -44,7 +44,7 @@ pub fn release<K: Kept>(shared: &Shared<K>, carrier: &mut Carrier<K>, child: u32
     let _ = table.fetch_add::<ReleaseStep>(&mut carrier.seat, child as usize + 2, 1);
 }
 
-/// How many workers of the child nobody has a permit of.
+/// How many workers of the child nobody has a permit of, less those that are tried for just now.
 pub fn idle<K: Kept>(shared: &Shared<K>, pass: &mut Pass<K>, child: u32) -> u32
     requires own { pass.old.seat.table_id ≡ shared.now.table.shared.table_id }
     requires child { child < 32 }
@@ -84,7 +84,8 @@ pub fn uncredit<K: Kept>(shared: &Shared<K>, pass: &mut Pass<K>, child: u32, thr
     requires credit { slice_index pass.old.seat.me.0.credits child ≡ threads }
     ensures own { pass.new.seat.table_id ≡ pass.old.seat.table_id }
     ensures hand { pass.new.seat.me.1 ≡ pass.old.seat.me.1 }
-    ensures uncredited { TakesCreditBack child threads pass.old.seat.me.0 result pass.new.seat.me.0 }
+    ensures uncredited { TakesCreditBack child threads pass.old.seat.me.0 result
+        pass.new.seat.me.0 }
 {
     let table = &shared.table.shared;
     let full = BIAS + threads as u64;

@@ -25,7 +25,7 @@ use crate::run_numbers::head_limits_of;
 use board::BoardFault;
 use board::laws::generations_keep_their_editions;
 use conn_machine::laws_of_runs::histories_join;
-use conn_machine::{BoxedShape, Order, Refusal};
+use conn_machine::{BoxedShape, Commanded, Refusal};
 use conn_state::Known;
 use mpm_base::{Bell, Front, GREATEST_MOMENT, Gate, Link, Moment, Store};
 use mpm_config::shape_of;
@@ -176,7 +176,7 @@ impl<'a, 'c, L: Link + Send, N: Known, B: Bell, G: Gate> Listener<'a, 'c, L, N, 
         ) else {
             return self.refuse(Refusal::NoMemory);
         };
-        self.board.command(LISTENER, Order::Graceful(shape))?;
+        self.board.command(LISTENER, Commanded::Graceful(shape))?;
         self.edition = LoadedEdition {
             limits: head_limits_of(&config),
             site,
@@ -195,7 +195,7 @@ impl<'a, 'c, L: Link + Send, N: Known, B: Bell, G: Gate> Listener<'a, 'c, L, N, 
         ensures why { IfErr result (λ fault. IsRefusedFor fault self.old.board.book) }
     {
         passes_act_in_steps();
-        self.board.command(LISTENER, Order::Refused(reason))
+        self.board.command(LISTENER, Commanded::Refused(reason))
     }
 
     /// Takes no further connection, and lets those that are open go on until the time of the newest generation's configuration is over.
@@ -228,7 +228,8 @@ impl<'a, 'c, L: Link + Send, N: Known, B: Bell, G: Gate> Listener<'a, 'c, L, N, 
             return Ok(());
         }
         let until = ending_moment(self.board.moment(), self.edition.stop_ms);
-        self.board.command(LISTENER, Order::GracefulStop(until))?;
+        self.board
+            .command(LISTENER, Commanded::GracefulStop(until))?;
         front.hush();
         Ok(())
     }

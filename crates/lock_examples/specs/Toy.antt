@@ -23,7 +23,17 @@ use Rattle.lock_examples.specs.declared.stage.ToyStage.TheVariants.{Starts, Take
 
 -- a child has two workers
 abbrev pub toy_shape : Shape
-toy_shape = record { threads = 2; factor = 200; read_ms = 1000; keep_ms = 1000; keep = true; most = 1; target = 1; children = 1 }
+toy_shape =
+    record {
+      threads = 2;
+      factor = 200;
+      read_ms = 1000;
+      keep_ms = 1000;
+      keep = true;
+      most = 1;
+      target = 1;
+      children = 1;
+    }
 
 -- one slot and one child
 abbrev pub toy_state : State
@@ -64,11 +74,16 @@ entry_by p n e answer = record { pass = p; ordinal = n; event = e; reply = answe
 -- served, and waits again
 abbrev pub step_entries : ToyStage → ℕ → List Entry
 step_entries Starts round = entry_by 0 round (event.StartChild 0) Done ∷ []
-step_entries Takes round = entry_by 0 (round + 1) (event.Accept 0) (Took toy_name 0 0) ∷ entry_by 0 (round + 2) (event.Park toy_name Reading) Done ∷ []
+step_entries Takes round =
+    entry_by 0 (round + 1) (event.Accept 0) (Took toy_name 0 0)
+    ∷ entry_by 0 (round + 2) (event.Park toy_name Reading) Done
+    ∷ []
 step_entries Signals round = entry_by 0 (round + 3) (event.Ready 0) Done ∷ []
 step_entries Serves round =
-    entry_by 1 (3 * round) (event.Queue toy_name) Done ∷ entry_by 1 (3 * round + 1) (event.Start toy_name) (Cell 0)
-    ∷ entry_by 1 (3 * round + 2) (event.Park toy_name Reading) Done ∷ []
+    entry_by 1 (3 * round) (event.Queue toy_name) Done
+    ∷ entry_by 1 (3 * round + 1) (event.Start toy_name) (Cell 0)
+    ∷ entry_by 1 (3 * round + 2) (event.Park toy_name Reading) Done
+    ∷ []
 
 -- what is done in the step of that number
 abbrev pub stage_at : ℕ → ToyStage
@@ -123,7 +138,8 @@ KeepsOpening t = t.folded + t.count < 2 → t.folded ≡ 0
 
 -- the pass made the next step, or nothing changed
 abbrev pub MakesStep : ℕ → SeenToy → Bool → SeenToy → Type 0
-MakesStep p old true new = (maker (stage_at (old.folded + old.count)) ≡ p) × (new ≡ record old { count = old.count + 1 })
+MakesStep p old true new =
+    (maker (stage_at (old.folded + old.count)) ≡ p) × (new ≡ record old { count = old.count + 1 })
 MakesStep p old false new = new ≡ old
 
 -- all steps are folded, or nothing changed
@@ -133,7 +149,8 @@ Folds old new = (new ≡ old) ⊎ (new ≡ record old { folded = old.folded + ol
 -- a step may have been made, then all folded, and then a step made behind that
 abbrev pub FoldsBetween : ℕ → SeenToy → SeenToy → Type 0
 FoldsBetween p old new =
-    (one two : SeenToy) × (before behind : Bool) × MakesStep p old before one × Folds one two × MakesStep p two behind new
+    (one two : SeenToy) × (before behind : Bool) × MakesStep p old before one × Folds one two
+    × MakesStep p two behind new
 
 -- a pass of a new lock with the value: it has nothing, nothing was folded, and no child has a credit
 pub record IsReadyPass {K : Type 0} (me : Me (Option K) View) : Type 0 where

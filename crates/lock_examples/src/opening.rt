@@ -15,8 +15,14 @@ pub fn opened(
     passes: u32,
 ) -> Result<(Shared<Box<Toy>>, Vec<Pass<Box<Toy>>>), NoMemory>
     requires passes { (1 ≤ passes) × (passes ≤ 4099) }
-    ensures own { IfOk result (λ made. (p : ℕ) (pass : _) → slice_get made.1.items p ≡ Some pass → pass.seat.table_id ≡ made.0.table.shared.table_id) }
-    ensures ready { IfOk result (λ made. (p : ℕ) (pass : _) → slice_get made.1.items p ≡ Some pass → IsReadyPass pass.seat.me) }
+    ensures own { IfOk result
+        (λ made. (p : ℕ) (pass : _)
+        → slice_get made.1.items p ≡ Some pass
+        → pass.seat.table_id ≡ made.0.table.shared.table_id) }
+    ensures ready { IfOk result
+        (λ made. (p : ℕ) (pass : _)
+        → slice_get made.1.items p ≡ Some pass
+        → IsReadyPass pass.seat.me) }
 {
     let toy = Box::new(alloc, Toy::new(alloc, passes))?;
     opened_with(alloc, toy, passes)
@@ -25,8 +31,14 @@ pub fn opened(
 /// A lock with the value itself, for so many passes.
 pub fn opened_plain(alloc: Global, passes: u32) -> Result<(Shared<Toy>, Vec<Pass<Toy>>), NoMemory>
     requires passes { (1 ≤ passes) × (passes ≤ 4099) }
-    ensures own { IfOk result (λ made. (p : ℕ) (pass : _) → slice_get made.1.items p ≡ Some pass → pass.seat.table_id ≡ made.0.table.shared.table_id) }
-    ensures ready { IfOk result (λ made. (p : ℕ) (pass : _) → slice_get made.1.items p ≡ Some pass → IsReadyPass pass.seat.me) }
+    ensures own { IfOk result
+        (λ made. (p : ℕ) (pass : _)
+        → slice_get made.1.items p ≡ Some pass
+        → pass.seat.table_id ≡ made.0.table.shared.table_id) }
+    ensures ready { IfOk result
+        (λ made. (p : ℕ) (pass : _)
+        → slice_get made.1.items p ≡ Some pass
+        → IsReadyPass pass.seat.me) }
 {
     opened_with(alloc, Toy::new(alloc, passes), passes)
 }
@@ -39,8 +51,14 @@ fn opened_with<K: Kept>(
 ) -> Result<(Shared<K>, Vec<Pass<K>>), NoMemory>
     requires new { IsNew (K.ledger kept) }
     requires passes { (K.ledger kept).passes ≡ passes }
-    ensures own { IfOk result (λ made. (p : ℕ) (pass : _) → slice_get made.1.items p ≡ Some pass → pass.seat.table_id ≡ made.0.table.shared.table_id) }
-    ensures ready { IfOk result (λ made. (p : ℕ) (pass : _) → slice_get made.1.items p ≡ Some pass → IsReadyPass pass.seat.me) }
+    ensures own { IfOk result
+        (λ made. (p : ℕ) (pass : _)
+        → slice_get made.1.items p ≡ Some pass
+        → pass.seat.table_id ≡ made.0.table.shared.table_id) }
+    ensures ready { IfOk result
+        (λ made. (p : ℕ) (pass : _)
+        → slice_get made.1.items p ≡ Some pass
+        → IsReadyPass pass.seat.me) }
 {
     match Shared::make(alloc, kept, passes) {
         Ok(made) => Ok(made),
@@ -50,10 +68,18 @@ fn opened_with<K: Kept>(
 
 /// The last of the passes.
 pub fn last_of<K: Kept>(shared: &Shared<K>, passes: &mut Vec<Pass<K>>) -> Option<Pass<K>>
-    requires own { (p : ℕ) (pass : _) → slice_get passes.old.items p ≡ Some pass → pass.seat.table_id ≡ shared.now.table.shared.table_id }
-    requires ready { (p : ℕ) (pass : _) → slice_get passes.old.items p ≡ Some pass → IsReadyPass pass.seat.me }
-    ensures own { (p : ℕ) (pass : _) → slice_get passes.new.items p ≡ Some pass → pass.seat.table_id ≡ shared.now.table.shared.table_id }
-    ensures ready { (p : ℕ) (pass : _) → slice_get passes.new.items p ≡ Some pass → IsReadyPass pass.seat.me }
+    requires own { (p : ℕ) (pass : _)
+        → slice_get passes.old.items p ≡ Some pass
+        → pass.seat.table_id ≡ shared.now.table.shared.table_id }
+    requires ready { (p : ℕ) (pass : _)
+        → slice_get passes.old.items p ≡ Some pass
+        → IsReadyPass pass.seat.me }
+    ensures own { (p : ℕ) (pass : _)
+        → slice_get passes.new.items p ≡ Some pass
+        → pass.seat.table_id ≡ shared.now.table.shared.table_id }
+    ensures ready { (p : ℕ) (pass : _)
+        → slice_get passes.new.items p ≡ Some pass
+        → IsReadyPass pass.seat.me }
     ensures last { IfSome result (λ pass. pass.seat.table_id ≡ shared.now.table.shared.table_id) }
     ensures last_ready { IfSome result (λ pass. IsReadyPass pass.seat.me) }
 {

@@ -24,10 +24,18 @@ pub fn players<'a>(
     passes: &mut Vec<Pass<Box<Toy>>>,
     count: u32,
 ) -> Result<Vec<Player<'a>>, NoMemory>
-    requires own { (p : ℕ) (pass : _) → slice_get passes.old.items p ≡ Some pass → pass.seat.table_id ≡ shared.now.table.shared.table_id }
-    requires ready { (p : ℕ) (pass : _) → slice_get passes.old.items p ≡ Some pass → IsReadyPass pass.seat.me }
-    ensures own { (p : ℕ) (pass : _) → slice_get passes.new.items p ≡ Some pass → pass.seat.table_id ≡ shared.now.table.shared.table_id }
-    ensures ready { (p : ℕ) (pass : _) → slice_get passes.new.items p ≡ Some pass → IsReadyPass pass.seat.me }
+    requires own { (p : ℕ) (pass : _)
+        → slice_get passes.old.items p ≡ Some pass
+        → pass.seat.table_id ≡ shared.now.table.shared.table_id }
+    requires ready { (p : ℕ) (pass : _)
+        → slice_get passes.old.items p ≡ Some pass
+        → IsReadyPass pass.seat.me }
+    ensures own { (p : ℕ) (pass : _)
+        → slice_get passes.new.items p ≡ Some pass
+        → pass.seat.table_id ≡ shared.now.table.shared.table_id }
+    ensures ready { (p : ℕ) (pass : _)
+        → slice_get passes.new.items p ≡ Some pass
+        → IsReadyPass pass.seat.me }
 {
     let mut made = Vec::new(alloc);
     for _ in 0..count {

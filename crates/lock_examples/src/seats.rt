@@ -6,8 +6,12 @@ use fd_queue::{FdQueue, FdSeat};
 
 /// The last of the seats.
 pub fn last_seat<T: Drop>(queue: &FdQueue<T>, seats: &mut Vec<FdSeat<T>>) -> Option<FdSeat<T>>
-    requires seats { (i : ℕ) (seat : _) → slice_get seats.old.items i ≡ Some seat → IsPassOf queue.now.ring seat }
-    ensures seats { (i : ℕ) (seat : _) → slice_get seats.new.items i ≡ Some seat → IsPassOf queue.now.ring seat }
+    requires seats { (i : ℕ) (seat : _)
+        → slice_get seats.old.items i ≡ Some seat
+        → IsPassOf queue.now.ring seat }
+    ensures seats { (i : ℕ) (seat : _)
+        → slice_get seats.new.items i ≡ Some seat
+        → IsPassOf queue.now.ring seat }
     ensures last { IfSome result (λ seat. IsPassOf queue.now.ring seat) }
 {
     seats.pop()

@@ -33,9 +33,12 @@ impl Model for Toy {
 
     ghost Value = { SeenToy };
 
-    ghost view = { λ t. record { folded = t.folded; count = t.steps - t.folded; passes = t.passes } };
+    ghost view = { λ t.
+        record { folded = t.folded; count = t.steps - t.folded; passes = t.passes } };
 
-    ghost invariant = { λ t. (t.folded ≤ t.steps) × (t.entries.items ≡ first_of t.steps) × (t.stage ≡ stage_at t.steps) × (t.round ≡ round_at t.steps) × (t.steps < 2 → t.folded ≡ 0) };
+    ghost invariant = { λ t. (t.folded ≤ t.steps) × (t.entries.items ≡ first_of t.steps)
+        × (t.stage ≡ stage_at t.steps) × (t.round ≡ round_at t.steps)
+        × (t.steps < 2 → t.folded ≡ 0) };
 }
 
 impl Kept for Toy {

@@ -16,7 +16,8 @@ carriers_of places = map (λ place. place.number) places
 
 -- there is one place more behind all others, for the carrier of that number
 abbrev pub HasPlaceMore : {K : Type 0} → ℕ → List (RestPlace K) → List (RestPlace K) → Type 0
-HasPlaceMore {K} carrier before after = (place : RestPlace K) × (after ≡ before ++ place ∷ []) × (place.number ≡ carrier)
+HasPlaceMore {K} carrier before after =
+    (place : RestPlace K) × (after ≡ before ++ place ∷ []) × (place.number ≡ carrier)
 
 -- what the steps at each place did
 abbrev pub steps_of : Looks → List (List (ℕ × ℕ))
@@ -29,7 +30,8 @@ pub record LookAt (names : List ℕ) (most : ℕ) (looks : Looks) : Type 0 where
 
 -- each of them is at the words of these names
 abbrev pub AllLookAt : List ℕ → ℕ → List Looks → Type 0
-AllLookAt names most all = (i : ℕ) (looks : Looks) → slice_get all i ≡ Some looks → LookAt names most looks
+AllLookAt names most all =
+    (i : ℕ) (looks : Looks) → slice_get all i ≡ Some looks → LookAt names most looks
 
 -- the looks are at these places
 abbrev pub AreOf : {K Z : Type 0} → Vec (RestPlace K) Z → Looks → Type 0
@@ -60,18 +62,22 @@ with_none_found numbers all = with_steps took_none (λ _. true) numbers all
 
 -- one step more at each place of this carrier, which found another one there, and left it
 abbrev pub with_taken_found : ℕ → List ℕ → List (List (ℕ × ℕ)) → List (List (ℕ × ℕ))
-with_taken_found carrier numbers all = with_steps laid_none (λ number. number == carrier) numbers all
+with_taken_found carrier numbers all =
+    with_steps laid_none (λ number. number == carrier) numbers all
 
 -- the carrier of that number was taken from its place; at each place before that one none was found
-pub record WasTaken (carrier : ℕ) (numbers : List ℕ) (before after : List (List (ℕ × ℕ))) : Type 0 where
+pub record WasTaken (carrier : ℕ) (numbers : List ℕ)
+    (before after : List (List (ℕ × ℕ))) : Type 0 where
   pub place : ℕ
   pub within : place < length numbers
   pub its : slice_index numbers place ≡ carrier
   pub steps : after ≡ with_step_at place took_one (with_none_found (take place numbers) before)
 
 -- the carrier of that number was laid down on a place of its own, where none rested
-pub record WasLaidDown (carrier : ℕ) (numbers : List ℕ) (before after : List (List (ℕ × ℕ))) : Type 0 where
+pub record WasLaidDown (carrier : ℕ) (numbers : List ℕ)
+    (before after : List (List (ℕ × ℕ))) : Type 0 where
   pub place : ℕ
   pub within : place < length numbers
   pub its : slice_index numbers place ≡ carrier
-  pub steps : after ≡ with_step_at place laid_one (with_taken_found carrier (take place numbers) before)
+  pub steps : after
+      ≡ with_step_at place laid_one (with_taken_found carrier (take place numbers) before)

@@ -2,10 +2,6 @@
 use Rattle.std.specs.Prelude.{ℕ, List, map}
 use Rattle.table_rule.specs.declared.trail.Step.{Step}
 
--- ## The rule of a place
-
--- ## What a step did
-
 -- the number that a step found, and the one that it left
 abbrev pub deed : Step → ℕ × ℕ
 deed step = (step.found, step.leaves)

@@ -21,4 +21,6 @@ pub record IsRestWord (word : ℕ) (views : List (List Step)) : Type 0 where
   pub rests : LeaveRests trail
   pub numbered : AreNumbered 0 trail
   pub of_marks : AreOfMakers (length views) trail
-  pub known : (mark : ℕ) (view : List Step) → get_elem? views mark ≡ some view → view ≡ steps_by mark trail
+  pub known : (mark : ℕ) (view : List Step)
+      → get_elem? views mark ≡ some view
+      → view ≡ steps_by mark trail

@@ -30,7 +30,9 @@ impl Looks {
     /// Looks at one place more.
     pub(crate) fn add<S: Drop, V>(&mut self, perch: &RuledPerch<S, V, LinkedList<Step>, RestRule>)
         requires { vec_len self.old.marks < vec_capacity self.old.marks }
-        ensures words { (words : _) (room : _) → LookAt words room self.old → LookAt (words ++ perch.now.name ∷ []) room self.new }
+        ensures words { (words : _) (room : _)
+            → LookAt words room self.old
+            → LookAt (words ++ perch.now.name ∷ []) room self.new }
     {
         trails_go_on_by_one_step();
         makers_have_their_own_steps();

@@ -16,15 +16,18 @@ use std::alloc::Global;
 pub struct Perch<'a, K: Kept> {
     pub shared: &'a Shared<K>,
     places: Vec<RestPlace<K>>,
-    ghost same: { All (λ place. place.perch.table_id ≡ shared.now.table.shared.table_id) places.items },
+    ghost same: { All (λ place. place.perch.table_id ≡ shared.now.table.shared.table_id)
+        places.items },
 }
 
 impl<'a, K: Kept> Perch<'a, K> {
     /// A perch with room for so many places. No carrier rests on it at first.
     pub fn make(alloc: Global, shared: &'a Shared<K>, places: u32) -> Result<Perch<'a, K>, NoMemory>
         requires places { (1 ≤ places) × (places ≤ 4099) }
-        ensures own { IfOk result (λ perch. perch.shared.now.table.shared.table_id ≡ shared.now.table.shared.table_id) }
-        ensures room { IfOk result (λ perch. (perch.places.items ≡ []) × (vec_capacity perch.places ≡ places)) }
+        ensures own { IfOk result
+            (λ perch. perch.shared.now.table.shared.table_id ≡ shared.now.table.shared.table_id) }
+        ensures room { IfOk result
+            (λ perch. (perch.places.items ≡ []) × (vec_capacity perch.places ≡ places)) }
     {
         match Vec::with_capacity(alloc, places as usize) {
             Ok(places) => Ok(Perch { shared, places }),
@@ -58,33 +61,40 @@ impl<'a, K: Kept> Perch<'a, K> {
         requires own { carrier.seat.table_id ≡ self.old.shared.now.table.shared.table_id }
         requires free { IsFreeCarrier carrier.seat.me }
         requires looks { AllAreOf self.old.places all.old.items }
-        ensures shared { self.new.shared.now.table.shared.table_id ≡ self.old.shared.now.table.shared.table_id }
+        ensures shared { self.new.shared.now.table.shared.table_id
+            ≡ self.old.shared.now.table.shared.table_id }
         ensures looks { AllAreOf self.new.places all.new.items }
         ensures count { vec_len all.new ≡ vec_len all.old }
         ensures room { vec_capacity self.new.places ≡ vec_capacity self.old.places }
-        ensures placed { OnOk result (HasPlaceMore carrier.seat.me.0.who.number self.old.places.items self.new.places.items) }
-        ensures own { IfOk result (λ woken. woken.seat.table_id ≡ self.old.shared.now.table.shared.table_id) }
+        ensures placed { OnOk result
+            (HasPlaceMore carrier.seat.me.0.who.number self.old.places.items
+            self.new.places.items) }
+        ensures own { IfOk result
+            (λ woken. woken.seat.table_id ≡ self.old.shared.now.table.shared.table_id) }
         ensures free { IfOk result (λ woken. IsFreeCarrier woken.seat.me) }
         ensures woken { IfOk result (λ woken. IsWokenCarrier woken.seat.me) }
-        ensures number { IfOk result (λ woken. woken.seat.me.0.who.number ≡ carrier.seat.me.0.who.number) }
+        ensures number { IfOk result
+            (λ woken. woken.seat.me.0.who.number ≡ carrier.seat.me.0.who.number) }
         ensures full { OnErr result (vec_capacity self.old.places ≤ vec_len self.old.places) }
-        ensures same { OnErr result ((self.new.places ≡ self.old.places) × (all.new.items ≡ all.old.items)) }
+        ensures same { OnErr result
+            ((self.new.places ≡ self.old.places) × (all.new.items ≡ all.old.items)) }
         ensures back { IfErr result (λ back. back ≡ carrier) }
     {
         if self.places.len() == self.places.capacity() {
             return Err(carrier);
         }
         let (place, woken) = RestPlace::make(self.shared, carrier);
-        self.show(all, &place);
+        self.add_place(all, &place);
         self.places.push_reserved(place);
         Ok(woken)
     }
 
     /// All looks come to one place more.
-    fn show(&self, all: &mut Vec<Looks>, place: &RestPlace<K>)
+    fn add_place(&self, all: &mut Vec<Looks>, place: &RestPlace<K>)
         requires room { vec_len self.now.places < vec_capacity self.now.places }
         requires looks { AllAreOf self.now.places all.old.items }
-        ensures looks { AllLookAt (word_names_of self.now.places.items ++ place.now.perch.name ∷ []) (vec_capacity self.now.places) all.new.items }
+        ensures looks { AllLookAt (word_names_of self.now.places.items ++ place.now.perch.name ∷ [])
+            (vec_capacity self.now.places) all.new.items }
         ensures count { vec_len all.new ≡ vec_len all.old }
     {
         for i in 0..all.len() {
@@ -97,8 +107,13 @@ impl<'a, K: Kept> Perch<'a, K> {
     pub fn take(&self, looks: &mut Looks) -> Option<Carrier<K>>
         requires looks { AreOf self.now.places looks.old }
         ensures looks { AreOf self.now.places looks.new }
-        ensures steps { MatchOption result (steps_of looks.new ≡ with_none_found (carriers_of self.now.places.items) (steps_of looks.old)) (λ carrier. WasTaken carrier.seat.me.0.who.number (carriers_of self.now.places.items) (steps_of looks.old) (steps_of looks.new)) }
-        ensures own { IfSome result (λ carrier. carrier.seat.table_id ≡ self.now.shared.now.table.shared.table_id) }
+        ensures steps { MatchOption result
+            (steps_of looks.new
+            ≡ with_none_found (carriers_of self.now.places.items) (steps_of looks.old))
+            (λ carrier. WasTaken carrier.seat.me.0.who.number (carriers_of self.now.places.items)
+            (steps_of looks.old) (steps_of looks.new)) }
+        ensures own { IfSome result
+            (λ carrier. carrier.seat.table_id ≡ self.now.shared.now.table.shared.table_id) }
         ensures free { IfSome result (λ carrier. IsFreeCarrier carrier.seat.me) }
         ensures woken { IfSome result (λ carrier. IsWokenCarrier carrier.seat.me) }
     {
@@ -115,11 +130,16 @@ impl<'a, K: Kept> Perch<'a, K> {
         requires looks { AreOf self.now.places looks.old }
         requires place { i < vec_len self.now.places }
         ensures looks { AreOf self.now.places looks.new }
-        ensures step { MatchOption result (steps_of looks.new ≡ with_step_at i took_none (steps_of looks.old)) (λ _. steps_of looks.new ≡ with_step_at i took_one (steps_of looks.old)) }
-        ensures own { IfSome result (λ carrier. carrier.seat.table_id ≡ self.now.shared.now.table.shared.table_id) }
+        ensures step { MatchOption result
+            (steps_of looks.new ≡ with_step_at i took_none (steps_of looks.old))
+            (λ _. steps_of looks.new ≡ with_step_at i took_one (steps_of looks.old)) }
+        ensures own { IfSome result
+            (λ carrier. carrier.seat.table_id ≡ self.now.shared.now.table.shared.table_id) }
         ensures free { IfSome result (λ carrier. IsFreeCarrier carrier.seat.me) }
         ensures woken { IfSome result (λ carrier. IsWokenCarrier carrier.seat.me) }
-        ensures number { IfSome result (λ carrier. slice_index (carriers_of self.now.places.items) i ≡ carrier.seat.me.0.who.number) }
+        ensures number { IfSome result
+            (λ carrier. slice_index (carriers_of self.now.places.items) i
+            ≡ carrier.seat.me.0.who.number) }
     {
         let place = &self.places[i];
         let mark = &mut looks.marks[i];
@@ -133,10 +153,17 @@ impl<'a, K: Kept> Perch<'a, K> {
         requires free { IsFreeCarrier carrier.seat.me }
         requires looks { AreOf self.now.places looks.old }
         ensures looks { AreOf self.now.places looks.new }
-        ensures steps { MatchResult result (λ _. WasLaidDown carrier.seat.me.0.who.number (carriers_of self.now.places.items) (steps_of looks.old) (steps_of looks.new)) (λ _. steps_of looks.new ≡ with_taken_found carrier.seat.me.0.who.number (carriers_of self.now.places.items) (steps_of looks.old)) }
-        ensures own { IfErr result (λ back. back.seat.table_id ≡ self.now.shared.now.table.shared.table_id) }
+        ensures steps { MatchResult result
+            (λ _. WasLaidDown carrier.seat.me.0.who.number (carriers_of self.now.places.items)
+            (steps_of looks.old) (steps_of looks.new))
+            (λ _. steps_of looks.new
+            ≡ with_taken_found carrier.seat.me.0.who.number (carriers_of self.now.places.items)
+            (steps_of looks.old)) }
+        ensures own { IfErr result
+            (λ back. back.seat.table_id ≡ self.now.shared.now.table.shared.table_id) }
         ensures free { IfErr result (λ back. IsFreeCarrier back.seat.me) }
-        ensures number { IfErr result (λ back. back.seat.me.0.who.number ≡ carrier.seat.me.0.who.number) }
+        ensures number { IfErr result
+            (λ back. back.seat.me.0.who.number ≡ carrier.seat.me.0.who.number) }
     {
         let mut back = carrier;
         for place in 0..self.places.len() {
@@ -155,10 +182,18 @@ impl<'a, K: Kept> Perch<'a, K> {
         requires looks { AreOf self.now.places looks.old }
         requires place { i < vec_len self.now.places }
         ensures looks { AreOf self.now.places looks.new }
-        ensures step { MatchResult result (λ _. (slice_index (carriers_of self.now.places.items) i ≡ carrier.seat.me.0.who.number) × (steps_of looks.new ≡ with_step_at i laid_one (steps_of looks.old))) (λ _. steps_of looks.new ≡ (if slice_index (carriers_of self.now.places.items) i == carrier.seat.me.0.who.number then with_step_at i laid_none (steps_of looks.old) else steps_of looks.old)) }
-        ensures own { IfErr result (λ back. back.seat.table_id ≡ self.now.shared.now.table.shared.table_id) }
+        ensures step { MatchResult result
+            (λ _. (slice_index (carriers_of self.now.places.items) i ≡ carrier.seat.me.0.who.number)
+            × (steps_of looks.new ≡ with_step_at i laid_one (steps_of looks.old)))
+            (λ _. steps_of looks.new
+            ≡ (if slice_index (carriers_of self.now.places.items) i == carrier.seat.me.0.who.number
+            then with_step_at i laid_none (steps_of looks.old)
+            else steps_of looks.old)) }
+        ensures own { IfErr result
+            (λ back. back.seat.table_id ≡ self.now.shared.now.table.shared.table_id) }
         ensures free { IfErr result (λ back. IsFreeCarrier back.seat.me) }
-        ensures number { IfErr result (λ back. back.seat.me.0.who.number ≡ carrier.seat.me.0.who.number) }
+        ensures number { IfErr result
+            (λ back. back.seat.me.0.who.number ≡ carrier.seat.me.0.who.number) }
     {
         let place = &self.places[i];
         if place.number != number(&carrier) {

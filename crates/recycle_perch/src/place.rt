@@ -54,7 +54,8 @@ impl<K: Kept> RestPlace<K> {
     pub fn make(shared: &Shared<K>, carrier: Carrier<K>) -> (RestPlace<K>, Carrier<K>)
         requires own { carrier.seat.table_id ≡ shared.now.table.shared.table_id }
         requires free { IsFreeCarrier carrier.seat.me }
-        ensures place { (result.0.perch.table_id ≡ shared.now.table.shared.table_id) × (result.0.number ≡ carrier.seat.me.0.who.number) }
+        ensures place { (result.0.perch.table_id ≡ shared.now.table.shared.table_id)
+            × (result.0.number ≡ carrier.seat.me.0.who.number) }
         ensures own { result.1.seat.table_id ≡ shared.now.table.shared.table_id }
         ensures free { IsFreeCarrier result.1.seat.me }
         ensures woken { IsWokenCarrier result.1.seat.me }
@@ -71,8 +72,11 @@ impl<K: Kept> RestPlace<K> {
         requires own { self.now.perch.table_id ≡ shared.now.table.shared.table_id }
         requires mark { mark.old.perch ≡ self.now.perch.name }
         ensures mark { mark.new.perch ≡ mark.old.perch }
-        ensures step { MatchOption result (deeds mark.new.view ≡ deeds mark.old.view ++ took_none ∷ []) (λ _. deeds mark.new.view ≡ deeds mark.old.view ++ took_one ∷ []) }
-        ensures own { IfSome result (λ carrier. carrier.seat.table_id ≡ shared.now.table.shared.table_id) }
+        ensures step { MatchOption result
+            (deeds mark.new.view ≡ deeds mark.old.view ++ took_none ∷ [])
+            (λ _. deeds mark.new.view ≡ deeds mark.old.view ++ took_one ∷ []) }
+        ensures own { IfSome result
+            (λ carrier. carrier.seat.table_id ≡ shared.now.table.shared.table_id) }
         ensures free { IfSome result (λ carrier. IsFreeCarrier carrier.seat.me) }
         ensures woken { IfSome result (λ carrier. IsWokenCarrier carrier.seat.me) }
         ensures number { IfSome result (λ carrier. carrier.seat.me.0.who.number ≡ self.now.number) }
@@ -99,7 +103,9 @@ impl<K: Kept> RestPlace<K> {
         requires free { IsFreeCarrier carrier.seat.me }
         requires number { carrier.seat.me.0.who.number ≡ self.now.number }
         ensures mark { mark.new.perch ≡ mark.old.perch }
-        ensures step { MatchResult result (λ _. deeds mark.new.view ≡ deeds mark.old.view ++ laid_one ∷ []) (λ _. deeds mark.new.view ≡ deeds mark.old.view ++ laid_none ∷ []) }
+        ensures step { MatchResult result
+            (λ _. deeds mark.new.view ≡ deeds mark.old.view ++ laid_one ∷ [])
+            (λ _. deeds mark.new.view ≡ deeds mark.old.view ++ laid_none ∷ []) }
         ensures own { IfErr result (λ back. back.seat.table_id ≡ shared.now.table.shared.table_id) }
         ensures free { IfErr result (λ back. IsFreeCarrier back.seat.me) }
         ensures woken { IfErr result (λ back. IsWokenCarrier back.seat.me) }

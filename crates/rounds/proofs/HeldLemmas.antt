@@ -20,7 +20,7 @@ use Rattle.conn_machine.specs.declared.state.State.{State}
 use Rattle.conn_machine.specs.Rows.{is_linger_kind, is_lingering, live_row}
 use Rattle.conn_machine.specs.States.{is_halted, is_signalled}
 use Rattle.conn_machine.specs.Table.{end_fits, held_row, is_allowed, linger_cause_fits, linger_tail_fits, may_wait, next}
-use Rattle.conn_machine.specs.Sound.{IsSound, KindFits, WaitsFor}
+use Rattle.conn_machine.specs.Sound.{IsSound, KindFits, KnowsItsKind}
 use Rattle.conn_state.specs.declared.turn.LastTurn.{LastTurn}
 use Rattle.conn_state.specs.declared.turn.LastTurn.TheVariants as turn
 use Rattle.conn_state.specs.declared.turn.LastLinger.{LastLinger}
@@ -94,7 +94,7 @@ parked-by Queued kind is = absurd (cc)
 parked-by (Working cell phase) kind is = absurd (cc)
 
 pub waited-for : (s : State) (name : ConnName) (was : Row) (kind : Kind) → IsSound s → live_row s.rows name ≡ Some was → waits_for s name ≡ Some kind
-    → WaitsFor kind was
+    → KnowsItsKind kind was
 waited-for s name was kind sound found is =
     let at : kind_of was.place ≡ Some kind = sym (ap (λ (o : Option Row). option_and_then (λ (r : Row). kind_of r.place) o) found) ∙ is in
     subst (λ (p : Place). KindFits p was) (parked-by was.place kind at) (found-fits s name was sound found)
@@ -120,10 +120,10 @@ held-hand s s' name was c holds none = record {
 settled-as : (kind : Kind) (o : Option Kind) (why : Option Cause) (c : SeenConn) → o ≡ Some kind → IsSettledFrom o why c → IsSettled kind why c
 settled-as kind o why c is settled = subst (λ (x : Option Kind). IsSettledFrom x why c) is settled
 
-pub serves-by : (kind : Kind) (was : Row) → WaitsFor kind was → was.cause ≡ None → is_linger_kind kind ≡ false
+pub serves-by : (kind : Kind) (was : Row) → KnowsItsKind kind was → was.cause ≡ None → is_linger_kind kind ≡ false
 serves-by kind was waits none = waits.lingers ∙ ap (λ (o : Option Cause). is_some o) none
 
-pub lingers-by : (kind : Kind) (was : Row) (why : Cause) → WaitsFor kind was → was.cause ≡ Some why → is_linger_kind kind ≡ true
+pub lingers-by : (kind : Kind) (was : Row) (why : Cause) → KnowsItsKind kind was → was.cause ≡ Some why → is_linger_kind kind ≡ true
 lingers-by kind was why waits some = waits.lingers ∙ ap (λ (o : Option Cause). is_some o) some
 
 -- ## What it shows
@@ -151,7 +151,7 @@ shows-late law Writing why c serves settled = record { usable = ap is_usable set
 shows-late law Linger why c serves settled = absurd (cc)
 shows-late law ShortLinger why c serves settled = absurd (cc)
 
-pub late-shows : MayBeLate → (s : State) (was : Row) (c : SeenConn) (kind : Kind) → IsHeldFrom s was c → WaitsFor kind was → is_linger_kind kind ≡ false
+pub late-shows : MayBeLate → (s : State) (was : Row) (c : SeenConn) (kind : Kind) → IsHeldFrom s was c → KnowsItsKind kind was → is_linger_kind kind ≡ false
     → MayLinger (cause_of_late kind) c
 late-shows law s was c kind held waits serves = shows-late law kind was.cause c serves (settled-as kind was.from was.cause c waits.own held.settled)
 
@@ -173,7 +173,7 @@ late-fits s ShortLinger was signalled from serves none late = absurd (cc)
 
 -- a late connection may linger for what it waited for
 pub late-lingers : (s s' : State) (name : ConnName) (was : Row) (c : SeenConn) (kind : Kind) → s' ≡ next s (event.Hold name) → IsHeldFrom s' was c
-    → WaitsFor kind was → was.cause ≡ None → nat_le was.deadline s.moment ≡ true → is_allowed s' (event.Linger c.name (cause_of_late kind)) ≡ true
+    → KnowsItsKind kind was → was.cause ≡ None → nat_le was.deadline s.moment ≡ true → is_allowed s' (event.Linger c.name (cause_of_late kind)) ≡ true
 late-lingers s s' name was c kind is held waits none late =
     passes-found (λ (r : Row). not (is_lingering r) && linger_cause_fits s' (cause_of_late kind) (is_signalled s' c.name.slot) r) s'.rows c.name (held_row was)
     held.found
@@ -328,7 +328,7 @@ wait-fits s ShortLinger was why from lingering some later = rw (some, from, late
 
 -- one that isn't late may wait on
 pub may-wait_on : (s s' : State) (name named : ConnName) (was : Row) (kind : Kind) (why : Cause) → s' ≡ next s (event.Hold name)
-    → live_row s'.rows named ≡ Some (held_row was) → WaitsFor kind was → was.cause ≡ Some why → nat_lt s.moment was.deadline ≡ true
+    → live_row s'.rows named ≡ Some (held_row was) → KnowsItsKind kind was → was.cause ≡ Some why → nat_lt s.moment was.deadline ≡ true
     → is_halted s'.going ≡ false → is_allowed s' (event.Park named kind) ≡ true
 may-wait_on s s' name named was kind why is found waits some later going =
     let passes =

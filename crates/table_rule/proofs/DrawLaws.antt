@@ -14,7 +14,7 @@ use Rattle.conn_machine.specs.declared.folded.Folded.{Folded}
 use Rattle.conn_machine.specs.declared.kept.Ledger.{Ledger}
 use Rattle.conn_machine.specs.Folds.{HasPlacesFor}
 use Rattle.conn_machine.specs.Runs.{after, entries_of, first_row}
-use Rattle.table_rule.specs.declared.view.Left.{Left}
+use Rattle.table_rule.specs.declared.view.LastLeft.{LastLeft}
 use Rattle.table_rule.specs.declared.view.Origin.{Origin}
 use Rattle.table_rule.specs.declared.view.View.{View}
 use Rattle.conn_machine.specs.Made.{HasSeen}
@@ -144,7 +144,7 @@ module _ {K : Type 0} (ledger : K → Ledger) (o : Ledger) where
       → ((j ≡ id) × (left ≡ u) → P) → ((j ≢ id) × (get_elem? views j ≡ m.some u) → P) → ((j ≡ end) × (right ≡ u) → P) → Which views id left right end j u → P
   three views id left right end j u P f g h w = ⊎_elim f (⊎_elim g h) w
 
-  more_views : (s : State (Option K) View) (w : View) (left : Left) (history : List Entry) → w.turn ≡ None → Placed ledger o left history s
+  more_views : (s : State (Option K) View) (w : View) (left : LastLeft) (history : List Entry) → w.turn ≡ None → Placed ledger o left history s
       → Placed ledger o left history record { words = s.words; homes = s.homes; views = s.views ++ w ∷ [] }
   more_views s w left history turn = ⊎_elim
       (λ (h : KeptIsHome ledger (origin_of o) left history s). inl record {

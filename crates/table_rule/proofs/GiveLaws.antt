@@ -14,12 +14,12 @@ use Rattle.conn_machine.specs.declared.state.State as machine
 use Rattle.conn_machine.specs.Runs.{Adds, AreEntriesOf, after, entries_of, first_row, row_after, row_of}
 use Rattle.conn_machine.specs.Folds.{HasPlacesFor, opening_record, ordinals_after, rows_after}
 use Rattle.conn_machine.specs.Sound.{IsSound}
-use Rattle.table_rule.specs.declared.view.Left.{Left}
+use Rattle.table_rule.specs.declared.view.LastLeft.{LastLeft}
 use Rattle.table_rule.specs.declared.view.Origin.{Origin}
 use Rattle.table_rule.specs.declared.view.View.{View}
 use Rattle.conn_machine.specs.Made.{AreMade, HasSeen, IsOpened}
 use Rattle.table_rule.specs.Histories.{ArePermitted, Extends}
-use Rattle.table_rule.specs.Ledgers.{EndsTurn, FoldsOn, IsLedgerLeft, IsSplit, KeepsOn, MayGiveBack, MayLeaveLedger}
+use Rattle.table_rule.specs.Ledgers.{EndsTurn, FoldsOn, IsLastLeft, IsSplit, KeepsOn, MayGiveBack, MayLeaveLedger}
 use Rattle.table_rule.specs.Views.{IsAwake, given_view}
 use Rattle.table_rule.specs.IdleWords.{HasPermit}
 use Rattle.table_rule.specs.Steps.{GivesBack}
@@ -38,13 +38,13 @@ extends_both : {X : Type 0} (a b c : List X) → Extends a b → Extends b c →
 extends_both a b c ab bc = (ab.0 ++ bc.0, bc.1 ∙ ap (λ l. l ++ bc.0) ab.1 ∙ append_assoc a ab.0 bc.0)
 
 -- what stands folded after the turn, and what was left of texts
-pub record IsSplitOn (origin : Origin) (left : Left) (new : Ledger) (whole : List Entry) : Type 0 where
-  pub left_then : Left
+pub record IsSplitOn (origin : Origin) (left : LastLeft) (new : Ledger) (whole : List Entry) : Type 0 where
+  pub left_then : LastLeft
   pub parts : IsSplit origin left_then new whole
   pub texts : left_then.texts ≡ new.texts
 
 -- with what was added, value and folded entries make up the longer history; as pass 0 leaves it
-split_kept : (origin : Origin) (left : Left) (found new : Ledger) (whole added : List Entry) → IsSplit origin left found whole → KeepsOn found new added
+split_kept : (origin : Origin) (left : LastLeft) (found new : Ledger) (whole added : List Entry) → IsSplit origin left found whole → KeepsOn found new added
     → new.passes ≡ found.passes → (texts : List (List ℕ)) → Extends texts new.texts
     → IsSplit origin (record left { texts = texts }) new (whole ++ added)
 split_kept origin left found new whole added p k passes texts begins = record {
@@ -59,7 +59,7 @@ split_kept origin left found new whole added p k passes texts begins = record {
   passes = passes ∙ p.passes;
 }
 
-split_folded : (origin : Origin) (left : Left) (found new : Ledger) (whole added : List Entry) → IsSplit origin left found whole → (k : FoldsOn found new added)
+split_folded : (origin : Origin) (left : LastLeft) (found new : Ledger) (whole added : List Entry) → IsSplit origin left found whole → (k : FoldsOn found new added)
     → new.passes ≡ found.passes
     → IsSplit origin (record { entries = left.entries ++ (found.history ++ k.before); folded = new.folded; texts = new.texts }) new (whole ++ added)
 split_folded origin left found new whole added p k passes =
@@ -96,7 +96,7 @@ split_folded origin left found new whole added p k passes =
     }
 
 -- what pass 0 leaves
-split_own : (origin : Origin) (left : Left) (v : View) (found new : Ledger) (whole : List Entry) → IsSplit origin left found whole → (a : MayLeaveLedger v found new)
+split_own : (origin : Origin) (left : LastLeft) (v : View) (found new : Ledger) (whole : List Entry) → IsSplit origin left found whole → (a : MayLeaveLedger v found new)
     → IsSplitOn origin left new (whole ++ a.added)
 split_own origin left v found new whole p a = ⊎_elim
     (λ (k : KeepsOn found new a.added). record {
@@ -112,7 +112,7 @@ split_own origin left v found new whole p a = ⊎_elim
     a.change
 
 -- what another pass leaves
-split_other : (origin : Origin) (left : Left) (v : View) (found new : Ledger) (whole : List Entry) → v.who.number ≢ 0 → IsSplit origin left found whole → (a : MayLeaveLedger v found new)
+split_other : (origin : Origin) (left : LastLeft) (v : View) (found new : Ledger) (whole : List Entry) → v.who.number ≢ 0 → IsSplit origin left found whole → (a : MayLeaveLedger v found new)
     → IsSplit origin left new (whole ++ a.added)
 split_other origin left v found new whole other p a = ⊎_elim
     (λ (k : KeepsOn found new a.added). split_kept origin left found new whole a.added p k a.passes left.texts (extends_both left.texts found.texts new.texts p.texts k.texts))
@@ -120,7 +120,7 @@ split_other origin left v found new whole other p a = ⊎_elim
     a.change
 
 -- twice the length
-split_length : (origin : Origin) (left : Left) (l : Ledger) (whole : List Entry) → IsSplit origin left l whole → length whole ≡ l.folded.entries + length l.history
+split_length : (origin : Origin) (left : LastLeft) (l : Ledger) (whole : List Entry) → IsSplit origin left l whole → length whole ≡ l.folded.entries + length l.history
 split_length origin left l whole p =
     let a = ap (λ (x : List Entry). length x) p.whole_is in let b = length-append left.entries l.history in let c = p.counted in omega arith
 
@@ -156,8 +156,8 @@ module _ {K : Type 0} (ledger : K → Ledger) (o : Ledger) where
 
   -- where the pass and what it added come from
   pub record IsGiven (s : State (Option K) View) (t : IsTied ledger o s) (id : ℕ) (v : View) (new : Ledger) (history : List Entry) : Type 0 where
-    pub left : Left
-    pub is_left : IsLedgerLeft v new history left
+    pub left : LastLeft
+    pub is_left : IsLastLeft v new history left
     pub then_is : (f : FirstAfter s.views id v (given_view v history left) t.first) → IsSplit (origin_of o) f.view.left new history
 
   left_by : (s : State (Option K) View) (t : IsTied ledger o s) (id : ℕ) (v : View) (found new : Ledger) → get_elem? s.views id ≡ m.some v → IsAwake v
@@ -263,9 +263,9 @@ module _ {K : Type 0} (ledger : K → Ledger) (o : Ledger) where
   given_back : KeepsGoing → (s : State (Option K) View) (t : IsTied ledger o s) (id : ℕ) (v : View) (k : K) (x : ℕ) → get_elem? s.views id ≡ m.some v → IsAwake v
       → (back : MayGiveBack v (ledger k)) → x ≡ 2 * ((ledger k).folded.entries + length (ledger k).history)
       → (w : View) × IsTied ledger o (stepped s 0 x id ((0, Some k) ∷ []) w gives)
-      × ((history : List Entry) × (left : Left) × (w ≡ given_view v history left)
+      × ((history : List Entry) × (left : LastLeft) × (w ≡ given_view v history left)
       × Adds v.who.number v.origin.state (opening_record v.origin.passes) v.seen history
-      × EndsTurn v (ledger k) history × IsLedgerLeft v (ledger k) history left)
+      × EndsTurn v (ledger k) history × IsLastLeft v (ledger k) history left)
   given_back laws s t id v k x at awake back word =
       let found = back.0 in let a = back.2 in
       let h = holder s t id v found at back.1 in

@@ -22,8 +22,8 @@ use Rattle.table_rule.specs.declared.view.View.{View}
 use Rattle.table_rule.specs.Histories.{threads_of}
 use Rattle.table_rule.specs.Views.{IsAwake, IsIdle, credited_view, with_permit, with_try}
 use Rattle.table_rule.specs.IdleWords.{bias, bit_at, sum_of, permits, tries, HasPermit, AreIdleWords}
-use Rattle.table_rule.specs.Pasts.{StepsOn}
-use Rattle.table_rule.specs.Steps.{Credits, LooksAtIdle, Releases, Tries, Uncredits, Undoes, tried_view, uncredited_view}
+use Rattle.table_rule.specs.Pasts.{MakesStepOn}
+use Rattle.table_rule.specs.Steps.{AddsCredit, LooksAtIdle, Releases, TriesForPermit, DropsCredit, Undoes, tried_view, uncredited_view}
 use Rattle.table_rule.specs.Tie.{IsTied, origin_of}
 use Rattle.table_rule.proofs.MachineLemmas.{SomeoneHas, none_some, some_is}
 use Rattle.table_rule.proofs.PastLemmas.{next_step, past_step, past_with, told}
@@ -52,7 +52,7 @@ module _ {K : Type 0} (ledger : K → Ledger) (o : Ledger) where
 
   -- what the step tells
   step_told : (s : State (Option K) View) (t : IsTied ledger o s) (id : ℕ) (v changed : View) (k x left : ℕ) → x ≡ left
-      → StepsOn (k + 2) (slice_index s.words (k + 2)) left v changed (record changed { past = past_of s t id v k x })
+      → MakesStepOn (k + 2) (slice_index s.words (k + 2)) left v changed (record changed { past = past_of s t id v k x })
   step_told s t id v changed k x left is =
       told (k + 2) (slice_index s.words (k + 2)) left (next_step t.steps id k (slice_index s.words (k + 2)) x) v changed (record changed { past = past_of s t id v k x }) refl refl is refl
 
@@ -121,7 +121,7 @@ module _ {K : Type 0} (ledger : K → Ledger) (o : Ledger) where
   abbrev TriesGoal : (s : State (Option K) View) (id : ℕ) (me : Me (Option K) View) (k x : ℕ) → Bool → Type 0
   TriesGoal s id me k x b = (w : View) × (a : Act (Option K)) × Valid s.homes me.1 a
       × IsTied ledger o (stepped s (k + 2) x id me.1 w a)
-      × (carried_after me.1 a ≡ me.1) × StepsOn (k + 2) (slice_index s.words (k + 2)) (slice_index s.words (k + 2) - 1) me.0 (tried_view b k me.0) w
+      × (carried_after me.1 a ≡ me.1) × MakesStepOn (k + 2) (slice_index s.words (k + 2)) (slice_index s.words (k + 2) - 1) me.0 (tried_view b k me.0) w
 
   tried : (s : State (Option K) View) (t : IsTied ledger o s) (id : ℕ) (me : Me (Option K) View) (k x : ℕ) → get_elem? s.views id ≡ m.some me.0 → me.0.who.resting ≡ false → k < 32
       → me.0.row ≡ None → me.0.hand.permit ≡ None → me.0.hand.trying ≡ None → x + 1 ≡ slice_index s.words (k + 2)
@@ -161,7 +161,7 @@ module _ {K : Type 0} (ledger : K → Ledger) (o : Ledger) where
       )
 
   pub tries_law : (slots id : ℕ) (me : Me (Option K) View) (k : ℕ) → k < 32 → IsAwake me.0 → IsIdle me.0
-      → Allows (IsTied ledger o) slots id me (k + 2) (λ n. (n + (2 ^ 64 - 1)) % 2 ^ 64) (Tries (step slots (k + 2) 1 0 m.none) me)
+      → Allows (IsTied ledger o) slots id me (k + 2) (λ n. (n + (2 ^ 64 - 1)) % 2 ^ 64) (TriesForPermit (step slots (k + 2) 1 0 m.none) me)
   tries_law slots id me k lt awake idle s t len at small =
       let n = slice_index s.words (k + 2) in
       let x = (n + (2 ^ 64 - 1)) % 2 ^ 64 in
@@ -169,7 +169,7 @@ module _ {K : Type 0} (ledger : K → Ledger) (o : Ledger) where
       let d = t.drawn.views_are in let w = t.drawn.few in let f = t.few in omega arith) in
       let word : x + 1 ≡ n = (let a : n + (2 ^ 64 - 1) ≡ (n - 1) + 2 ^ 64 = omega arith in let b : x ≡ n - 1 = ap (λ y. y % 2 ^ 64) a ∙ add-mod_right (n - 1) (2 ^ 64) ∙ mod-eq_of_lt (omega arith) in omega arith) in
       let r = tried s t id me k x at awake.up lt idle.row (ap (λ (h : Hand). h.permit) idle.hand) (ap (λ (h : Hand). h.trying) idle.hand) word (nat_lt bias n) refl in
-      (r.0, r.1, r.2, r.3, (r.4, subst (λ i. StepsOn (k + 2) n (n - 1) me.0 (tried_view (nat_lt bias n) i me.0) r.0) (sym (word_child k)) r.5))
+      (r.0, r.1, r.2, r.3, (r.4, subst (λ i. MakesStepOn (k + 2) n (n - 1) me.0 (tried_view (nat_lt bias n) i me.0) r.0) (sym (word_child k)) r.5))
 
   -- a word to which something is added stays small
   word_small : (s : State (Option K) View) (t : IsTied ledger o s) (k n : ℕ) → k < 32 → n ≤ 64 → slice_index s.words (k + 2) + n < 2 ^ 64
@@ -278,7 +278,7 @@ module _ {K : Type 0} (ledger : K → Ledger) (o : Ledger) where
 
   pub credits_law : (slots id : ℕ) (me : Me (Option K) View) (found : Ledger) (k n : ℕ) → k < 32 → IsAwake me.0 → me.0.who.number ≡ 0 → me.0.turn ≡ Some found
       → slice_index me.0.credits k ≡ 0 → n ≤ 64 → n ≡ threads_of (after me.0.origin.state me.0.seen) k
-      → Allows (IsTied ledger o) slots id me (k + 2) (λ c. (c + n) % 2 ^ 64) (Credits (step slots (k + 2) n 0 m.none) me)
+      → Allows (IsTied ledger o) slots id me (k + 2) (λ c. (c + n) % 2 ^ 64) (AddsCredit (step slots (k + 2) n 0 m.none) me)
   credits_law slots id me found k n lt awake zero_is has none few threads s t len at small =
       let v = me.0 in
       let mine = t.fits id v at in
@@ -296,7 +296,7 @@ module _ {K : Type 0} (ledger : K → Ledger) (o : Ledger) where
             (omega (arith, word, none)) (let p = t.idle.permitted k lt in omega (arith, none')) few (inr is),
         (
           refl,
-          subst (λ i. StepsOn (k + 2) (slice_index s.words (k + 2)) (slice_index s.words (k + 2) + n) v (credited_view i n v)
+          subst (λ i. MakesStepOn (k + 2) (slice_index s.words (k + 2)) (slice_index s.words (k + 2) + n) v (credited_view i n v)
               (record (credited_view k n v) { past = past_of s t id v k ((slice_index s.words (k + 2) + n) % 2 ^ 64) })) (sym (word_child k))
               (step_told s t id v (credited_view k n v) k ((slice_index s.words (k + 2) + n) % 2 ^ 64) (slice_index s.words (k + 2) + n) word),
         ),
@@ -305,7 +305,7 @@ module _ {K : Type 0} (ledger : K → Ledger) (o : Ledger) where
   abbrev UncreditsGoal : (s : State (Option K) View) (id : ℕ) (me : Me (Option K) View) (k n : ℕ) → Bool → Type 0
   UncreditsGoal s id me k n b = (w : View) × (a : Act (Option K)) × Valid s.homes me.1 a
       × IsTied ledger o (stepped s (k + 2) (either b bias (slice_index s.words (k + 2))) id me.1 w a)
-      × (carried_after me.1 a ≡ me.1) × StepsOn (k + 2) (slice_index s.words (k + 2)) (either b bias (slice_index s.words (k + 2))) me.0 (uncredited_view b k me.0) w
+      × (carried_after me.1 a ≡ me.1) × MakesStepOn (k + 2) (slice_index s.words (k + 2)) (either b bias (slice_index s.words (k + 2))) me.0 (uncredited_view b k me.0) w
 
   uncredited : (s : State (Option K) View) (t : IsTied ledger o s) (id : ℕ) (me : Me (Option K) View) (k n : ℕ) → get_elem? s.views id ≡ m.some me.0 → me.0.who.resting ≡ false → id ≡ 0 → k < 32
       → slice_index me.0.credits k ≡ n → (b : Bool) → (slice_index s.words (k + 2) == bias + n) ≡ b → UncreditsGoal s id me k n b
@@ -330,12 +330,12 @@ module _ {K : Type 0} (ledger : K → Ledger) (o : Ledger) where
   )
 
   pub uncredits_law : (slots id : ℕ) (me : Me (Option K) View) (k n : ℕ) → k < 32 → IsAwake me.0 → me.0.who.number ≡ 0 → slice_index me.0.credits k ≡ n
-      → Allows (IsTied ledger o) slots id me (k + 2) (λ x. either (x == bias + n) bias x) (Uncredits (step slots (k + 2) (bias + n) bias m.none) me)
+      → Allows (IsTied ledger o) slots id me (k + 2) (λ x. either (x == bias + n) bias x) (DropsCredit (step slots (k + 2) (bias + n) bias m.none) me)
   uncredits_law slots id me k n lt awake zero_is credit s t len at small =
       let here : id ≡ 0 = sym ((t.fits id me.0 at).number awake.there) ∙ zero_is in
       let found = slice_index s.words (k + 2) in
       let r = uncredited s t id me k n at awake.up here lt credit (found == bias + n) refl in
-      (r.0, r.1, r.2, r.3, (r.4, subst (λ i. StepsOn (k + 2) found (either (found == bias + n) bias found) me.0 (uncredited_view (found == bias + n) i me.0) r.0) (sym (word_child k)) r.5))
+      (r.0, r.1, r.2, r.3, (r.4, subst (λ i. MakesStepOn (k + 2) found (either (found == bias + n) bias found) me.0 (uncredited_view (found == bias + n) i me.0) r.0) (sym (word_child k)) r.5))
 
   -- ## A look at an idle word
 

@@ -7,7 +7,7 @@ use Rattle.conn_machine.specs.declared.kept.Ledger.{Ledger}
 use Rattle.conn_machine.specs.declared.state.State.{State}
 use Rattle.conn_machine.specs.Folds.{GoesOnFrom, opening_record}
 use Rattle.conn_machine.specs.Runs.{AreEntriesOf, IsNextOf, after, entries_of, row_after, row_from, row_of}
-use Rattle.table_rule.specs.declared.view.Left.{Left}
+use Rattle.table_rule.specs.declared.view.LastLeft.{LastLeft}
 use Rattle.table_rule.specs.declared.view.Origin.{Origin}
 use Rattle.table_rule.specs.Ledgers.{IsSplit}
 use Rattle.table_rule.proofs.RecordLemmas.{each_first}
@@ -28,7 +28,7 @@ entries_whole laws p start base f later left history (e ∷ added) same goes are
 )
 
 -- the record goes on from the opening one by what was folded
-goes_by : (origin : Origin) (left : Left) (l : Ledger) (whole : List Entry) (p : ℕ) → IsSplit origin left l whole → p < origin.passes
+goes_by : (origin : Origin) (left : LastLeft) (l : Ledger) (whole : List Entry) (p : ℕ) → IsSplit origin left l whole → p < origin.passes
     → GoesOnFrom p (opening_record origin.passes) left.entries l.folded
 goes_by origin left l whole p split lt = record {
   ordinal = (let first : slice_index (opening_record origin.passes).ordinals p ≡ 0 = each_first origin.passes p 0 in
@@ -36,14 +36,14 @@ goes_by origin left l whole p split lt = record {
   row = split.rows p lt ∙ sym (ap (λ had. row_after had (entries_of p left.entries)) (each_first origin.passes p None));
 }
 
-pub row_kept : GoesOnSame → (origin : Origin) (left : Left) (l : Ledger) (whole : List Entry) (p : ℕ) → IsSplit origin left l whole → p < origin.passes
+pub row_kept : GoesOnSame → (origin : Origin) (left : LastLeft) (l : Ledger) (whole : List Entry) (p : ℕ) → IsSplit origin left l whole → p < origin.passes
     → row_from l.folded p l.history ≡ row_of p whole
 row_kept laws origin left l whole p split lt =
     sym (laws.row p (opening_record origin.passes) l.folded left.entries l.history (goes_by origin left l whole p split lt))
     ∙ ap (λ had. row_after had (entries_of p (left.entries ++ l.history))) (each_first origin.passes p None)
     ∙ ap (row_of p) (sym split.whole_is)
 
-pub entries_kept : GoesOnSame → (origin : Origin) (left : Left) (l : Ledger) (whole added : List Entry) (p : ℕ) → IsSplit origin left l whole → p < origin.passes
+pub entries_kept : GoesOnSame → (origin : Origin) (left : LastLeft) (l : Ledger) (whole added : List Entry) (p : ℕ) → IsSplit origin left l whole → p < origin.passes
     → AreEntriesOf p l.base l.folded l.history added → AreEntriesOf p origin.state (opening_record origin.passes) whole added
 entries_kept laws origin left l whole added p split lt are =
     subst (λ h. AreEntriesOf p origin.state (opening_record origin.passes) h added) (sym split.whole_is)

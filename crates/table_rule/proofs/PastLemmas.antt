@@ -10,7 +10,7 @@ use Rattle.table_rule.specs.declared.trail.Step.{Step}
 use Rattle.table_rule.specs.declared.view.Past.{Past}
 use Rattle.table_rule.specs.declared.view.View.{View}
 use Rattle.table_rule.specs.IdleWords.{bias}
-use Rattle.table_rule.specs.Pasts.{AreIdleSteps, KnowsPast, StepsOn, move_of, moves_of}
+use Rattle.table_rule.specs.Pasts.{AreIdleSteps, KnowsPast, MakesStepOn, move_of, moves_of}
 use Rattle.table_rule.specs.Trails.{AreOfMakers, GoesOn, steps_by, steps_on, steps_since}
 use Rattle.table_rule.specs.Views.{new_past}
 use Rattle.table_rule.proofs.TrailLemmas.{by_it, by_none, by_other, goes_on_more, numbered_more, of_makers_more, of_more_makers, on_it, on_other, since_it, since_none, step_of}
@@ -146,7 +146,7 @@ past_step words views id v w a k x at up up' lt count past =
 
 -- what it tells
 pub told : (word found left : ℕ) (step : Step) (v changed w : View) → step.word ≡ word → step.found ≡ found → step.leaves ≡ left
-    → w ≡ record changed { past = past_with step v.past } → StepsOn word found left v changed w
+    → w ≡ record changed { past = past_with step v.past } → MakesStepOn word found left v changed w
 told word found left step v changed w on is leaves same =
     let past : w.past ≡ past_with step v.past = ap (λ (q : View). q.past) same in
     let deed : move_of step ≡ (word, found, left) = λ i. (on i, is i, leaves i) in (

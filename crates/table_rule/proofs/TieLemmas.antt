@@ -13,7 +13,7 @@ use Rattle.conn_machine.specs.Folds.{opening_record}
 use Rattle.conn_machine.specs.Runs.{after, entries_of}
 use Rattle.table_rule.specs.declared.view.Draws.{Draws}
 use Rattle.table_rule.specs.declared.view.Hand.{Hand}
-use Rattle.table_rule.specs.declared.view.Left.{Left}
+use Rattle.table_rule.specs.declared.view.LastLeft.{LastLeft}
 use Rattle.table_rule.specs.declared.view.Origin.{Origin}
 use Rattle.table_rule.specs.declared.view.View.{View}
 use Rattle.conn_machine.specs.Made.{AreMade}
@@ -70,7 +70,7 @@ idle_same s words words' views id v w credits credits' i at hand row same kept =
     (at_set views id j w u e))
 
 module _ {K : Type 0} (ledger : K → Ledger) (o : Ledger) where
-  abbrev pub Placed : Left → List Entry → State (Option K) View → Type 0
+  abbrev pub Placed : LastLeft → List Entry → State (Option K) View → Type 0
   Placed left history s = KeptIsHome ledger (origin_of o) left history s ⊎ KeptIsOut (origin_of o) left history s
 
   -- one view changed
@@ -104,7 +104,7 @@ module _ {K : Type 0} (ledger : K → Ledger) (o : Ledger) where
   }
 
   -- where a step leaves turn and seen, the value stays where it is
-  pub same_place : (s : State (Option K) View) (words : List ℕ) (left left' : Left) (history : List Entry) (id : ℕ) (v w : View) → get_elem? s.views id ≡ m.some v
+  pub same_place : (s : State (Option K) View) (words : List ℕ) (left left' : LastLeft) (history : List Entry) (id : ℕ) (v w : View) → get_elem? s.views id ≡ m.some v
       → w.turn ≡ v.turn → ((got : Ledger) → v.turn ≡ Some got → w.seen ≡ v.seen) → slice_index words 0 ≡ slice_index s.words 0 → left' ≡ left
       → Placed left history s → Placed left' history record { words = words; homes = s.homes; views = set s.views id w }
   same_place s words left left' history id v w at turn seen word same place =

@@ -10,14 +10,14 @@ use Rattle.atomic_table.proofs.Lists.{at_set, set_here}
 use Rattle.conn_machine.specs.declared.kept.Ledger.{Ledger}
 use Rattle.conn_machine.specs.Folds.{opening_record}
 use Rattle.conn_machine.specs.Runs.{after, row_of}
-use Rattle.table_rule.specs.declared.view.Left.{Left}
+use Rattle.table_rule.specs.declared.view.LastLeft.{LastLeft}
 use Rattle.table_rule.specs.declared.view.Origin.{Origin}
 use Rattle.table_rule.specs.declared.view.View.{View}
 use Rattle.conn_machine.specs.Made.{AreMade, HasSeen}
 use Rattle.table_rule.specs.Ledgers.{IsSplit}
 use Rattle.table_rule.specs.Views.{IsAwake, IsFound, IsIdle, HasFreeWorker, resting_view, taken_view, woken_view}
 use Rattle.table_rule.specs.Pasts.{KnowsPast}
-use Rattle.table_rule.specs.Steps.{IsTurnTaken, TakesTurn, LooksAtWord, LiesDown, WakesUp}
+use Rattle.table_rule.specs.Steps.{IsTurnTaken, TakesTurn, LiesDown, WakesUp}
 use Rattle.table_rule.specs.Tie.{IsTied, IsViewOf, KeptIsHome, KeptIsOut, origin_of}
 use Rattle.table_rule.proofs.MachineLemmas.{RowsStay, SomeoneHas, none_some, row_by, seen_same, seen_whole}
 use Rattle.table_rule.proofs.PastLemmas.{knows_none, knows_since, past_changed, past_same}
@@ -41,7 +41,7 @@ turn_here ws x count = word_here ws 0 x (omega (arith, count))
 
 module _ {K : Type 0} (ledger : K → Ledger) (o : Ledger) where
   -- what a pass finds that takes the turn
-  found_by : SomeoneHas → RowsStay → (s : State (Option K) View) (t : IsTied ledger o s) (id : ℕ) (v : View) (left : Left) (found : Ledger) → get_elem? s.views id ≡ m.some v → IsAwake v
+  found_by : SomeoneHas → RowsStay → (s : State (Option K) View) (t : IsTied ledger o s) (id : ℕ) (v : View) (left : LastLeft) (found : Ledger) → get_elem? s.views id ≡ m.some v → IsAwake v
       → left ≡ t.first.left → IsSplit (origin_of o) left found t.history → IsFound v found t.history
   found_by someone stay s t id v left found at awake same parts =
       let mine = t.fits id v at in
@@ -120,10 +120,6 @@ module _ {K : Type 0} (ledger : K → Ledger) (o : Ledger) where
   takes_law someone stay slots id me n none awake even =
       let P : List (ℕ × Option K) → Type 0 = λ l. Allows (IsTied ledger o) slots id (me.0, l) 0 (λ x. either (x == n) (n + 1) x) (TakesTurn ledger (step slots 0 n (n + 1) m.none) (me.0, l)) in
       subst P (sym none) (λ s t len at small. taken someone stay s t id me.0 n at awake even (slice_index s.words 0 == n) refl)
-
-  pub loads_law : (slots id : ℕ) (me : Me (Option K) View) (i : ℕ)
-      → Allows (IsTied ledger o) slots id me i (λ n. n) (LooksAtWord (step slots i 0 0 m.none) me)
-  loads_law slots id me i s t len at small = (me.0, keeps, tt, stays ledger o s i t id me.0 at, refl)
 
   -- a load of the turn word, at which a pass that has nothing becomes another view of its number
   looked : (s : State (Option K) View) (t : IsTied ledger o s) (id : ℕ) (v w : View) → get_elem? s.views id ≡ m.some v → id ≢ 0

@@ -20,11 +20,13 @@ threads_of s k = (child_at s.children k).shape.threads
 -- what a pass with this permit and these credits may do: hand a connection to its own child's workers, let go of a child
 -- without credit
 abbrev pub IsPermitted : Option ℕ → List ℕ → State → Event → Type 0
-IsPermitted permit credits s (event.Queue name) = (r : Row) × (live_row s.rows name ≡ Some r) × (permit ≡ Some r.child)
+IsPermitted permit credits s (event.Queue name) =
+    (r : Row) × (live_row s.rows name ≡ Some r) × (permit ≡ Some r.child)
 IsPermitted permit credits s (event.Retire k) = slice_index credits k ≡ 0
 IsPermitted permit credits s other = ⊤
 
 -- the same of each entry, one after the other
 abbrev pub ArePermitted : Option ℕ → List ℕ → State → List Entry → Type 0
 ArePermitted permit credits s [] = ⊤
-ArePermitted permit credits s (e ∷ entries) = IsPermitted permit credits s e.event × ArePermitted permit credits (next s e.event) entries
+ArePermitted permit credits s (e ∷ entries) =
+    IsPermitted permit credits s e.event × ArePermitted permit credits (next s e.event) entries

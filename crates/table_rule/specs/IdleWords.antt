@@ -39,16 +39,29 @@ tries k v = bit_at k v.hand.trying
 -- the pass that has the row of a connection which a worker has, or will, has a permit of its child
 abbrev pub HasPermit : State → View → Type 0
 HasPermit s v =
-    (name : ConnName) (r : Row) → v.row ≡ Some name → slice_get s.rows name.slot ≡ Some r → is_carried_at r.place ≡ true
+    (name : ConnName) (r : Row)
+    → v.row ≡ Some name
+    → slice_get s.rows name.slot ≡ Some r
+    → is_carried_at r.place ≡ true
     → v.hand.permit ≡ Some r.child
 
 -- each idle word is the bias and the credit of its child, less the permits and the tries that are out; there are no more
 -- permits than credit; and a child's credit is 0, or its workers
-pub record AreIdleWords (s : State) (words : List ℕ) (views : List View) (credits : List ℕ) : Type 0 where
-  pub equation : (k : ℕ) → k < 32 → slice_index words (k + 2) + sum_of (permits k) views + sum_of (tries k) views ≡ bias + slice_index credits k
+pub record AreIdleWords (s : State) (words : List ℕ) (views : List View)
+    (credits : List ℕ) : Type 0 where
+  pub equation : (k : ℕ)
+      → k < 32
+      → slice_index words (k + 2) + sum_of (permits k) views + sum_of (tries k) views
+      ≡ bias + slice_index credits k
   pub permitted : (k : ℕ) → k < 32 → sum_of (permits k) views ≤ slice_index credits k
-  pub credited : (k : ℕ) → k < 32 → (slice_index credits k ≡ 0) ⊎ (slice_index credits k ≡ threads_of s k)
+  pub credited : (k : ℕ)
+      → k < 32
+      → (slice_index credits k ≡ 0) ⊎ (slice_index credits k ≡ threads_of s k)
   pub small : (k : ℕ) → k < 32 → slice_index credits k ≤ 64
   pub full : length credits ≡ 32
-  pub children : (id : ℕ) (v : View) → get_elem? views id ≡ m.some v → (k : ℕ) → v.hand.permit ≡ Some k → k < 32
+  pub children : (id : ℕ) (v : View)
+      → get_elem? views id ≡ m.some v
+      → (k : ℕ)
+      → v.hand.permit ≡ Some k
+      → k < 32
   pub holders : (id : ℕ) (v : View) → get_elem? views id ≡ m.some v → HasPermit s v

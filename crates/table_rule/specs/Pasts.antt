@@ -37,9 +37,11 @@ moves_of steps = map move_of steps
 
 -- the pass made these steps more
 abbrev pub MakesSteps : List (ℕ × ℕ × ℕ) → Past → Past → Type 0
-MakesSteps moves before after = (after.since ≡ before.since) × (moves_of after.steps ≡ moves_of before.steps ++ moves)
+MakesSteps moves before after =
+    (after.since ≡ before.since) × (moves_of after.steps ≡ moves_of before.steps ++ moves)
 
 -- the pass made one step more on that word, which found this number and left that one; else it became as the second view
-abbrev pub StepsOn : ℕ → ℕ → ℕ → View → View → View → Type 0
-StepsOn word found left before changed after =
-    (after ≡ record changed { past = after.past }) × MakesSteps ((word, found, left) ∷ []) before.past after.past
+abbrev pub MakesStepOn : ℕ → ℕ → ℕ → View → View → View → Type 0
+MakesStepOn word found left before changed after =
+    (after ≡ record changed { past = after.past })
+    × MakesSteps ((word, found, left) ∷ []) before.past after.past

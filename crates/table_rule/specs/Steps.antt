@@ -8,13 +8,13 @@ use Rattle.conn_machine.specs.Folds.{opening_record}
 use Rattle.conn_machine.specs.Laws.{idle_in}
 use Rattle.conn_machine.specs.Made.{AreMade, HasSeen}
 use Rattle.conn_machine.specs.Runs.{Adds, after, row_of}
-use Rattle.table_rule.specs.declared.view.Left.{Left}
+use Rattle.table_rule.specs.declared.view.LastLeft.{LastLeft}
 use Rattle.table_rule.specs.declared.view.Origin.{Origin}
 use Rattle.table_rule.specs.declared.view.View.{View}
-use Rattle.table_rule.specs.Ledgers.{EndsTurn, IsLedgerLeft}
+use Rattle.table_rule.specs.Ledgers.{EndsTurn, IsLastLeft}
 use Rattle.table_rule.specs.Views.{IsFound, taken_view, given_view, drawn_view, resting_view, woken_view, with_permit, with_try, credited_view}
 use Rattle.table_rule.specs.IdleWords.{bias}
-use Rattle.table_rule.specs.Pasts.{StepsOn}
+use Rattle.table_rule.specs.Pasts.{MakesStepOn}
 
 module _ {K : Type 0} (ledger : K → Ledger) where
   -- the turn was taken, with the value; or nothing changed
@@ -31,28 +31,30 @@ module _ {K : Type 0} (ledger : K → Ledger) where
   -- the value in hand is at home again, and what was added to the value that the turn found is in the history
   abbrev pub GivesBack : Step (Option K) → Me (Option K) View → ℕ → Me (Option K) View → Type 0
   GivesBack s v found w =
-      (kept : K) × (history : List Entry) × (left : Left) × (v.1 ≡ (0, Some kept) ∷ []) × (w.1 ≡ [])
+      (kept : K) × (history : List Entry) × (left : LastLeft) × (v.1 ≡ (0, Some kept) ∷ []) × (w.1 ≡ [])
       × (w.0 ≡ given_view v.0 history left) × Adds v.0.who.number v.0.origin.state (opening_record v.0.origin.passes) v.0.seen history
-      × EndsTurn v.0 (ledger kept) history × IsLedgerLeft v.0 (ledger kept) history left
-
--- nothing changed
-abbrev pub LooksAtWord : {K : Type 0} → Step (Option K) → Me (Option K) View → ℕ → Me (Option K) View → Type 0
-LooksAtWord s v found w = w ≡ v
+      × EndsTurn v.0 (ledger kept) history × IsLastLeft v.0 (ledger kept) history left
 
 -- pass 0 drew the number that it knew to be the next
-abbrev pub DrawsNext : {K : Type 0} → Step (Option K) → Me (Option K) View → ℕ → Me (Option K) View → Type 0
+abbrev pub DrawsNext : {K : Type 0} → Step (Option K) → Me (Option K) View → ℕ → Me (Option K) View
+    → Type 0
 DrawsNext s v found w = (found ≡ v.0.draws.next) × (w.1 ≡ v.1) × (w.0 ≡ drawn_view v.0)
 
 -- the pass rests, and knows nothing any more but its number
-abbrev pub LiesDown : {K : Type 0} → Step (Option K) → Me (Option K) View → ℕ → Me (Option K) View → Type 0
+abbrev pub LiesDown : {K : Type 0} → Step (Option K) → Me (Option K) View → ℕ → Me (Option K) View
+    → Type 0
 LiesDown s v found w = (w.1 ≡ v.1) × (w.0 ≡ resting_view v.0.who.number)
 
 -- the pass rests no more: it has nothing, and knows its number, how many steps had been made on idle words, and some history
 -- that it has seen, in which it has no connection
-abbrev pub WakesUp : {K : Type 0} → Step (Option K) → Me (Option K) View → ℕ → Me (Option K) View → Type 0
+abbrev pub WakesUp : {K : Type 0} → Step (Option K) → Me (Option K) View → ℕ → Me (Option K) View
+    → Type 0
 WakesUp s v found w =
-    (w.1 ≡ v.1) × ((origin : Origin) × (seen : List Entry) × (since : ℕ) × (w.0 ≡ woken_view origin v.0.who.number seen since)
-    × AreMade origin.state (opening_record origin.passes) seen × (row_of v.0.who.number seen ≡ None))
+    (w.1 ≡ v.1)
+    × ((origin : Origin) × (seen : List Entry) × (since : ℕ)
+    × (w.0 ≡ woken_view origin v.0.who.number seen since)
+    × AreMade origin.state (opening_record origin.passes) seen
+    × (row_of v.0.who.number seen ≡ None))
 
 -- a permit of the child, or a try to undo
 abbrev pub tried_view : Bool → ℕ → View → View
@@ -60,20 +62,29 @@ tried_view true k v = with_permit (Some k) v
 tried_view false k v = with_try (Some k) v
 
 -- a permit where the word was above the bias; the word's number is the child's and 2
-abbrev pub Tries : {K : Type 0} → Step (Option K) → Me (Option K) View → ℕ → Me (Option K) View → Type 0
-Tries s v found w = (w.1 ≡ v.1) × StepsOn s.word found (found - 1) v.0 (tried_view (nat_lt bias found) (s.word - 2) v.0) w.0
+abbrev pub TriesForPermit : {K : Type 0} → Step (Option K) → Me (Option K) View → ℕ
+    → Me (Option K) View → Type 0
+TriesForPermit s v found w =
+    (w.1 ≡ v.1)
+    × MakesStepOn s.word found (found - 1) v.0 (tried_view (nat_lt bias found) (s.word - 2) v.0) w.0
 
 -- the try is undone
-abbrev pub Undoes : {K : Type 0} → Step (Option K) → Me (Option K) View → ℕ → Me (Option K) View → Type 0
-Undoes s v found w = (w.1 ≡ v.1) × StepsOn s.word found (found + 1) v.0 (with_try None v.0) w.0
+abbrev pub Undoes : {K : Type 0} → Step (Option K) → Me (Option K) View → ℕ → Me (Option K) View
+    → Type 0
+Undoes s v found w = (w.1 ≡ v.1) × MakesStepOn s.word found (found + 1) v.0 (with_try None v.0) w.0
 
 -- the permit is given back
-abbrev pub Releases : {K : Type 0} → Step (Option K) → Me (Option K) View → ℕ → Me (Option K) View → Type 0
-Releases s v found w = (w.1 ≡ v.1) × StepsOn s.word found (found + 1) v.0 (with_permit None v.0) w.0
+abbrev pub Releases : {K : Type 0} → Step (Option K) → Me (Option K) View → ℕ → Me (Option K) View
+    → Type 0
+Releases s v found w =
+    (w.1 ≡ v.1) × MakesStepOn s.word found (found + 1) v.0 (with_permit None v.0) w.0
 
 -- the child has the credit that was added
-abbrev pub Credits : {K : Type 0} → Step (Option K) → Me (Option K) View → ℕ → Me (Option K) View → Type 0
-Credits s v found w = (w.1 ≡ v.1) × StepsOn s.word found (found + s.first) v.0 (credited_view (s.word - 2) s.first v.0) w.0
+abbrev pub AddsCredit : {K : Type 0} → Step (Option K) → Me (Option K) View → ℕ → Me (Option K) View
+    → Type 0
+AddsCredit s v found w =
+    (w.1 ≡ v.1)
+    × MakesStepOn s.word found (found + s.first) v.0 (credited_view (s.word - 2) s.first v.0) w.0
 
 -- the child's credit went, or stayed
 abbrev pub uncredited_view : Bool → ℕ → View → View
@@ -81,16 +92,19 @@ uncredited_view true k v = credited_view k 0 v
 uncredited_view false k v = v
 
 -- the credit goes where the word was the one that was expected
-abbrev pub Uncredits : {K : Type 0} → Step (Option K) → Me (Option K) View → ℕ → Me (Option K) View → Type 0
-Uncredits s v found w =
+abbrev pub DropsCredit : {K : Type 0} → Step (Option K) → Me (Option K) View → ℕ
+    → Me (Option K) View → Type 0
+DropsCredit s v found w =
     (w.1 ≡ v.1)
-    × StepsOn s.word found (either (found == s.first) s.second found) v.0 (uncredited_view (found == s.first) (s.word - 2) v.0) w.0
+    × MakesStepOn s.word found (either (found == s.first) s.second found) v.0
+    (uncredited_view (found == s.first) (s.word - 2) v.0) w.0
 
 -- nothing changed but that the step was made; in a history that the pass had seen the first of, at least as many workers of the
 -- child carry nothing as the word is above the bias, which are 64 at most
-abbrev pub LooksAtIdle : {K : Type 0} → Step (Option K) → Me (Option K) View → ℕ → Me (Option K) View → Type 0
+abbrev pub LooksAtIdle : {K : Type 0} → Step (Option K) → Me (Option K) View → ℕ
+    → Me (Option K) View → Type 0
 LooksAtIdle s v found w =
-    (w.1 ≡ v.1) × StepsOn s.word found found v.0 v.0 w.0 × (found - bias ≤ 64)
+    (w.1 ≡ v.1) × MakesStepOn s.word found found v.0 v.0 w.0 × (found - bias ≤ 64)
     × ((history : List Entry) × HasSeen v.0.who.number v.0.seen history
     × AreMade v.0.origin.state (opening_record v.0.origin.passes) history
     × (found - bias ≤ idle_in (after v.0.origin.state history) (s.word - 2)))

@@ -8,7 +8,7 @@ use Rattle.conn_machine.specs.declared.kept.Ledger.{Ledger}
 use Rattle.conn_machine.specs.Folds.{opening_record}
 use Rattle.conn_machine.specs.Runs.{after, entries_of, row_of}
 use Rattle.table_rule.specs.declared.view.Draws.{Draws}
-use Rattle.table_rule.specs.declared.view.Left.{Left}
+use Rattle.table_rule.specs.declared.view.LastLeft.{LastLeft}
 use Rattle.table_rule.specs.declared.view.Origin.{Origin}
 use Rattle.table_rule.specs.declared.view.View.{View}
 use Rattle.conn_machine.specs.Made.{AreMade, HasSeen, IsOpened}
@@ -37,8 +37,8 @@ pub record AreFirstWords (words : List ℕ) : Type 0 where
   pub passes : slice_index words 1 ≡ 1
   pub idle : (k : ℕ) → k < 32 → slice_index words (k + 2) ≡ bias
 
--- one view and the history: its number is its place; it has seen a beginning, behind which it made no entry; and it has
--- the connection that its entries gave it last
+-- one view and the history: its number is its place; it has seen a beginning, behind which it made no entry, where it neither
+-- rests nor went into another; and it has the connection that its entries gave it last
 pub record IsViewOf (origin : Origin) (history : List Entry) (id : ℕ) (v : View) : Type 0 where
   pub number : v.who.gone ≡ false → v.who.number ≡ id
   pub origin_is : v.who.gone ≡ false → v.who.resting ≡ false → v.origin ≡ origin
@@ -47,7 +47,8 @@ pub record IsViewOf (origin : Origin) (history : List Entry) (id : ℕ) (v : Vie
   pub row : v.row ≡ row_of id history
 
 -- the value is at home, and nobody has the turn
-pub record KeptIsHome {K : Type 0} (ledger : K → Ledger) (origin : Origin) (left : Left) (history : List Entry) (s : State (Option K) View) : Type 0 where
+pub record KeptIsHome {K : Type 0} (ledger : K → Ledger) (origin : Origin) (left : LastLeft)
+    (history : List Entry) (s : State (Option K) View) : Type 0 where
   pub kept : K
   pub home : s.homes ≡ m.some (Some kept) ∷ []
   pub parts : IsSplit origin left (ledger kept) history
@@ -55,7 +56,8 @@ pub record KeptIsHome {K : Type 0} (ledger : K → Ledger) (origin : Origin) (le
   pub none_has : (id : ℕ) (v : View) → get_elem? s.views id ≡ m.some v → v.turn ≡ None
 
 -- the value is out with the one pass that has the turn, which has seen all
-pub record KeptIsOut {K : Type 0} (origin : Origin) (left : Left) (history : List Entry) (s : State (Option K) View) : Type 0 where
+pub record KeptIsOut {K : Type 0} (origin : Origin) (left : LastLeft) (history : List Entry)
+    (s : State (Option K) View) : Type 0 where
   pub holder : ℕ
   pub view : View
   pub at : get_elem? s.views holder ≡ m.some view
@@ -65,27 +67,35 @@ pub record KeptIsOut {K : Type 0} (origin : Origin) (left : Left) (history : Lis
   pub home : s.homes ≡ m.none ∷ []
   pub parts : IsSplit origin left found history
   pub word : slice_index s.words 0 ≡ 2 * length history + 1
-  pub one_has : (id : ℕ) (v : View) (got : Ledger) → get_elem? s.views id ≡ m.some v → v.turn ≡ Some got → id ≡ holder
+  pub one_has : (id : ℕ) (v : View) (got : Ledger)
+      → get_elem? s.views id ≡ m.some v
+      → v.turn ≡ Some got
+      → id ≡ holder
 
 -- the numbers below the next one were drawn, and each has its view, but for a spare one
-pub record AreDrawn (origin : Origin) (words : List ℕ) (views : List View) (draws : Draws) : Type 0 where
+pub record AreDrawn (origin : Origin) (words : List ℕ) (views : List View)
+    (draws : Draws) : Type 0 where
   pub word : slice_index words 1 ≡ draws.next
   pub views_are : length views + bit draws.spare ≡ draws.next
   pub few : draws.next ≤ origin.passes
 
 -- there is one history, made by passes as they may; the value is at home or out; each view fits; and the idle words are
 -- what they ought to be, and what the steps on them left, of which each pass knows its own
-pub record IsTied {K : Type 0} (ledger : K → Ledger) (opened : Ledger) (s : State (Option K) View) : Type 0 where
+pub record IsTied {K : Type 0} (ledger : K → Ledger) (opened : Ledger)
+    (s : State (Option K) View) : Type 0 where
   pub history : List Entry
   pub opening : IsOpened opened.base
   pub few : opened.passes ≤ 4099
   pub count : length s.words ≡ 34
   pub made : AreMade opened.base (opening_record opened.passes) history
   pub undrawn : (n : ℕ) → length s.views ≤ n → entries_of n history ≡ []
-  pub fits : (id : ℕ) (v : View) → get_elem? s.views id ≡ m.some v → IsViewOf (origin_of opened) history id v
+  pub fits : (id : ℕ) (v : View)
+      → get_elem? s.views id ≡ m.some v
+      → IsViewOf (origin_of opened) history id v
   pub first : View
   pub at : get_elem? s.views 0 ≡ m.some first
-  pub place : KeptIsHome ledger (origin_of opened) first.left history s ⊎ KeptIsOut (origin_of opened) first.left history s
+  pub place : KeptIsHome ledger (origin_of opened) first.left history s
+      ⊎ KeptIsOut (origin_of opened) first.left history s
   pub drawn : AreDrawn (origin_of opened) s.words s.views first.draws
   pub idle : AreIdleWords (after opened.base history) s.words s.views first.credits
   pub steps : AreIdleSteps s.words s.views

@@ -9,7 +9,7 @@ use Rattle.conn_machine.specs.States.{opening_state}
 use Rattle.conn_machine.specs.Runs.{after, row_of}
 use Rattle.conn_machine.specs.Folds.{opening_record}
 use Rattle.table_rule.specs.declared.view.Hand.{Hand}
-use Rattle.table_rule.specs.declared.view.Left.{Left}
+use Rattle.table_rule.specs.declared.view.LastLeft.{LastLeft}
 use Rattle.table_rule.specs.declared.view.Origin.{Origin}
 use Rattle.table_rule.specs.declared.view.Past.{Past}
 use Rattle.table_rule.specs.declared.view.View.{View}
@@ -28,7 +28,7 @@ abbrev pub new_past : Past
 new_past = record { since = 0; steps = [] }
 
 -- nothing was folded yet, and no text left
-abbrev pub nothing_left : Origin → Left
+abbrev pub nothing_left : Origin → LastLeft
 nothing_left origin = record { entries = []; folded = opening_record origin.passes; texts = [] }
 
 -- nothing is known of where the history begins
@@ -63,12 +63,14 @@ free_view origin p seen =
 
 -- a pass that woke up when so many steps had been made on idle words
 abbrev pub woken_view : Origin → ℕ → List Entry → ℕ → View
-woken_view origin p seen since = record (free_view origin p seen) { past = record { since = since; steps = [] } }
+woken_view origin p seen since =
+    record (free_view origin p seen) { past = record { since = since; steps = [] } }
 
 -- pass 0 before it did anything, when it has drawn the numbers below this one
 abbrev pub first_view : Origin → ℕ → View
 first_view origin next =
-    record (free_view origin 0 []) { credits = replicate 32 0; draws = record { next = next; spare = false } }
+    record (free_view origin 0 [])
+    { credits = replicate 32 0; draws = record { next = next; spare = false } }
 
 -- a pass that went into another one
 abbrev pub gone_view : View
@@ -90,18 +92,21 @@ pub record IsIdle (v : View) : Type 0 where
 -- where the pass has a connection, its row is in this history as in what the pass had seen
 abbrev pub RowStays : View → List Entry → Type 0
 RowStays v history =
-    IfSome v.row (λ name. slice_get (after v.origin.state history).rows name.slot ≡ slice_get (after v.origin.state v.seen).rows name.slot)
+    IfSome v.row
+    (λ name. slice_get (after v.origin.state history).rows name.slot
+    ≡ slice_get (after v.origin.state v.seen).rows name.slot)
 
 -- where the pass has a permit and no connection, fewer than all workers of that child carry one
 abbrev pub HasFreeWorker : View → State → Type 0
-HasFreeWorker v s = v.row ≡ None → IfSome v.hand.permit (λ k. carried_count s.rows k < threads_of s k)
+HasFreeWorker v s =
+    v.row ≡ None → IfSome v.hand.permit (λ k. carried_count s.rows k < threads_of s k)
 
 -- what a pass finds that takes the turn: the value, and its history from the origin on
 pub record IsFound (v : View) (found : Ledger) (history : List Entry) : Type 0 where
   pub seen : HasSeen v.who.number v.seen history
   pub made : AreMade v.origin.state (opening_record v.origin.passes) history
   pub number : v.who.number < v.origin.passes
-  pub left : Left
+  pub left : LastLeft
   pub parts : IsSplit v.origin left found history
   pub own : v.who.number ≡ 0 → left ≡ v.left
   pub row : RowStays v history
@@ -115,7 +120,7 @@ abbrev pub taken_view : View → Ledger → List Entry → View
 taken_view v found history = record v { turn = Some found; seen = history }
 
 -- it gave the turn back, and left this
-abbrev pub given_view : View → List Entry → Left → View
+abbrev pub given_view : View → List Entry → LastLeft → View
 given_view v history left =
     record v { turn = None; seen = history; row = row_of v.who.number history; left = left }
 
@@ -125,7 +130,8 @@ drawn_view v = record v { draws = record { next = v.draws.next + 1; spare = true
 
 -- another pass went into it: the longer history that was seen stays
 abbrev pub joined_view : View → View → View
-joined_view v other = if nat_lt (length v.seen) (length other.seen) then record v { seen = other.seen } else v
+joined_view v other =
+    if nat_lt (length v.seen) (length other.seen) then record v { seen = other.seen } else v
 
 -- it gave the last number to a new pass
 abbrev pub parted_view : View → View

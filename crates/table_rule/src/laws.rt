@@ -14,13 +14,13 @@ ghost use Rattle.conn_machine.specs.declared.kept.Ledger.{Ledger};
 ghost use Rattle.conn_machine.specs.declared.event.Entry.{Entry};
 ghost use Rattle.conn_machine.specs.Folds.{opening_record};
 ghost use Rattle.conn_machine.specs.Runs.{AreEntriesOf, after, row_from, row_of};
-ghost use Rattle.table_rule.specs.declared.view.Left.{Left};
+ghost use Rattle.table_rule.specs.declared.view.LastLeft.{LastLeft};
 ghost use Rattle.table_rule.specs.declared.view.Origin.{Origin};
 ghost use Rattle.table_rule.specs.declared.view.View.{View};
 ghost use Rattle.table_rule.specs.Histories.{threads_of};
 ghost use Rattle.table_rule.specs.IdleWords.{bias, permits, sum_of};
 ghost use Rattle.table_rule.specs.Ledgers.{IsSplit, MayGiveBack};
-ghost use Rattle.table_rule.specs.Steps.{Credits, DrawsNext, GivesBack, LiesDown, LooksAtWord, LooksAtIdle, Releases, TakesTurn, Tries, Uncredits, Undoes, WakesUp};
+ghost use Rattle.table_rule.specs.Steps.{AddsCredit, DrawsNext, GivesBack, LiesDown, LooksAtIdle, Releases, TakesTurn, TriesForPermit, DropsCredit, Undoes, WakesUp};
 ghost use Rattle.table_rule.specs.Tie.{AreFirstWords, IsNew, IsTied, origin_of};
 ghost use Rattle.table_rule.specs.Views.{IsAwake, IsIdle, first_view, gone_view, joined_view, new_view, parted_view, resting_view};
 
@@ -34,12 +34,21 @@ use conn_machine::laws_of_runs::{
 
 /// The rule holds of a new table.
 pub fn table_opens<K: Kept>()
-    ensures { (words : List ℕ) (kept : K) → IsNew (K.ledger kept) → AreFirstWords words → IsTied K.ledger (K.ledger kept) (opening words (Some kept ∷ []) (first_view (origin_of (K.ledger kept)) 1)) }
+    ensures { (words : List ℕ) (kept : K)
+        → IsNew (K.ledger kept)
+        → AreFirstWords words
+        → IsTied K.ledger (K.ledger kept)
+        (opening words (Some kept ∷ []) (first_view (origin_of (K.ledger kept)) 1)) }
 {}
 
 /// The turn is taken.
 pub fn turn_is_taken<K: Kept>()
-    ensures { (o : Ledger) (slots id n : ℕ) (me : Me (Option K) View) → me.1 ≡ [] → IsAwake me.0 → (n % 2 ≡ 1 → ⊥) → Allows (IsTied K.ledger o) slots id me 0 (λ x. either (x == n) (n + 1) x) (TakesTurn K.ledger (step slots 0 n (n + 1) none) me) }
+    ensures { (o : Ledger) (slots id n : ℕ) (me : Me (Option K) View)
+        → me.1 ≡ []
+        → IsAwake me.0
+        → (n % 2 ≡ 1 → ⊥)
+        → Allows (IsTied K.ledger o) slots id me 0 (λ x. either (x == n) (n + 1) x)
+        (TakesTurn K.ledger (step slots 0 n (n + 1) none) me) }
 {
     connections_stay_while_others_go_on();
     each_pass_has_its_own_connection();
@@ -48,7 +57,13 @@ pub fn turn_is_taken<K: Kept>()
 
 /// The turn is given back.
 pub fn turn_is_given_back<K: Kept>()
-    ensures { (o : Ledger) (slots id n : ℕ) (me : Me (Option K) View) (kept : K) → me.1 ≡ (0, Some kept) ∷ [] → IsAwake me.0 → MayGiveBack me.0 (K.ledger kept) → n ≡ 2 * ((K.ledger kept).folded.entries + length (K.ledger kept).history) → Allows (IsTied K.ledger o) slots id me 0 (λ _. n) (λ _. GivesBack K.ledger (step slots 0 n 0 none) me n) }
+    ensures { (o : Ledger) (slots id n : ℕ) (me : Me (Option K) View) (kept : K)
+        → me.1 ≡ (0, Some kept) ∷ []
+        → IsAwake me.0
+        → MayGiveBack me.0 (K.ledger kept)
+        → n ≡ 2 * ((K.ledger kept).folded.entries + length (K.ledger kept).history)
+        → Allows (IsTied K.ledger o) slots id me 0 (λ _. n)
+        (λ _. GivesBack K.ledger (step slots 0 n 0 none) me n) }
 {
     connections_stay_while_others_go_on();
     each_pass_has_its_own_connection();
@@ -58,64 +73,117 @@ pub fn turn_is_given_back<K: Kept>()
     records_open_with_nothing();
 }
 
-/// A word is looked at.
-pub fn word_is_looked_at<K: Kept>()
-    ensures { (o : Ledger) (slots id word : ℕ) (me : Me (Option K) View) → Allows (IsTied K.ledger o) slots id me word (λ n. n) (LooksAtWord (step slots word 0 0 none) me) }
-{}
-
 /// Pass 0 draws the next number.
 pub fn number_is_drawn<K: Kept>()
-    ensures { (o : Ledger) (slots id : ℕ) (me : Me (Option K) View) → IsAwake me.0 → me.0.who.number ≡ 0 → me.0.draws.spare ≡ false → me.0.draws.next < me.0.origin.passes → Allows (IsTied K.ledger o) slots id me 1 (λ n. (n + 1) % 2 ^ 64) (DrawsNext (step slots 1 1 0 none) me) }
+    ensures { (o : Ledger) (slots id : ℕ) (me : Me (Option K) View)
+        → IsAwake me.0
+        → me.0.who.number ≡ 0
+        → me.0.draws.spare ≡ false
+        → me.0.draws.next < me.0.origin.passes
+        → Allows (IsTied K.ledger o) slots id me 1 (λ n. (n + 1) % 2 ^ 64)
+        (DrawsNext (step slots 1 1 0 none) me) }
 {}
 
 /// A pass is made of the number that pass 0 drew last.
 pub fn pass_is_made<K: Kept>()
-    ensures { (o : Ledger) (id : ℕ) (v : View) → IsAwake v → v.who.number ≡ 0 → v.draws.spare ≡ true → Splits (IsTied K.ledger o) id v (parted_view v) (new_view v) }
+    ensures { (o : Ledger) (id : ℕ) (v : View)
+        → IsAwake v
+        → v.who.number ≡ 0
+        → v.draws.spare ≡ true
+        → Splits (IsTied K.ledger o) id v (parted_view v) (new_view v) }
 {}
 
 /// A pass that has nothing goes into another one.
 pub fn pass_is_joined<K: Kept>()
-    ensures { (o : Ledger) (id other : ℕ) (v u : View) → IsAwake v → v.turn ≡ None → IsAwake u → IsIdle u → u.who.number ≢ 0 → Joins (IsTied K.ledger o) id v other u (joined_view v u) gone_view }
+    ensures { (o : Ledger) (id other : ℕ) (v u : View)
+        → IsAwake v
+        → v.turn ≡ None
+        → IsAwake u
+        → IsIdle u
+        → u.who.number ≢ 0
+        → Joins (IsTied K.ledger o) id v other u (joined_view v u) gone_view }
 {}
 
 /// A pass other than pass 0 that has nothing lies down.
 pub fn pass_lies_down<K: Kept>()
-    ensures { (o : Ledger) (slots id : ℕ) (me : Me (Option K) View) → IsAwake me.0 → IsIdle me.0 → me.0.who.number ≢ 0 → Allows (IsTied K.ledger o) slots id me 0 (λ n. n) (LiesDown (step slots 0 0 0 none) me) }
+    ensures { (o : Ledger) (slots id : ℕ) (me : Me (Option K) View)
+        → IsAwake me.0
+        → IsIdle me.0
+        → me.0.who.number ≢ 0
+        → Allows (IsTied K.ledger o) slots id me 0 (λ n. n) (LiesDown (step slots 0 0 0 none) me) }
 {}
 
 /// A pass wakes up.
 pub fn pass_wakes_up<K: Kept>()
-    ensures { (o : Ledger) (slots id p : ℕ) (me : Me (Option K) View) → me.0 ≡ resting_view p → p ≢ 0 → Allows (IsTied K.ledger o) slots id me 0 (λ n. n) (WakesUp (step slots 0 0 0 none) me) }
+    ensures { (o : Ledger) (slots id p : ℕ) (me : Me (Option K) View)
+        → me.0 ≡ resting_view p
+        → p ≢ 0
+        → Allows (IsTied K.ledger o) slots id me 0 (λ n. n) (WakesUp (step slots 0 0 0 none) me) }
 {}
 
 /// A pass that has nothing tries for a permit.
 pub fn permit_is_tried_for<K: Kept>()
-    ensures { (o : Ledger) (slots id k : ℕ) (me : Me (Option K) View) → k < 32 → IsAwake me.0 → IsIdle me.0 → Allows (IsTied K.ledger o) slots id me (k + 2) (λ n. (n + (2 ^ 64 - 1)) % 2 ^ 64) (Tries (step slots (k + 2) 1 0 none) me) }
+    ensures { (o : Ledger) (slots id k : ℕ) (me : Me (Option K) View)
+        → k < 32
+        → IsAwake me.0
+        → IsIdle me.0
+        → Allows (IsTied K.ledger o) slots id me (k + 2) (λ n. (n + (2 ^ 64 - 1)) % 2 ^ 64)
+        (TriesForPermit (step slots (k + 2) 1 0 none) me) }
 {}
 
 /// A try is undone.
 pub fn try_is_undone<K: Kept>()
-    ensures { (o : Ledger) (slots id k : ℕ) (me : Me (Option K) View) → k < 32 → IsAwake me.0 → me.0.hand.trying ≡ Some k → Allows (IsTied K.ledger o) slots id me (k + 2) (λ n. (n + 1) % 2 ^ 64) (Undoes (step slots (k + 2) 1 0 none) me) }
+    ensures { (o : Ledger) (slots id k : ℕ) (me : Me (Option K) View)
+        → k < 32
+        → IsAwake me.0
+        → me.0.hand.trying ≡ Some k
+        → Allows (IsTied K.ledger o) slots id me (k + 2) (λ n. (n + 1) % 2 ^ 64)
+        (Undoes (step slots (k + 2) 1 0 none) me) }
 {}
 
 /// A permit is given back.
 pub fn permit_is_released<K: Kept>()
-    ensures { (o : Ledger) (slots id k : ℕ) (me : Me (Option K) View) → k < 32 → IsAwake me.0 → me.0.hand.permit ≡ Some k → me.0.row ≡ None → Allows (IsTied K.ledger o) slots id me (k + 2) (λ n. (n + 1) % 2 ^ 64) (Releases (step slots (k + 2) 1 0 none) me) }
+    ensures { (o : Ledger) (slots id k : ℕ) (me : Me (Option K) View)
+        → k < 32
+        → IsAwake me.0
+        → me.0.hand.permit ≡ Some k
+        → me.0.row ≡ None
+        → Allows (IsTied K.ledger o) slots id me (k + 2) (λ n. (n + 1) % 2 ^ 64)
+        (Releases (step slots (k + 2) 1 0 none) me) }
 {}
 
 /// A child gets its credit: pass 0 has the turn, and the child has these workers.
 pub fn child_is_credited<K: Kept>()
-    ensures { (o found : Ledger) (slots id k n : ℕ) (me : Me (Option K) View) → k < 32 → IsAwake me.0 → me.0.who.number ≡ 0 → me.0.turn ≡ Some found → slice_index me.0.credits k ≡ 0 → n ≤ 64 → n ≡ threads_of (after me.0.origin.state me.0.seen) k → Allows (IsTied K.ledger o) slots id me (k + 2) (λ c. (c + n) % 2 ^ 64) (Credits (step slots (k + 2) n 0 none) me) }
+    ensures { (o found : Ledger) (slots id k n : ℕ) (me : Me (Option K) View)
+        → k < 32
+        → IsAwake me.0
+        → me.0.who.number ≡ 0
+        → me.0.turn ≡ Some found
+        → slice_index me.0.credits k ≡ 0
+        → n ≤ 64
+        → n ≡ threads_of (after me.0.origin.state me.0.seen) k
+        → Allows (IsTied K.ledger o) slots id me (k + 2) (λ c. (c + n) % 2 ^ 64)
+        (AddsCredit (step slots (k + 2) n 0 none) me) }
 {}
 
 /// A child loses its credit.
 pub fn child_is_uncredited<K: Kept>()
-    ensures { (o : Ledger) (slots id k n : ℕ) (me : Me (Option K) View) → k < 32 → IsAwake me.0 → me.0.who.number ≡ 0 → slice_index me.0.credits k ≡ n → Allows (IsTied K.ledger o) slots id me (k + 2) (λ x. either (x == bias + n) bias x) (Uncredits (step slots (k + 2) (bias + n) bias none) me) }
+    ensures { (o : Ledger) (slots id k n : ℕ) (me : Me (Option K) View)
+        → k < 32
+        → IsAwake me.0
+        → me.0.who.number ≡ 0
+        → slice_index me.0.credits k ≡ n
+        → Allows (IsTied K.ledger o) slots id me (k + 2) (λ x. either (x == bias + n) bias x)
+        (DropsCredit (step slots (k + 2) (bias + n) bias none) me) }
 {}
 
 /// An idle word is looked at.
 pub fn idle_word_is_looked_at<K: Kept>()
-    ensures { (o : Ledger) (slots id k : ℕ) (me : Me (Option K) View) → k < 32 → IsAwake me.0 → Allows (IsTied K.ledger o) slots id me (k + 2) (λ n. n) (LooksAtIdle (step slots (k + 2) 0 0 none) me) }
+    ensures { (o : Ledger) (slots id k : ℕ) (me : Me (Option K) View)
+        → k < 32
+        → IsAwake me.0
+        → Allows (IsTied K.ledger o) slots id me (k + 2) (λ n. n)
+        (LooksAtIdle (step slots (k + 2) 0 0 none) me) }
 {
     each_pass_has_its_own_connection();
     records_open_with_nothing();
@@ -124,9 +192,22 @@ pub fn idle_word_is_looked_at<K: Kept>()
 /// Where the rule holds, each connection that somebody holds or has stands in a pass's view; a child's workers carry no more
 /// connections than it has permits out; and a pass with a permit of it and no connection leaves one of them free.
 pub fn views_tell_of_connections<K: Kept>()
-    ensures stands { (o : Ledger) (s : table.State (Option K) View) (tied : IsTied K.ledger o s) (slot : ℕ) (r : Row) → slice_get (after o.base tied.history).rows slot ≡ Some r → is_with_a_pass r.place ≡ true → (id : ℕ) × (v : View) × (name : ConnName) × (get_elem? s.views id ≡ some v) × (v.row ≡ Some name) × (name.slot ≡ slot) }
-    ensures carried { (o : Ledger) (s : table.State (Option K) View) (tied : IsTied K.ledger o s) (k : ℕ) → carried_count (after o.base tied.history).rows k ≤ sum_of (permits k) s.views }
-    ensures room { (o : Ledger) (s : table.State (Option K) View) (tied : IsTied K.ledger o s) (id k : ℕ) (v : View) → get_elem? s.views id ≡ some v → v.row ≡ None → v.hand.permit ≡ Some k → carried_count (after o.base tied.history).rows k < threads_of (after o.base tied.history) k }
+    ensures stands { (o : Ledger) (s : table.State (Option K) View) (tied : IsTied K.ledger o s)
+        (slot : ℕ) (r : Row)
+        → slice_get (after o.base tied.history).rows slot ≡ Some r
+        → is_with_a_pass r.place ≡ true
+        → (id : ℕ) × (v : View) × (name : ConnName) × (get_elem? s.views id ≡ some v)
+        × (v.row ≡ Some name) × (name.slot ≡ slot) }
+    ensures carried { (o : Ledger) (s : table.State (Option K) View) (tied : IsTied K.ledger o s)
+        (k : ℕ)
+        → carried_count (after o.base tied.history).rows k ≤ sum_of (permits k) s.views }
+    ensures room { (o : Ledger) (s : table.State (Option K) View) (tied : IsTied K.ledger o s)
+        (id k : ℕ) (v : View)
+        → get_elem? s.views id ≡ some v
+        → v.row ≡ None
+        → v.hand.permit ≡ Some k
+        → carried_count (after o.base tied.history).rows k
+        < threads_of (after o.base tied.history) k }
 {
     each_pass_has_its_own_connection();
     records_open_with_nothing();
@@ -135,8 +216,16 @@ pub fn views_tell_of_connections<K: Kept>()
 /// What a value keeps stands for the whole history: behind its base and its record each pass has the same connection, and what
 /// it may add there it may add to the whole.
 pub fn values_stand_for_whole_histories()
-    ensures row { (origin : Origin) (left : Left) (l : Ledger) (whole : List Entry) (p : ℕ) → IsSplit origin left l whole → p < origin.passes → row_from l.folded p l.history ≡ row_of p whole }
-    ensures entries { (origin : Origin) (left : Left) (l : Ledger) (whole added : List Entry) (p : ℕ) → IsSplit origin left l whole → p < origin.passes → AreEntriesOf p l.base l.folded l.history added → AreEntriesOf p origin.state (opening_record origin.passes) whole added }
+    ensures row { (origin : Origin) (left : LastLeft) (l : Ledger) (whole : List Entry) (p : ℕ)
+        → IsSplit origin left l whole
+        → p < origin.passes
+        → row_from l.folded p l.history ≡ row_of p whole }
+    ensures entries { (origin : Origin) (left : LastLeft) (l : Ledger) (whole added : List Entry)
+        (p : ℕ)
+        → IsSplit origin left l whole
+        → p < origin.passes
+        → AreEntriesOf p l.base l.folded l.history added
+        → AreEntriesOf p origin.state (opening_record origin.passes) whole added }
 {
     records_go_on_by_folds();
 }

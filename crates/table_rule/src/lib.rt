@@ -17,9 +17,9 @@ mod view;
 mod words;
 
 pub use steps::{
-    CreditStep, DrawStep, GiveStep, IdleStep, Joined, LoadStep, NewPass, ReleaseStep, RestStep,
+    CreditStep, DrawStep, GiveStep, IdleStep, Joined, NewPass, ReleaseStep, RestStep,
     TakeStep, Tie, TryStep, UncreditStep, UndoStep, WakeStep,
 };
 pub use trail::Step;
-pub use view::{Draws, Hand, Left, Origin, Past, View, Who};
+pub use view::{Draws, Hand, LastLeft, Origin, Past, View, Who};
 pub use words::{BIAS, first_words};

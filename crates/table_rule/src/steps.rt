@@ -1,5 +1,5 @@
 //! The kinds of step, and the rule that they keep.
-ghost use Rattle.table_rule.specs.Steps.{Credits, DrawsNext, GivesBack, LiesDown, LooksAtWord, LooksAtIdle, Releases, TakesTurn, Tries, Uncredits, Undoes, WakesUp};
+ghost use Rattle.table_rule.specs.Steps.{AddsCredit, DrawsNext, GivesBack, LiesDown, LooksAtIdle, Releases, TakesTurn, TriesForPermit, DropsCredit, Undoes, WakesUp};
 ghost use Rattle.table_rule.specs.Tie.{IsTied, origin_of};
 ghost use Rattle.table_rule.specs.Views.{first_view, gone_view, joined_view, new_view, parted_view};
 
@@ -31,13 +31,6 @@ impl<K: Kept> Play<Option<K>, View> for GiveStep {
     ghost then = { GivesBack K.ledger };
 }
 
-/// The turn word is looked at: a load of word 0.
-pub struct LoadStep;
-
-impl<K: Kept> Play<Option<K>, View> for LoadStep {
-    ghost then = { LooksAtWord };
-}
-
 /// A pass number is drawn: 1 is added to word 1.
 pub struct DrawStep;
 
@@ -63,7 +56,7 @@ impl<K: Kept> Play<Option<K>, View> for WakeStep {
 pub struct TryStep;
 
 impl<K: Kept> Play<Option<K>, View> for TryStep {
-    ghost then = { Tries };
+    ghost then = { TriesForPermit };
 }
 
 /// A try is undone: 1 is added to an idle word.
@@ -84,14 +77,14 @@ impl<K: Kept> Play<Option<K>, View> for ReleaseStep {
 pub struct CreditStep;
 
 impl<K: Kept> Play<Option<K>, View> for CreditStep {
-    ghost then = { Credits };
+    ghost then = { AddsCredit };
 }
 
 /// A child loses its credit: a compare-exchange on its idle word.
 pub struct UncreditStep;
 
 impl<K: Kept> Play<Option<K>, View> for UncreditStep {
-    ghost then = { Uncredits };
+    ghost then = { DropsCredit };
 }
 
 /// An idle word is looked at: a load.
@@ -110,7 +103,7 @@ impl Split<View> for NewPass {
     ghost right = { new_view };
 }
 
-/// A pass that has nothing goes into another, which has seen more.
+/// A pass that has nothing goes into another, which then has seen what either had.
 pub struct Joined;
 
 impl Join<View> for Joined {

@@ -18,7 +18,7 @@ pub struct View {
     pub past: Past,
     /// What pass 0 alone has: what it left as it last gave the turn back, the credit of each child, and the numbers that
     /// it draws.
-    pub left: Left,
+    pub left: LastLeft,
     pub credits: LinkedList<u64>,
     pub draws: Draws,
 }
@@ -57,7 +57,7 @@ pub struct Past {
 }
 
 /// What pass 0 left as it gave the turn back.
-pub struct Left {
+pub struct LastLeft {
     /// The entries that were folded.
     pub entries: LinkedList<Entry>,
     /// What the value knew of them.

@@ -7,13 +7,14 @@ use Rattle.std.proofs.lemmas.List.{length-map}
 use Rattle.std.proofs.lemmas.Option.{none-some, same_Some, get_or_from_slice_get}
 use Rattle.mpm_base.specs.declared.conn.Kind.{Kind}
 use Rattle.mpm_base.specs.declared.conn.Kind.TheVariants.{Reading, KeepAlive, Writing, Linger, ShortLinger}
-use Rattle.timeout_queues.specs.Waiting.{ParkedName, in_life, least_deadline}
+use Rattle.timeout_queues.specs.Waiting.{ParkedName, all_parked, in_life, least_deadline}
 use Rattle.timeout_queues.specs.Entries.{parked_in}
 use Rattle.timeout_queues.specs.RingsInside.{ring_number, by_kind, place_at, IsRings, IsFirstOf}
 use Rattle.timeout_queues.specs.declared.Due.{Due}
 use Rattle.timeout_queues.specs.declared.Entry.{Entry}
 use Rattle.timeout_queues.proofs.HeadLemmas.{ring_first}
 use Rattle.timeout_queues.proofs.KeptLemmas.{deadline_at}
+use Rattle.timeout_queues.proofs.LeastLemmas.{least_of, least_reduce}
 use Rattle.timeout_queues.proofs.MapLemmas.{get_or_some}
 
 -- ## Of one ring
@@ -97,18 +98,22 @@ record IsParkedAt (slots : List (Option ParkedName)) (deadline : ℕ) : Type 0 w
   there : slice_get slots place ≡ Some (Some name)
   due : name.deadline ≡ deadline
 
+-- the least deadline of all that is parked, one by one
+abbrev least_at : List (Option ParkedName) → Option ℕ
+least_at slots = least_of (map (λ (p : ParkedName). p.deadline) (all_parked slots))
+
 -- some parked name has the least deadline
-least_parked : (slots : List (Option ParkedName)) (m : ℕ) → least_deadline slots ≡ Some m → IsParkedAt slots m
+least_parked : (slots : List (Option ParkedName)) (m : ℕ) → least_at slots ≡ Some m → IsParkedAt slots m
 least_parked [] m e = absurd (cc)
 least_parked (None ∷ slots) m e =
     let p = least_parked slots m e in record { place = suc p.place; name = p.name; there = p.there; due = p.due }
-least_parked (Some q ∷ slots) m e = on (least_deadline slots) refl e (least_parked slots)
+least_parked (Some q ∷ slots) m e = on (least_at slots) refl e (least_parked slots)
   where
     own : q.deadline ≡ m → IsParkedAt (Some q ∷ slots) m
     own same = record { place = 0; name = q; there = refl; due = same }
 
-    on : (o : Option ℕ) → least_deadline slots ≡ o → Some (option_map_or (min q.deadline) o q.deadline) ≡ Some m →
-        ((k : ℕ) → least_deadline slots ≡ Some k → IsParkedAt slots k) → IsParkedAt (Some q ∷ slots) m
+    on : (o : Option ℕ) → least_at slots ≡ o → Some (option_map_or (min q.deadline) o q.deadline) ≡ Some m →
+        ((k : ℕ) → least_at slots ≡ Some k → IsParkedAt slots k) → IsParkedAt (Some q ∷ slots) m
     on None l same again = own (same_Some q.deadline m same)
     on (Some k) l same again =
         let is : min q.deadline k ≡ m = same_Some (min q.deadline k) m same in
@@ -122,11 +127,11 @@ least_parked (Some q ∷ slots) m e = on (least_deadline slots) refl e (least_pa
 
 -- and none has one before it
 least_below : (slots : List (Option ParkedName)) (i : ℕ) (p : ParkedName) → slice_get slots i ≡ Some (Some p) →
-    IsSomeAnd (least_deadline slots) (λ m. m ≤ p.deadline)
+    IsSomeAnd (least_at slots) (λ m. m ≤ p.deadline)
 least_below [] i p at = absurd (cc)
 least_below (None ∷ slots) zero p at = absurd (cc)
 least_below (None ∷ slots) (suc i) p at = least_below slots i p at
-least_below (Some q ∷ slots) zero p at = on (least_deadline slots)
+least_below (Some q ∷ slots) zero p at = on (least_at slots)
   where
     same : q.deadline ≡ p.deadline
     same = ap (λ (x : ParkedName). x.deadline) (same_Some q p (same_Some (Some q) (Some p) at))
@@ -134,7 +139,7 @@ least_below (Some q ∷ slots) zero p at = on (least_deadline slots)
     on : (o : Option ℕ) → option_map_or (min q.deadline) o q.deadline ≤ p.deadline
     on None = omega (arith, same)
     on (Some k) = omega (arith, same)
-least_below (Some q ∷ slots) (suc i) p at = on (least_deadline slots) (least_below slots i p at)
+least_below (Some q ∷ slots) (suc i) p at = on (least_at slots) (least_below slots i p at)
   where
     on : (o : Option ℕ) → IsSomeAnd o (λ m. m ≤ p.deadline) → option_map_or (min q.deadline) o q.deadline ≤ p.deadline
     on None due = absurd due
@@ -152,23 +157,28 @@ parked_at (Some p) life d e = on (nat_eq p.life life) e
     on false same = absurd (cc)
 
 -- the first of all has the least deadline
-pub first_least : (slots : List (Option ParkedName)) (first : Option Due) → IsFirstOf slots (λ n. n < 5) first →
-    option_map (λ (d : Due). d.deadline) first ≡ least_deadline slots
-first_least slots None f = sym (none (least_deadline slots) refl)
+first_least_at : (slots : List (Option ParkedName)) (first : Option Due) → IsFirstOf slots (λ n. n < 5) first →
+    option_map (λ (d : Due). d.deadline) first ≡ least_at slots
+first_least_at slots None f = sym (none (least_at slots) refl)
   where
-    none : (o : Option ℕ) → least_deadline slots ≡ o → least_deadline slots ≡ None
+    none : (o : Option ℕ) → least_at slots ≡ o → least_at slots ≡ None
     none None e = e
     none (Some m) e =
         let p = least_parked slots m e in
         absurd (f.least p.place p.name p.there (kind_few p.name.kind))
-first_least slots (Some d) f =
+first_least_at slots (Some d) f =
     let own = parked_at (get_or slots d.name.slot None) d.name.life d.deadline f.parked in
     let low = least_below slots d.name.slot own.0 (get_or_some slots d.name.slot own.0 own.1) in
-    sym (some (least_deadline slots) refl own.0.deadline own.2 low)
+    sym (some (least_at slots) refl own.0.deadline own.2 low)
   where
-    some : (o : Option ℕ) → least_deadline slots ≡ o → (n : ℕ) → n ≡ d.deadline → IsSomeAnd o (λ m. m ≤ n) → o ≡ Some d.deadline
+    some : (o : Option ℕ) → least_at slots ≡ o → (n : ℕ) → n ≡ d.deadline → IsSomeAnd o (λ m. m ≤ n) → o ≡ Some d.deadline
     some None e n same low = absurd low
     some (Some m) e n same low =
         let p = least_parked slots m e in
         let due = f.least p.place p.name p.there (kind_few p.name.kind) in
         ap Some (omega (arith, due, p.due))
+
+pub first_least : (slots : List (Option ParkedName)) (first : Option Due) → IsFirstOf slots (λ n. n < 5) first →
+    option_map (λ (d : Due). d.deadline) first ≡ least_deadline slots
+first_least slots first f =
+    first_least_at slots first f ∙ least_reduce (map (λ (p : ParkedName). p.deadline) (all_parked slots))

@@ -56,22 +56,28 @@ due_at rule slots i = due_of rule (slice_get slots i)
 
 -- a place between the one before it and the one behind it, in one ring with them, and due no earlier than the
 -- one before it; ranks rise along a ring
-pub record IsLinked {X : Type 0} (rule : RingRule X) (slots : List (Option X)) (before behind : ℕ → ℕ) (rank : ℕ → ℕ) (i : ℕ) : Type 0 where
+pub record IsLinked {X : Type 0} (rule : RingRule X) (slots : List (Option X))
+    (before behind : ℕ → ℕ) (rank : ℕ → ℕ) (i : ℕ) : Type 0 where
   pub before_within : before i < length slots + rule.rings
   pub behind_within : behind i < length slots + rule.rings
   pub back : before (behind i) ≡ i
   pub forth : behind (before i) ≡ i
   pub ring : ring_at rule slots (before i) ≡ ring_at rule slots i
   pub alone : ring_at rule slots i ≡ None → before i ≡ i
-  pub order : (p : X) → slice_get slots i ≡ Some (Some p) → (due_at rule slots (before i) ≤ rule.due p) × (rank (before i) < rank i)
+  pub order : (p : X)
+      → slice_get slots i ≡ Some (Some p)
+      → (due_at rule slots (before i) ≤ rule.due p) × (rank (before i) < rank i)
 
 -- each place is linked so
-pub record IsRings {X : Type 0} (rule : RingRule X) (slots : List (Option X)) (before behind : List ℕ) : Type 0 where
+pub record IsRings {X : Type 0} (rule : RingRule X) (slots : List (Option X))
+    (before behind : List ℕ) : Type 0 where
   pub few : length slots ≤ 8192
   pub befores : length before ≡ length slots + rule.rings
   pub behinds : length behind ≡ length slots + rule.rings
   pub rank : ℕ → ℕ
-  pub linked : (i : ℕ) → i < length slots + rule.rings → IsLinked rule slots (place_at before) (place_at behind) rank i
+  pub linked : (i : ℕ)
+      → i < length slots + rule.rings
+      → IsLinked rule slots (place_at before) (place_at behind) rank i
 
 -- so many places, each of which is alone
 pub record IsAlone (places : List ℕ) (n : ℕ) : Type 0 where
@@ -80,23 +86,31 @@ pub record IsAlone (places : List ℕ) (n : ℕ) : Type 0 where
 
 -- what is parked in a slot is due at or after the deadline
 abbrev pub IsDueFrom : List (Option ParkedName) → ℕ → ℕ → Type 0
-IsDueFrom slots deadline place = (q : ParkedName) → slice_get slots place ≡ Some (Some q) → deadline ≤ q.deadline
+IsDueFrom slots deadline place =
+    (q : ParkedName) → slice_get slots place ≡ Some (Some q) → deadline ≤ q.deadline
 
 -- the place is in the ring, and what stands behind it is due at or after the deadline
-pub record IsBack (slots : List (Option ParkedName)) (behind : List ℕ) (head deadline place : ℕ) : Type 0 where
+pub record IsBack (slots : List (Option ParkedName)) (behind : List ℕ)
+    (head deadline place : ℕ) : Type 0 where
   pub within : place < length slots + 5
   pub ring : ring_at by_kind slots place ≡ Some head
   pub later : IsDueFrom slots deadline (place_at behind place)
 
 -- the place is the last of a ring whose deadline is at or before this one
-pub record IsLastBefore {X : Type 0} (rule : RingRule X) (slots : List (Option X)) (behind : List ℕ) (head deadline place : ℕ) : Type 0 where
+pub record IsLastBefore {X : Type 0} (rule : RingRule X) (slots : List (Option X)) (behind : List ℕ)
+    (head deadline place : ℕ) : Type 0 where
   pub within : place < length slots + rule.rings
   pub ring : ring_at rule slots place ≡ Some head
   pub due : due_at rule slots place ≤ deadline
-  pub later : (q : X) → slice_get slots (place_at behind place) ≡ Some (Some q) → deadline ≤ rule.due q
+  pub later : (q : X)
+      → slice_get slots (place_at behind place) ≡ Some (Some q)
+      → deadline ≤ rule.due q
 
 -- a parked name that none of those whose ring's number is in the set comes before
-pub record IsFirstOf (slots : List (Option ParkedName)) (among : ℕ → Type 0) (first : Option Due) : Type 0 where
-  pub least : (i : ℕ) (p : ParkedName) → slice_get slots i ≡ Some (Some p) → among (ring_number p.kind) →
-      IsSomeAnd first (λ (due : Due). due.deadline ≤ p.deadline)
+pub record IsFirstOf (slots : List (Option ParkedName)) (among : ℕ → Type 0)
+    (first : Option Due) : Type 0 where
+  pub least : (i : ℕ) (p : ParkedName)
+      → slice_get slots i ≡ Some (Some p)
+      → among (ring_number p.kind)
+      → IsSomeAnd first (λ (due : Due). due.deadline ≤ p.deadline)
   pub parked : IfSome first (λ (due : Due). deadline_of slots due.name ≡ Some due.deadline)

@@ -4,7 +4,7 @@
 -- A slot has at most one parked name, so the map is a list by slot: of each slot what is parked in
 -- it, or None.
 use Rattle.std.specs.Prelude.{◌≡◌, ◌≢◌, ℕ, ◌≤◌, nat_le, min, ◌==◌, if◌then◌else◌, List, [], ◌∷◌, Option, Some, None, IsSomeAnd, slice_get, slice_set, slice_index_or, map, filter, filter_map, option_map, option_and_then, replicate}
-use Rattle.std.specs.Option.{option_map_or}
+use Rattle.std.specs.List.{reduce}
 use Rattle.mpm_base.specs.declared.conn.ConnName.{ConnName}
 use Rattle.mpm_base.specs.declared.conn.Kind.{Kind}
 
@@ -44,7 +44,8 @@ abbrev pub without_name : List (Option ParkedName) → ConnName → List (Option
 without_name slots name = slice_set slots name.slot None
 
 -- the map has this at the name, and at every other name what it had
-pub record Updates (old new : List (Option ParkedName)) (name : ConnName) (parked : Option ParkedName) : Type 0 where
+pub record Updates (old new : List (Option ParkedName)) (name : ConnName)
+    (parked : Option ParkedName) : Type 0 where
   pub changed : parked_of new name ≡ parked
   pub others : (other : ConnName) → other ≢ name → parked_of new other ≡ parked_of old other
 
@@ -56,18 +57,13 @@ all_parked slots = filter_map (λ slot. slot) slots
 abbrev pub overdue_at : ℕ → List (Option ParkedName) → List ParkedName
 overdue_at now slots = filter (λ p. nat_le p.deadline now) (all_parked slots)
 
--- the least of some numbers
-abbrev pub earliest : List ℕ → Option ℕ
-earliest [] = None
-earliest (n ∷ ns) = Some (option_map_or (min n) (earliest ns) n)
-
 -- the least deadline of all that is parked
 abbrev pub least_deadline : List (Option ParkedName) → Option ℕ
-least_deadline slots = earliest (map (λ p. p.deadline) (all_parked slots))
+least_deadline slots = reduce min (map (λ p. p.deadline) (all_parked slots))
 
 -- the name is parked, and late
-abbrev pub IsOverdue : List (Option ParkedName) → ℕ → ConnName → Type 0
-IsOverdue slots now name = IsSomeAnd (parked_of slots name) (λ p. p.deadline ≤ now)
+abbrev pub IsPastDeadline : List (Option ParkedName) → ℕ → ConnName → Type 0
+IsPastDeadline slots now name = IsSomeAnd (parked_of slots name) (λ p. p.deadline ≤ now)
 
 -- the name's deadline
 abbrev pub deadline_of : List (Option ParkedName) → ConnName → Option ℕ

@@ -17,7 +17,7 @@ ghost use Rattle.std.specs.Bool.{OnTrue, OnFalse};
 ghost use Rattle.timeout_queues.specs.declared.Due.{Due};
 ghost use Rattle.timeout_queues.specs.Entries.{parked_in};
 ghost use Rattle.timeout_queues.specs.RingsInside.{by_kind, ring_number, ring_at, due_at, IsRings, IsBack, IsLastBefore, IsFirstOf, IsDueFrom};
-ghost use Rattle.timeout_queues.specs.Waiting.{nothing_parked, IsFree, parked_of, parked_as, with_parked, without_name, Updates, overdue_at, least_deadline, IsOverdue, deadline_of};
+ghost use Rattle.timeout_queues.specs.Waiting.{nothing_parked, IsFree, parked_of, parked_as, with_parked, without_name, Updates, overdue_at, least_deadline, IsPastDeadline, deadline_of};
 
 mod gaps;
 mod rings;
@@ -70,7 +70,8 @@ impl Model for Queues {
 
     ghost view = { λ q. map parked_in q.slots.items };
 
-    ghost invariant = { λ q. IsRings by_kind (map parked_in q.slots.items) q.rings.before.items q.rings.behind.items };
+    ghost invariant = { λ q. IsRings by_kind (map parked_in q.slots.items) q.rings.before.items
+        q.rings.behind.items };
 }
 
 impl Queues {
@@ -140,8 +141,9 @@ impl Queues {
     /// A name with the least deadline, where that is at or before `now`: a deadline exactly now is late.
     pub fn overdue(&self, now: Moment) -> Option<ConnName>
         ensures none { IsNone result ↔ (overdue_at now self.now ≡ []) }
-        ensures late { IfSome result (IsOverdue self.now now) }
-        ensures first { IfSome result (λ name. deadline_of self.now name ≡ least_deadline self.now) }
+        ensures late { IfSome result (IsPastDeadline self.now now) }
+        ensures first { IfSome result
+            (λ name. deadline_of self.now name ≡ least_deadline self.now) }
     {
         match self.first() {
             Some(first) if first.deadline <= now => Some(first.name),
@@ -171,7 +173,8 @@ impl Queues {
     // A parked name with the least deadline: the first of its ring.
     fn first(&self) -> Option<Due>
         ensures least { option_map (λ (due : Due). due.deadline) result ≡ least_deadline self.now }
-        ensures parked { IfSome result (λ (due : Due). deadline_of self.now due.name ≡ Some due.deadline) }
+        ensures parked { IfSome result
+            (λ (due : Due). deadline_of self.now due.name ≡ Some due.deadline) }
     {
         let mut first: Option<Due> = None;
         for number in 0..KINDS {
@@ -242,9 +245,11 @@ fn deadline_at(slots: &[Option<Entry>], place: u32) -> Moment
 // The last of a ring whose deadline is at or before this one, found by going back from the end, or from the gap where that is a
 // place behind which all is due at or after it.
 fn last_before(slots: &[Option<Entry>], rings: &Rings, head: u32, gap: u32, deadline: Moment) -> u32
-    requires rings { IsRings by_kind (map parked_in slots.now) rings.now.before.items rings.now.behind.items }
+    requires rings { IsRings by_kind (map parked_in slots.now) rings.now.before.items
+        rings.now.behind.items }
     requires head { (length slots.now ≤ head) × (head < length slots.now + 5) }
-    ensures { IsLastBefore by_kind (map parked_in slots.now) rings.now.behind.items head deadline result }
+    ensures { IsLastBefore by_kind (map parked_in slots.now) rings.now.behind.items head deadline
+        result }
 {
     let mut place = back_from(slots, rings, head, gap, deadline);
     while deadline_at(slots, place) > deadline {
@@ -255,7 +260,8 @@ fn last_before(slots: &[Option<Entry>], rings: &Rings, head: u32, gap: u32, dead
 
 // A place of the ring behind which all is due at or after the deadline: the end, or the gap where that is such a place before it.
 fn back_from(slots: &[Option<Entry>], rings: &Rings, head: u32, gap: u32, deadline: Moment) -> u32
-    requires rings { IsRings by_kind (map parked_in slots.now) rings.now.before.items rings.now.behind.items }
+    requires rings { IsRings by_kind (map parked_in slots.now) rings.now.before.items
+        rings.now.behind.items }
     requires head { (length slots.now ≤ head) × (head < length slots.now + 5) }
     ensures { IsBack (map parked_in slots.now) rings.now.behind.items head deadline result }
 {
@@ -269,9 +275,11 @@ fn back_from(slots: &[Option<Entry>], rings: &Rings, head: u32, gap: u32, deadli
 
 // Whether the place is in the ring, and what stands behind it is due at or after the deadline.
 fn is_back(slots: &[Option<Entry>], rings: &Rings, head: u32, place: u32, deadline: Moment) -> bool
-    requires rings { IsRings by_kind (map parked_in slots.now) rings.now.before.items rings.now.behind.items }
+    requires rings { IsRings by_kind (map parked_in slots.now) rings.now.before.items
+        rings.now.behind.items }
     requires head { length slots.now ≤ head }
-    ensures { OnTrue result (IsBack (map parked_in slots.now) rings.now.behind.items head deadline place) }
+    ensures { OnTrue result
+        (IsBack (map parked_in slots.now) rings.now.behind.items head deadline place) }
 {
     if (place as usize) < rings.behind.len() && is_in_ring(slots, head, place) {
         let next = rings.behind[place as usize];
@@ -305,8 +313,10 @@ fn is_due_from(slots: &[Option<Entry>], place: u32, deadline: Moment) -> bool
 
 // The due of the two that comes first; where both have one deadline the one that was parked first.
 fn earlier(turns: &Turns, former: Option<Due>, other: Option<Due>) -> Option<Due>
-    ensures former { IfSome former (λ (due : Due). IsSomeAnd result (λ (first : Due). first.deadline ≤ due.deadline)) }
-    ensures other { IfSome other (λ (due : Due). IsSomeAnd result (λ (first : Due). first.deadline ≤ due.deadline)) }
+    ensures former { IfSome former
+        (λ (due : Due). IsSomeAnd result (λ (first : Due). first.deadline ≤ due.deadline)) }
+    ensures other { IfSome other
+        (λ (due : Due). IsSomeAnd result (λ (first : Due). first.deadline ≤ due.deadline)) }
     ensures either { (result ≡ former) ⊎ (result ≡ other) }
 {
     match (former, other) {

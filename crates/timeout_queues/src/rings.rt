@@ -31,9 +31,11 @@ impl Rings {
         requires new { new < length self.old.behind.items }
         requires next { place_at self.old.behind.items place < length self.old.behind.items }
         ensures before { self.new.before.items
-            ≡ slice_set (slice_set self.old.before.items new place) (place_at self.old.behind.items place) new }
+            ≡ slice_set (slice_set self.old.before.items new place)
+            (place_at self.old.behind.items place) new }
         ensures behind { self.new.behind.items
-            ≡ slice_set (slice_set self.old.behind.items new (place_at self.old.behind.items place)) place new }
+            ≡ slice_set (slice_set self.old.behind.items new (place_at self.old.behind.items place))
+            place new }
     {
         let next = self.behind[place as usize];
         self.behind[new as usize] = next;
@@ -49,9 +51,13 @@ impl Rings {
         requires last { place_at self.old.before.items place < length self.old.behind.items }
         requires next { place_at self.old.behind.items place < length self.old.behind.items }
         ensures before { self.new.before.items
-            ≡ slice_set (slice_set self.old.before.items (place_at self.old.behind.items place) (place_at self.old.before.items place)) place place }
+            ≡ slice_set
+            (slice_set self.old.before.items (place_at self.old.behind.items place)
+            (place_at self.old.before.items place)) place place }
         ensures behind { self.new.behind.items
-            ≡ slice_set (slice_set self.old.behind.items (place_at self.old.before.items place) (place_at self.old.behind.items place)) place place }
+            ≡ slice_set
+            (slice_set self.old.behind.items (place_at self.old.before.items place)
+            (place_at self.old.behind.items place)) place place }
     {
         let last = self.before[place as usize];
         let next = self.behind[place as usize];

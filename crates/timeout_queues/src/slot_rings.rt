@@ -29,7 +29,8 @@ impl Model for SlotRings {
 
     ghost view = { λ r. r.filed.items };
 
-    ghost invariant = { λ r. IsRings by_number r.filed.items r.rings.before.items r.rings.behind.items };
+    ghost invariant = { λ r.
+        IsRings by_number r.filed.items r.rings.before.items r.rings.behind.items };
 }
 
 impl SlotRings {

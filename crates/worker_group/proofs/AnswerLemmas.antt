@@ -19,7 +19,7 @@ use Rattle.conn_machine.specs.States.{is_halted, child_of}
 use Rattle.conn_machine.specs.Table.{is_allowed, next, note_for, answered_row}
 use Rattle.conn_machine.specs.Sound.{IsSound}
 use Rattle.conn_state.specs.declared.turn.LastTurn.{LastTurn}
-use Rattle.conn_state.specs.declared.turn.LastTurn.TheVariants as turn
+use Rattle.conn_state.specs.declared.turn.LastTurn.TheVariants as last_turn
 use Rattle.conn_state.specs.Rest.{is_awaited}
 use Rattle.conn_state.specs.Conn.{SeenConn, TurnFits, IsConn, is_half_closed}
 use Rattle.conn_state.specs.Turns.{TakesNote}
@@ -33,7 +33,7 @@ use Rattle.worker_group.proofs.ActsLemmas.{acts_as, acts_more, acts_same}
 use Rattle.worker_group.proofs.ServeLemmas.{alive, test-at, served-row, served-stays, row-open, working-in_hand, ends-direct}
 
 -- the connection was asked for something, and its last response wasn't decided
-pub asked-open : (c : SeenConn) (ask : Ask) → IsConn c → c.turn ≡ turn.Asked ask → says_last c.notes ≡ false
+pub asked-open : (c : SeenConn) (ask : Ask) → IsConn c → c.turn ≡ last_turn.Asked ask → says_last c.notes ≡ false
 asked-open c ask is asked = (subst (λ (u : LastTurn). TurnFits u c is.rest) asked is.turn_fits).goes_on
 
 -- a response may be decided for it
@@ -129,7 +129,7 @@ served-answered s s' c c' name ask note served named decided is answers =
 
 -- memory lacked for the response, and the connection may be closed for that
 pub closes-unanswered : (s s' : State) (c c' : SeenConn) (name : ConnName) (ask : Ask) (note : Note) → IsSound s → IsServed s c → name ≡ c.name
-    → IsDecided s name ask note → s' ≡ next s (event.Answer name ask) → c' ≡ record c { turn = turn.NoMemory } → IsClosable s' cause.NoMemory tail.Direct c'
+    → IsDecided s name ask note → s' ≡ next s (event.Answer name ask) → c' ≡ record c { turn = last_turn.NoMemory } → IsClosable s' cause.NoMemory tail.Direct c'
 closes-unanswered s s' c c' name ask note sound served named decided is left =
     let is' : s' ≡ next s (event.Answer c.name ask) = is ∙ ap (λ (n : ConnName). next s (event.Answer n ask)) named in
     subst (λ (t : State). IsClosable t cause.NoMemory tail.Direct c') (sym is')

@@ -7,7 +7,7 @@ use Rattle.mpm_base.specs.declared.conn.Kind.{Kind}
 use Rattle.mpm_base.specs.declared.conn.Tail.{Tail}
 use Rattle.mpm_base.specs.declared.conn.Tail.TheVariants.{Direct}
 use Rattle.conn_state.specs.declared.turn.LastTurn.{LastTurn}
-use Rattle.conn_state.specs.declared.turn.LastTurn.TheVariants as turn
+use Rattle.conn_state.specs.declared.turn.LastTurn.TheVariants as last_turn
 use Rattle.conn_state.specs.declared.turn.LastLinger.{LastLinger}
 use Rattle.conn_state.specs.declared.turn.LastLinger.TheVariants as linger
 use Rattle.conn_state.specs.Conn.{SeenConn}
@@ -23,7 +23,7 @@ use Rattle.worker_group.specs.Service.{EndsAsLast, EndsFor, EndsOut, ExitsAfter,
 -- ## The cause
 
 -- one that had to linger ends where its half-close failed
-out-ends : (last : LastLinger) (why : Cause) (how : Tail) → EndsOut cause.LastSent last (exit.Close why how) → EndsFor turn.Done last why
+out-ends : (last : LastLinger) (why : Cause) (how : Tail) → EndsOut cause.LastSent last (exit.Close why how) → EndsFor last_turn.Done last why
 out-ends linger.Open why how out = absurd out
 out-ends linger.ShutFailed why how out = (refl, cc)
 out-ends linger.Shut why how out = absurd (cc)
@@ -53,18 +53,18 @@ out-gives linger.LinkFailed f out = out
 
 -- one that was to end ends for what its last turn found
 closes-for : (u : LastTurn) (c : SeenConn) (why : Cause) (how : Tail) → ExitsAfter u c (exit.Close why how) → EndsFor u c.linger why
-closes-for turn.New c why how exits = absurd exits
-closes-for (turn.Asked ask) c why how exits =
+closes-for last_turn.New c why how exits = absurd exits
+closes-for (last_turn.Asked ask) c why how exits =
     let gives = exits.1 in
     absurd (cc)
-closes-for turn.Interim c why how exits = absurd exits
-closes-for turn.Answered c why how exits = absurd exits
-closes-for turn.More c why how exits = absurd (cc)
-closes-for turn.Gone c why how exits = cc
-closes-for turn.Done c why how exits = out-ends c.linger why how exits.0
-closes-for turn.NotReady c why how exits = absurd (cc)
-closes-for turn.LinkFailed c why how exits = cc
-closes-for turn.NoMemory c why how exits = cc
+closes-for last_turn.Interim c why how exits = absurd exits
+closes-for last_turn.Answered c why how exits = absurd exits
+closes-for last_turn.More c why how exits = absurd (cc)
+closes-for last_turn.Gone c why how exits = cc
+closes-for last_turn.Done c why how exits = out-ends c.linger why how exits.0
+closes-for last_turn.NotReady c why how exits = absurd (cc)
+closes-for last_turn.LinkFailed c why how exits = cc
+closes-for last_turn.NoMemory c why how exits = cc
 
 -- the causes of one that is given up
 given-causes : (f : BoardFault) → (given_up_cause f ≡ cause.Stopped) ⊎ (given_up_cause f ≡ cause.NoMemory)
@@ -73,29 +73,29 @@ given-causes fault.NoMemory = inr refl
 
 -- one that was to wait may be given up
 parks-for : (u : LastTurn) (c : SeenConn) (kind : Kind) (f : BoardFault) → ExitsAfter u c (exit.Park kind) → EndsFor u c.linger (given_up_cause f)
-parks-for turn.New c kind f exits = absurd exits
-parks-for (turn.Asked ask) c kind f exits = given-causes f
-parks-for turn.Interim c kind f exits = absurd exits
-parks-for turn.Answered c kind f exits = absurd exits
-parks-for turn.More c kind f exits = given-causes f
-parks-for turn.Gone c kind f exits = absurd (cc)
-parks-for turn.Done c kind f exits = absurd (out-parks c.linger kind exits.0)
-parks-for turn.NotReady c kind f exits = given-causes f
-parks-for turn.LinkFailed c kind f exits = absurd (cc)
-parks-for turn.NoMemory c kind f exits = absurd (cc)
+parks-for last_turn.New c kind f exits = absurd exits
+parks-for (last_turn.Asked ask) c kind f exits = given-causes f
+parks-for last_turn.Interim c kind f exits = absurd exits
+parks-for last_turn.Answered c kind f exits = absurd exits
+parks-for last_turn.More c kind f exits = given-causes f
+parks-for last_turn.Gone c kind f exits = absurd (cc)
+parks-for last_turn.Done c kind f exits = absurd (out-parks c.linger kind exits.0)
+parks-for last_turn.NotReady c kind f exits = given-causes f
+parks-for last_turn.LinkFailed c kind f exits = absurd (cc)
+parks-for last_turn.NoMemory c kind f exits = absurd (cc)
 
 -- and so may one whose response was refused
 gives-for : (u : LastTurn) (c : SeenConn) (g f : BoardFault) → ExitsAfter u c (exit.GiveUp g) → EndsFor u c.linger (given_up_cause f)
-gives-for turn.New c g f exits = absurd exits
-gives-for (turn.Asked ask) c g f exits = given-causes f
-gives-for turn.Interim c g f exits = absurd exits
-gives-for turn.Answered c g f exits = absurd exits
-gives-for turn.More c g f exits = given-causes f
-gives-for turn.Gone c g f exits = absurd (cc)
-gives-for turn.Done c g f exits = absurd (out-gives c.linger g exits.0)
-gives-for turn.NotReady c g f exits = given-causes f
-gives-for turn.LinkFailed c g f exits = absurd (cc)
-gives-for turn.NoMemory c g f exits = absurd (cc)
+gives-for last_turn.New c g f exits = absurd exits
+gives-for (last_turn.Asked ask) c g f exits = given-causes f
+gives-for last_turn.Interim c g f exits = absurd exits
+gives-for last_turn.Answered c g f exits = absurd exits
+gives-for last_turn.More c g f exits = given-causes f
+gives-for last_turn.Gone c g f exits = absurd (cc)
+gives-for last_turn.Done c g f exits = absurd (out-gives c.linger g exits.0)
+gives-for last_turn.NotReady c g f exits = given-causes f
+gives-for last_turn.LinkFailed c g f exits = absurd (cc)
+gives-for last_turn.NoMemory c g f exits = absurd (cc)
 
 -- ## The connection that ended
 

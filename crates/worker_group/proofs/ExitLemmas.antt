@@ -15,7 +15,7 @@ use Rattle.conn_machine.specs.declared.row.Row.{Row}
 use Rattle.conn_machine.specs.Rows.{live_row}
 use Rattle.conn_machine.specs.States.{is_halted}
 use Rattle.conn_state.specs.declared.turn.LastTurn.{LastTurn}
-use Rattle.conn_state.specs.declared.turn.LastTurn.TheVariants as turn
+use Rattle.conn_state.specs.declared.turn.LastTurn.TheVariants as last_turn
 use Rattle.conn_state.specs.declared.turn.ReadTurn.{ReadTurn}
 use Rattle.conn_state.specs.declared.turn.WriteTurn.{WriteTurn}
 use Rattle.conn_state.specs.Reader.{keeps_none}
@@ -30,7 +30,7 @@ use Rattle.board.specs.Faults.{IsRefusedFor}
 use Rattle.worker_group.specs.declared.service.Exit.{Exit}
 use Rattle.worker_group.specs.declared.service.Exit.TheVariants as exit
 use Rattle.worker_group.specs.Acts.{Acts}
-use Rattle.worker_group.specs.Service.{ExitsAfter, IsGivenUp, IsLastEnded, IsLeftBy, IsThere, LeavesRest, RefusalLasts, give_up_events, kept_kind}
+use Rattle.worker_group.specs.Service.{ExitsAfter, IsGivenUp, IsLastEnded, LeavesConn, IsThere, LeavesRest, RefusalLasts, give_up_events, kept_kind}
 use Rattle.worker_group.proofs.ServeLemmas.{alive}
 
 -- ## What the connection waits for
@@ -42,11 +42,11 @@ keeps-alive c noted empty = rw (noted, empty) refl
 -- ## Ways out
 
 -- a connection whose response was refused is given up
-pub gives-up : (c : SeenConn) (ask : Ask) (fault : BoardFault) → c.turn ≡ turn.Asked ask → ExitsAfter c.turn c (exit.GiveUp fault)
+pub gives-up : (c : SeenConn) (ask : Ask) (fault : BoardFault) → c.turn ≡ last_turn.Asked ask → ExitsAfter c.turn c (exit.GiveUp fault)
 gives-up c ask fault asked = subst (λ (u : LastTurn). ExitsAfter u c (exit.GiveUp fault)) (sym asked) (fault, refl)
 
 -- one for whose response memory lacked is closed for that
-pub ends-unanswered : (c c' : SeenConn) → c' ≡ record c { turn = turn.NoMemory } → ExitsAfter c'.turn c' (exit.Close cause.NoMemory Direct)
+pub ends-unanswered : (c c' : SeenConn) → c' ≡ record c { turn = last_turn.NoMemory } → ExitsAfter c'.turn c' (exit.Close cause.NoMemory Direct)
 ends-unanswered c c' is = subst (λ (x : SeenConn). ExitsAfter x.turn x (exit.Close cause.NoMemory Direct)) (sym is) refl
 
 -- the exits of turns
@@ -74,13 +74,13 @@ pub ended-last : (c : SeenConn) (why : Cause) (how : Tail) (e : SeenEnded) (befo
 ended-last c why how e before ended is ends = record { before = before; last = e; ended_is = is; end_of = ends }
 
 -- it was left so, by another spelling of what was to be done
-pub left-as : (who : ℕ) (out out' : Exit) (c : SeenConn) (a : SeenBook) (b : SeenBoard) → out ≡ out' → IsLeftBy who out' c a b → IsLeftBy who out c a b
-left-as who out out' c a b is left = subst (λ (w : Exit). IsLeftBy who w c a b) (sym is) left
+pub left-as : (who : ℕ) (out out' : Exit) (c : SeenConn) (a : SeenBook) (b : SeenBoard) → out ≡ out' → LeavesConn who out' c a b → LeavesConn who out c a b
+left-as who out out' c a b is left = subst (λ (w : Exit). LeavesConn who w c a b) (sym is) left
 
 -- one that was to wait waits, or was given up
 pub park-left : {T : Type 0} (who : ℕ) (kind : Kind) (c : SeenConn) (a : SeenBook) (b : SeenBoard) (r : Result T BoardFault)
     → OnOk r (Acts who (event.Park c.name kind ∷ []) None a b.book) → IfErr r (λ fault. Acts who (give_up_events fault c.name) None a b.book)
-    → IfErr r (λ fault. IsRefusedFor fault a) → OnOk r (IsThere c b) → IfErr r (λ fault. IsGivenUp fault c b) → IsLeftBy who (exit.Park kind) c a b
+    → IfErr r (λ fault. IsRefusedFor fault a) → OnOk r (IsThere c b) → IfErr r (λ fault. IsGivenUp fault c b) → LeavesConn who (exit.Park kind) c a b
 park-left who kind c a b (Ok x) parked given why there ended =
     record { way = exit.Park kind; leaves = inl refl; acts = parked; stands = there }
 park-left who kind c a b (Err fault) parked given why there ended =

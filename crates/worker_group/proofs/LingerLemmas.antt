@@ -14,7 +14,7 @@ use Rattle.conn_machine.specs.States.{is_signalled}
 use Rattle.conn_machine.specs.Table.{is_allowed, linger_cause_fits}
 use Rattle.conn_machine.specs.Sound.{IsSound}
 use Rattle.conn_state.specs.declared.turn.LastTurn.{LastTurn}
-use Rattle.conn_state.specs.declared.turn.LastTurn.TheVariants as turn
+use Rattle.conn_state.specs.declared.turn.LastTurn.TheVariants as last_turn
 use Rattle.conn_state.specs.declared.turn.LastLinger.{LastLinger}
 use Rattle.conn_state.specs.declared.turn.LastLinger.TheVariants as linger
 use Rattle.conn_state.specs.Conn.{SeenConn, is_half_closed, is_usable}
@@ -150,7 +150,7 @@ last-shows s c served pending last =
     record { usable = served.usable; shows = record { none_pending = pending; says_it = last } }
 
 -- and so it is left as its last turn asks
-pub exits-out : (c c' : SeenConn) (way : Exit) → c.turn ≡ turn.Done → says_last c.notes ≡ true → ShutsOn c c' (is_half_closed c'.linger)
+pub exits-out : (c c' : SeenConn) (way : Exit) → c.turn ≡ last_turn.Done → says_last c.notes ≡ true → ShutsOn c c' (is_half_closed c'.linger)
     → EndsOut cause.LastSent c'.linger way → ExitsAfter c'.turn c' way
 exits-out c c' way done last shuts out =
     subst (λ (u : LastTurn). ExitsAfter u c' way) (sym (shuts.turn ∙ done)) (out, ap says_last shuts.notes ∙ last)

@@ -23,7 +23,7 @@ use Rattle.conn_machine.specs.States.{is_halted, child_of}
 use Rattle.conn_machine.specs.Table.{is_allowed, may_wait, direct_cause_fits, end_fits}
 use Rattle.conn_machine.specs.Sound.{IsSound, KindFits, IsInService, HasSoundNotes}
 use Rattle.conn_state.specs.declared.turn.LastTurn.{LastTurn}
-use Rattle.conn_state.specs.declared.turn.LastTurn.TheVariants as turn
+use Rattle.conn_state.specs.declared.turn.LastTurn.TheVariants as last_turn
 use Rattle.conn_state.specs.declared.turn.WriteTurn.{WriteTurn}
 use Rattle.conn_state.specs.declared.turn.WriteTurn.TheVariants as write
 use Rattle.conn_state.specs.declared.turn.ReadTurn.{ReadTurn}
@@ -257,7 +257,7 @@ closes-done s c c' sound served goes_on reads =
 -- ## Parks
 
 -- a connection that waits for a request, or did, goes on
-waits-on : (c : SeenConn) → IsConn c → (c.turn ≡ turn.New) ⊎ (c.turn ≡ turn.More) → says_last c.notes ≡ false
+waits-on : (c : SeenConn) → IsConn c → (c.turn ≡ last_turn.New) ⊎ (c.turn ≡ last_turn.More) → says_last c.notes ≡ false
 waits-on c is (inl new) =
     let untouched = subst (λ (u : LastTurn). TurnFits u c is.rest) new is.turn_fits in
     ap says_last untouched.none_noted

@@ -21,7 +21,7 @@ use Rattle.board.specs.Board.{SeenBoard, conn_at}
 use Rattle.worker_group.specs.declared.service.Exit.{Exit}
 use Rattle.worker_group.specs.Acts.{Acts}
 use Rattle.worker_group.specs.InHandInside.{IsServed}
-use Rattle.worker_group.specs.Service.{ExitsAfter, HasServed, HasTurned, IsLeftBy, answer_events}
+use Rattle.worker_group.specs.Service.{ExitsAfter, HasServed, IsMadeSince, LeavesConn, answer_events}
 use Rattle.worker_group.proofs.ActsLemmas.{acts_more}
 use Rattle.worker_group.proofs.ServeLemmas.{alive, test-at}
 use Rattle.worker_group.proofs.AnswerLemmas.{live_row-update}
@@ -111,8 +111,8 @@ pub has-served : (who : ℕ) (name : ConnName) (a : SeenBoard) (b c d : SeenBook
     → taken.name ≡ name → conn_at a.conns name.slot ≡ Some taken
     → Acts who (event.Queue name ∷ []) (Some name) a.book b → Acts who (event.Start name ∷ []) (Some name) b c
     → served.name ≡ taken.name → (asks : List Ask) × Acts who (answer_events taken.name asks) (Some taken.name) c d
-    → after d.base d.history ≡ d.state → HasTurned served.turn taken.counts served.counts → ExitsAfter served.turn served out
-    → IsLeftBy who out served d e → HasServed who name a e
+    → after d.base d.history ≡ d.state → IsMadeSince served.turn taken.counts served.counts → ExitsAfter served.turn served out
+    → LeavesConn who out served d e → HasServed who name a e
 has-served who name a b c d e taken served out is_taken waited queued started kept answered state turned exits left =
     let asked : Acts who (answer_events name answered.0) (Some name) c d =
     subst (λ (n : ConnName). Acts who (answer_events n answered.0) (Some n) c d) is_taken answered.1 in

@@ -5,7 +5,7 @@ use Rattle.mpm_base.specs.Link.{LinkCounts}
 use Rattle.mpm_base.specs.declared.conn.Ask.{Ask}
 use Rattle.mpm_base.specs.declared.note.Note.{Note}
 use Rattle.conn_state.specs.declared.turn.LastTurn.{LastTurn}
-use Rattle.conn_state.specs.declared.turn.LastTurn.TheVariants as turn
+use Rattle.conn_state.specs.declared.turn.LastTurn.TheVariants as last_turn
 use Rattle.conn_state.specs.declared.turn.ReadTurn.{ReadTurn}
 use Rattle.conn_state.specs.declared.turn.ReadTurn.TheVariants as read
 use Rattle.conn_state.specs.declared.turn.WriteTurn.{WriteTurn}
@@ -13,7 +13,7 @@ use Rattle.conn_state.specs.declared.turn.WriteTurn.TheVariants as write
 use Rattle.conn_state.specs.Conn.{SeenConn}
 use Rattle.conn_state.specs.Turns.{ReadsOn, ShutsOn, TakesNote, WritesOn, after_reading, after_writing, is_gone, is_more, is_read_failure}
 use Rattle.conn_state.specs.Writing.{is_not_ready, is_write_failure}
-use Rattle.worker_group.specs.Service.{CountsTurn, HasTurned, NoneFalls}
+use Rattle.worker_group.specs.Service.{CountsLast, IsMadeSince, NoneFalls}
 
 -- ## Counts
 
@@ -31,17 +31,17 @@ rises-after : (old mid new : ℕ) → NeverFalls old mid → Rises mid new → R
 rises-after old mid new first later = (omega (arith, first, later.0), λ below. grind (arith, first, later.0, later.1, below))
 
 -- what was counted later was counted since before
-counts-after : (last : LastTurn) (a b c : LinkCounts) → NoneFalls a b → CountsTurn last b c → CountsTurn last a c
-counts-after turn.New a b c first later = tt
-counts-after (turn.Asked ask) a b c first later = tt
-counts-after turn.Interim a b c first later = tt
-counts-after turn.Answered a b c first later = tt
-counts-after turn.More a b c first later = rises-after a.late_reads b.late_reads c.late_reads first.late_reads later
-counts-after turn.Gone a b c first later = rises-after a.ends b.ends c.ends first.ends later
-counts-after turn.Done a b c first later = tt
-counts-after turn.NotReady a b c first later = rises-after a.late_writes b.late_writes c.late_writes first.late_writes later
-counts-after turn.LinkFailed a b c first later = rises-after a.faults b.faults c.faults first.faults later
-counts-after turn.NoMemory a b c first later = tt
+counts-after : (last : LastTurn) (a b c : LinkCounts) → NoneFalls a b → CountsLast last b c → CountsLast last a c
+counts-after last_turn.New a b c first later = tt
+counts-after (last_turn.Asked ask) a b c first later = tt
+counts-after last_turn.Interim a b c first later = tt
+counts-after last_turn.Answered a b c first later = tt
+counts-after last_turn.More a b c first later = rises-after a.late_reads b.late_reads c.late_reads first.late_reads later
+counts-after last_turn.Gone a b c first later = rises-after a.ends b.ends c.ends first.ends later
+counts-after last_turn.Done a b c first later = tt
+counts-after last_turn.NotReady a b c first later = rises-after a.late_writes b.late_writes c.late_writes first.late_writes later
+counts-after last_turn.LinkFailed a b c first later = rises-after a.faults b.faults c.faults first.faults later
+counts-after last_turn.NoMemory a b c first later = tt
 
 -- ## Over several turns
 
@@ -59,7 +59,7 @@ none_falls-more a b c first later = record {
 }
 
 -- the last turn of those that came later is the last since before
-pub turned-more : (last : LastTurn) (a b c : LinkCounts) → NoneFalls a b → HasTurned last b c → HasTurned last a c
+pub turned-more : (last : LastTurn) (a b c : LinkCounts) → NoneFalls a b → IsMadeSince last b c → IsMadeSince last a c
 turned-more last a b c first later =
     record { none_falls = none_falls-more a b c first later.none_falls; counted = counts-after last a b c first later.counted }
 
@@ -67,7 +67,7 @@ turned-more last a b c first later =
 
 turned-write : (answer : WriteTurn) (a b : LinkCounts) → RisesWhere (is_write_failure answer) a.faults b.faults
     → RisesExactlyWhere (is_not_ready answer) a.late_writes b.late_writes → b.late_reads ≡ a.late_reads → b.ends ≡ a.ends
-    → HasTurned (after_writing answer) a b
+    → IsMadeSince (after_writing answer) a b
 turned-write write.Done a b faults writes reads ends = record {
   none_falls = record {
     faults = faults;
@@ -97,14 +97,14 @@ turned-write write.LinkFailed a b faults writes reads ends = record {
 }
 
 -- a turn of writing
-pub turned-written : (c c' : SeenConn) (answer : WriteTurn) → WritesOn c c' answer → HasTurned c'.turn c.counts c'.counts
+pub turned-written : (c c' : SeenConn) (answer : WriteTurn) → WritesOn c c' answer → IsMadeSince c'.turn c.counts c'.counts
 turned-written c c' answer writes =
-    subst (λ (u : LastTurn). HasTurned u c.counts c'.counts) (sym writes.turn)
+    subst (λ (u : LastTurn). IsMadeSince u c.counts c'.counts) (sym writes.turn)
     (turned-write answer c.counts c'.counts writes.faults writes.late_writes writes.late_reads writes.ends)
 
 turned-reading : (answer : ReadTurn) (a b : LinkCounts) → RisesWhere (is_read_failure answer) a.faults b.faults
     → RisesExactlyWhere (is_more answer) a.late_reads b.late_reads → RisesExactlyWhere (is_gone answer) a.ends b.ends → b.late_writes ≡ a.late_writes
-    → HasTurned (after_reading answer) a b
+    → IsMadeSince (after_reading answer) a b
 turned-reading (read.Asked ask) a b faults reads ends writes = record {
   none_falls = record {
     faults = faults;
@@ -161,18 +161,18 @@ turned-reading read.NoMemory a b faults reads ends writes = record {
 }
 
 -- a turn of reading
-turned-read : (c c' : SeenConn) (answer : ReadTurn) → ReadsOn c c' answer → HasTurned c'.turn c.counts c'.counts
+turned-read : (c c' : SeenConn) (answer : ReadTurn) → ReadsOn c c' answer → IsMadeSince c'.turn c.counts c'.counts
 turned-read c c' answer reads =
-    subst (λ (u : LastTurn). HasTurned u c.counts c'.counts) (sym reads.turn)
+    subst (λ (u : LastTurn). IsMadeSince u c.counts c'.counts) (sym reads.turn)
     (turned-reading answer c.counts c'.counts reads.faults reads.late_reads reads.ends reads.late_writes)
 
 -- a turn of reading behind one of writing
-pub turned-on : (c c1 c2 : SeenConn) (written : WriteTurn) (answer : ReadTurn) → WritesOn c c1 written → ReadsOn c1 c2 answer → HasTurned c2.turn c.counts c2.counts
+pub turned-on : (c c1 c2 : SeenConn) (written : WriteTurn) (answer : ReadTurn) → WritesOn c c1 written → ReadsOn c1 c2 answer → IsMadeSince c2.turn c.counts c2.counts
 turned-on c c1 c2 written answer writes reads =
     turned-more c2.turn c.counts c1.counts c2.counts (turned-written c c1 written writes).none_falls (turned-read c1 c2 answer reads)
 
 -- the half-close behind the turn that sent all
-pub turned-shut : (c c1 c2 : SeenConn) (made : Bool) → WritesOn c c1 write.Done → ShutsOn c1 c2 made → HasTurned c2.turn c.counts c2.counts
+pub turned-shut : (c c1 c2 : SeenConn) (made : Bool) → WritesOn c c1 write.Done → ShutsOn c1 c2 made → IsMadeSince c2.turn c.counts c2.counts
 turned-shut c c1 c2 made writes shuts =
     let counts = shuts.counts in
     let later : NoneFalls c1.counts c2.counts = record {
@@ -182,26 +182,26 @@ turned-shut c c1 c2 made writes shuts =
       ends = stays c1.counts.ends c2.counts.ends counts.ends;
     } in
     turned-more c2.turn c.counts c1.counts c2.counts (turned-written c c1 write.Done writes).none_falls
-    (subst (λ (u : LastTurn). HasTurned u c1.counts c2.counts) (sym (shuts.turn ∙ writes.turn)) (record { none_falls = later; counted = tt }))
+    (subst (λ (u : LastTurn). IsMadeSince u c1.counts c2.counts) (sym (shuts.turn ∙ writes.turn)) (record { none_falls = later; counted = tt }))
 
 -- an answer behind both
 pub turned-answer : (c c1 c2 c3 : SeenConn) (written : WriteTurn) (answer : ReadTurn) → WritesOn c c1 written → ReadsOn c1 c2 answer
-    → HasTurned c3.turn c2.counts c3.counts → HasTurned c3.turn c.counts c3.counts
+    → IsMadeSince c3.turn c2.counts c3.counts → IsMadeSince c3.turn c.counts c3.counts
 turned-answer c c1 c2 c3 written answer writes reads answered =
     turned-more c3.turn c.counts c2.counts c3.counts (turned-on c c1 c2 written answer writes reads).none_falls answered
 
 -- the response that became pending
-pub turned-answered : (c c' : SeenConn) (note : Note) → TakesNote note c c' → HasTurned c'.turn c.counts c'.counts
+pub turned-answered : (c c' : SeenConn) (note : Note) → TakesNote note c c' → IsMadeSince c'.turn c.counts c'.counts
 turned-answered c c' note takes =
-    subst (λ (x : SeenConn). HasTurned x.turn c.counts x.counts) (sym takes.new_is)
+    subst (λ (x : SeenConn). IsMadeSince x.turn c.counts x.counts) (sym takes.new_is)
     (record { none_falls = none_falls-same c.counts; counted = tt })
 
 -- one for which memory lacked
-pub turned-unanswered : (c c' : SeenConn) → c' ≡ record c { turn = turn.NoMemory } → HasTurned c'.turn c.counts c'.counts
+pub turned-unanswered : (c c' : SeenConn) → c' ≡ record c { turn = last_turn.NoMemory } → IsMadeSince c'.turn c.counts c'.counts
 turned-unanswered c c' is =
-    subst (λ (x : SeenConn). HasTurned x.turn c.counts x.counts) (sym is) (record { none_falls = none_falls-same c.counts; counted = tt })
+    subst (λ (x : SeenConn). IsMadeSince x.turn c.counts x.counts) (sym is) (record { none_falls = none_falls-same c.counts; counted = tt })
 
 -- and one that was refused
-pub turned-refused : (c : SeenConn) (ask : Ask) → c.turn ≡ turn.Asked ask → HasTurned c.turn c.counts c.counts
+pub turned-refused : (c : SeenConn) (ask : Ask) → c.turn ≡ last_turn.Asked ask → IsMadeSince c.turn c.counts c.counts
 turned-refused c ask asked =
-    subst (λ (u : LastTurn). HasTurned u c.counts c.counts) (sym asked) (record { none_falls = none_falls-same c.counts; counted = tt })
+    subst (λ (u : LastTurn). IsMadeSince u c.counts c.counts) (sym asked) (record { none_falls = none_falls-same c.counts; counted = tt })

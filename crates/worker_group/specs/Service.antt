@@ -17,7 +17,7 @@ use Rattle.conn_machine.specs.declared.state.Going.{Going}
 use Rattle.conn_machine.specs.States.{is_halted}
 use Rattle.conn_machine.specs.Runs.{after}
 use Rattle.conn_state.specs.declared.turn.LastTurn.{LastTurn}
-use Rattle.conn_state.specs.declared.turn.LastTurn.TheVariants as turn
+use Rattle.conn_state.specs.declared.turn.LastTurn.TheVariants as last_turn
 use Rattle.conn_state.specs.declared.turn.LastLinger.{LastLinger}
 use Rattle.conn_state.specs.declared.turn.LastLinger.TheVariants as linger
 use Rattle.conn_state.specs.Reader.{keeps_none}
@@ -55,16 +55,16 @@ IsWayOut why e = (e ≡ exit.Linger why) ⊎ (e ≡ exit.Close cause.LinkFailed 
 
 -- how a worker leaves a connection after its last turn of reading or writing
 abbrev pub ExitsAfter : LastTurn → SeenConn → Exit → Type 0
-ExitsAfter turn.New c e = ⊥
-ExitsAfter (turn.Asked ask) c e = (fault : BoardFault) × (e ≡ exit.GiveUp fault)
-ExitsAfter turn.Interim c e = ⊥
-ExitsAfter turn.Answered c e = ⊥
-ExitsAfter turn.More c e = e ≡ exit.Park (kept_kind c)
-ExitsAfter turn.Gone c e = e ≡ exit.Close cause.ClientDone Direct
-ExitsAfter turn.Done c e = EndsOut cause.LastSent c.linger e × (says_last c.notes ≡ true)
-ExitsAfter turn.NotReady c e = e ≡ exit.Park Writing
-ExitsAfter turn.LinkFailed c e = e ≡ exit.Close cause.LinkFailed Direct
-ExitsAfter turn.NoMemory c e = e ≡ exit.Close cause.NoMemory Direct
+ExitsAfter last_turn.New c e = ⊥
+ExitsAfter (last_turn.Asked ask) c e = (fault : BoardFault) × (e ≡ exit.GiveUp fault)
+ExitsAfter last_turn.Interim c e = ⊥
+ExitsAfter last_turn.Answered c e = ⊥
+ExitsAfter last_turn.More c e = e ≡ exit.Park (kept_kind c)
+ExitsAfter last_turn.Gone c e = e ≡ exit.Close cause.ClientDone Direct
+ExitsAfter last_turn.Done c e = EndsOut cause.LastSent c.linger e × (says_last c.notes ≡ true)
+ExitsAfter last_turn.NotReady c e = e ≡ exit.Park Writing
+ExitsAfter last_turn.LinkFailed c e = e ≡ exit.Close cause.LinkFailed Direct
+ExitsAfter last_turn.NoMemory c e = e ≡ exit.Close cause.NoMemory Direct
 
 -- ## Since it was taken up
 
@@ -76,22 +76,22 @@ pub record NoneFalls (old new : LinkCounts) : Type 0 where
   pub ends : NeverFalls old.ends new.ends
 
 -- the link counted the turn, where it counts such turns
-abbrev pub CountsTurn : LastTurn → LinkCounts → LinkCounts → Type 0
-CountsTurn turn.New old new = ⊤
-CountsTurn (turn.Asked ask) old new = ⊤
-CountsTurn turn.Interim old new = ⊤
-CountsTurn turn.Answered old new = ⊤
-CountsTurn turn.More old new = Rises old.late_reads new.late_reads
-CountsTurn turn.Gone old new = Rises old.ends new.ends
-CountsTurn turn.Done old new = ⊤
-CountsTurn turn.NotReady old new = Rises old.late_writes new.late_writes
-CountsTurn turn.LinkFailed old new = Rises old.faults new.faults
-CountsTurn turn.NoMemory old new = ⊤
+abbrev pub CountsLast : LastTurn → LinkCounts → LinkCounts → Type 0
+CountsLast last_turn.New old new = ⊤
+CountsLast (last_turn.Asked ask) old new = ⊤
+CountsLast last_turn.Interim old new = ⊤
+CountsLast last_turn.Answered old new = ⊤
+CountsLast last_turn.More old new = Rises old.late_reads new.late_reads
+CountsLast last_turn.Gone old new = Rises old.ends new.ends
+CountsLast last_turn.Done old new = ⊤
+CountsLast last_turn.NotReady old new = Rises old.late_writes new.late_writes
+CountsLast last_turn.LinkFailed old new = Rises old.faults new.faults
+CountsLast last_turn.NoMemory old new = ⊤
 
 -- the last turn was made since the link counted so
-pub record HasTurned (last : LastTurn) (old new : LinkCounts) : Type 0 where
+pub record IsMadeSince (last : LastTurn) (old new : LinkCounts) : Type 0 where
   pub none_falls : NoneFalls old new
-  pub counted : CountsTurn last old new
+  pub counted : CountsLast last old new
 
 -- ## Where the connection is then
 
@@ -100,7 +100,8 @@ abbrev pub IsThere : SeenConn → SeenBoard → Type 0
 IsThere c b = conn_at b.conns c.name.slot ≡ Some c
 
 -- the last of those that ended is the connection, which ended so
-pub record IsLastEnded (c : SeenConn) (why : Cause) (how : Tail) (ended : List SeenEnded) : Type 0 where
+pub record IsLastEnded (c : SeenConn) (why : Cause) (how : Tail)
+    (ended : List SeenEnded) : Type 0 where
   pub before : List SeenEnded
   pub last : SeenEnded
   pub ended_is : ended ≡ before ++ last ∷ []
@@ -132,7 +133,7 @@ pub record IsLetLinger (why : Cause) (c : SeenConn) (b : SeenBoard) : Type 0 whe
 
 -- ## What lasts of a refusal, and of the rest
 
--- what a refusal for the fault says, and what stays so whatever the passes record then: the server has stopped
+-- what a refusal for the fault says of the book then: the server has stopped, or memory lacked
 abbrev pub RefusalLasts : BoardFault → SeenBook → Type 0
 RefusalLasts fault.Halted b = is_halted b.state.going ≡ true
 RefusalLasts fault.NoMemory b = ⊤
@@ -182,7 +183,8 @@ Leaves b (exit.Close why how) way = way ≡ exit.Close why how
 Leaves b (exit.GiveUp fault) way = (way ≡ exit.GiveUp fault) × IsRefusedFor fault b
 
 -- the pass left the connection, which was to be left so: by this way, of which it added the events, and where it stands then
-pub record IsLeftBy (who : ℕ) (out : Exit) (c : SeenConn) (old : SeenBook) (new : SeenBoard) : Type 0 where
+pub record LeavesConn (who : ℕ) (out : Exit) (c : SeenConn) (old : SeenBook)
+    (new : SeenBoard) : Type 0 where
   pub way : Exit
   pub leaves : Leaves old out way
   pub acts : Acts who (left_events way c.name) None old new.book
@@ -193,16 +195,17 @@ pub record IsLeftBy (who : ℕ) (out : Exit) (c : SeenConn) (old : SeenBook) (ne
 pub record HasServed (who : ℕ) (name : ConnName) (old new : SeenBoard) : Type 0 where
   pub asks : List Ask
   pub book : SeenBook
-  pub acts : Acts who (event.Queue name ∷ event.Start name ∷ answer_events name asks) (Some name) old.book book
+  pub acts : Acts who (event.Queue name ∷ event.Start name ∷ answer_events name asks) (Some name)
+      old.book book
   pub state : after book.base book.history ≡ book.state
   pub taken : SeenConn
   pub waited : conn_at old.conns name.slot ≡ Some taken
   pub served : SeenConn
   pub named : served.name ≡ name
-  pub turned : HasTurned served.turn taken.counts served.counts
+  pub turned : IsMadeSince served.turn taken.counts served.counts
   pub out : Exit
   pub exits : ExitsAfter served.turn served out
-  pub left : IsLeftBy who out served book new
+  pub left : LeavesConn who out served book new
 
 -- ## What an ended connection tells of its service
 
@@ -219,16 +222,16 @@ IsRefusedCause why = (why ≡ cause.Stopped) ⊎ (why ≡ cause.NoMemory)
 
 -- for which cause a service ends a connection behind such a last turn, as far on its way out
 abbrev pub EndsFor : LastTurn → LastLinger → Cause → Type 0
-EndsFor turn.New last why = ⊥
-EndsFor (turn.Asked ask) last why = IsRefusedCause why
-EndsFor turn.Interim last why = ⊥
-EndsFor turn.Answered last why = ⊥
-EndsFor turn.More last why = IsRefusedCause why
-EndsFor turn.Gone last why = why ≡ cause.ClientDone
-EndsFor turn.Done last why = (last ≡ linger.ShutFailed) × (why ≡ cause.LinkFailed)
-EndsFor turn.NotReady last why = IsRefusedCause why
-EndsFor turn.LinkFailed last why = why ≡ cause.LinkFailed
-EndsFor turn.NoMemory last why = why ≡ cause.NoMemory
+EndsFor last_turn.New last why = ⊥
+EndsFor (last_turn.Asked ask) last why = IsRefusedCause why
+EndsFor last_turn.Interim last why = ⊥
+EndsFor last_turn.Answered last why = ⊥
+EndsFor last_turn.More last why = IsRefusedCause why
+EndsFor last_turn.Gone last why = why ≡ cause.ClientDone
+EndsFor last_turn.Done last why = (last ≡ linger.ShutFailed) × (why ≡ cause.LinkFailed)
+EndsFor last_turn.NotReady last why = IsRefusedCause why
+EndsFor last_turn.LinkFailed last why = why ≡ cause.LinkFailed
+EndsFor last_turn.NoMemory last why = why ≡ cause.NoMemory
 
 -- the last of those that ended tells its cause by its last turn
 pub record EndsAsLast (ended : List SeenEnded) : Type 0 where

@@ -24,11 +24,18 @@ pub fn passes_act_in_steps()
 /// A connection in hand may be closed with its link left directly, for each cause that fits its row, that it shows, and for which
 /// it has the notes.
 pub fn connections_in_hand_may_be_closed()
-    ensures { (s : State) (why : Cause) (c : SeenConn) (hand : IsInHand s c) → direct_cause_fits s why hand.row ≡ true → ShowsAtOnce why c → NotesEnd why c.notes hand.row.notes → IsClosable s why Direct c }
+    ensures { (s : State) (why : Cause) (c : SeenConn) (hand : IsInHand s c)
+        → direct_cause_fits s why hand.row ≡ true
+        → ShowsAtOnce why c
+        → NotesEnd why c.notes hand.row.notes
+        → IsClosable s why Direct c }
 {}
 
 /// A connection that a service ended tells by its last turn for which cause: what its client or its link did, or memory that
 /// lacked; or it was to wait, or to have a response, and was refused.
 pub fn ended_connections_tell_their_cause()
-    ensures { (who : ℕ) (name : ConnName) (old new : SeenBoard) (served : HasServed who name old new) → IsEnding served.left.way → EndsAsLast new.ended }
+    ensures { (who : ℕ) (name : ConnName) (old new : SeenBoard)
+        (served : HasServed who name old new)
+        → IsEnding served.left.way
+        → EndsAsLast new.ended }
 {}

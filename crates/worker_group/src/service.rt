@@ -4,7 +4,7 @@ ghost use Rattle.mpm_base.specs.declared.conn.Ask.{Ask};
 ghost use Rattle.conn_machine.specs.States.{is_halted};
 ghost use Rattle.conn_machine.specs.Table.{is_allowed};
 ghost use Rattle.conn_machine.specs.declared.event.Event.TheVariants as event;
-ghost use Rattle.conn_state.specs.declared.turn.LastTurn.TheVariants as turn;
+ghost use Rattle.conn_state.specs.declared.turn.LastTurn.TheVariants as last_turn;
 ghost use Rattle.conn_state.specs.declared.turn.LastLinger.TheVariants as linger;
 ghost use Rattle.conn_state.specs.Answered.{MayLinger};
 ghost use Rattle.conn_state.specs.Conn.{is_half_closed, is_usable};
@@ -16,7 +16,7 @@ ghost use Rattle.board.specs.Fits.{FoundNoMore, IsSettled};
 ghost use Rattle.worker_group.specs.Acts.{Acts};
 ghost use Rattle.worker_group.specs.InHand.{IsClosable, IsInHand};
 ghost use Rattle.worker_group.specs.InHandInside.{IsServed, sends_left};
-ghost use Rattle.worker_group.specs.Service.{EndsOut, ExitsAfter, HasServed, HasTurned, IsGivenUp, IsLastEnded, IsLeftBy, IsLetLinger, IsThere, IsWayOut, LeavesRest, RefusalLasts, answer_events, give_up_events, left_events};
+ghost use Rattle.worker_group.specs.Service.{EndsOut, ExitsAfter, HasServed, IsMadeSince, IsGivenUp, IsLastEnded, LeavesConn, IsLetLinger, IsThere, IsWayOut, LeavesRest, RefusalLasts, answer_events, give_up_events, left_events};
 ghost use Rattle.worker_group.specs.ServiceInside.{MayLeave};
 
 use crate::hands::Hands;
@@ -50,7 +50,8 @@ pub fn serve<R: Wait, L: Link, N: Known, B: Bell, G: Gate>(
 ) -> Result<(), BoardFault>
     requires who { who < board.old.book.passes }
     requires free { row_in who board.old.book ≡ None }
-    requires allowed { is_halted board.old.book.state.going ≡ false → is_allowed board.old.book.state (event.Queue name) ≡ true }
+    requires allowed { is_halted board.old.book.state.going ≡ false
+        → is_allowed board.old.book.state (event.Queue name) ≡ true }
     ensures served { OnOk result (HasServed who name board.old board.new) }
     ensures why { IfErr result (λ fault. IsRefusedFor fault board.old.book) }
     ensures err { OnErr result (board.new ≡ board.old) }
@@ -71,16 +72,20 @@ fn converse<L: Link, N: Known>(board: &mut Board<L, N>, who: u32, conn: &mut Con
     requires who { who < board.old.book.passes }
     requires row { row_in who board.old.book ≡ Some conn.old.name }
     requires served { IsServed board.old.book.state conn.old }
-    requires edition { IsOfGeneration N.known board.old.book conn.old.generation conn.old.reader.limits conn.old.site }
+    requires edition { IsOfGeneration N.known board.old.book conn.old.generation
+        conn.old.reader.limits conn.old.site }
     ensures name { conn.new.name ≡ conn.old.name }
-    ensures edition { IsOfGeneration N.known board.new.book conn.new.generation conn.new.reader.limits conn.new.site }
-    ensures acts { (asks : List Ask) × Acts who (answer_events conn.old.name asks) (Some conn.old.name) board.old.book board.new.book }
+    ensures edition { IsOfGeneration N.known board.new.book conn.new.generation
+        conn.new.reader.limits conn.new.site }
+    ensures acts { (asks : List Ask)
+        × Acts who (answer_events conn.old.name asks) (Some conn.old.name) board.old.book
+        board.new.book }
     ensures may { MayLeave board.new.book conn.new result }
     ensures exits { ExitsAfter conn.new.turn conn.new result }
-    ensures turned { HasTurned conn.new.turn conn.old.counts conn.new.counts }
+    ensures turned { IsMadeSince conn.new.turn conn.old.counts conn.new.counts }
 {
     loop {
-        if let Some(exit) = serve_turn(board, who, conn) {
+        if let Some(exit) = serve_once(board, who, conn) {
             return exit;
         }
     }
@@ -88,7 +93,7 @@ fn converse<L: Link, N: Known>(board: &mut Board<L, N>, who: u32, conn: &mut Con
 
 /// Sends what is pending; where all was sent, reads on, and answers. None where the response, or what tells the client to send the
 /// body, is to be sent. Once the last response was sent the connection is half-closed.
-fn serve_turn<L: Link, N: Known>(
+fn serve_once<L: Link, N: Known>(
     board: &mut Board<L, N>,
     who: u32,
     conn: &mut Conn<L, N>,
@@ -96,15 +101,20 @@ fn serve_turn<L: Link, N: Known>(
     requires who { who < board.old.book.passes }
     requires row { row_in who board.old.book ≡ Some conn.old.name }
     requires served { IsServed board.old.book.state conn.old }
-    requires edition { IsOfGeneration N.known board.old.book conn.old.generation conn.old.reader.limits conn.old.site }
+    requires edition { IsOfGeneration N.known board.old.book conn.old.generation
+        conn.old.reader.limits conn.old.site }
     ensures name { conn.new.name ≡ conn.old.name }
-    ensures edition { IsOfGeneration N.known board.new.book conn.new.generation conn.new.reader.limits conn.new.site }
-    ensures acts { (asks : List Ask) × Acts who (answer_events conn.old.name asks) (Some conn.old.name) board.old.book board.new.book }
+    ensures edition { IsOfGeneration N.known board.new.book conn.new.generation
+        conn.new.reader.limits conn.new.site }
+    ensures acts { (asks : List Ask)
+        × Acts who (answer_events conn.old.name asks) (Some conn.old.name) board.old.book
+        board.new.book }
     ensures may { IfSome result (MayLeave board.new.book conn.new) }
     ensures exits { IfSome result (ExitsAfter conn.new.turn conn.new) }
-    ensures turned { HasTurned conn.new.turn conn.old.counts conn.new.counts }
+    ensures turned { IsMadeSince conn.new.turn conn.old.counts conn.new.counts }
     ensures served { IfNone result (IsServed board.new.book.state conn.new) }
-    ensures fewer { IfNone result (sends_left board.new.book.state conn.new < sends_left board.old.book.state conn.old) }
+    ensures fewer { IfNone result
+        (sends_left board.new.book.state conn.new < sends_left board.old.book.state conn.old) }
 {
     board.show();
     match conn.write_turn() {
@@ -136,16 +146,21 @@ fn answer<L: Link, N: Known>(
     requires who { who < board.old.book.passes }
     requires row { row_in who board.old.book ≡ Some conn.old.name }
     requires served { IsServed board.old.book.state conn.old }
-    requires edition { IsOfGeneration N.known board.old.book conn.old.generation conn.old.reader.limits conn.old.site }
-    requires asked { conn.old.turn ≡ turn.Asked ask }
+    requires edition { IsOfGeneration N.known board.old.book conn.old.generation
+        conn.old.reader.limits conn.old.site }
+    requires asked { conn.old.turn ≡ last_turn.Asked ask }
     ensures name { conn.new.name ≡ conn.old.name }
-    ensures edition { IsOfGeneration N.known board.new.book conn.new.generation conn.new.reader.limits conn.new.site }
-    ensures acts { (asks : List Ask) × Acts who (answer_events conn.old.name asks) (Some conn.old.name) board.old.book board.new.book }
+    ensures edition { IsOfGeneration N.known board.new.book conn.new.generation
+        conn.new.reader.limits conn.new.site }
+    ensures acts { (asks : List Ask)
+        × Acts who (answer_events conn.old.name asks) (Some conn.old.name) board.old.book
+        board.new.book }
     ensures may { IfSome result (MayLeave board.new.book conn.new) }
     ensures exits { IfSome result (ExitsAfter conn.new.turn conn.new) }
-    ensures turned { HasTurned conn.new.turn conn.old.counts conn.new.counts }
+    ensures turned { IsMadeSince conn.new.turn conn.old.counts conn.new.counts }
     ensures served { IfNone result (IsServed board.new.book.state conn.new) }
-    ensures fewer { IfNone result (sends_left board.new.book.state conn.new < sends_left board.old.book.state conn.old) }
+    ensures fewer { IfNone result
+        (sends_left board.new.book.state conn.new < sends_left board.old.book.state conn.old) }
 {
     generations_keep_their_editions();
     board.show();
@@ -178,8 +193,9 @@ fn leave<L: Link, N: Known>(board: &mut Board<L, N>, who: u32, conn: Conn<L, N>,
     requires who { who < board.old.book.passes }
     requires row { row_in who board.old.book ≡ Some conn.name }
     requires may { MayLeave board.old.book conn exit }
-    requires edition { IsOfGeneration N.known board.old.book conn.generation conn.reader.limits conn.site }
-    ensures left { IsLeftBy who exit conn board.old.book board.new }
+    requires edition { IsOfGeneration N.known board.old.book conn.generation conn.reader.limits
+        conn.site }
+    ensures left { LeavesConn who exit conn board.old.book board.new }
 {
     board.show();
     conn.show();
@@ -202,13 +218,17 @@ pub fn park<L: Link, N: Known>(
 ) -> Result<(), BoardFault>
     requires who { who < board.old.book.passes }
     requires row { row_in who board.old.book ≡ Some conn.name }
-    requires allowed { is_halted board.old.book.state.going ≡ false → is_allowed board.old.book.state (event.Park conn.name kind) ≡ true }
+    requires allowed { is_halted board.old.book.state.going ≡ false
+        → is_allowed board.old.book.state (event.Park conn.name kind) ≡ true }
     requires hand { IsInHand board.old.book.state conn }
-    requires edition { IsOfGeneration N.known board.old.book conn.generation conn.reader.limits conn.site }
+    requires edition { IsOfGeneration N.known board.old.book conn.generation conn.reader.limits
+        conn.site }
     requires settled { IsSettled kind None conn }
     requires turned { FoundNoMore kind conn }
-    ensures parked { OnOk result (Acts who (event.Park conn.name kind ∷ []) None board.old.book board.new.book) }
-    ensures given_up { IfErr result (λ fault. Acts who (give_up_events fault conn.name) None board.old.book board.new.book) }
+    ensures parked { OnOk result
+        (Acts who (event.Park conn.name kind ∷ []) None board.old.book board.new.book) }
+    ensures given_up { IfErr result
+        (λ fault. Acts who (give_up_events fault conn.name) None board.old.book board.new.book) }
     ensures why { IfErr result (λ fault. IsRefusedFor fault board.old.book) }
     ensures there { OnOk result (IsThere conn board.new) }
     ensures ended { IfErr result (λ fault. IsGivenUp fault conn board.new) }
@@ -235,11 +255,13 @@ pub fn let_linger<L: Link, N: Known>(
     requires who { who < board.old.book.passes }
     requires row { row_in who board.old.book ≡ Some conn.name }
     requires hand { IsInHand board.old.book.state conn }
-    requires edition { IsOfGeneration N.known board.old.book conn.generation conn.reader.limits conn.site }
+    requires edition { IsOfGeneration N.known board.old.book conn.generation conn.reader.limits
+        conn.site }
     requires open { conn.linger ≡ linger.Open }
     requires allowed { is_allowed board.old.book.state (event.Linger conn.name cause) ≡ true }
     requires shows { MayLinger cause conn }
-    ensures left { (way : Exit) × IsWayOut cause way × Acts who (left_events way conn.name) None board.old.book board.new.book }
+    ensures left { (way : Exit) × IsWayOut cause way
+        × Acts who (left_events way conn.name) None board.old.book board.new.book }
     ensures out { IsLetLinger cause conn board.new }
     ensures rest { who ≡ 0 → LeavesRest board.old.book board.new.book }
 {
@@ -262,7 +284,8 @@ pub fn give_up<L: Link, N: Known>(
     requires who { who < board.old.book.passes }
     requires row { row_in who board.old.book ≡ Some conn.name }
     requires hand { IsInHand board.old.book.state conn }
-    requires edition { IsOfGeneration N.known board.old.book conn.generation conn.reader.limits conn.site }
+    requires edition { IsOfGeneration N.known board.old.book conn.generation conn.reader.limits
+        conn.site }
     requires why { IsRefusedFor fault board.old.book }
     ensures acts { Acts who (give_up_events fault conn.name) None board.old.book board.new.book }
     ensures ended { IsGivenUp fault conn board.new }
@@ -286,9 +309,12 @@ pub fn close<L: Link, N: Known>(
     requires who { who < board.old.book.passes }
     requires row { row_in who board.old.book ≡ Some conn.name }
     requires may { IsClosable board.old.book.state cause tail conn }
-    requires edition { IsOfGeneration N.known board.old.book conn.generation conn.reader.limits conn.site }
-    ensures closed { board.new.book ≡ book_with_entry who (event.Close conn.name cause tail) board.old.book }
-    ensures acts { Acts who (event.Close conn.name cause tail ∷ []) None board.old.book board.new.book }
+    requires edition { IsOfGeneration N.known board.old.book conn.generation conn.reader.limits
+        conn.site }
+    ensures closed { board.new.book
+        ≡ book_with_entry who (event.Close conn.name cause tail) board.old.book }
+    ensures acts { Acts who (event.Close conn.name cause tail ∷ []) None board.old.book
+        board.new.book }
     ensures last { IsLastEnded conn cause tail board.new.ended }
 {
     board.close(who, conn.end(cause, tail));

@@ -15,32 +15,32 @@ loop-exit-init g c =
       counts = none_falls-same c.args.conn.now.counts;
     }
 
-pub serve_turn-requires-clause-row : goal.serve_turn-requires-clause-row
-serve_turn-requires-clause-row g c = c.loop-exit.invariant.acts.1.row ∙ ap (λ (n : ConnName). Some n) (sym c.loop-exit.invariant.name)
+pub serve_once-requires-clause-row : goal.serve_once-requires-clause-row
+serve_once-requires-clause-row g c = c.loop-exit.invariant.acts.1.row ∙ ap (λ (n : ConnName). Some n) (sym c.loop-exit.invariant.name)
 
-pub serve_turn-requires-clause-who : goal.serve_turn-requires-clause-who
-serve_turn-requires-clause-who g c = subst (λ n. c.args.who < n) (sym c.loop-exit.invariant.acts.1.passes) c.requires.who
+pub serve_once-requires-clause-who : goal.serve_once-requires-clause-who
+serve_once-requires-clause-who g c = subst (λ n. c.args.who < n) (sym c.loop-exit.invariant.acts.1.passes) c.requires.who
 
 pub returns-in-Some-clause-acts : goal.returns-in-Some-clause-acts
 returns-in-Some-clause-acts g c =
-    answers_more c.args.who c.args.conn.now.name c.loop-exit.conn.name c.args.board.now.book c.loop-exit.board.book c.serve_turn.new.board.book
-    c.loop-exit.invariant.name c.loop-exit.invariant.acts c.serve_turn.ensures.acts
+    answers_more c.args.who c.args.conn.now.name c.loop-exit.conn.name c.args.board.now.book c.loop-exit.board.book c.serve_once.new.board.book
+    c.loop-exit.invariant.name c.loop-exit.invariant.acts c.serve_once.ensures.acts
 
 pub returns-in-Some-clause-turned : goal.returns-in-Some-clause-turned
 returns-in-Some-clause-turned g c =
-    turned-more c.serve_turn.new.conn.turn c.args.conn.now.counts c.loop-exit.conn.counts c.serve_turn.new.conn.counts
-    c.loop-exit.invariant.counts c.serve_turn.ensures.turned
+    turned-more c.serve_once.new.conn.turn c.args.conn.now.counts c.loop-exit.conn.counts c.serve_once.new.conn.counts
+    c.loop-exit.invariant.counts c.serve_once.ensures.turned
 
 pub loop-exit-preserved : goal.loop-exit-preserved
 loop-exit-preserved g c =
     record {
-      name = c.serve_turn.ensures.name ∙ c.loop-exit.invariant.name;
+      name = c.serve_once.ensures.name ∙ c.loop-exit.invariant.name;
       served = c.in_default.ensures.served;
-      edition = c.serve_turn.ensures.edition;
+      edition = c.serve_once.ensures.edition;
       acts =
-          answers_more c.args.who c.args.conn.now.name c.loop-exit.conn.name c.args.board.now.book c.loop-exit.board.book c.serve_turn.new.board.book
-          c.loop-exit.invariant.name c.loop-exit.invariant.acts c.serve_turn.ensures.acts;
+          answers_more c.args.who c.args.conn.now.name c.loop-exit.conn.name c.args.board.now.book c.loop-exit.board.book c.serve_once.new.board.book
+          c.loop-exit.invariant.name c.loop-exit.invariant.acts c.serve_once.ensures.acts;
       counts =
-          none_falls-more c.args.conn.now.counts c.loop-exit.conn.counts c.serve_turn.new.conn.counts c.loop-exit.invariant.counts
-          c.serve_turn.ensures.turned.none_falls;
+          none_falls-more c.args.conn.now.counts c.loop-exit.conn.counts c.serve_once.new.conn.counts c.loop-exit.invariant.counts
+          c.serve_once.ensures.turned.none_falls;
     }

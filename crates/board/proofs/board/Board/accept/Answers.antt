@@ -37,7 +37,7 @@ invariant_of-self-2 g c =
     put-slots inside.conns c.put.new.self.slots name None c.put.result given.next given.vacant c.put.ensures.full.0 c.put.ensures.name c.put.ensures.stored in
     rw (c.in-Ok.ensures.ok.new_is, c.reserve.ensures.items)
     (board_on _ inside.book slots c.put.new.self.slots conns ended inside.queues inside.queues room room' c.args.who (event.Accept name.slot) invariant c.in-Ok.ensures.ok.keeps (λ s. refl)
-    (accept-there c.one_row_changes.ensures inside.book.state name.slot conns inside.queues (length ended) room room' given.allowed
+    (accept-there c.rows_change_one_at_a_time.ensures inside.book.state name.slot conns inside.queues (length ended) room room' given.allowed
     (there_of _ inside.book slots ended inside.queues room invariant) space) invariant.outside.conns
     (ap conns_in stored ∙ conns-put slots name given.unused)
     (rw stored (accept-used inside.book.state slots name None given.allowed invariant.used given.unused)))

@@ -35,7 +35,7 @@ invariant_of-self-2 g c =
     let may = may_while _ c.args.self.now e view_is c.requires.allowed ok.was_open.going in
     rw (ok.new_is)
     (board_on _ inside.book slots slots conns ended inside.queues inside.queues room room c.args.who e invariant ok.keeps (λ s. refl)
-    (answer-there c.one_row_changes.ensures inside.book.state c.args.name c.args.ask conns inside.queues (length ended) room may (there_of _ inside.book slots ended inside.queues room invariant)) invariant.outside.conns
+    (answer-there c.rows_change_one_at_a_time.ensures inside.book.state c.args.name c.args.ask conns inside.queues (length ended) room may (there_of _ inside.book slots ended inside.queues room invariant)) invariant.outside.conns
     refl (invariant.used ∙ sym (answer-used inside.book.state c.args.name c.args.ask may)))
 
 pub returns-clause-note : goal.returns-clause-note

@@ -63,7 +63,7 @@ invariant_of-self g c =
     (subst (λ (v : SeenEnded). IsBoard _ (record { book = book_with_entry c.args.who (event.Close v.name v.cause v.tail) inside.book; conns = conns_in c.take.new.self.slots; ended = ended ++ e ∷ [] }) c.take.new.self.slots inside.queues (vec_capacity c.push.new.self))
     (sym c.ended.view_is)
     (board_closed _ inside.book slots c.take.new.self.slots ended e inside.queues room (vec_capacity c.push.new.self) c.args.who invariant keeps c.show.ensures.state closing c.requires.answered c.requires.client edition
-    (close-there c.one_row_changes.ensures inside.book.state e.name e.cause e.tail conns inside.queues (length ended) room (vec_capacity c.push.new.self) may
+    (close-there c.rows_change_one_at_a_time.ensures inside.book.state e.name e.cause e.tail conns inside.queues (length ended) room (vec_capacity c.push.new.self) may
     (there_of _ inside.book slots ended inside.queues room invariant) c.push.ensures.capacity)
     (ap conns_in left ∙ conns-left slots e.name (close-away inside.book.state e.name e.cause e.tail conns may invariant.agrees.waiting))
     (rw left (close-used inside.book.state slots e.name e.cause e.tail may invariant.used))))

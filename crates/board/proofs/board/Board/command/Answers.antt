@@ -12,8 +12,8 @@ invariant_of-self-2 g c =
     let invariant : AreParts g.N.Known.known inside =
     rw c.deref_mut-parts.ensures.value c.self.invariant in
     rw (c.in_ok-record.ensures.ok.new_is)
-    (board_same _ inside.book inside.conns.slots inside.ended.items inside.queues (vec_capacity inside.ended) c.args.who (event.Command c.commanded.result)
-    invariant c.in_ok-record.ensures.ok.keeps (λ s. refl) (command_rows inside.book.state c.commanded.result))
+    (board_same _ inside.book inside.conns.slots inside.ended.items inside.queues (vec_capacity inside.ended) c.args.who (event.Command c.args.command)
+    invariant c.in_ok-record.ensures.ok.keeps (λ s. refl) (command_rows inside.book.state c.args.command))
 
 pub returns-clause-entries : goal.returns-clause-entries
 returns-clause-entries g c =

@@ -75,7 +75,7 @@ wait_in_queue-requires-clause-waits g c =
     let may : is_allowed inside.book.state (event.Linger name c.args.cause) ≡ true =
     subst (λ (n : ConnName). is_allowed inside.book.state (event.Linger n c.args.cause) ≡ true) (sym c.name-name.ensures)
     (may_inside _ c.args.self.now (event.Linger c.args.conn.name c.args.cause) view_is c.requires.allowed) in
-    let parked = linger-parked c.one_row_changes.ensures inside.book.state name c.args.cause c.requires.fits.row may found in
+    let parked = linger-parked c.rows_change_one_at_a_time.ensures inside.book.state name c.args.cause c.requires.fits.row may found in
     let some : is_some (waits_under (next inside.book.state (event.Linger name c.args.cause)).rows name) ≡ true = ap is_some parked in
     search (rules, some)
 
@@ -97,11 +97,11 @@ invariant_of-self g c =
     subst (λ (n : ConnName). is_allowed inside.book.state (event.Linger n why) ≡ true) (sym c.name-name.ensures)
     (may_inside _ c.args.self.now (event.Linger c.args.conn.name why) view_is c.requires.allowed) in
     let waits : LingersFor why c.args.conn = record { half_closed = ap lingers c.requires.half_closed; shows = c.requires.shows } in
-    let parked = linger-parked c.one_row_changes.ensures inside.book.state name why c.requires.fits.row may found in
+    let parked = linger-parked c.rows_change_one_at_a_time.ensures inside.book.state name why c.requires.fits.row may found in
     let queued : c.wait_in_queue.new.queues ≡ slice_set inside.queues name.slot (waits_in (lingering_row inside.book.state why c.requires.fits.row)) = search rules in
     rw (c.record_sure.ensures.is, c.put_back.ensures, queued)
     (board_on _ inside.book slots _ _ ended inside.queues _ room room c.args.who (event.Linger name why) invariant c.record_sure.ensures.keeps (λ s. refl)
-    (linger-there c.one_row_changes.ensures inside.book.state name why conns inside.queues c.args.conn c.requires.fits.row (length ended) room may
+    (linger-there c.rows_change_one_at_a_time.ensures inside.book.state name why conns inside.queues c.args.conn c.requires.fits.row (length ended) room may
     (there_of _ inside.book slots ended inside.queues room invariant) found (sym c.name-name.ensures) c.requires.fits.fits waits c.show.ensures.conn)
     (clients_put _ inside.book conns name.slot c.args.conn c.show.ensures.client
     (subst (λ (v : SeenBoard). IsOfGeneration g.N.Known.known v.book c.args.conn.generation c.args.conn.reader.limits c.args.conn.site) (sym view_is) c.requires.edition)

@@ -67,11 +67,11 @@ invariant_of-self-2 g c =
     let cause_is : cause_of c.args.self.now.book.state c.args.conn.name ≡ c.requires.fits.row.cause =
     cause-found c.args.self.now.book.state c.args.conn.name c.requires.fits.row c.requires.fits.found in
     let settled = subst (λ (why : Option Cause). IsSettled c.args.kind why c.args.conn) cause_is c.requires.settled in
-    let parked = park-parked c.one_row_changes.ensures inside.book.state name c.args.kind c.requires.fits.row may found in
+    let parked = park-parked c.rows_change_one_at_a_time.ensures inside.book.state name c.args.kind c.requires.fits.row may found in
     let queued : c.wait_in_queue.new.queues ≡ slice_set inside.queues name.slot (waits_in (parked_row inside.book.state c.args.kind c.requires.fits.row)) = search rules in
     rw (ok.new_is, c.put_back.ensures, queued)
     (board_on _ inside.book slots _ _ ended inside.queues _ room room c.args.who e invariant ok.keeps (λ s. refl)
-    (park-there c.one_row_changes.ensures inside.book.state name c.args.kind conns inside.queues c.args.conn c.requires.fits.row (length ended) room may
+    (park-there c.rows_change_one_at_a_time.ensures inside.book.state name c.args.kind conns inside.queues c.args.conn c.requires.fits.row (length ended) room may
     (there_of _ inside.book slots ended inside.queues room invariant) found (sym c.name-name.ensures) c.requires.fits.fits settled)
     (clients_put _ inside.book conns name.slot c.args.conn c.show.ensures.client
     (subst (λ (v : SeenBoard). IsOfGeneration g.N.Known.known v.book c.args.conn.generation c.args.conn.reader.limits c.args.conn.site) (sym view_is) c.requires.edition)
@@ -102,7 +102,7 @@ wait_in_queue-requires-clause-waits g c =
     let may : is_allowed inside.book.state (event.Park name c.args.kind) ≡ true =
     subst (λ (n : ConnName). is_allowed inside.book.state (event.Park n c.args.kind) ≡ true) (sym c.name-name.ensures)
     (may_while _ c.args.self.now (event.Park c.args.conn.name c.args.kind) view_is c.requires.allowed c.in-Ok.ensures.ok.was_open.going) in
-    let parked = park-parked c.one_row_changes.ensures inside.book.state name c.args.kind c.requires.fits.row may found in
+    let parked = park-parked c.rows_change_one_at_a_time.ensures inside.book.state name c.args.kind c.requires.fits.row may found in
     let some : is_some (waits_under (next inside.book.state (event.Park name c.args.kind)).rows name) ≡ true = ap is_some parked in
     search (rules, some)
 

@@ -34,7 +34,7 @@ take_out-requires-clause-there g c =
     let view_is : seen_board inside ≡ c.args.self.now =
     rw c.deref_mut-parts.ensures.value c.self.view_is in
     let may = may_while _ c.args.self.now (event.Queue c.args.name) view_is c.requires.allowed c.in_ok-record.ensures.ok.was_open.going in
-    let given = queue-given c.one_row_changes.ensures inside.book.state c.args.name (conns_in inside.conns.slots) c.show.ensures.sound may invariant.agrees.waiting in
+    let given = queue-given c.rows_change_one_at_a_time.ensures inside.book.state c.args.name (conns_in inside.conns.slots) c.show.ensures.sound may invariant.agrees.waiting in
     (given.conn, given.has)
 
 pub invariant_of-self-2 : goal.invariant_of-self-2
@@ -53,7 +53,7 @@ invariant_of-self-2 g c =
     c.unpark.ensures.found c.unpark.ensures.unparked in
     rw (c.in_ok-record.ensures.ok.new_is, c.take_out.ensures.emptied, unparked)
     (board_on _ inside.book slots _ _ ended inside.queues _ room room c.args.who (event.Queue c.args.name) invariant c.in_ok-record.ensures.ok.keeps (λ s. refl)
-    (queue-there c.one_row_changes.ensures inside.book.state c.args.name conns inside.queues (length ended) room may (there_of _ inside.book slots ended inside.queues room invariant))
+    (queue-there c.rows_change_one_at_a_time.ensures inside.book.state c.args.name conns inside.queues (length ended) room may (there_of _ inside.book slots ended inside.queues room invariant))
     (clients_taken _ inside.book conns c.args.name.slot invariant.outside.conns) (conns-with slots c.args.name None)
     (written-used slots inside.book.state.rows c.args.name None (may_be_queued inside.book.state) invariant.used (queue-lives inside.book.state c.args.name may)
     ∙ sym (queue-used inside.book.state c.args.name may)))
@@ -66,7 +66,7 @@ returns-clause-name g c =
     let view_is : seen_board inside ≡ c.args.self.now =
     rw c.deref_mut-parts.ensures.value c.self.view_is in
     let may = may_while _ c.args.self.now (event.Queue c.args.name) view_is c.requires.allowed c.in_ok-record.ensures.ok.was_open.going in
-    let given = queue-given c.one_row_changes.ensures inside.book.state c.args.name (conns_in inside.conns.slots) c.show.ensures.sound may invariant.agrees.waiting in
+    let given = queue-given c.rows_change_one_at_a_time.ensures inside.book.state c.args.name (conns_in inside.conns.slots) c.show.ensures.sound may invariant.agrees.waiting in
     let same = given_is _ _ (conns_in inside.conns.slots) c.args.name c.take_out.result given c.take_out.ensures.conn in
     ap (λ (x : SeenConn). x.name) (sym same) ∙ given.name_is
 
@@ -78,7 +78,7 @@ returns-clause-handed g c =
     let view_is : seen_board inside ≡ c.args.self.now =
     rw c.deref_mut-parts.ensures.value c.self.view_is in
     let may = may_while _ c.args.self.now (event.Queue c.args.name) view_is c.requires.allowed c.in_ok-record.ensures.ok.was_open.going in
-    let given = queue-given c.one_row_changes.ensures inside.book.state c.args.name (conns_in inside.conns.slots) c.show.ensures.sound may invariant.agrees.waiting in
+    let given = queue-given c.rows_change_one_at_a_time.ensures inside.book.state c.args.name (conns_in inside.conns.slots) c.show.ensures.sound may invariant.agrees.waiting in
     let same = given_is _ _ (conns_in inside.conns.slots) c.args.name c.take_out.result given c.take_out.ensures.conn in
     subst (λ (b : SeenBook). IsTakenUp b.state c.take_out.result) (sym c.in_ok-record.ensures.ok.new_is)
     (subst (IsTakenUp _) same given.handed)

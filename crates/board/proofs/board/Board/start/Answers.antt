@@ -35,7 +35,7 @@ invariant_of-self g c =
     let room = vec_capacity inside.ended in
     rw (c.record_sure.ensures.is)
     (board_on _ inside.book slots slots conns ended inside.queues inside.queues room room c.args.who (event.Start c.args.name) invariant c.record_sure.ensures.keeps (λ s. refl)
-    (start-there c.one_row_changes.ensures inside.book.state c.args.name conns inside.queues (length ended) room may (there_of _ inside.book slots ended inside.queues room invariant)) invariant.outside.conns
+    (start-there c.rows_change_one_at_a_time.ensures inside.book.state c.args.name conns inside.queues (length ended) room may (there_of _ inside.book slots ended inside.queues room invariant)) invariant.outside.conns
     refl (invariant.used ∙ sym (start-used inside.book.state c.args.name may)))
 
 pub returns-clause-handed : goal.returns-clause-handed
@@ -45,7 +45,7 @@ returns-clause-handed g c x taken =
     rw c.deref_mut-parts.ensures.value c.self.view_is in
     let may = may_inside _ c.args.self.now (event.Start c.args.name) view_is c.requires.allowed in
     subst (λ (b : SeenBook). IsTakenUp b.state x) (sym c.record_sure.ensures.is)
-    (start-taken c.one_row_changes.ensures inside.book.state c.args.name x may (subst (λ (v : SeenBoard). IsTakenUp v.book.state x) (sym view_is) taken))
+    (start-taken c.rows_change_one_at_a_time.ensures inside.book.state c.args.name x may (subst (λ (v : SeenBoard). IsTakenUp v.book.state x) (sym view_is) taken))
 
 pub returns-clause-entries : goal.returns-clause-entries
 returns-clause-entries g c =

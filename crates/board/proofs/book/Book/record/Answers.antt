@@ -42,7 +42,7 @@ invariant_of-self-2 c =
     let editions = inside.editions.items.items in
     let editions_are : c.add.new.self.items.items ≡ with_begun c.args.event c.step.new.state.newest (folded.orders + count_events is_order history + 1) editions =
     search rules in
-    kept_with_room c.one_row_changes.ensures c.generations_begin_in_order.ensures passes base folded history c.append.new.history.items inside.state c.step.new.state inside.ahead
+    kept_with_room c.rows_change_one_at_a_time.ensures c.generations_begin_in_order.ensures passes base folded history c.append.new.history.items inside.state c.step.new.state inside.ahead
     c.append.new.ahead editions c.add.new.self.items.items (vec_capacity inside.history) (vec_capacity c.append.new.history)
     e c.self.invariant editions_are c.append.ensures.ahead
     (record { sound = c.step.ensures.sound; sizes = c.step.ensures.sizes; sized = c.step.ensures.sized })

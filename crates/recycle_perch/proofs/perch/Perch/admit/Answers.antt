@@ -5,7 +5,7 @@ use Rattle.recycle_perch.proofs.perch.Perch.admit.Goals as goal
 
 pub returns-clause-looks : goal.returns-clause-looks
 returns-clause-looks g c = λ i looks at.
-    let known = c.show.ensures.looks i looks at in
+    let known = c.add_place.ensures.looks i looks at in
     record {
       words = known.words
           ∙ sym (ap word_names_of c.push_reserved.ensures.items ∙ map_push (λ place. place.perch.name) c.args.self.now.places.items c.make-place.result.0);

@@ -2,7 +2,7 @@ use Rattle.std.proofs.Common.{◌≡◌, ◌++◌, ◌∷◌, [], vec_len}
 use Rattle.std.specs.Prelude.{vec_capacity}
 use Rattle.recycle_perch.specs.Looking.{word_names_of}
 use Rattle.recycle_perch.proofs.LookLemmas.{FirstLookAt, OthersLookAt}
-use Rattle.recycle_perch.proofs.perch.Perch.show.Given as goal
+use Rattle.recycle_perch.proofs.perch.Perch.add_place.Given as goal
 
 -- those so far are at the place too, and the others as they were
 abbrev pub invariant-loop-i : goal.invariant-loop-i

@@ -1,7 +1,7 @@
 use Rattle.std.proofs.Common.{refl, arith}
 use Rattle.std.proofs.lemmas.Option.{slice_get_read, slice_get_within}
 use Rattle.recycle_perch.proofs.LookLemmas.{first_more, others_less, same_length}
-use Rattle.recycle_perch.proofs.perch.Perch.show.Goals as goal
+use Rattle.recycle_perch.proofs.perch.Perch.add_place.Goals as goal
 
 pub loop-i-init : goal.loop-i-init
 loop-i-init g c = (refl, λ k looks at below. absurd (omega arith), λ k looks at above. c.requires.looks k looks at)

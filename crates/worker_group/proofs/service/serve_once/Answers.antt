@@ -13,7 +13,7 @@ use Rattle.worker_group.proofs.AnswerLemmas.{answers_none, fewer-told, sends-sam
 use Rattle.worker_group.proofs.EditionLemmas.{edition-read, edition-shut, edition-written}
 use Rattle.worker_group.proofs.ExitLemmas.{exits-written, exits-read, keeps-alive}
 use Rattle.worker_group.proofs.TurnedLemmas.{turned-answer, turned-on, turned-shut, turned-written}
-use Rattle.worker_group.proofs.service.serve_turn.Goals as goal
+use Rattle.worker_group.proofs.service.serve_once.Goals as goal
 
 or-true : (b : Bool) → (b || true) ≡ true
 or-true true = refl
