@@ -10,6 +10,7 @@ pub mod FrontCallLemmas
 pub mod FrontLemmas
 pub mod HeedLemmas
 pub mod InformLemmas
+pub mod LeftLemmas
 pub mod LineLemmas
 pub mod LinkLemmas
 pub mod ListeningFoldLemmas
@@ -23,6 +24,7 @@ pub mod PlanLemmas
 pub mod RestartLemmas
 pub mod RoundLemmas
 pub mod RunLemmas
+pub mod ServedLemmas
 pub mod StandingFoldLemmas
 pub mod StandingLemmas
 pub mod StandingPartLemmas

@@ -11,6 +11,8 @@ pub mod OrdersInside
 pub mod Outside
 pub mod Patient
 pub mod RoundInside
+pub mod Runs
+pub mod RunsInside
 pub mod Served
 pub mod StandingInside
 pub mod StartedFirst

@@ -2,7 +2,7 @@
 ghost use Rattle.std.specs.Prelude.{◌≡◌};
 ghost use Rattle.listener.specs.FirstNumbers as spec;
 ghost use Rattle.listener.specs.FirstNumbersInside.{AreNumbers};
-ghost use Rattle.mpm_run.specs.Sites as sites;
+ghost use Rattle.listener.specs.Generations as sites;
 
 use http_read::Limits;
 use mpm_base::{Addr, Shape};

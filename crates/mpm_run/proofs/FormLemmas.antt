@@ -7,10 +7,10 @@ use Rattle.run_opening.specs.Calls.{Call}
 use Rattle.run_opening.specs.Refusals.{EndsSilently}
 use Rattle.run_opening.specs.RefusalsInside.{RefusesRun}
 use Rattle.run_report.specs.Texts.{usage}
-use Rattle.mpm_run.specs.ExitStatuses.{Causes, EndsConfigRefused, EndsUnread, Leaves}
+use Rattle.mpm_run.specs.ExitStatuses.{Causes, EndsConfigRefused, EndsUnread, LeavesAll}
 use Rattle.mpm_run.specs.ExitStatusesInside.{EndsSend, EndsServe, EndsTest}
-use Rattle.mpm_run.specs.PlayedInside.{EndsScript}
-use Rattle.mpm_run.specs.declared.outcome.Scripted.{Scripted}
+use Rattle.script_run.specs.PlayedInside.{EndsScript}
+use Rattle.script_run.specs.declared.scripted.Scripted.{Scripted}
 
 -- what follows of it, where something is
 pub left-some : {X : Type 0} (o : Option X) {P Q : X → Type 0} → IsSome o → IfSome o P → ((x : X) → P x → Q x) → IsSomeAnd o Q
@@ -21,7 +21,7 @@ left-some (Some x) some holds means = means x holds
 
 -- what it leaves
 pub script-leaves : (call : Call) (f : FrontSeen) (calls : Option (List (ℕ × ℕ))) (status : ℕ) (left : Option Scripted) → EndsScript call status left
-    → Leaves call f f calls calls status left None
+    → LeavesAll call f f calls calls status left None
 script-leaves call f calls status left ends =
     record { kept = ends.kept; ends = ends.ends; server = tt; unopened = λ none. record { front = inl refl; clock = refl } }
 
@@ -45,7 +45,7 @@ script-causes call f status left ends = record {
 
 -- what it leaves
 pub serve-leaves : (call : Call) (f f' : FrontSeen) (calls calls' : Option (List (ℕ × ℕ))) (status : ℕ) (left : Option SeenBoard)
-    → EndsServe call f f' calls calls' status left → Leaves call f f' calls calls' status None left
+    → EndsServe call f f' calls calls' status left → LeavesAll call f f' calls calls' status None left
 serve-leaves call f f' calls calls' status left ends = record { kept = tt; ends = tt; server = ends.server; unopened = ends.unopened }
 
 -- why it ended so
@@ -69,7 +69,7 @@ serve-causes call f f' calls calls' status left ends = record {
 
 -- what a test leaves
 pub test-leaves : (call : Call) (f : FrontSeen) (calls : Option (List (ℕ × ℕ))) (status : ℕ) → EndsTest call status
-    → Leaves call f f calls calls status None None
+    → LeavesAll call f f calls calls status None None
 test-leaves call f calls status ends =
     record { kept = tt; ends = tt; server = tt; unopened = λ none. record { front = inl refl; clock = refl } }
 
@@ -91,7 +91,7 @@ test-causes call f status ends = record {
 
 -- what a command leaves that is sent
 pub send-leaves : (call : Call) (f f' : FrontSeen) (calls : Option (List (ℕ × ℕ))) (status : ℕ) → EndsSend call f f' status
-    → Leaves call f f' calls calls status None None
+    → LeavesAll call f f' calls calls status None None
 send-leaves call f f' calls status ends =
     record { kept = tt; ends = tt; server = tt; unopened = λ none. record { front = ends.front; clock = refl } }
 
@@ -112,7 +112,7 @@ send-causes call f f' status ends = record {
 }
 
 -- words that are no command leave nothing
-pub unknown-leaves : (call : Call) (f : FrontSeen) (calls : Option (List (ℕ × ℕ))) (status : ℕ) → Leaves call f f calls calls status None None
+pub unknown-leaves : (call : Call) (f : FrontSeen) (calls : Option (List (ℕ × ℕ))) (status : ℕ) → LeavesAll call f f calls calls status None None
 unknown-leaves call f calls status =
     record { kept = tt; ends = tt; server = tt; unopened = λ none. record { front = inl refl; clock = refl } }
 

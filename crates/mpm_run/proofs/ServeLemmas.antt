@@ -1,5 +1,5 @@
 -- What a server that was run shows, and why one wasn't.
-use Rattle.mpm_run.proofs.LeftLemmas.{store-since}
+use Rattle.listener.proofs.LeftLemmas.{store-since}
 use Rattle.std.proofs.Common.{◌≡◌, ◌∙◌, ◌⊎◌, inl, inr, ℕ, false, List, ◌++◌, Option, None, Some, IfSome, IsNone, IsSome, Result, Ok, Err, refl, sym, subst, arith}
 use Rattle.mpm_base.specs.Count.{NeverFalls}
 use Rattle.mpm_base.specs.Front.{Binds, FrontSeen}
@@ -18,7 +18,7 @@ use Rattle.restart_control.specs.Reload.{most_config, order_of}
 use Rattle.run_opening.specs.Configured.{warnings_of}
 use Rattle.run_report.specs.Endings.{EndsAs, MayEndWith}
 use Rattle.mpm_run.specs.ExitStatuses.{EndsSiteRefused, EndsUnbound, EndsUnread, HasRunServer, IsUnbound, LeavesFront, EndsConfigRefused}
-use Rattle.mpm_run.specs.RunsInside.{HasRunBy}
+use Rattle.listener.specs.RunsInside.{HasRunBy}
 use Rattle.mpm_run.specs.ExitStatusesInside.{LeavesUnbound, RefusesFolder, IsOpenedStatus, EndsServe}
 use Rattle.run_opening.specs.RefusalsInside.{RefusesRun}
 use Rattle.listener.specs.FirstNumbers.{numbers_of, opened_by}
@@ -30,7 +30,7 @@ use Rattle.run_opening.specs.Sites.{IsSiteRefusedOf}
 use Rattle.run_report.specs.Texts.{front_fault}
 use Rattle.run_opening.proofs.ConfigLemmas.{accepted-still}
 use Rattle.run_report.proofs.CountLemmas.{rises-behind, where-stays}
-use Rattle.mpm_run.proofs.ServedLemmas.{ordered-reopened, served-reopened}
+use Rattle.listener.proofs.ServedLemmas.{ordered-reopened, served-reopened}
 use Rattle.run_report.specs.EndingsInside.{IsEnd}
 use Rattle.run_report.proofs.EndingLemmas.{may-end}
 use Rattle.run_opening.specs.Refusals.{EndsSilently}

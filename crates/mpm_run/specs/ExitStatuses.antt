@@ -11,10 +11,10 @@ use Rattle.listener.specs.Commands.{GivesLines}
 use Rattle.listener.specs.FirstNumbers.{numbers_of}
 use Rattle.listener.specs.Generations.{Opening}
 use Rattle.listener.specs.Outside.{KeepsOutside}
-use Rattle.mpm_run.specs.Runs.{HasRun, entries_of_run, KeepsLines}
-use Rattle.mpm_run.specs.ScriptRefusals.{EndsMisconfigured, EndsScriptSiteRefused, EndsRefused}
+use Rattle.listener.specs.Runs.{HasRun, entries_of_run, KeepsLines}
+use Rattle.script_run.specs.ScriptRefusals.{EndsMisconfigured, EndsScriptSiteRefused, EndsRefused}
 use Rattle.listener.specs.Stores.{KeepsStore}
-use Rattle.mpm_run.specs.declared.outcome.Scripted.{Scripted}
+use Rattle.script_run.specs.declared.scripted.Scripted.{Scripted}
 use Rattle.restart_control.specs.Reload.{most_config}
 use Rattle.run_opening.specs.Calls.{Call, HadConfigAccepted, HasConfigAccepted, HasFile, IsRefusedAsLarge, IsFileUnread, KeepsFiles, HasSiteRefused, LoadsSite, StoreFailed}
 use Rattle.run_opening.specs.Configured.{IsRefused, warnings_of}
@@ -24,7 +24,7 @@ use Rattle.run_report.specs.Written.{WritesText}
 use Rattle.run_report.specs.declared.texts.ConfigRefusal.{ConfigRefusal}
 use Rattle.run_report.specs.declared.texts.ConfigRefusal.TheVariants.{BadValue}
 use Rattle.std.specs.Prelude.{◌≡◌, ◌≢◌, ℕ, ◌≤◌, ◌⊎◌, Bool, true, false, List, ◌++◌, Option, Some, None, option_map, IfSome, IsSome, IsSomeAnd, IsNone}
-use Rattle.mpm_run.specs.Played.{HasPlayed}
+use Rattle.script_run.specs.Played.{HasPlayed}
 use Rattle.run_opening.specs.Refusals.{EndsSilently}
 
 -- ## Where no run opened
@@ -263,7 +263,7 @@ pub record Causes (call : Call) (f f' : FrontSeen) (status : ℕ) (scripted : Op
 -- ## What a call leaves
 
 -- what a call leaves of its run, where one opened, and of the front and the clock, where none of a server did
-pub record Leaves (call : Call) (f f' : FrontSeen) (calls calls' : Option (List (ℕ × ℕ))) (status : ℕ)
+pub record LeavesAll (call : Call) (f f' : FrontSeen) (calls calls' : Option (List (ℕ × ℕ))) (status : ℕ)
     (scripted : Option Scripted) (board : Option SeenBoard) : Type 0 where
   -- whatever the exit status, what is left of a script's run is of one of the script that was read or made
   pub kept : IfSome scripted (λ s. HasPlayed call s.config s.board s.front s.store)

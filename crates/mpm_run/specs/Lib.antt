@@ -1,9 +1,2 @@
 pub mod ExitStatuses
 pub mod ExitStatusesInside
-pub mod Played
-pub mod PlayedInside
-pub mod Runs
-pub mod RunsInside
-pub mod ScriptRefusals
-pub mod Scripts
-pub mod ScriptsInside

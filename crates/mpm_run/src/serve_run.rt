@@ -7,7 +7,7 @@ ghost use Rattle.listener.specs.FirstNumbers as opening;
 ghost use Rattle.listener.specs.Generations.{head_limits_of};
 ghost use Rattle.listener.specs.OrdersInside.{opening_by};
 ghost use Rattle.listener.specs.Outside.{KeepsOutside, TellsStill};
-ghost use Rattle.mpm_run.specs.RunsInside.{HasRunBy};
+ghost use Rattle.listener.specs.RunsInside.{HasRunBy};
 ghost use Rattle.listener.specs.Unused.{IsUnused};
 ghost use Rattle.run_opening.specs.Calls.{seen_call};
 ghost use Rattle.run_opening.specs.Configured.{warnings_of};

@@ -1,20 +1,20 @@
 //! The top call: from the words of the command line to the texts.
 ghost use Rattle.std.specs.Prelude.{◌≡◌, [], IfSome};
 ghost use Rattle.command_words.specs.Invocations.{CallsFront};
-ghost use Rattle.mpm_run.specs.ExitStatuses.{Causes, Leaves};
+ghost use Rattle.mpm_run.specs.ExitStatuses.{Causes, LeavesAll};
 ghost use Rattle.listener.specs.Outside.{TellsStill};
-ghost use Rattle.mpm_run.specs.Played.{IsLeftOfRun};
+ghost use Rattle.script_run.specs.Played.{IsLeftOfRun};
 ghost use Rattle.listener.specs.Unused.{IsUnused};
 ghost use Rattle.run_opening.specs.Calls.{seen_call};
 
 use crate::command_run::send_command;
 use crate::config_test::test_config;
 use crate::outcome::{Outcome, closed_outcome, scripted_outcome, served_outcome};
-use crate::script_run::{run_load, run_script};
 use crate::serve_run::serve_file;
 use command_words::{Invocation, NoInvocation, invocation_of};
 use mpm_base::{Clock, Front, Gate, Sink, Store, Words};
 use run_opening::{no_memory, refuse_words};
+use script_run::{run_load, run_script};
 use std::alloc::Global;
 use std::sync::Wait;
 use std::thread::Threads;
@@ -63,7 +63,7 @@ pub fn run<R: Threads + Wait + Sync, D: Store, F: Front, C: Clock, G: Gate + Syn
     // site of the store, and then by the editions that the store has at each restart.
     ensures ends { let call = seen_call words.now (D.seen store.old) (D.seen store.new)
         (K.seen out.old) (K.seen out.new) result.shown in
-        Leaves call (F.seen front.old) (F.seen front.new) (C.told clock.old) (C.told clock.new)
+        LeavesAll call (F.seen front.old) (F.seen front.new) (C.told clock.old) (C.told clock.new)
         result.status result.scripted result.board
         × Causes call (F.seen front.old) (F.seen front.new)
         result.status result.scripted result.board }

@@ -3,8 +3,9 @@ use Rattle.std.proofs.Common.{◌∙◌, ℕ, List, subst}
 use Rattle.run_report.specs.EndingsInside.{WritesAll}
 use Rattle.listener.specs.OrdersInside.{opening_by}
 use Rattle.run_report.proofs.EndingLemmas.{ends-as}
-use Rattle.mpm_run.proofs.LeftLemmas.{stopped-end}
-use Rattle.mpm_run.proofs.ServeLemmas.{opened-status, has-run-by}
+use Rattle.listener.proofs.LeftLemmas.{stopped-end}
+use Rattle.mpm_run.proofs.ServeLemmas.{opened-status}
+use Rattle.listener.proofs.LeftLemmas.{has-run-by}
 use Rattle.mpm_run.proofs.serve_run.serve_edition.Goals as goal
 
 pub returns-in-Ok-clause-run : goal.returns-in-Ok-clause-run

@@ -2,7 +2,7 @@ use Rattle.std.proofs.Common.{◌≡◌, ◌⊎◌, IfSome, ◌∙◌, ap, inl, 
 use Rattle.mpm_base.specs.Store.{StoreSeen}
 use Rattle.file_table.specs.Site.{SeenSite}
 use Rattle.run_opening.proofs.ConfigLemmas.{had-accepted, has-accepted}
-use Rattle.mpm_run.specs.RunsInside.{HasRunBy}
+use Rattle.listener.specs.RunsInside.{HasRunBy}
 use Rattle.mpm_run.proofs.ConfigLemmas.{config-refused, config-unread}
 use Rattle.mpm_run.proofs.InvocationLemmas.{serve-config}
 use Rattle.mpm_run.proofs.ServeLemmas.{asked-only, folder-refused, folder-unread, is-ready, leaves-front, serves, unbound, unserved}

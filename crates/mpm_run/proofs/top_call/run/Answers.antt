@@ -7,10 +7,10 @@ use Rattle.board.specs.Board.{SeenBoard}
 use Rattle.command_words.specs.Invocations.{IsInvocation, IsLoadWords, IsScriptWords, IsSendWords, IsServeWords, IsTestWords}
 use Rattle.command_words.specs.declared.invocation.Invocation.{Invocation}
 use Rattle.run_opening.specs.Calls.{seen_call}
-use Rattle.mpm_run.specs.ExitStatuses.{Causes, Leaves}
-use Rattle.mpm_run.specs.Played.{IsLeftOfRun}
+use Rattle.mpm_run.specs.ExitStatuses.{Causes, LeavesAll}
+use Rattle.script_run.specs.Played.{IsLeftOfRun}
 use Rattle.mpm_run.specs.declared.outcome.Outcome.{Outcome}
-use Rattle.mpm_run.specs.declared.outcome.Scripted.{Scripted}
+use Rattle.script_run.specs.declared.scripted.Scripted.{Scripted}
 use Rattle.mpm_run.proofs.FormLemmas.{script-causes, script-leaves, send-causes, send-leaves, serve-causes, serve-leaves, test-causes, test-leaves, unknown-causes, unknown-leaves}
 use Rattle.mpm_run.proofs.top_call.run.Goals as goal
 
@@ -18,7 +18,7 @@ use Rattle.mpm_run.proofs.top_call.run.Goals as goal
 abbrev Said : List (List ℕ) → StoreSeen → StoreSeen → SinkSeen → SinkSeen → FrontSeen → FrontSeen → Option (List (ℕ × ℕ)) → Option (List (ℕ × ℕ)) → ℕ → Option ℕ → Option Scripted → Option SeenBoard → Type 0
 Said words d d' k k' f f' calls calls' status shown scripted board =
     let call = seen_call words d d' k k' shown in
-    Leaves call f f' calls calls' status scripted board × Causes call f f' status scripted board
+    LeavesAll call f f' calls calls' status scripted board × Causes call f f' status scripted board
 
 pub returns-in-Ok-Script-clause-ends : goal.returns-in-Ok-Script-clause-ends
 returns-in-Ok-Script-clause-ends g c =

@@ -17,8 +17,8 @@ use Rattle.conn_state.specs.Answered.{SeenEnded}
 use Rattle.conn_state.specs.Known.{KnownOutside}
 use Rattle.board.specs.Editions.{GenerationsKeepTheirEditions, KeepsEditions}
 use Rattle.listener.specs.Commands.{DoesLines}
-use Rattle.mpm_run.specs.Runs.{KeepsLines}
-use Rattle.mpm_run.specs.RunsInside.{HasRunBy}
+use Rattle.listener.specs.Runs.{KeepsLines}
+use Rattle.listener.specs.RunsInside.{HasRunBy}
 use Rattle.listener.specs.FirstNumbers.{numbers_of}
 use Rattle.listener.specs.Generations.{Opening, renewed}
 use Rattle.listener.specs.Listen.{HasClosedAll, IsRunFrom}
@@ -26,7 +26,7 @@ use Rattle.listener.specs.OrdersInside.{known_outside}
 use Rattle.listener.specs.Served.{all_entries}
 use Rattle.listener.specs.StandingInside.{HasStood, standing}
 use Rattle.listener.specs.Stores.{IsRenewed, KeepsStore, RisesBy}
-use Rattle.mpm_run.proofs.ServedLemmas.{serves-editions}
+use Rattle.listener.proofs.ServedLemmas.{serves-editions}
 
 -- ## Why the server stopped
 

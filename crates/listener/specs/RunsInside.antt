@@ -4,7 +4,7 @@ use Rattle.mpm_base.specs.Front.{FrontSeen}
 use Rattle.mpm_base.specs.Store.{StoreSeen}
 use Rattle.listener.specs.Commands.{GivesLines}
 use Rattle.listener.specs.Generations.{Opening}
-use Rattle.mpm_run.specs.Runs.{HasRun, KeepsLines, entries_of_run}
+use Rattle.listener.specs.Runs.{HasRun, KeepsLines, entries_of_run}
 use Rattle.listener.specs.Stores.{KeepsStore}
 use Rattle.std.specs.Prelude.{IfSome}
 

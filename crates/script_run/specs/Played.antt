@@ -10,8 +10,8 @@ use Rattle.mpm_config.specs.Config.{Configuration}
 use Rattle.listener.specs.Commands.{is_graceful_stop, HeedsLines}
 use Rattle.listener.specs.Generations.{Opening}
 use Rattle.listener.specs.Patient.{ArePatient}
-use Rattle.mpm_run.specs.Runs.{HasRun, entries_of_run, KeepsLines}
-use Rattle.mpm_run.specs.Scripts.{PlaysLines, HasConfig, HasScriptSite}
+use Rattle.listener.specs.Runs.{HasRun, entries_of_run, KeepsLines}
+use Rattle.script_run.specs.Scripts.{PlaysLines, HasConfig, HasScriptSite}
 use Rattle.listener.specs.Stores.{KeepsStore}
 use Rattle.listener.specs.Tells.{AllReceive}
 use Rattle.listener.specs.Times.{WasInformed}
@@ -28,7 +28,7 @@ use Rattle.listener.specs.FirstNumbers.{numbers_of}
 use Rattle.listener.specs.Links.{KeepsLinks}
 use Rattle.listener.specs.StartedFirst.{IsStartedFirst}
 use Rattle.listener.specs.Watched.{AreWatched, IsOpenedAndHushed}
-use Rattle.mpm_run.specs.declared.outcome.Scripted.{Scripted}
+use Rattle.script_run.specs.declared.scripted.Scripted.{Scripted}
 
 -- what is seen of a script's store before its run
 abbrev pub opening_store : List ScriptLine → StoreSeen

@@ -7,12 +7,12 @@ use Rattle.mpm_base.specs.Store.{telling_store}
 use Rattle.mpm_base.specs.declared.script_line.ScriptLine.{ScriptLine}
 use Rattle.mpm_config.specs.Config.{Configuration}
 use Rattle.listener.specs.Commands.{is_graceful_stop}
-use Rattle.mpm_run.specs.Played.{opening_store, script_opening, HasPlayed, IsLeftOfRun}
-use Rattle.mpm_run.specs.Runs.{HasRun, KeepsLines, entries_of_run}
-use Rattle.mpm_run.specs.Scripts.{HasConfig, HasScriptSite}
+use Rattle.script_run.specs.Played.{opening_store, script_opening, HasPlayed, IsLeftOfRun}
+use Rattle.listener.specs.Runs.{HasRun, KeepsLines, entries_of_run}
+use Rattle.script_run.specs.Scripts.{HasConfig, HasScriptSite}
 use Rattle.listener.specs.Stores.{KeepsStore}
 use Rattle.listener.specs.Tells.{AllReceive}
-use Rattle.mpm_run.specs.declared.outcome.Scripted.{Scripted}
+use Rattle.script_run.specs.declared.scripted.Scripted.{Scripted}
 use Rattle.mpm_script.specs.Clients.{clients_of, names_of}
 use Rattle.run_opening.specs.Configured.{Configures, warnings_of}
 use Rattle.script_front.specs.ScriptFront.{SeenFront}
@@ -22,7 +22,7 @@ use Rattle.conn_machine.specs.declared.event.Why.TheVariants as why
 use Rattle.run_opening.specs.Calls.{Call, IsFileUnread}
 use Rattle.run_opening.specs.Refusals.{EndsSilently}
 use Rattle.run_report.specs.Endings.{EndsAs}
-use Rattle.mpm_run.specs.ScriptRefusals.{EndsMisconfigured, EndsRefused, EndsScriptSiteRefused}
+use Rattle.script_run.specs.ScriptRefusals.{EndsMisconfigured, EndsRefused, EndsScriptSiteRefused}
 use Rattle.command_words.specs.Invocations.{IsScriptWords}
 
 -- the exit statuses of a script that was read, whose configuration is accepted, and which has a site

@@ -9,15 +9,15 @@ use Rattle.mpm_script.specs.Load.{load_lines}
 use Rattle.mpm_script.specs.Script.{ScriptIs}
 use Rattle.mpm_script.specs.declared.script.ScriptFault.{ScriptFault}
 use Rattle.run_opening.specs.Calls.{Call, IsFileUnread}
-use Rattle.mpm_run.specs.Scripts.{PlaysLines, most_script, HasConfig, HasScriptSite}
-use Rattle.mpm_run.specs.ScriptRefusals.{EndsMisconfigured, EndsRefused, EndsScriptSiteRefused}
-use Rattle.mpm_run.specs.Played.{HasPlayed, IsLeftOfRun}
-use Rattle.mpm_run.specs.PlayedInside.{HasRunScript, IsPlayed, EndsScript, IsPlayedStatus, IsScriptStatus}
-use Rattle.mpm_run.specs.ScriptsInside.{IsConfigRefusalOf, IsRefusalOf, IsSiteRefusalOf, HasReadConfig, IsOfText, IsScriptConfig, RefusesConfig, IsServedRun, RefusesLoad, RefusesSite}
+use Rattle.script_run.specs.Scripts.{PlaysLines, most_script, HasConfig, HasScriptSite}
+use Rattle.script_run.specs.ScriptRefusals.{EndsMisconfigured, EndsRefused, EndsScriptSiteRefused}
+use Rattle.script_run.specs.Played.{HasPlayed, IsLeftOfRun}
+use Rattle.script_run.specs.PlayedInside.{HasRunScript, IsPlayed, EndsScript, IsPlayedStatus, IsScriptStatus, IsServedRun}
+use Rattle.script_run.specs.ScriptsInside.{IsConfigRefusalOf, IsRefusalOf, IsSiteRefusalOf, HasReadConfig, IsOfText, IsScriptConfig, RefusesConfig, RefusesLoad, RefusesSite}
 use Rattle.run_opening.specs.RefusalsInside.{RefusesRun}
 use Rattle.command_words.specs.Invocations.{IsLoadWords, IsScriptWords}
 use Rattle.run_report.specs.Texts.{script_refused}
-use Rattle.mpm_run.specs.declared.outcome.Scripted.{Scripted}
+use Rattle.script_run.specs.declared.scripted.Scripted.{Scripted}
 use Rattle.run_report.specs.declared.texts.ScriptRefusal.TheVariants.{BadLine}
 use Rattle.mpm_base.specs.Sink.{SinkSeen}
 use Rattle.mpm_config.specs.Config.{Configuration}

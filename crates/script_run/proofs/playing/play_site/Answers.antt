@@ -4,8 +4,8 @@ use Rattle.file_table.specs.declared.load_fault.LoadFault.{LoadFault}
 use Rattle.file_table.specs.Load.{MayLoad}
 use Rattle.file_table.specs.Site.{SeenSite}
 use Rattle.restart_control.specs.Reload.{order_of}
-use Rattle.mpm_run.proofs.ScriptLemmas.{refuses-site}
-use Rattle.mpm_run.proofs.script_run.play_site.Goals as goal
+use Rattle.script_run.proofs.ScriptLemmas.{refuses-site}
+use Rattle.script_run.proofs.playing.play_site.Goals as goal
 
 pub returns-in-Err-clause-site_refused : goal.returns-in-Err-clause-site_refused
 returns-in-Err-clause-site_refused g c nine =

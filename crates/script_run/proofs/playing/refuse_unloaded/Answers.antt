@@ -2,9 +2,9 @@ use Rattle.std.proofs.Common.{ℕ, List, None, ap, sym, subst, ◌∙◌}
 use Rattle.mpm_config.specs.Config.{Configuration}
 use Rattle.file_table.specs.declared.load_fault.LoadFault.{LoadFault}
 use Rattle.run_opening.specs.RefusalsInside.{RefusesRun}
-use Rattle.mpm_run.specs.ScriptsInside.{RefusesLoad}
+use Rattle.script_run.specs.ScriptsInside.{RefusesLoad}
 use Rattle.run_report.specs.Texts.{site_refused}
-use Rattle.mpm_run.proofs.script_run.refuse_unloaded.Goals as goal
+use Rattle.script_run.proofs.playing.refuse_unloaded.Goals as goal
 
 pub returns-in-TooMany-clause-refused : goal.returns-in-TooMany-clause-refused
 returns-in-TooMany-clause-refused g c nine =

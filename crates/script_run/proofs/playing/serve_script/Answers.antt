@@ -6,9 +6,9 @@ use Rattle.script_front.specs.ScriptFront.{SeenFront, comings_of, front_seen}
 use Rattle.run_report.specs.EndingsInside.{WritesAll}
 use Rattle.listener.specs.Patient.{HasNothingCome}
 use Rattle.run_report.proofs.EndingLemmas.{ends-as}
-use Rattle.mpm_run.proofs.LeftLemmas.{never-failed, stopped-end}
-use Rattle.mpm_run.proofs.PlayedLemmas.{has-end, keeps-time, patience-of, played-status, has-run_script}
-use Rattle.mpm_run.proofs.script_run.serve_script.Goals as goal
+use Rattle.listener.proofs.LeftLemmas.{never-failed, stopped-end}
+use Rattle.script_run.proofs.PlayedLemmas.{has-end, keeps-time, patience-of, played-status, has-run_script}
+use Rattle.script_run.proofs.playing.serve_script.Goals as goal
 
 pub returns-in-Ok-answer-clause-kept : goal.returns-in-Ok-answer-clause-kept
 returns-in-Ok-answer-clause-kept g c =

@@ -1,5 +1,5 @@
 -- What is left of a script that was played.
-use Rattle.mpm_run.proofs.LeftLemmas.{stopped-ended, store-since}
+use Rattle.listener.proofs.LeftLemmas.{stopped-ended, store-since}
 use Rattle.std.proofs.Common.{◌≡◌, ◌<◌, inl, inr, ℕ, List, length, map, Option, Some, IfSome, refl, sym, ap, subst, ◌∙◌, arith, ◌++◌}
 use Rattle.std.proofs.lemmas.List.{length-map}
 use Rattle.mpm_script.specs.Clients.{clients_of, names_of, sent_by}
@@ -16,8 +16,8 @@ use Rattle.run_report.specs.EndingsInside.{IsEnd}
 use Rattle.listener.specs.Patient.{ArePatient, IsPatientRun}
 use Rattle.listener.specs.Stops.{HasEnded, HasGivenAll, StoppedFor}
 use Rattle.run_report.specs.Endings.{MayEndWith}
-use Rattle.mpm_run.specs.Played.{HasEnd, KeepsTime}
-use Rattle.mpm_run.specs.PlayedInside.{IsPlayedStatus, HasRunScript}
+use Rattle.script_run.specs.Played.{HasEnd, KeepsTime}
+use Rattle.script_run.specs.PlayedInside.{IsPlayedStatus, HasRunScript}
 use Rattle.listener.specs.Times.{IsInTime, WasInformed, waits_of}
 use Rattle.run_report.proofs.EndingLemmas.{may-end}
 use Rattle.mpm_base.specs.Store.{StoreCounts, StoreTold, telling_store}
@@ -36,7 +36,7 @@ use Rattle.listener.specs.Served.{all_entries, whole_book}
 use Rattle.listener.specs.StandingInside.{HasStood, standing}
 use Rattle.listener.specs.Tells.{AllReceive}
 use Rattle.listener.proofs.RunLemmas.{known-receive}
-use Rattle.mpm_run.proofs.ServedLemmas.{ordered-reopened, served-reopened, serves-editions}
+use Rattle.listener.proofs.ServedLemmas.{ordered-reopened, served-reopened, serves-editions}
 
 -- ## With which exit status
 

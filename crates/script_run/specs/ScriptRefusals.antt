@@ -2,7 +2,7 @@
 use Rattle.command_words.specs.Invocations.{IsScriptWords}
 use Rattle.mpm_base.specs.declared.script_line.ScriptLine.{ScriptLine}
 use Rattle.mpm_config.specs.Config.{Configuration}
-use Rattle.mpm_run.specs.Scripts.{HasScript, PlaysLines, most_script, HasConfig, IsSiteRefused}
+use Rattle.script_run.specs.Scripts.{HasScript, PlaysLines, most_script, HasConfig, IsSiteRefused}
 use Rattle.mpm_script.specs.Script.{ScriptIs}
 use Rattle.mpm_script.specs.declared.script.ScriptFault.{ScriptFault}
 use Rattle.run_opening.specs.Calls.{Call, IsRefusedAsLarge, KeepsFiles}

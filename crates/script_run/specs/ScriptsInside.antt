@@ -3,8 +3,8 @@ use Rattle.file_table.specs.declared.load_fault.LoadFault.{LoadFault}
 use Rattle.mpm_base.specs.Sink.{SinkSeen}
 use Rattle.mpm_base.specs.declared.script_line.ScriptLine.{ScriptLine}
 use Rattle.mpm_config.specs.Config.{Configuration}
-use Rattle.mpm_run.specs.ScriptRefusals.{fault_at}
-use Rattle.mpm_run.specs.Scripts.{HasConfig, IsSiteRefused}
+use Rattle.script_run.specs.ScriptRefusals.{fault_at}
+use Rattle.script_run.specs.Scripts.{HasConfig, IsSiteRefused}
 use Rattle.mpm_script.specs.declared.script.ScriptFault.{ScriptFault}
 use Rattle.run_opening.specs.Configured.{Configures, IsNoConfig, warnings_of}
 use Rattle.run_opening.specs.RefusalsInside.{RefusesRun}

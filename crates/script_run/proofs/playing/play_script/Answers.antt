@@ -1,5 +1,5 @@
-use Rattle.mpm_run.proofs.ScriptLemmas.{config-refusal, is-played, of-text, site-refusal}
-use Rattle.mpm_run.proofs.script_run.play_script.Goals as goal
+use Rattle.script_run.proofs.ScriptLemmas.{config-refusal, is-played, of-text, site-refusal}
+use Rattle.script_run.proofs.playing.play_script.Goals as goal
 
 pub returns-in-Ok-script_config-clause-kept : goal.returns-in-Ok-script_config-clause-kept
 returns-in-Ok-script_config-clause-kept g c =
